@@ -1,0 +1,2 @@
+-- Whole numbers: the laws that the rest of the house stands on.
+pub mod Vector

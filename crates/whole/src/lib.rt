@@ -1,0 +1,1 @@
+// Whole numbers: laws only, in specs/. No code stands here.
