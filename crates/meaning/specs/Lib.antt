@@ -1,0 +1,7 @@
+-- What a reader must believe: document 01, in its words and its order.
+pub mod Limits
+pub mod Scene
+pub mod Pieces
+pub mod Equations
+pub mod Verdicts
+pub mod Refusals

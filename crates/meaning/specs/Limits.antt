@@ -1,0 +1,21 @@
+-- 'Sizes' of document 01. Each limit stands here once, and everything else names it.
+use Prim.Native.Nat.{ℕ}
+
+abbrev pub coordinateLimit : ℕ
+coordinateLimit = 262_143
+
+abbrev pub vertexLimit : ℕ
+vertexLimit = 512
+
+abbrev pub edgeLimit : ℕ
+edgeLimit = 1_024
+
+abbrev pub triangleLimit : ℕ
+triangleLimit = 512
+
+abbrev pub textLimit : ℕ
+textLimit = 32_768
+
+-- the pairs that the report program has room for
+abbrev pub reportRoom : ℕ
+reportRoom = 2_048

@@ -1,0 +1,110 @@
+-- A scene: a mesh at two times, start and end. Vertices have whole-number positions, edges and triangles go by vertex number.
+-- Here too: what refusals 1 to 4 say, each of the whole scene.
+use Prim.Native.Nat.{ℕ, zero, suc, _+_, _*_, _/_, _%_}
+use mathlib.Core.Bool.{Bool, false, not, cond, _||_}
+use mathlib.Core.List.{List}
+use lib.Dec.{leb, ltb, eqb}
+use lib.IntN.{ℤ, pos, natAbs}
+use lib.ListN.{length, getD}
+use Rattle.whole.specs.Vector.{Vector}
+use Rattle.meaning.specs.Limits.{coordinateLimit, vertexLimit, edgeLimit, triangleLimit}
+use Rattle.meaning.specs.declared.Ends.{Ends}
+use Rattle.meaning.specs.declared.Corners.{Corners}
+
+-- six numbers a vertex (start x y z, end x y z), two vertex numbers an edge, three a triangle
+pub record Scene : Type 0 where
+  pub positions : List ℤ
+  pub edges : List ℕ
+  pub triangles : List ℕ
+
+abbrev pub vertexCount : Scene → ℕ
+vertexCount s = length (s .positions) / 6
+
+abbrev pub edgeCount : Scene → ℕ
+edgeCount s = length (s .edges) / 2
+
+abbrev pub triangleCount : Scene → ℕ
+triangleCount s = length (s .triangles) / 3
+
+-- the vector whose x stands at place i
+abbrev pub vectorAt : List ℤ → ℕ → Vector
+vectorAt l i = record { x = getD l i (pos 0); y = getD l (i + 1) (pos 0); z = getD l (i + 2) (pos 0) }
+
+abbrev pub startOf : Scene → ℕ → Vector
+startOf s v = vectorAt (s .positions) (6 * v)
+
+abbrev pub endOf : Scene → ℕ → Vector
+endOf s v = vectorAt (s .positions) (6 * v + 3)
+
+-- end k, 0 or 1, of edge j, and corner k, 0 to 2, of triangle j, as the scene writes them
+abbrev pub edgeEnd : Scene → ℕ → ℕ → ℕ
+edgeEnd s j k = getD (s .edges) (2 * j + k) 0
+
+abbrev pub corner : Scene → ℕ → ℕ → ℕ
+corner s j k = getD (s .triangles) (3 * j + k) 0
+
+-- the number that a vertex counts as, where vertices are compared: its own
+abbrev pub countsAs : Scene → ℕ → ℕ
+countsAs s v = v
+
+abbrev pub same : Scene → ℕ → ℕ → Bool
+same s a b = eqb (countsAs s a) (countsAs s b)
+
+abbrev pub before : Scene → ℕ → ℕ → Bool
+before s a b = ltb (countsAs s a) (countsAs s b)
+
+-- two vertices, the lower number first; and a third put in its place among them
+abbrev pub rising : Scene → ℕ → ℕ → Ends
+rising s a b = cond (before s b a) (record { low = b; high = a }) (record { low = a; high = b })
+
+abbrev pub among : Scene → Ends → ℕ → Corners
+among s e c =
+    cond (before s c (e .low)) (record { low = c; middle = e .low; high = e .high })
+    (cond (before s c (e .high)) (record { low = e .low; middle = c; high = e .high })
+    (record { low = e .low; middle = e .high; high = c }))
+
+-- the ends of edge j and the corners of triangle j, in rising number
+abbrev pub endsOf : Scene → ℕ → Ends
+endsOf s j = rising s (edgeEnd s j 0) (edgeEnd s j 1)
+
+abbrev pub cornersOf : Scene → ℕ → Corners
+cornersOf s j = among s (rising s (corner s j 0) (corner s j 1)) (corner s j 2)
+
+-- some number below n passes the test
+unfoldable pub someBelow : ℕ → (ℕ → Bool) → Bool
+someBelow zero test = false
+someBelow (suc n) test = someBelow n test || test n
+
+-- 1: positions not a multiple of 6 long, edges of 2, triangles of 3, or a count over its size
+abbrev pub wrongShape : Scene → Bool
+wrongShape s =
+    not (eqb (length (s .positions) % 6) 0) || not (eqb (length (s .edges) % 2) 0)
+    || not (eqb (length (s .triangles) % 3) 0)
+    || ltb vertexLimit (vertexCount s)
+    || ltb edgeLimit (edgeCount s)
+    || ltb triangleLimit (triangleCount s)
+
+-- 2: a coordinate outside its range
+abbrev pub outside : ℤ → Bool
+outside z = ltb coordinateLimit (natAbs z)
+
+abbrev pub outOfRange : Scene → Bool
+outOfRange s = someBelow (length (s .positions)) (λ i. outside (getD (s .positions) i (pos 0)))
+
+-- 3: a vertex number not below the vertex count
+abbrev pub unknownIn : ℕ → List ℕ → Bool
+unknownIn n l = someBelow (length l) (λ i. leb n (getD l i 0))
+
+abbrev pub unknownVertex : Scene → Bool
+unknownVertex s = unknownIn (vertexCount s) (s .edges) || unknownIn (vertexCount s) (s .triangles)
+
+-- 4: a vertex twice in one edge or triangle
+abbrev pub twiceInEdge : Scene → ℕ → Bool
+twiceInEdge s j = same s (edgeEnd s j 0) (edgeEnd s j 1)
+
+abbrev pub twiceInTriangle : Scene → ℕ → Bool
+twiceInTriangle s j =
+    same s (corner s j 0) (corner s j 1) || same s (corner s j 0) (corner s j 2) || same s (corner s j 1) (corner s j 2)
+
+abbrev pub repeatedVertex : Scene → Bool
+repeatedVertex s = someBelow (edgeCount s) (twiceInEdge s) || someBelow (triangleCount s) (twiceInTriangle s)

@@ -1,0 +1,55 @@
+// The types that every crate of the house shares. What they mean stands in specs/.
+
+// A pair is asked for by kind: a point and a triangle, or two edges.
+pub enum Kind {
+    PointTriangle,
+    EdgeEdge,
+}
+
+// A verdict is one of three named outcomes, never a bare number.
+pub enum Verdict {
+    Hit,
+    Miss,
+    Degenerate,
+}
+
+// The refusals of document 01, in the order of their numbers 1 to 12.
+pub enum Refusal {
+    Shape,
+    Coordinate,
+    UnknownVertex,
+    RepeatedVertex,
+    NotThere,
+    SharedVertex,
+    NoRoom,
+    LongText,
+    BadLine,
+    LateRecord,
+    TooMany,
+    ShortBuffer,
+}
+
+// The answer to "may this scene be used?".
+pub enum SceneAnswer {
+    Accepted,
+    Refused(Refusal),
+}
+
+// The answer to a question about a pair, or about a piece of a pair.
+pub enum PairAnswer {
+    Judged(Verdict),
+    Refused(Refusal),
+}
+
+// An edge's ends, the lower vertex number first.
+pub struct Ends {
+    pub low: usize,
+    pub high: usize,
+}
+
+// A triangle's corners, in rising vertex number.
+pub struct Corners {
+    pub low: usize,
+    pub middle: usize,
+    pub high: usize,
+}
