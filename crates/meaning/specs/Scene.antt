@@ -3,6 +3,7 @@
 use Prim.Native.Nat.{ℕ, zero, suc, _+_, _*_, _/_, _%_}
 use mathlib.Core.Bool.{Bool, false, not, cond, _||_}
 use mathlib.Core.List.{List}
+use mathlib.Core.Path.{_≡_}
 use lib.Dec.{leb, ltb, eqb}
 use lib.IntN.{ℤ, pos, natAbs}
 use lib.ListN.{length, getD}
@@ -16,6 +17,9 @@ pub record Scene : Type 0 where
   pub positions : List ℤ
   pub edges : List ℕ
   pub triangles : List ℕ
+
+abbrev pub sceneOf : List ℤ → List ℕ → List ℕ → Scene
+sceneOf p e t = record { positions = p; edges = e; triangles = t }
 
 abbrev pub vertexCount : Scene → ℕ
 vertexCount s = length (s .positions) / 6
@@ -108,3 +112,10 @@ twiceInTriangle s j =
 
 abbrev pub repeatedVertex : Scene → Bool
 repeatedVertex s = someBelow (edgeCount s) (twiceInEdge s) || someBelow (triangleCount s) (twiceInTriangle s)
+
+-- a scene that none of the four refuses
+pub record Accepted (s : Scene) : Type 0 where
+  pub shapely : wrongShape s ≡ false
+  pub inRange : outOfRange s ≡ false
+  pub known : unknownVertex s ≡ false
+  pub distinct : repeatedVertex s ≡ false
