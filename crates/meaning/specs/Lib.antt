@@ -5,3 +5,5 @@ pub mod Pieces
 pub mod Equations
 pub mod Verdicts
 pub mod Refusals
+pub mod Boxes
+pub mod Motion
