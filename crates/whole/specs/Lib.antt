@@ -1,3 +1,4 @@
 -- Whole numbers: the laws that the rest of the house stands on.
 pub mod Vector
 pub mod Laws
+pub mod Ring
