@@ -2,3 +2,4 @@
 pub mod Vector
 pub mod Laws
 pub mod Ring
+pub mod Quote
