@@ -3,3 +3,4 @@ pub mod Vector
 pub mod Laws
 pub mod Ring
 pub mod Quote
+pub mod Order
