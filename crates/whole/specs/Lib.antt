@@ -1,2 +1,3 @@
 -- Whole numbers: the laws that the rest of the house stands on.
+pub mod Signs
 pub mod Vector
