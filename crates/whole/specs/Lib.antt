@@ -1,3 +1,4 @@
 -- Whole numbers: the laws that the rest of the house stands on.
 pub mod Signs
+pub mod Sizes
 pub mod Vector

@@ -1,10 +1,10 @@
 -- The sign of a whole number: negative, nought or positive. What 'w D = W E with W above 0 and D not 0' says of signs is
 -- decided here, by finite cases.
 use mathlib.Core.Path.{_≡_, refl, sym, ap, _∙_, subst}
-use mathlib.Core.Logic.{_≢_, _↔_, _⊎_, inl, inr, ⊎-elim}
-use mathlib.Core.Bool.{Bool, true, false, not, _&&_, _||_}
-use Prim.Native.Nat.{ℕ, zero, suc, _*_, _<_, _≤_}
-use native.Mathlib.Nat.{suc-mul, add-suc, zero-mul, mul-zero, eq-of-mul-eq-mul-left, suc-ne-zero}
+use mathlib.Core.Logic.{_≢_, _↔_}
+use mathlib.Core.Bool.{Bool, true, false, not, _&&_}
+use Prim.Native.Nat.{ℕ, zero, suc, _*_, _<_}
+use native.Mathlib.Nat.{suc-mul, add-suc, zero-mul, mul-zero, eq-of-mul-eq-mul-left}
 use native.Mathlib.Omega.{arith}
 use lib.Dec.{T, T-not, not-T, leb·zero, leb·suc-zero, leb·suc-suc}
 use lib.IntN.{ℤ, pos, negsuc, negℤ, natAbs, _*ℤ_}
@@ -162,14 +162,15 @@ factor-zero a b e n =
 pub product-nonzero : (a b : ℤ) → a ≢ pos 0 → b ≢ pos 0 → a *ℤ b ≢ pos 0
 product-nonzero a b m n e = n (factor-zero a b e m)
 
-natAbs-neg : (a : ℕ) → natAbs (negℤ (pos a)) ≡ a
-natAbs-neg zero = refl
-natAbs-neg (suc a) = refl
+pub natAbs-neg : (a : ℤ) → natAbs (negℤ a) ≡ natAbs a
+natAbs-neg (pos zero) = refl
+natAbs-neg (pos (suc n)) = refl
+natAbs-neg (negsuc n) = refl
 
 pub natAbs-mul : (a b : ℤ) → natAbs (a *ℤ b) ≡ natAbs a * natAbs b
 natAbs-mul (pos a) (pos b) = refl
-natAbs-mul (pos a) (negsuc b) = natAbs-neg (a * suc b)
-natAbs-mul (negsuc a) (pos b) = natAbs-neg (suc a * b)
+natAbs-mul (pos a) (negsuc b) = natAbs-neg (pos (a * suc b))
+natAbs-mul (negsuc a) (pos b) = natAbs-neg (pos (suc a * b))
 natAbs-mul (negsuc a) (negsuc b) = refl
 
 -- size and sign fix a number
