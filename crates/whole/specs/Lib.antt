@@ -4,3 +4,4 @@ pub mod Laws
 pub mod Ring
 pub mod Quote
 pub mod Order
+pub mod Operations
