@@ -5,3 +5,4 @@ pub mod Ring
 pub mod Quote
 pub mod Order
 pub mod Operations
+pub mod VectorLaws
