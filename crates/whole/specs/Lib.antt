@@ -6,3 +6,4 @@ pub mod Quote
 pub mod Order
 pub mod Operations
 pub mod VectorLaws
+pub mod Cramer
