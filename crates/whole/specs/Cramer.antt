@@ -1,10 +1,10 @@
 -- Cramer's rule for four vectors of ℤ³: the four signed volumes, each of the other three vectors, combine the four to the origin,
 -- and whatever else combines them to the origin is proportional to these.
-use mathlib.Core.Path.{_≡_, refl, sym, _∙_, ap}
+use mathlib.Core.Path.{_≡_, refl, _∙_, ap}
 use mathlib.Core.List.{List, [], _∷_, _++_}
 use Prim.Native.Nat.{ℕ, _+_}
-use lib.IntN.{ℤ, pos, negℤ, _+ℤ_, _-ℤ_, _*ℤ_, zero-*ℤ, *ℤ-zero, +ℤ-idr}
-use Rattle.whole.specs.Ring.{Expr, var, eval, solve}
+use lib.IntN.{ℤ, pos, negℤ, _+ℤ_, _-ℤ_, _*ℤ_}
+use Rattle.whole.specs.Ring.{Expr, var, solve}
 use Rattle.whole.specs.Quote.{ring, combine, times, quotes}
 use Rattle.whole.specs.Operations.{Ops, wholes, exprs}
 use Rattle.whole.specs.Vector.{Vector, origin, plus, scale, volume}

@@ -1,10 +1,10 @@
 -- A big polynomial is written once, over a record of operations, and used at ℤ and at the expressions of the normaliser.
 -- The determinant is written so: `determinant` is the one at ℤ, and `det-hom` says that the expression is worth it.
-use mathlib.Core.Path.{_≡_, refl, sym, _∙_, ap}
-use mathlib.Core.List.{List, [], _∷_, _++_, map, append-assoc}
-use Prim.Native.Nat.{ℕ, zero, suc}
+use mathlib.Core.Path.{_≡_, refl, ap}
+use mathlib.Core.List.{List, [], _∷_, _++_, map}
+use Prim.Native.Nat.{ℕ}
 use lib.IntN.{ℤ, pos, negℤ, _+ℤ_, _-ℤ_, _*ℤ_}
-use Rattle.whole.specs.Ring.{Expr, con, var, add, mul, neg, eval, solve}
+use Rattle.whole.specs.Ring.{Expr, con, add, mul, neg, eval}
 
 pub record Ops : Type 1 where
   pub R : Type 0

@@ -1,6 +1,6 @@
 -- The volume of three vectors is linear in each, turns with the order of the three, and grows under a linear map by the map's determinant.
 use mathlib.Core.Path.{_≡_, refl, sym, _∙_, ap}
-use mathlib.Core.List.{List, [], _∷_, _++_}
+use mathlib.Core.List.{List, [], _∷_}
 use mathlib.Core.Logic.{_≢_}
 use lib.IntN.{ℤ, pos, negℤ, _+ℤ_, _-ℤ_, _*ℤ_, zero-*ℤ}
 use Rattle.whole.specs.Laws.{zero-factor}
