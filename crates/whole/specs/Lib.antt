@@ -6,3 +6,6 @@ pub mod Laws
 pub mod Ring
 pub mod Quote
 pub mod Order
+pub mod Operations
+pub mod VectorLaws
+pub mod Cramer
