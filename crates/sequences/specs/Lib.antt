@@ -4,3 +4,10 @@ pub mod Parts
 pub mod Stands
 pub mod Wrote
 pub mod Writing
+pub mod Range
+pub mod Gather
+pub mod Chosen
+pub mod Counting
+pub mod Rising
+pub mod Flat
+pub mod Below

@@ -7,7 +7,7 @@ use native.Mathlib.Omega.{arith}
 use lib.ListN.{length, take, drop, set, length-append, length-take, length-set, take-append-drop}
 use lib.Seq.{length-take-le, take-set-le, take-add, drop-drop, take-append-seam, drop-append-seam}
 use Rattle.sequences.specs.Parts.{take-less, drop-more, drop-set-here}
-use Rattle.sequences.specs.Wrote.{Wrote, wrote-one, wrote-front, written}
+use Rattle.sequences.specs.Wrote.{Wrote, wrote-one, written}
 
 module _ {ℓ} {A : Type ℓ} where
   -- ---- going up
