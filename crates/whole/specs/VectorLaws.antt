@@ -2,9 +2,11 @@
 use mathlib.Core.Path.{_≡_, refl, sym, _∙_, ap}
 use mathlib.Core.List.{List, [], _∷_}
 use mathlib.Core.Logic.{_≢_}
-use lib.IntN.{ℤ, pos, negℤ, _+ℤ_, _-ℤ_, _*ℤ_, zero-*ℤ}
-use Rattle.whole.specs.Laws.{zero-factor}
+use Prim.Native.Nat.{ℕ}
+use lib.IntN.{ℤ, pos, negℤ, _+ℤ_, _-ℤ_, _*ℤ_, *ℤ-zero}
+use Rattle.whole.specs.Laws.{cancel-factor}
 use Rattle.whole.specs.Quote.{ring, quotes}
+use Rattle.whole.specs.Operations.{entry, determinant, determinantIn, expandIn}
 use Rattle.whole.specs.Vector.{Vector, origin, plus, scale, volume}
 
 pub vector-eq : {a b : Vector} → a .x ≡ b .x → a .y ≡ b .y → a .z ≡ b .z → a ≡ b
@@ -37,6 +39,14 @@ pub twice : (a b : Vector) → volume a a b ≡ pos 0
 unfolding volume
 twice a b = ring (coordinates (a ∷ b ∷ [])) (search quotes depth 40 fits 9000) refl
 
+-- the volume is the determinant of the three as rows
+abbrev pub row : Vector → ℕ → ℤ
+row v = entry (v .x ∷ v .y ∷ v .z ∷ [])
+
+pub volume-is : (a b c : Vector) → volume a b c ≡ determinant (row a ∷ row b ∷ row c ∷ []) (0 ∷ 1 ∷ 2 ∷ [])
+unfolding volume determinantIn expandIn
+volume-is a b c = ring (coordinates (a ∷ b ∷ c ∷ [])) (search quotes depth 40 fits 9000) refl
+
 -- ---- a linear map
 
 abbrev pub dot : Vector → Vector → ℤ
@@ -65,7 +75,7 @@ pub grows : (m : Matrix) (u v w : Vector) → volume (apply m u) (apply m v) (ap
 unfolding volume
 grows m u v w = ring (coordinates (m .a ∷ m .b ∷ m .c ∷ u ∷ v ∷ w ∷ [])) (search quotes depth 40 fits 90000) refl
 
--- what the map does is undone up to its determinant, so that a map whose determinant is not 0 sends only the origin to the origin
+-- what the map does is undone up to its determinant, so that a map whose determinant is not 0 is one to one
 abbrev pub undo : Matrix → Vector → Vector
 undo m v = plus (plus (scale (v .x) (cross (m .b) (m .c))) (scale (v .y) (cross (m .c) (m .a)))) (scale (v .z) (cross (m .a) (m .b)))
 
@@ -76,14 +86,16 @@ undoes m v = vector-eq
     (ring (coordinates (m .a ∷ m .b ∷ m .c ∷ v ∷ [])) (search quotes depth 40 fits 9000) refl)
     (ring (coordinates (m .a ∷ m .b ∷ m .c ∷ v ∷ [])) (search quotes depth 40 fits 9000) refl)
 
-pub undo-origin : (m : Matrix) → undo m origin ≡ origin
-undo-origin m = vector-eq (simp zero-*ℤ) (simp zero-*ℤ) (simp zero-*ℤ)
+pub one-to-one : (m : Matrix) (u v : Vector) → det m ≢ pos 0 → apply m u ≡ apply m v → u ≡ v
+one-to-one m u v h k =
+    vector-eq (same (u .x) (v .x) (ap (λ (w : Vector). w .x) scaled)) (same (u .y) (v .y) (ap (λ (w : Vector). w .y) scaled))
+    (same (u .z) (v .z) (ap (λ (w : Vector). w .z) scaled))
+  where
+    scaled : scale (det m) u ≡ scale (det m) v
+    scaled = sym (undoes m u) ∙ ap (undo m) k ∙ undoes m v
+
+    same : (a b : ℤ) → det m *ℤ a ≡ det m *ℤ b → a ≡ b
+    same a b = cancel-factor (det m) a b h
 
 pub only-origin : (m : Matrix) (v : Vector) → det m ≢ pos 0 → apply m v ≡ origin → v ≡ origin
-only-origin m v h k = vector-eq (gone (v .x) (ap (λ (w : Vector). w .x) none)) (gone (v .y) (ap (λ (w : Vector). w .y) none)) (gone (v .z) (ap (λ (w : Vector). w .z) none))
-  where
-    none : scale (det m) v ≡ origin
-    none = sym (undoes m v) ∙ ap (undo m) k ∙ undo-origin m
-
-    gone : (n : ℤ) → det m *ℤ n ≡ pos 0 → n ≡ pos 0
-    gone n = zero-factor (det m) n h
+only-origin m v h k = one-to-one m v origin h (k ∙ sym (vector-eq (simp *ℤ-zero) (simp *ℤ-zero) (simp *ℤ-zero)))
