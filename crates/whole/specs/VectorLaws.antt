@@ -17,7 +17,7 @@ abbrev pub coordinates : List Vector → List ℤ
 coordinates [] = []
 coordinates (v ∷ vs) = v .x ∷ v .y ∷ v .z ∷ coordinates vs
 
--- linear in the first place, and so in the others, by turning
+-- turned; with two in each other's place; linear in the first place
 module _ (a b c : Vector) where
   pub cycle : volume a b c ≡ volume b c a
   unfolding volume
@@ -38,6 +38,30 @@ module _ (a b c : Vector) where
 pub twice : (a b : Vector) → volume a a b ≡ pos 0
 unfolding volume
 twice a b = ring (coordinates (a ∷ b ∷ [])) (search quotes depth 40 fits 9000) refl
+
+-- linear in the other two places, and 0 with the same vector in them, by turning
+pub additive-second : (a b c d : Vector) → volume d (plus a b) c ≡ volume d a c +ℤ volume d b c
+additive-second a b c d =
+    cycle d (plus a b) c ∙ additive a b c d ∙ ap (λ n. n +ℤ volume b c d) (sym (cycle d a c)) ∙ ap (λ n. volume d a c +ℤ n) (sym (cycle d b c))
+
+pub additive-third : (a b c d : Vector) → volume c d (plus a b) ≡ volume c d a +ℤ volume c d b
+additive-third a b c d =
+    cycle c d (plus a b) ∙ additive-second a b c d ∙ ap (λ n. n +ℤ volume d b c) (sym (cycle c d a)) ∙ ap (λ n. volume c d a +ℤ n) (sym (cycle c d b))
+
+pub homogeneous-second : (a b c : Vector) (k : ℤ) → volume c (scale k a) b ≡ k *ℤ volume c a b
+homogeneous-second a b c k = cycle c (scale k a) b ∙ homogeneous a b c k ∙ ap (λ n. k *ℤ n) (sym (cycle c a b))
+
+pub homogeneous-third : (a b c : Vector) (k : ℤ) → volume b c (scale k a) ≡ k *ℤ volume b c a
+homogeneous-third a b c k = cycle b c (scale k a) ∙ homogeneous-second a b c k ∙ ap (λ n. k *ℤ n) (sym (cycle b c a))
+
+pub twice-last : (a b : Vector) → volume b a a ≡ pos 0
+twice-last a b = cycle b a a ∙ twice a b
+
+pub twice-ends : (a b : Vector) → volume a b a ≡ pos 0
+twice-ends a b = cycle a b a ∙ twice-last a b
+
+pub swap-last : (a b c : Vector) → volume a b c ≡ negℤ (volume a c b)
+swap-last a b c = cycle a b c ∙ swap b c a ∙ ap negℤ (cycle c b a ∙ cycle b a c)
 
 -- the volume is the determinant of the three as rows
 abbrev pub row : Vector → ℕ → ℤ
