@@ -6,3 +6,4 @@ pub mod Laws
 pub mod Ring
 pub mod Quote
 pub mod Order
+pub mod Operations

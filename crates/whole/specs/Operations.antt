@@ -1,0 +1,66 @@
+-- A big polynomial is written once, over a record of operations, and used at ℤ and at the expressions of the normaliser.
+-- The determinant is written so: `determinant` is the one at ℤ, and `det-hom` says that the expression is worth it.
+use mathlib.Core.Path.{_≡_, refl, sym, _∙_, ap}
+use mathlib.Core.List.{List, [], _∷_, _++_, map, append-assoc}
+use Prim.Native.Nat.{ℕ, zero, suc}
+use lib.IntN.{ℤ, pos, negsuc, _+ℤ_, _-ℤ_, _*ℤ_}
+use Rattle.whole.specs.Ring.{Expr, con, var, add, mul, neg, eval, solve}
+
+pub record Ops : Type 1 where
+  pub R : Type 0
+  pub plus : R → R → R
+  pub minus : R → R → R
+  pub times : R → R → R
+  pub lit : ℤ → R
+
+abbrev pub wholes : Ops
+wholes = record { R = ℤ; plus = _+ℤ_; minus = _-ℤ_; times = _*ℤ_; lit = λ k. k }
+
+abbrev pub exprs : Ops
+exprs = record { R = Expr; plus = add; minus = λ a b. add a (neg b); times = mul; lit = con }
+
+-- ---- the determinant
+
+-- by cofactors along the first row: each column's entry times the minor without that column, the signs in turn.
+-- A row gives an entry for each column; `minor` is the determinant of the rows below, `passed` the columns before this one
+module _ (o : Ops) {C : Type 0} where
+  unfoldable pub expandIn : (C → o .R) → (List C → o .R) → List C → List C → o .R
+  expandIn row minor passed [] = o .lit (pos 0)
+  expandIn row minor passed (c ∷ cs) =
+      o .minus (o .times (row c) (minor (passed ++ cs))) (expandIn row minor (passed ++ (c ∷ [])) cs)
+
+  unfoldable pub determinantIn : List (C → o .R) → List C → o .R
+  determinantIn [] columns = o .lit (pos 1)
+  determinantIn (row ∷ rows) columns = expandIn row (determinantIn rows) [] columns
+
+abbrev pub determinant : {C : Type 0} → List (C → ℤ) → List C → ℤ
+determinant = determinantIn wholes
+
+-- rows of expressions over columns of one kind, worth rows of numbers over columns of another
+pub data Alike (e : List ℤ) {C D : Type 0} (g : C → D) : List (C → Expr) → List (D → ℤ) → Type 0 where
+  none : Alike e g [] []
+  more : {r : C → Expr} {r′ : D → ℤ} {rs : List (C → Expr)} {rs′ : List (D → ℤ)} → ((c : C) → eval e (r c) ≡ r′ (g c)) → Alike e g rs rs′ → Alike e g (r ∷ rs) (r′ ∷ rs′)
+
+module _ (e : List ℤ) {C D : Type 0} (g : C → D) where
+  map-append : (l m : List C) → map g (l ++ m) ≡ map g l ++ map g m
+  map-append [] m = refl
+  map-append (c ∷ l) m = ap (λ (k : List D). g c ∷ k) (map-append l m)
+
+  expand-hom : (r : C → Expr) (r′ : D → ℤ) (m : List C → Expr) (m′ : List D → ℤ) → ((c : C) → eval e (r c) ≡ r′ (g c)) → ((l : List C) → eval e (m l) ≡ m′ (map g l)) → (p l : List C) → eval e (expandIn exprs r m p l) ≡ expandIn wholes r′ m′ (map g p) (map g l)
+  unfolding expandIn
+  expand-hom r r′ m m′ h k p [] = refl
+  expand-hom r r′ m m′ h k p (c ∷ l) = simp (h, k, map-append, expand-hom r r′ m m′ h k (p ++ (c ∷ [])) l)
+
+  pub det-hom : {rows : List (C → Expr)} {rows′ : List (D → ℤ)} → Alike e g rows rows′ → (columns : List C) → eval e (determinantIn exprs rows columns) ≡ determinant rows′ (map g columns)
+  unfolding determinantIn
+  det-hom none columns = refl
+  det-hom (more {r = r} {r′ = r′} {rs = rs} {rs′ = rs′} h hs) columns = expand-hom r r′ (determinantIn exprs rs) (determinantIn wholes rs′) h (det-hom hs) [] columns
+
+-- ---- shown at work: rows as lists, the i-th column's entry being the i-th of the row
+
+abbrev pub entry : List ℤ → ℕ → ℤ
+entry row i = lib.ListN.getD row i (pos 0)
+
+two-by-two : determinant (entry (pos 3 ∷ pos 5 ∷ []) ∷ entry (pos 2 ∷ pos 4 ∷ []) ∷ []) (0 ∷ 1 ∷ []) ≡ pos 2
+unfolding determinantIn expandIn
+two-by-two = refl
