@@ -1,0 +1,5 @@
+-- What follows from the meaning.
+pub mod Totals
+pub mod Differences
+pub mod Solved
+pub mod Symbols
