@@ -1,2 +1,6 @@
 -- Whole numbers: the laws that the rest of the house stands on.
 pub mod Vector
+pub mod Laws
+pub mod Ring
+pub mod Quote
+pub mod Order
