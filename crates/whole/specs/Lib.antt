@@ -1,4 +1,6 @@
 -- Whole numbers: the laws that the rest of the house stands on.
+pub mod Signs
+pub mod Sizes
 pub mod Vector
 pub mod Laws
 pub mod Ring
