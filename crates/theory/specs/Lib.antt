@@ -1,0 +1,3 @@
+-- What follows from the meaning.
+pub mod Totals
+pub mod Bounds
