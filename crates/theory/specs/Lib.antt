@@ -3,3 +3,4 @@ pub mod Totals
 pub mod Differences
 pub mod Solved
 pub mod Symbols
+pub mod Bounds

@@ -1,1 +1,1 @@
-// What follows from the meaning: laws only, in specs/. No code stands here.
+// What follows from the meaning: theorems only, in specs/. No code stands here.
