@@ -7,3 +7,5 @@ pub mod Ring
 pub mod Quote
 pub mod Order
 pub mod Operations
+pub mod VectorLaws
+pub mod Cramer

@@ -1,23 +1,24 @@
 -- A big polynomial is written once, over a record of operations, and used at ℤ and at the expressions of the normaliser.
 -- The determinant is written so: `determinant` is the one at ℤ, and `det-hom` says that the expression is worth it.
-use mathlib.Core.Path.{_≡_, refl, sym, _∙_, ap}
-use mathlib.Core.List.{List, [], _∷_, _++_, map, append-assoc}
-use Prim.Native.Nat.{ℕ, zero, suc}
-use lib.IntN.{ℤ, pos, negsuc, _+ℤ_, _-ℤ_, _*ℤ_}
-use Rattle.whole.specs.Ring.{Expr, con, var, add, mul, neg, eval, solve}
+use mathlib.Core.Path.{_≡_, refl, ap}
+use mathlib.Core.List.{List, [], _∷_, _++_, map}
+use Prim.Native.Nat.{ℕ}
+use lib.IntN.{ℤ, pos, negℤ, _+ℤ_, _-ℤ_, _*ℤ_}
+use Rattle.whole.specs.Ring.{Expr, con, add, mul, neg, eval}
 
 pub record Ops : Type 1 where
   pub R : Type 0
   pub plus : R → R → R
   pub minus : R → R → R
+  pub negate : R → R
   pub times : R → R → R
   pub lit : ℤ → R
 
 abbrev pub wholes : Ops
-wholes = record { R = ℤ; plus = _+ℤ_; minus = _-ℤ_; times = _*ℤ_; lit = λ k. k }
+wholes = record { R = ℤ; plus = _+ℤ_; minus = _-ℤ_; negate = negℤ; times = _*ℤ_; lit = λ k. k }
 
 abbrev pub exprs : Ops
-exprs = record { R = Expr; plus = add; minus = λ a b. add a (neg b); times = mul; lit = con }
+exprs = record { R = Expr; plus = add; minus = λ a b. add a (neg b); negate = neg; times = mul; lit = con }
 
 -- ---- the determinant
 

@@ -1,15 +1,15 @@
 -- The order of whole numbers by `omega`, which knows only ℕ: a number is its positive part less its negative part, and a
 -- polynomial the sum of its terms' parts, each monomial's two parts being unknowns to `omega`. Facts go there (`of-le`) and back (`le`).
-use mathlib.Core.Path.{_≡_, refl, sym, _∙_, ap, subst}
+use mathlib.Core.Path.{_≡_, refl, sym, _∙_, ap}
 use mathlib.Core.List.{List, [], _∷_}
-use Prim.Native.Nat.{ℕ, zero, suc, _+_, _*_, _≤_, _<_}
+use Prim.Native.Nat.{ℕ, suc, _+_, _*_, _≤_, _<_}
 use native.Mathlib.Omega.{arith}
 use lib.Dec.{T, leb→le, le→leb, ltb→lt, lt→ltb}
-use lib.IntN.{ℤ, pos, negsuc, negℤ, natAbs, _+ℤ_, _-ℤ_, _*ℤ_, +ℤ-invl, +ℤ-idl}
+use lib.IntN.{ℤ, pos, negsuc, negℤ, natAbs, _+ℤ_, _-ℤ_, _*ℤ_, +ℤ-invl}
 use lib.Signed.{_≤ℤ_, _<ℤ_, leZ, ltZ}
 use Rattle.whole.specs.Laws.{swap-inner}
 use Rattle.whole.specs.Ring.{Poly, nil, term, mono, value, norm, norm-is}
-use Rattle.whole.specs.Quote.{Q, poly, quotes, ring, combine, times}
+use Rattle.whole.specs.Quote.{Q, poly, quotes, combine, times}
 
 -- ---- the two parts of a number
 
