@@ -4,10 +4,12 @@ use mathlib.Core.Path.{_≡_, refl, sym, _∙_, ap}
 use mathlib.Core.List.{List, [], _∷_, _++_, map}
 use Prim.Native.Nat.{ℕ, _+_}
 use lib.IntN.{ℤ, pos, negsuc, negℤ, _+ℤ_, _-ℤ_, _*ℤ_}
-use Rattle.whole.specs.Vector.{Vector, minus, plus, scale, volume}
-use Rattle.whole.specs.Ring.{Expr, con, var, add, mul, neg, eval, norm, solve}
+use Rattle.whole.specs.Vector.{Vector, volume}
+use Rattle.whole.specs.Ring.{Expr, con, var, add, mul, neg, eval}
 use Rattle.whole.specs.Operations.{wholes, exprs, expandIn, determinantIn, Alike, none, more, det-hom}
+use Rattle.whole.specs.Cramer.{Four, each, volumes}
 use Rattle.meaning.specs.Pieces.{Event}
+use Rattle.theory.specs.Differences.{differences}
 use Rattle.meaning.specs.Equations as Meaning
 use Rattle.meaning.specs.Equations.{xOf, yOf, zOf, timeOf, Unknown, ofFirst, ofSecond, inFirst, inSecond, agrees, equations}
 
@@ -92,3 +94,42 @@ determinantˣ columns = determinantIn exprs equationsˣ columns
 pub determinant-worth : (e : List ℤ) (columns : List Unknownˣ) → eval e (determinantˣ columns) ≡ Meaning.determinant equations (map (unknownAt e) columns)
 determinant-worth e columns =
     det-hom e (unknownAt e) (equations-worth e) columns ∙ sym (determinant-same equations (map (unknownAt e) columns))
+
+-- ---- differences, and their volumes
+
+abbrev subˣ : Expr → Expr → Expr
+subˣ a b = add a (neg b)
+
+abbrev differenceˣ : Vectorˣ → Vectorˣ → Eventˣ → Vectorˣ
+differenceˣ p q o =
+    record {
+      x = of (o .place .x) (p .x) (q .x);
+      y = of (o .place .y) (p .y) (q .y);
+      z = of (o .place .z) (p .z) (q .z);
+    }
+  where
+    of : Expr → Expr → Expr → Expr
+    of a p q = subˣ a (add (mul (subˣ (con (pos 1)) (o .time)) p) (mul (o .time) q))
+
+abbrev volumeˣ : Vectorˣ → Vectorˣ → Vectorˣ → Expr
+volumeˣ a b c =
+    add (subˣ (mul (a .x) (subˣ (mul (b .y) (c .z)) (mul (b .z) (c .y))))
+    (mul (a .y) (subˣ (mul (b .x) (c .z)) (mul (b .z) (c .x)))))
+    (mul (a .z) (subˣ (mul (b .x) (c .y)) (mul (b .y) (c .x))))
+
+abbrev volumesˣ : Four Vectorˣ → Four Expr
+volumesˣ v =
+    record {
+      v0 = volumeˣ (v .v1) (v .v2) (v .v3);
+      v1 = neg (volumeˣ (v .v0) (v .v2) (v .v3));
+      v2 = volumeˣ (v .v0) (v .v1) (v .v3);
+      v3 = neg (volumeˣ (v .v0) (v .v1) (v .v2));
+    }
+
+-- the volumes of four events' differences
+abbrev pub spannedˣ : Vectorˣ → Vectorˣ → Four Eventˣ → Four Expr
+spannedˣ p q o = volumesˣ (each (differenceˣ p q) o)
+
+pub spanned-worth : (e : List ℤ) (p q : Vectorˣ) (o : Four Eventˣ) → each (eval e) (spannedˣ p q o) ≡ volumes (differences (vectorAt e p) (vectorAt e q) (each (eventAt e) o))
+unfolding volume
+spanned-worth e p q o = refl
