@@ -1,0 +1,10 @@
+-- What follows from the meaning.
+pub mod Totals
+pub mod Bounds
+pub mod Differences
+pub mod Solved
+pub mod Spread
+pub mod Gathered
+pub mod Shapes
+pub mod Symbols
+pub mod Bridge
