@@ -1,3 +1,6 @@
 -- What follows from the meaning.
 pub mod Totals
 pub mod Bounds
+pub mod Spans
+pub mod Inside
+pub mod Cull
