@@ -1,8 +1,10 @@
 -- The laws of the commutative ring ℤ that the library lacks: the product is associative and distributes over the sum.
 -- All of them go by steps of one, up and down from 0.
 use mathlib.Core.Path.{_≡_, refl, sym, _∙_, ap}
-use Prim.Native.Nat.{ℕ, zero, suc}
-use lib.IntN.{ℤ, pos, negsuc, sucℤ, predℤ, negℤ, _+ℤ_, _-ℤ_, _*ℤ_, one}
+use mathlib.Core.Logic.{_≢_}
+use Prim.Native.Nat.{ℕ, zero, suc, _*_}
+use native.Mathlib.Omega.{arith}
+use lib.IntN.{ℤ, pos, negsuc, sucℤ, predℤ, negℤ, natAbs, _+ℤ_, _-ℤ_, _*ℤ_, one}
 use lib.IntN.{negℤ-sucℤ, negℤ-predℤ, negℤ-negℤ, sucℤ-+ℤ, predℤ-+ℤ, sucℤ-*ℤ, predℤ-*ℤ}
 use lib.IntN.{+ℤ-idl, +ℤ-idr, +ℤ-assoc, +ℤ-comm, +ℤ-invr, +ℤ-invl, negℤ-+ℤ, *ℤ-comm, *ℤ-one, zero-*ℤ}
 
@@ -64,3 +66,20 @@ minus-self {a} {b} h = ap (λ x. x -ℤ b) h ∙ +ℤ-invr b
 pub equal-of-minus : (a b : ℤ) → a -ℤ b ≡ pos 0 → a ≡ b
 equal-of-minus a b h =
     sym (+ℤ-idr a) ∙ ap (λ x. a +ℤ x) (sym (+ℤ-invl b)) ∙ sym (+ℤ-assoc a (negℤ b) b) ∙ ap (λ x. x +ℤ b) h ∙ +ℤ-idl b
+
+-- a product of two that are not 0 is not 0, so a factor that is not 0 can be cancelled
+positive : (a b : ℕ) → pos (suc a * suc b) ≡ pos 0 → ⊥
+positive a b h = let k : suc a * suc b ≡ 0 = ap natAbs h in omega arith
+
+pub zero-factor : (a b : ℤ) → a ≢ pos 0 → a *ℤ b ≡ pos 0 → b ≡ pos 0
+zero-factor (pos zero) b h k = absurd (h refl)
+zero-factor (pos (suc a)) (pos zero) h k = refl
+zero-factor (pos (suc a)) (pos (suc b)) h k = absurd (positive a b k)
+zero-factor (pos (suc a)) (negsuc b) h k = absurd (positive a b (sym (negℤ-negℤ (pos (suc a * suc b))) ∙ ap negℤ k))
+zero-factor (negsuc a) (pos zero) h k = refl
+zero-factor (negsuc a) (pos (suc b)) h k = absurd (positive a b (sym (negℤ-negℤ (pos (suc a * suc b))) ∙ ap negℤ k))
+zero-factor (negsuc a) (negsuc b) h k = absurd (positive a b k)
+
+pub cancel-factor : (k a b : ℤ) → k ≢ pos 0 → k *ℤ a ≡ k *ℤ b → a ≡ b
+cancel-factor k a b h e =
+    equal-of-minus a b (zero-factor k (a -ℤ b) h (*ℤ-distl k a (negℤ b) ∙ ap (λ x. k *ℤ a +ℤ x) (*ℤ-negℤ k b) ∙ minus-self e))

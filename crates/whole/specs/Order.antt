@@ -1,15 +1,15 @@
 -- The order of whole numbers by `omega`, which knows only ℕ: a number is its positive part less its negative part, and a
 -- polynomial the sum of its terms' parts, each monomial's two parts being unknowns to `omega`. Facts go there (`of-le`) and back (`le`).
-use mathlib.Core.Path.{_≡_, refl, sym, _∙_, ap, subst}
+use mathlib.Core.Path.{_≡_, refl, sym, _∙_, ap}
 use mathlib.Core.List.{List, [], _∷_}
-use Prim.Native.Nat.{ℕ, zero, suc, _+_, _*_, _≤_, _<_}
+use Prim.Native.Nat.{ℕ, suc, _+_, _*_, _≤_, _<_}
 use native.Mathlib.Omega.{arith}
 use lib.Dec.{T, leb→le, le→leb, ltb→lt, lt→ltb}
-use lib.IntN.{ℤ, pos, negsuc, negℤ, natAbs, _+ℤ_, _-ℤ_, _*ℤ_, +ℤ-invl, +ℤ-idl}
+use lib.IntN.{ℤ, pos, negsuc, negℤ, natAbs, _+ℤ_, _-ℤ_, _*ℤ_, +ℤ-invl}
 use lib.Signed.{_≤ℤ_, _<ℤ_, leZ, ltZ}
 use Rattle.whole.specs.Laws.{swap-inner}
 use Rattle.whole.specs.Ring.{Poly, nil, term, mono, value, norm, norm-is}
-use Rattle.whole.specs.Quote.{Q, poly, quotes, ring, combine, times}
+use Rattle.whole.specs.Quote.{Q, poly, quotes, combine, times}
 
 -- ---- the two parts of a number
 
@@ -169,3 +169,14 @@ squares a b h k =
     let d : pos 0 ≤ℤ (b -ℤ a) = le e (search quotes depth 40 fits 9000) (omega (arith, ord)) in
     let s : pos 0 ≤ℤ (b +ℤ a) = le e (search quotes depth 40 fits 9000) (omega (arith, ord)) in
     le e (search quotes depth 40 fits 9000) (omega (arith, of-le e (search quotes depth 40 fits 9000) (nn-mul (b -ℤ a) (b +ℤ a) d s)))
+
+from-an-equation : (a b c : ℤ) → a +ℤ b ≡ c +ℤ c → a <ℤ c → c <ℤ b
+from-an-equation a b c h k =
+    let e : List ℤ = a ∷ b ∷ c ∷ [] in
+    lt e (search quotes depth 40 fits 9000) (omega (arith, ord, of-eq e (search quotes depth 40 fits 9000) h))
+
+squeezed : (a b : ℤ) → (a +ℤ a) ≤ℤ (b +ℤ b) → (b +ℤ b) <ℤ (a +ℤ a +ℤ pos 1) → a ≡ b
+squeezed a b h k =
+    let e : List ℤ = a ∷ b ∷ [] in
+    eq e (search quotes depth 40 fits 9000)
+    (omega (arith, of-le e (search quotes depth 40 fits 9000) h, of-lt e (search quotes depth 40 fits 9000) k))

@@ -5,7 +5,7 @@ use mathlib.Core.List.{List, [], _∷_}
 use Prim.Native.Nat.{ℕ, zero, suc, compare, Ordering, Ordering·lt, Ordering·eq, Ordering·gt}
 use lib.Dec.{T, isEq, eqb→eq}
 use lib.ListN.{getD}
-use lib.IntN.{ℤ, pos, negsuc, negℤ, _+ℤ_, _*ℤ_, +ℤ-idl, +ℤ-idr, +ℤ-assoc, negℤ-+ℤ, *ℤ-comm, zero-*ℤ, *ℤ-zero}
+use lib.IntN.{ℤ, pos, negsuc, negℤ, _+ℤ_, _*ℤ_, +ℤ-idl, +ℤ-idr, +ℤ-assoc, negℤ-+ℤ, zero-*ℤ, *ℤ-zero}
 use Rattle.whole.specs.Laws.{swap-first, swap-inner, *ℤ-distr, *ℤ-distl, *ℤ-assoc, *ℤ-idr, *ℤ-idl, negℤ-*ℤ, *ℤ-swap-first, *ℤ-swap-inner}
 
 pub data Expr : Type 0 where
