@@ -4,3 +4,7 @@ pub mod Bounds
 pub mod Spans
 pub mod Inside
 pub mod Cull
+pub mod Alike
+pub mod Determinants
+pub mod Rearranged
+pub mod SamePoints
