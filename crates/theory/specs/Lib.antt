@@ -8,3 +8,10 @@ pub mod Gathered
 pub mod Shapes
 pub mod Symbols
 pub mod Bridge
+pub mod Spans
+pub mod Inside
+pub mod Cull
+pub mod Alike
+pub mod Determinants
+pub mod Rearranged
+pub mod SamePoints
