@@ -1,0 +1,1 @@
+// Lists and lent buffers: laws only, in specs/. No code stands here.
