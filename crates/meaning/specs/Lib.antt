@@ -7,3 +7,5 @@ pub mod Verdicts
 pub mod Refusals
 pub mod Boxes
 pub mod Motion
+pub mod List
+pub mod Judging

@@ -53,3 +53,14 @@ pub struct Corners {
     pub middle: usize,
     pub high: usize,
 }
+
+// What a made list is: how many entries it has.
+pub struct Made {
+    pub count: usize,
+}
+
+// The answer to a call that makes or counts the list. A refusal carries the count needed where it is NoRoom, else 0.
+pub enum ListAnswer {
+    Listed(Made),
+    Refused(Refusal, usize),
+}
