@@ -9,3 +9,4 @@ pub mod Boxes
 pub mod Motion
 pub mod List
 pub mod Judging
+pub mod Text
