@@ -47,7 +47,7 @@ module _ {s : List ℕ} {f : Form} {a b : ℤ} {n m : ℕ} where
   pub numeral-unique : {at : ℕ} → NumeralStands s at f a n → NumeralStands s at f b m → (a ≡ b) × (n ≡ m)
   numeral-unique v w =
       let (same, rest) =
-        numeral-cancel a b (drop n s) (drop m s) (v .ends) (w .ends) (sym (v .stands .here) ∙ w .stands .here) in
+      numeral-cancel a b (drop n s) (drop m s) (v .ends) (w .ends) (sym (v .stands .here) ∙ w .stands .here) in
       (same, cc (v .stands .place, w .stands .place))
 
   pub field-unique : {at : ℕ} → FieldStands s at f a n → FieldStands s at f b m → (a ≡ b) × (n ≡ m)
