@@ -11,6 +11,7 @@ use compare::report::{judged_scene, written};
 use compare::scene::*;
 use compare::text::{read, write};
 use compare::verdict::{of_pair, of_piece, of_pieces, touches, Verdict};
+use compare::whole::Whole;
 
 /// The crowded kind is left out where every pair is looked at.
 fn small_scenes(rounds: u64) -> impl Iterator<Item = (u64, Scene)> {
@@ -75,7 +76,7 @@ fn the_solved_weights_are_those_of_cramers_rule() {
             replaced[place] = vec![1, 1, 0, 0, 0, 0];
             let above = cofactors(&replaced);
             assert_eq!(denominator.sign(), 1);
-            assert_eq!(numerator.sign() as i128, above.signum() * below.signum(), "{piece:?}");
+            assert_eq!(numerator.times(&Whole::from(below)), denominator.times(&Whole::from(above)), "{piece:?}");
         }
     }
 }
