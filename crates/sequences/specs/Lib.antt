@@ -9,5 +9,7 @@ pub mod Gather
 pub mod Chosen
 pub mod Counting
 pub mod Rising
+pub mod Lists
 pub mod Flat
+pub mod Rows
 pub mod Below
