@@ -16,8 +16,7 @@ module _ {ℓ} {A : Type ℓ} where
   one t a = pick t (a ∷ []) []
 
   -- of g i, g (i + 1), … up to and without g n those whose test holds
-  unfoldable pub chosen : (ℕ → Bool) → (ℕ → A) → ℕ → ℕ → List A
-  unfolding gather
+  abbrev pub chosen : (ℕ → Bool) → (ℕ → A) → ℕ → ℕ → List A
   chosen m g i n = gather (λ j. one (m j) (g j)) i n
 
   pub one-has : (t : Bool) (a : A) {b : A} → t ≡ true → b ≡ a → List·Memᴰ b (one t a)
@@ -33,11 +32,9 @@ module _ {ℓ} {A : Type ℓ} where
 
   module _ (m : ℕ → Bool) (g : ℕ → A) (i n : ℕ) where
     pub chosen-none : n ≤ i → chosen m g i n ≡ []
-    unfolding chosen
     chosen-none h = gather-none (λ j. one (m j) (g j)) i n h
 
     pub chosen-first : i < n → chosen m g i n ≡ pick (m i) (g i ∷ chosen m g (i + 1) n) (chosen m g (i + 1) n)
-    unfolding chosen
     chosen-first h =
         gather-first (λ j. one (m j) (g j)) i n h
         ∙ pick-into (λ (l : List A). l ++ chosen m g (i + 1) n) (m i) (g i ∷ []) []
@@ -49,13 +46,11 @@ module _ {ℓ} {A : Type ℓ} where
     chosen-left h e = rw e at (chosen-first h)
 
     pub chosen-short : length (chosen m g i n) ≤ n - i
-    unfolding chosen
     chosen-short =
         rw (mul-one (n - i)) at (gather-short (λ j. one (m j) (g j)) 1 i n (λ j a b. one-short (m j) (g j)))
 
     -- an element stands there exactly when it is one of them and its test holds
     pub chosen-members : (a : A) → List·Memᴰ a (chosen m g i n) ↔ ((j : ℕ) × (i ≤ j) × (j < n) × (m j ≡ true) × (a ≡ g j))
-    unfolding chosen
     chosen-members a = (
       λ h.
           let (j, p, q, r) = gather-from (λ j. one (m j) (g j)) n i h in

@@ -57,7 +57,7 @@ module _ {ℓ} {A : Type ℓ} where
         (λ a b p q. let (j, u, v, w) = gather-from f n (i + 1) q in apart i j a b (omega arith) p w)))
 
     pub rising-chosen : (m : ℕ → Bool) (g : ℕ → A) (i n : ℕ) → ((j k : ℕ) → j < k → R (g j) (g k)) → Rising (chosen m g i n)
-    unfolding Rising chosen
+    unfolding Rising
     rising-chosen m g i n h =
         rising-gather (λ j. one (m j) (g j)) n
         (λ j. pick-has Rising (m j) (λ e. (λ b p. absurd (List·Memᴰ·not-nil p), tt)) (λ e. tt))
