@@ -1,11 +1,10 @@
 -- From the check of a scene to an accepted scene and back, and the checks that come after the four.
-use mathlib.Core.List.{List, _∷_, [], _++_}
-use mathlib.Core.Path.{_≡_}
+use mathlib.Core.List.{List, _++_}
 use Rattle.meaning.specs.Scene.{Scene, Accepted}
-use Rattle.meaning.specs.Refusals.{Outcome, refused, given, numberOf, Check, Answers, sceneSays, sceneChecks, SceneChecked}
+use Rattle.meaning.specs.Refusals.{Outcome, refused, numberOf, Check, Answers, sceneSays, sceneChecks, SceneChecked}
 use Rattle.meaning.specs.declared.Refusal.{Refusal}
 use Rattle.meaning.specs.declared.SceneAnswer as SceneAnswers
-use Rattle.scenes.specs.Answering.{is-given, refused-before, given-before}
+use Rattle.scenes.specs.Answering.{is-given, refused-before, given-before, given-after}
 
 pub accepted-checked : (s : Scene) → Accepted s → SceneChecked s SceneAnswers.the-variants.Accepted
 unfolding Answers sceneSays
@@ -24,6 +23,10 @@ module _ {A : Type 0} (s : Scene) (more : List Check) (Right : A → Type 0) whe
   pub after-accepted : (o : Outcome A) → Accepted s → Answers more Right o → Answers (sceneChecks s ++ more) Right o
   unfolding sceneSays
   after-accepted o a p = given-before (λ t. Unit {0}) Right (sceneChecks s) more tt o (accepted-checked s a) p
+
+  pub past-accepted : (o : Outcome A) → Accepted s → Answers (sceneChecks s ++ more) Right o → Answers more Right o
+  unfolding sceneSays
+  past-accepted o a p = given-after (λ t. Unit {0}) Right (sceneChecks s) more tt o (accepted-checked s a) p
 
   pub after-refused : (x : Refusal) → SceneChecked s (SceneAnswers.the-variants.Refused x) → Answers (sceneChecks s ++ more) Right (refused (numberOf x) 0)
   unfolding sceneSays
