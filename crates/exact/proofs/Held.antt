@@ -1,7 +1,6 @@
 -- Volumes as the machine holds and turns them, and the verdict by signs of numbers that are held.
 use mathlib.Core.Path.{_≡_}
 use mathlib.Core.List.{[], _∷_}
-use Prim.Native.Nat.{ℕ}
 use lib.IntN.{ℤ, pos, negℤ, _-ℤ_, +ℤ-idl}
 use lib.Dec.{lit≤}
 use mir.Syntax.{w64}

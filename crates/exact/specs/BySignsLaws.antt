@@ -1,15 +1,17 @@
--- What the verdict by signs says, in each of its three cases.
-use mathlib.Core.Path.{_≡_, refl, subst, sym, ap}
+-- What the verdict by signs says, in each of its three cases, and what its sums are.
+use mathlib.Core.Path.{_≡_, refl, sym}
 use mathlib.Core.Logic.{_≢_, _↔_}
-use mathlib.Core.Bool.{Bool, true, false, cond, _&&_}
+use mathlib.Core.Bool.{Bool, true, false, not, cond}
 use mathlib.Core.List.{List, [], _∷_}
 use lib.Dec.{T}
-use lib.IntN.{ℤ, pos}
+use lib.IntN.{ℤ, pos, _-ℤ_, _*ℤ_, *ℤ-zero}
 use mir.Facts.{and-yes, yes-and}
+use Rattle.whole.specs.Laws.{*ℤ-idr}
+use Rattle.whole.specs.Cramer.{Four, each, dot4}
 use Rattle.whole.specs.Signs.{sgn, isNought, isNought-is, nought-is, Agrees, agree, agree-is}
 use Rattle.meaning.specs.declared.Verdict.{Verdict}
 use Rattle.meaning.specs.declared.Verdict.the-variants.{Hit, Miss, Degenerate}
-use Rattle.exact.specs.BySigns.{allAgree, bySigns}
+use Rattle.exact.specs.BySigns.{allAgree, bySigns, sum, keep, kept}
 
 unfoldable pub EachAgrees : ℤ → List ℤ → Type 0
 EachAgrees d [] = Unit {0}
@@ -43,3 +45,24 @@ bySigns-says d es =
 pub bySigns-nought : (d a b c e : ℤ) → bySigns d (a ∷ b ∷ c ∷ e ∷ pos 0 ∷ pos 0 ∷ []) ≡ bySigns d (a ∷ b ∷ c ∷ e ∷ [])
 unfolding bySigns
 bySigns-nought d a b c e = refl
+
+-- ---- the sums over the ends and over the starts, as combinations of the four by their times
+
+abbrev pub clock : Bool → ℤ
+clock true = pos 1
+clock false = pos 0
+
+pub keep-clock : (t : Bool) (e : ℤ) → keep t e ≡ e *ℤ clock t
+unfolding keep
+keep-clock true e = sym (*ℤ-idr e)
+keep-clock false e = sym (*ℤ-zero e)
+
+keep-not : (t : Bool) (e : ℤ) → keep (not t) e ≡ e *ℤ (pos 1 -ℤ clock t)
+keep-not true e = keep-clock false e
+keep-not false e = keep-clock true e
+
+pub sum-ends : (t : Four Bool) (e : Four ℤ) → sum (kept t e) ≡ dot4 e (each clock t)
+sum-ends t e = simp keep-clock
+
+pub sum-starts : (t : Four Bool) (e : Four ℤ) → sum (kept (each not t) e) ≡ dot4 e (each (λ b. pos 1 -ℤ clock b) t)
+sum-starts t e = simp keep-not

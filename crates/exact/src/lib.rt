@@ -1,7 +1,8 @@
+// Exact volumes of places in the positions, in 64 bits, and the verdicts that their signs and the signs of their sums give.
+// No sum of determinants leaves this crate as a number.
 ghost use mathlib.Core.Path.{_≡_};
-ghost use Prim.Native.Nat.{_+_, _≤_, _<_};
-ghost use lib.ListN.{length, getD};
-ghost use lib.IntN.{pos, _-ℤ_};
+ghost use mathlib.Core.List.{[], _∷_};
+ghost use Prim.Native.Nat.{_<_};
 ghost use Rattle.whole.specs.Vector.{volume};
 ghost use Rattle.whole.specs.Sizes.{Is};
 ghost use Rattle.meaning.specs.Limits.{coordinateLimit};
@@ -9,7 +10,6 @@ ghost use Rattle.exact.specs.Limits.{differenceLimit, determinantLimit, 
 ghost use Rattle.exact.specs.Places.{Bounded, Room, Short, vector, apart, along};
 ghost use Rattle.exact.specs.Volumes.{four, Rooms, volumesAt, fourOf, Holds, Small};
 ghost use Rattle.exact.specs.BySigns.{bySigns, pointVerdict, edgeVerdict, sum, keep, kept};
-ghost use mathlib.Core.List.{[], _∷_};
 use meaning::Verdict;
 
 // The determinant of three differences, expanded along the first.

@@ -1,8 +1,8 @@
 -- The verdict by signs: the code's comparisons with 0, joined, are the agreement of the signs.
 use mathlib.Core.Path.{_≡_, refl}
-use mathlib.Core.Bool.{Bool, true, false, not, cond, _&&_, _||_, and-assoc, and-true, or-false}
+use mathlib.Core.Bool.{Bool, true, not, cond, _&&_, _||_, and-assoc, and-true, or-false}
 use mathlib.Core.List.{[], _∷_}
-use lib.IntN.{ℤ, pos}
+use lib.IntN.{pos}
 use lib.Signed.{leZ}
 use mir.Syntax.{w64}
 use mir.Facts.{toZ-ofZ}

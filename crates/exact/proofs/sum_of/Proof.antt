@@ -1,6 +1,4 @@
 -- The sum of the four: two, three and four volumes fit 64 bits.
-use mir.Syntax.{w64}
-use Rattle.whole.specs.Sizes.{is-add, fits, back}
 use Rattle.exact.proofs.sum_of.Statement.{statement}
 use Rattle.exact.proofs.sum_of.Tie as tie
 use mathlib.Core.Path.{refl}

@@ -6,7 +6,7 @@ use mir.Syntax.{w64}
 use Rattle.whole.specs.Vector.{Vector, volume}
 use Rattle.whole.specs.Sizes.{Within, Is, held, back}
 use Rattle.exact.specs.Limits.{differenceLimit, determinantLimit}
-use Rattle.exact.specs.Places.{vector, apart}
+use Rattle.exact.specs.Places.{vector}
 use Rattle.exact.proofs.volume_at.Statement.{statement}
 use Rattle.exact.proofs.volume_at.Tie as tie
 
