@@ -6,5 +6,9 @@ pub mod Solved
 pub mod Spread
 pub mod Gathered
 pub mod Shapes
+pub mod Agreement
+pub mod Reading
 pub mod Symbols
 pub mod Bridge
+pub mod Judged
+pub mod SevenPieces
