@@ -11,4 +11,6 @@ pub mod Reading
 pub mod Symbols
 pub mod Bridge
 pub mod Judged
+pub mod Computed
 pub mod SevenPieces
+pub mod OneVerdict
