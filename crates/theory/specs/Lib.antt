@@ -14,3 +14,5 @@ pub mod Judged
 pub mod Computed
 pub mod SevenPieces
 pub mod OneVerdict
+pub mod Fractions
+pub mod Rational
