@@ -16,3 +16,7 @@ pub mod SevenPieces
 pub mod OneVerdict
 pub mod Fractions
 pub mod Rational
+pub mod Independence
+pub mod Balances
+pub mod OneSolution
+pub mod Singular
