@@ -20,3 +20,4 @@ pub mod Independence
 pub mod Balances
 pub mod OneSolution
 pub mod Singular
+pub mod RationalVerdicts
