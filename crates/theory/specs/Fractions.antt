@@ -1,12 +1,12 @@
 -- Rational numbers, as far as weights need them: whole numerators over positive denominators, their weighted sums, and the clearing of
 -- denominators. A list of weights has one denominator N in common; over it the weighted sums are those of whole weights.
-use mathlib.Core.Path.{_≡_, refl, sym, _∙_, ap}
+use mathlib.Core.Path.{_≡_, refl, ap}
 use mathlib.Core.Logic.{_≢_, _↔_}
 use mathlib.Core.List.{List, [], _∷_}
 use Prim.Native.Nat.{ℕ, zero, suc, _*_, _<_}
 use native.Mathlib.Nat.{not-suc-le-zero, le-refl, mul-pos}
 use native.Mathlib.Omega.{arith}
-use lib.IntN.{ℤ, pos, negℤ, natAbs, _+ℤ_, _-ℤ_, _*ℤ_, zero-*ℤ}
+use lib.IntN.{ℤ, pos, negℤ, natAbs, _+ℤ_, _*ℤ_, zero-*ℤ}
 use lib.ListN.{length}
 use Rattle.whole.specs.Quote.{quotes, ring, combine, times}
 use Rattle.whole.specs.Signs.{cancel, product-nonzero}

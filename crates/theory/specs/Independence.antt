@@ -1,7 +1,7 @@
 -- Three vectors whose volume is 0 depend on one another: not every relation between them is the trivial one.
 use mathlib.Core.Path.{_≡_, refl, sym, _∙_, ap}
 use mathlib.Core.Logic.{_≢_}
-use mathlib.Core.List.{List, [], _∷_, _++_}
+use mathlib.Core.List.{[], _∷_, _++_}
 use Prim.Native.Nat.{ℕ}
 use lib.IntN.{ℤ, pos, negℤ, natAbs, negℤ-negℤ, _+ℤ_, _*ℤ_}
 use native.Mathlib.Omega.{arith}
@@ -56,7 +56,7 @@ module _ (n : Four ℤ) (v : Four Vector) (h : weigh n v ≡ origin) (f : n .v3 
 abbrev four : Vector → Vector → Vector → Vector → Four Vector
 four p q r s = record { v0 = p; v1 = q; v2 = r; v3 = s }
 
-unminus : {z : ℤ} → negℤ z ≡ pos 0 → z ≡ pos 0
+pub unminus : {z : ℤ} → negℤ z ≡ pos 0 → z ≡ pos 0
 unminus {z} h = sym (negℤ-negℤ z) ∙ ap negℤ h
 
 -- so with independent vectors of volume 0 every volume would be 0, also that of the three axes

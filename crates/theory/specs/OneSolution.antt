@@ -4,15 +4,15 @@ use mathlib.Core.Path.{_≡_, refl, sym, _∙_, ap}
 use mathlib.Core.Logic.{_≢_}
 use mathlib.Core.List.{List, [], _∷_}
 use Prim.Native.Nat.{ℕ, _<_}
-use lib.IntN.{ℤ, pos, negℤ, natAbs, _+ℤ_, _-ℤ_, _*ℤ_}
+use lib.IntN.{ℤ, pos, negℤ, natAbs, _*ℤ_}
 use lib.ListN.{length}
 use Rattle.whole.specs.Quote.{quotes, combine, times}
 use Rattle.whole.specs.Signs.{sgn, alike, cancel, natAbs-positive}
 use Rattle.meaning.specs.Pieces.{Event}
-use Rattle.meaning.specs.Equations.{one, total}
+use Rattle.meaning.specs.Equations.{one}
 use Rattle.theory.specs.Totals.{weights-times}
 use Rattle.theory.specs.Solved.{Solved, unitOf, size-is}
-use Rattle.theory.specs.Fractions.{Fraction, _≃_, Over, nonzero}
+use Rattle.theory.specs.Fractions.{Fraction, _≃_, nonzero}
 use Rattle.theory.specs.Rational.{Solves, AnyCommon, any-common, fraction, fractions-common, balanced-of, sum-of, solves-of}
 use Rattle.theory.specs.Balances.{balanced-times}
 

@@ -1,15 +1,15 @@
 -- The six equations with rational weights, as document 01 first says them, and what they have to do with whole weights: with the
 -- denominators cleared they are the same, so nonnegative rational weights exist exactly when whole ones do.
-use mathlib.Core.Path.{_≡_, refl, sym, _∙_, ap}
-use mathlib.Core.Logic.{_≢_, _↔_}
+use mathlib.Core.Path.{_≡_, refl, sym, _∙_}
+use mathlib.Core.Logic.{_↔_}
 use mathlib.Core.List.{List, [], _∷_}
-use Prim.Native.Nat.{ℕ, zero, suc, _*_, _<_}
+use Prim.Native.Nat.{ℕ, _*_, _<_}
 use native.Mathlib.Nat.{mul-pos}
 use lib.Dec.{ltb→lt, lt→ltb}
-use lib.IntN.{ℤ, pos, negsuc, natAbs, _+ℤ_, _-ℤ_, _*ℤ_, *ℤ-comm}
+use lib.IntN.{ℤ, pos, negsuc, natAbs, _*ℤ_, *ℤ-comm}
 use lib.ListN.{length}
 use lib.Signed.{_≤ℤ_, _<ℤ_, ltZ-yes}
-use Rattle.whole.specs.Quote.{quotes, ring, combine, times}
+use Rattle.whole.specs.Quote.{quotes, combine, times}
 use Rattle.whole.specs.Signs.{sign-transfer}
 use Rattle.meaning.specs.Pieces.{Event}
 use Rattle.meaning.specs.Equations.{one, xOf, yOf, zOf, timeOf, total, Balanced, Touch}

@@ -1,14 +1,14 @@
 -- Demand 2's words on a piece, in rational terms: where its six equations have one solution, it is hit exactly when nonnegative rational
 -- weights solve them, else miss; else degenerate. It is what the verdict of every piece of a scene says.
-use mathlib.Core.Path.{_≡_, refl, sym, subst}
+use mathlib.Core.Path.{_≡_, refl, subst}
 use mathlib.Core.Logic.{_≢_, _↔_}
 use Prim.Native.Nat.{ℕ, zero, suc, _/_, _%_, min, max}
-use lib.IntN.{ℤ, pos, ℤ-discrete}
+use lib.IntN.{pos, ℤ-discrete}
 use Rattle.whole.specs.Vector.{Vector}
 use Rattle.whole.specs.Cramer.{Four}
-use Rattle.meaning.specs.Scene.{Scene, startOf, endOf, endsOf, cornersOf}
-use Rattle.meaning.specs.Pieces.{Event, Piece, starting, ending, movingPoint, movingEdge, movingTriangle, pieceOf}
-use Rattle.meaning.specs.Equations.{determinantOf, Touches}
+use Rattle.meaning.specs.Scene.{Scene, endsOf, cornersOf}
+use Rattle.meaning.specs.Pieces.{Event, Piece, movingPoint, movingEdge, movingTriangle, pieceOf}
+use Rattle.meaning.specs.Equations.{determinantOf}
 use Rattle.meaning.specs.Verdicts.{PieceIs}
 use Rattle.meaning.specs.declared.Ends.{Ends}
 use Rattle.meaning.specs.declared.Corners.{Corners}

@@ -2,10 +2,10 @@
 -- in a second way, and that way, added to the solution, would give another one.
 use mathlib.Core.Path.{_≡_, refl, sym, _∙_, ap}
 use mathlib.Core.Logic.{_≢_, _↔_}
-use mathlib.Core.List.{List, [], _∷_, _++_}
-use Prim.Native.Nat.{ℕ, zero, suc, _<_}
+use mathlib.Core.List.{List, [], _∷_}
+use Prim.Native.Nat.{ℕ, _<_}
 use native.Mathlib.Omega.{arith}
-use lib.IntN.{ℤ, pos, negsuc, negℤ, _+ℤ_, _-ℤ_, _*ℤ_, +ℤ-idr, +ℤ-invr, negℤ-negℤ}
+use lib.IntN.{ℤ, pos, negsuc, negℤ, _+ℤ_, _-ℤ_, _*ℤ_, +ℤ-idr, +ℤ-invr}
 use lib.ListN.{length}
 use Rattle.whole.specs.Vector.{Vector, origin, minus, scale, volume}
 use Rattle.whole.specs.VectorLaws.{vector-eq, coordinates}
@@ -22,7 +22,7 @@ use Rattle.theory.specs.Bridge.{singular-is}
 use Rattle.theory.specs.Fractions.{nonzero}
 use Rattle.theory.specs.Rational.{Solves, AnyCommon, any-common, fraction, fractions-common, balanced-of, sum-of, solves-of}
 use Rattle.theory.specs.Balances.{balanced-plus}
-use Rattle.theory.specs.Independence.{Relation, Independent, independent-volume}
+use Rattle.theory.specs.Independence.{unminus, Relation, Independent, independent-volume}
 use Rattle.theory.specs.OneSolution.{OneSolution, one-solution}
 
 -- ---- with one solution, weights that balance and sum to 0 are all 0
@@ -84,13 +84,11 @@ closed-factor : (form : Form) (l m n : ℤ) → factor form (closed (lead form) 
 unfolding closed
 closed-factor form l m n = factor-lead form _ ∙ +ℤ-invr (lead form *ℤ l +ℤ m +ℤ n)
 
--- the first three of four numbers, read back from the weights that they spread to
-unminus : {z : ℤ} → negℤ z ≡ pos 0 → z ≡ pos 0
-unminus {z} h = sym (negℤ-negℤ z) ∙ ap negℤ h
-
+-- no weight of the points that are there
 abbrev There : List Event → List ℤ → Type 0
 There l w = (i : ℕ) → i < length l → weightsOf w i ≡ pos 0
 
+-- then the first three of the four numbers that spread to these weights are 0
 numbers-none : (form : Form) (p q : Vector) (o : Four Event) (n : Four ℤ) → There (formed form p q o .first) (firstNumbers form o n) → There (formed form p q o .second) (secondNumbers form n) → (n .v0 ≡ pos 0) × (n .v1 ≡ pos 0) × (n .v2 ≡ pos 0)
 unfolding formed firstNumbers secondNumbers
 numbers-none alone p q o n f s = (s 0 (omega arith), s 1 (omega arith), s 2 (omega arith))

@@ -9,7 +9,7 @@ use mathlib.Core.List.{List, [], _∷_}
 use lib.IntN.{ℤ, pos, negsuc, natAbs, _+ℤ_, _*ℤ_, *ℤ-zero}
 use lib.ListN.{length}
 use lib.Dec.{le→leb, lt→ltb}
-use lib.Signed.{_≤ℤ_, _<ℤ_, leZ-yes, ltZ-yes}
+use lib.Signed.{_≤ℤ_, leZ-yes, ltZ-yes}
 use Rattle.whole.specs.Laws.{*ℤ-idl}
 use Rattle.whole.specs.Signs.{Sgn, positive, nought, negative, sgn, Agrees, none, alike, sign-transfer, natAbs-positive}
 use Rattle.meaning.specs.Pieces.{Event}
