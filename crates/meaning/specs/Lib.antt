@@ -7,3 +7,7 @@ pub mod Verdicts
 pub mod Refusals
 pub mod Boxes
 pub mod Motion
+pub mod List
+pub mod Judging
+pub mod Text
+pub mod Report

@@ -53,3 +53,28 @@ pub struct Corners {
     pub middle: usize,
     pub high: usize,
 }
+
+// What a made list is: how many entries it has.
+pub struct Made {
+    pub count: usize,
+}
+
+// The answer to a call that makes or counts the list. A refusal carries the count needed where it is NoRoom, else 0.
+pub enum ListAnswer {
+    Listed(Made),
+    Refused(Refusal, usize),
+}
+
+// How many vertices, edges and triangles a scene has.
+pub struct SceneCounts {
+    pub vertices: usize,
+    pub edges: usize,
+    pub triangles: usize,
+}
+
+// The answer to "read this text": the counts of the scene that now stands in the lent buffers, or a refusal with its line (0 where it
+// has none).
+pub enum TextAnswer {
+    Read(SceneCounts),
+    Refused(Refusal, usize),
+}

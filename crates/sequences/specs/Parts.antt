@@ -1,12 +1,12 @@
 -- Laws of take, drop, ++ and set that lib.ListN and lib.Seq lack, at i + 1 as code writes it, and the part of a list that stands between two places.
-use mathlib.Core.List.{List, [], _∷_, _++_, append-assoc, append-nil, append-cancel-left, append-cancel-right}
-use mathlib.Core.Path.{_≡_, refl, sym, ap, _∙_}
-use Prim.Native.Nat.{ℕ, zero, suc, _+_, _-_, _≤_, _<_, min}
+use mathlib.Core.List.{List, [], _∷_, _++_}
+use mathlib.Core.Path.{_≡_, refl, sym, _∙_}
+use Prim.Native.Nat.{ℕ, _+_, _-_, _≤_, _<_}
 use native.Mathlib.Nat.{suc-inj, suc-ne-zero}
 use native.Mathlib.Numerals.{add-one}
 use native.Mathlib.Omega.{arith}
-use lib.ListN.{length, take, drop, getD, set, length-append, length-drop, length-take, take-append-drop}
-use lib.Seq.{take-suc, drop-cons, take-suc-set, drop-set-lt, take-set-le, drop-drop, take-take, lt-length-set, getD-set-same}
+use lib.ListN.{length, take, drop, getD, set, take-append-drop}
+use lib.Seq.{take-suc, drop-cons, take-suc-set, drop-set-lt, drop-drop, take-take, lt-length-set, getD-set-same}
 
 module _ {ℓ} {A : Type ℓ} where
   -- ---- one element more, at i + 1

@@ -1,7 +1,7 @@
 -- A choice by a test. Definitions by tests are chains of it, and code that branches mirrors them.
-use mathlib.Core.Bool.{Bool, true, false, not, _&&_, _||_}
+use mathlib.Core.Bool.{Bool, true, false, not, _&&_, _||_, true≢false, false≢true}
 use mathlib.Core.Logic.{_⊎_, inl, inr}
-use mathlib.Core.Path.{_≡_, refl, sym, ap}
+use mathlib.Core.Path.{_≡_, refl}
 
 abbrev pub pick {ℓ} : {A : Type ℓ} → Bool → A → A → A
 pick true a b = a
@@ -10,6 +10,26 @@ pick false a b = b
 pub either : (t : Bool) → (t ≡ true) ⊎ (t ≡ false)
 either true = inl refl
 either false = inr refl
+
+-- ---- tests that are joined
+
+pub both : (s t : Bool) → s && t ≡ true → (s ≡ true) × (t ≡ true)
+both true t e = (refl, e)
+both false t e = absurd (false≢true e)
+
+pub not-both : (s t : Bool) → s && t ≡ false → (s ≡ false) ⊎ ((s ≡ true) × (t ≡ false))
+not-both true t e = inr (refl, e)
+not-both false t e = inl refl
+
+pub neither : (s t : Bool) → s || t ≡ false → (s ≡ false) × (t ≡ false)
+neither true t e = absurd (true≢false e)
+neither false t e = (refl, e)
+
+pub one-of : (s t : Bool) → s || t ≡ true → (s ≡ true) ⊎ ((s ≡ false) × (t ≡ true))
+one-of true t e = inl refl
+one-of false t e = inr (refl, e)
+
+-- ---- choice
 
 module _ {ℓ} {A : Type ℓ} where
   pub pick-true : {t : Bool} (a b : A) → t ≡ true → pick t a b ≡ a

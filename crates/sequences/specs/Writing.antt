@@ -7,7 +7,7 @@ use native.Mathlib.Omega.{arith}
 use lib.ListN.{length, take, drop, set, length-append, length-take, length-set, take-append-drop}
 use lib.Seq.{length-take-le, take-set-le, take-add, drop-drop, take-append-seam, drop-append-seam}
 use Rattle.sequences.specs.Parts.{take-less, drop-more, drop-set-here}
-use Rattle.sequences.specs.Wrote.{Wrote, wrote-one, wrote-front, written}
+use Rattle.sequences.specs.Wrote.{Wrote, wrote-one, written}
 
 module _ {ℓ} {A : Type ℓ} where
   -- ---- going up
@@ -95,6 +95,9 @@ module _ {ℓ} {A : Type ℓ} where
         same = length-set o (n - 1) a ∙ w .same;
         room = (omega (arith, w .room), rw length-set (omega (arith, w .room)));
       }
+
+  pub down-as : {o₀ want o rest other : List A} {n : ℕ} → rest ≡ other → WritingDown o₀ want o n rest → WritingDown o₀ want o n other
+  down-as e w = rw e at w
 
   pub down-ends : {o₀ l o : List A} {at m : ℕ} → m ≡ at + length l → WritingDown o₀ (l ++ drop m o₀) o at [] → Wrote o₀ at l o m
   down-ends {o₀} {l} {o} {at} {m} e w =

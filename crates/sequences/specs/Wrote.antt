@@ -6,7 +6,7 @@ use native.Mathlib.Nat.{zero-add, add-assoc}
 use native.Mathlib.Omega.{arith}
 use lib.ListN.{length, take, drop, getD, set, length-append, length-take, length-drop, length-set, take-append-drop, List·getD-append}
 use lib.Seq.{take-at, drop-at, length-take-le, take-append-seam, drop-append-seam, getD-append-add, getD-drop}
-use Rattle.sequences.specs.Parts.{take-next-set, drop-next-set, parts-unique, drop-more}
+use Rattle.sequences.specs.Parts.{take-next-set, drop-next-set, drop-more}
 
 module _ {ℓ} {A : Type ℓ} where
   -- the list l was written into the buffer o from the place n on: now the buffer is o′, and m is the place behind l

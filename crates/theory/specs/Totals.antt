@@ -1,7 +1,7 @@
 -- Laws of the weighted sum `total`, over points of any kind: it is linear in what is summed and linear in the weights.
 use mathlib.Core.Path.{_≡_, refl, sym, _∙_, ap, fun-ext}
 use mathlib.Core.List.{List, [], _∷_, _++_, map}
-use Prim.Native.Nat.{ℕ, zero, suc, _+_}
+use Prim.Native.Nat.{ℕ, suc, _+_}
 use native.Mathlib.Nat.{suc-add, zero-add}
 use lib.IntN.{ℤ, pos, _+ℤ_, _*ℤ_, +ℤ-idl, +ℤ-assoc, *ℤ-zero}
 use lib.ListN.{length}

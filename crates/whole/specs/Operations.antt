@@ -1,10 +1,11 @@
 -- A big polynomial is written once, over a record of operations, and used at ℤ and at the expressions of the normaliser.
 -- The determinant is written so: `determinant` is the one at ℤ, and `det-hom` says that the expression is worth it.
-use mathlib.Core.Path.{_≡_, refl, ap}
+use mathlib.Core.Path.{_≡_, refl, sym, _∙_, ap}
 use mathlib.Core.List.{List, [], _∷_, _++_, map}
-use Prim.Native.Nat.{ℕ}
+use Prim.Native.Nat.{ℕ, zero, suc}
+use lib.ListN.{getD}
 use lib.IntN.{ℤ, pos, negℤ, _+ℤ_, _-ℤ_, _*ℤ_}
-use Rattle.whole.specs.Ring.{Expr, con, add, mul, neg, eval}
+use Rattle.whole.specs.Ring.{Expr, con, var, add, mul, neg, eval, norm, solve}
 
 pub record Ops : Type 1 where
   pub R : Type 0
@@ -52,16 +53,39 @@ module _ (e : List ℤ) {C D : Type 0} (g : C → D) where
   expand-hom r r′ m m′ h k p [] = refl
   expand-hom r r′ m m′ h k p (c ∷ l) = simp (h, k, map-append, expand-hom r r′ m m′ h k (p ++ (c ∷ [])) l)
 
-  pub det-hom : {rows : List (C → Expr)} {rows′ : List (D → ℤ)} → Alike e g rows rows′ → (columns : List C) → eval e (determinantIn exprs rows columns) ≡ determinant rows′ (map g columns)
+  pub det-hom : (rows : List (C → Expr)) (rows′ : List (D → ℤ)) → Alike e g rows rows′ → (columns : List C) → eval e (determinantIn exprs rows columns) ≡ determinant rows′ (map g columns)
   unfolding determinantIn
-  det-hom none columns = refl
-  det-hom (more {r = r} {r′ = r′} {rs = rs} {rs′ = rs′} h hs) columns = expand-hom r r′ (determinantIn exprs rs) (determinantIn wholes rs′) h (det-hom hs) [] columns
+  det-hom rows rows′ none columns = refl
+  det-hom rows rows′ (more {r = r} {r′ = r′} {rs = rs} {rs′ = rs′} h hs) columns =
+      expand-hom r r′ (determinantIn exprs rs) (determinantIn wholes rs′) h (det-hom rs rs′ hs) [] columns
 
--- ---- shown at work: rows as lists, the i-th column's entry being the i-th of the row
+  -- a determinant is worth an expression with its normal form; used with `refl` and `unfolding determinantIn expandIn`
+  pub det-solve : (rows : List (C → Expr)) (rows′ : List (D → ℤ)) → Alike e g rows rows′ → (columns : List C) (b : Expr) → norm (determinantIn exprs rows columns) ≡ norm b → determinant rows′ (map g columns) ≡ eval e b
+  det-solve rows rows′ h columns b k = sym (det-hom rows rows′ h columns) ∙ solve e (determinantIn exprs rows columns) b k
+
+-- ---- rows given as lists, the i-th column's entry being the i-th of the row
 
 abbrev pub entry : List ℤ → ℕ → ℤ
-entry row i = lib.ListN.getD row i (pos 0)
+entry row i = getD row i (pos 0)
 
+abbrev pub entryExpr : List Expr → ℕ → Expr
+entryExpr row i = getD row i (con (pos 0))
+
+pub entry-hom : (e : List ℤ) (row : List Expr) (i : ℕ) → eval e (entryExpr row i) ≡ entry (map (eval e) row) i
+entry-hom e [] i = refl
+entry-hom e (a ∷ row) zero = refl
+entry-hom e (a ∷ row) (suc i) = entry-hom e row i
+
+-- shown at work
 two-by-two : determinant (entry (pos 3 ∷ pos 5 ∷ []) ∷ entry (pos 2 ∷ pos 4 ∷ []) ∷ []) (0 ∷ 1 ∷ []) ≡ pos 2
 unfolding determinantIn expandIn
 two-by-two = refl
+
+by-det-solve : (a b c d : ℤ) → determinant (entry (a ∷ b ∷ []) ∷ entry (c ∷ d ∷ []) ∷ []) (0 ∷ 1 ∷ []) ≡ a *ℤ d -ℤ b *ℤ c
+unfolding determinantIn expandIn
+by-det-solve a b c d =
+    let e : List ℤ = a ∷ b ∷ c ∷ d ∷ [] in
+    let r : List Expr = var 0 ∷ var 1 ∷ [] in
+    let s : List Expr = var 2 ∷ var 3 ∷ [] in
+    det-solve e (λ i. i) (entryExpr r ∷ entryExpr s ∷ []) (entry (a ∷ b ∷ []) ∷ entry (c ∷ d ∷ []) ∷ [])
+    (more (entry-hom e r) (more (entry-hom e s) none)) (0 ∷ 1 ∷ []) (add (mul (var 0) (var 3)) (neg (mul (var 1) (var 2)))) refl

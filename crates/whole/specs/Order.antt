@@ -169,3 +169,14 @@ squares a b h k =
     let d : pos 0 ≤ℤ (b -ℤ a) = le e (search quotes depth 40 fits 9000) (omega (arith, ord)) in
     let s : pos 0 ≤ℤ (b +ℤ a) = le e (search quotes depth 40 fits 9000) (omega (arith, ord)) in
     le e (search quotes depth 40 fits 9000) (omega (arith, of-le e (search quotes depth 40 fits 9000) (nn-mul (b -ℤ a) (b +ℤ a) d s)))
+
+from-an-equation : (a b c : ℤ) → a +ℤ b ≡ c +ℤ c → a <ℤ c → c <ℤ b
+from-an-equation a b c h k =
+    let e : List ℤ = a ∷ b ∷ c ∷ [] in
+    lt e (search quotes depth 40 fits 9000) (omega (arith, ord, of-eq e (search quotes depth 40 fits 9000) h))
+
+squeezed : (a b : ℤ) → (a +ℤ a) ≤ℤ (b +ℤ b) → (b +ℤ b) <ℤ (a +ℤ a +ℤ pos 1) → a ≡ b
+squeezed a b h k =
+    let e : List ℤ = a ∷ b ∷ [] in
+    eq e (search quotes depth 40 fits 9000)
+    (omega (arith, of-le e (search quotes depth 40 fits 9000) h, of-lt e (search quotes depth 40 fits 9000) k))

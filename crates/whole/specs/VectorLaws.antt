@@ -2,9 +2,11 @@
 use mathlib.Core.Path.{_≡_, refl, sym, _∙_, ap}
 use mathlib.Core.List.{List, [], _∷_}
 use mathlib.Core.Logic.{_≢_}
-use lib.IntN.{ℤ, pos, negℤ, _+ℤ_, _-ℤ_, _*ℤ_, zero-*ℤ}
-use Rattle.whole.specs.Laws.{zero-factor}
+use Prim.Native.Nat.{ℕ}
+use lib.IntN.{ℤ, pos, negℤ, _+ℤ_, _-ℤ_, _*ℤ_, *ℤ-zero}
+use Rattle.whole.specs.Laws.{cancel-factor}
 use Rattle.whole.specs.Quote.{ring, quotes}
+use Rattle.whole.specs.Operations.{entry, determinant, determinantIn, expandIn}
 use Rattle.whole.specs.Vector.{Vector, origin, plus, scale, volume}
 
 pub vector-eq : {a b : Vector} → a .x ≡ b .x → a .y ≡ b .y → a .z ≡ b .z → a ≡ b
@@ -15,7 +17,7 @@ abbrev pub coordinates : List Vector → List ℤ
 coordinates [] = []
 coordinates (v ∷ vs) = v .x ∷ v .y ∷ v .z ∷ coordinates vs
 
--- linear in the first place, and so in the others, by turning
+-- turned; with two in each other's place; linear in the first place
 module _ (a b c : Vector) where
   pub cycle : volume a b c ≡ volume b c a
   unfolding volume
@@ -36,6 +38,38 @@ module _ (a b c : Vector) where
 pub twice : (a b : Vector) → volume a a b ≡ pos 0
 unfolding volume
 twice a b = ring (coordinates (a ∷ b ∷ [])) (search quotes depth 40 fits 9000) refl
+
+-- linear in the other two places, and 0 with the same vector in them, by turning
+pub additive-second : (a b c d : Vector) → volume d (plus a b) c ≡ volume d a c +ℤ volume d b c
+additive-second a b c d =
+    cycle d (plus a b) c ∙ additive a b c d ∙ ap (λ n. n +ℤ volume b c d) (sym (cycle d a c)) ∙ ap (λ n. volume d a c +ℤ n) (sym (cycle d b c))
+
+pub additive-third : (a b c d : Vector) → volume c d (plus a b) ≡ volume c d a +ℤ volume c d b
+additive-third a b c d =
+    cycle c d (plus a b) ∙ additive-second a b c d ∙ ap (λ n. n +ℤ volume d b c) (sym (cycle c d a)) ∙ ap (λ n. volume c d a +ℤ n) (sym (cycle c d b))
+
+pub homogeneous-second : (a b c : Vector) (k : ℤ) → volume c (scale k a) b ≡ k *ℤ volume c a b
+homogeneous-second a b c k = cycle c (scale k a) b ∙ homogeneous a b c k ∙ ap (λ n. k *ℤ n) (sym (cycle c a b))
+
+pub homogeneous-third : (a b c : Vector) (k : ℤ) → volume b c (scale k a) ≡ k *ℤ volume b c a
+homogeneous-third a b c k = cycle b c (scale k a) ∙ homogeneous-second a b c k ∙ ap (λ n. k *ℤ n) (sym (cycle b c a))
+
+pub twice-last : (a b : Vector) → volume b a a ≡ pos 0
+twice-last a b = cycle b a a ∙ twice a b
+
+pub twice-ends : (a b : Vector) → volume a b a ≡ pos 0
+twice-ends a b = cycle a b a ∙ twice-last a b
+
+pub swap-last : (a b c : Vector) → volume a b c ≡ negℤ (volume a c b)
+swap-last a b c = cycle a b c ∙ swap b c a ∙ ap negℤ (cycle c b a ∙ cycle b a c)
+
+-- the volume is the determinant of the three as rows
+abbrev pub row : Vector → ℕ → ℤ
+row v = entry (v .x ∷ v .y ∷ v .z ∷ [])
+
+pub volume-is : (a b c : Vector) → volume a b c ≡ determinant (row a ∷ row b ∷ row c ∷ []) (0 ∷ 1 ∷ 2 ∷ [])
+unfolding volume determinantIn expandIn
+volume-is a b c = ring (coordinates (a ∷ b ∷ c ∷ [])) (search quotes depth 40 fits 9000) refl
 
 -- ---- a linear map
 
@@ -65,7 +99,7 @@ pub grows : (m : Matrix) (u v w : Vector) → volume (apply m u) (apply m v) (ap
 unfolding volume
 grows m u v w = ring (coordinates (m .a ∷ m .b ∷ m .c ∷ u ∷ v ∷ w ∷ [])) (search quotes depth 40 fits 90000) refl
 
--- what the map does is undone up to its determinant, so that a map whose determinant is not 0 sends only the origin to the origin
+-- what the map does is undone up to its determinant, so that a map whose determinant is not 0 is one to one
 abbrev pub undo : Matrix → Vector → Vector
 undo m v = plus (plus (scale (v .x) (cross (m .b) (m .c))) (scale (v .y) (cross (m .c) (m .a)))) (scale (v .z) (cross (m .a) (m .b)))
 
@@ -76,14 +110,16 @@ undoes m v = vector-eq
     (ring (coordinates (m .a ∷ m .b ∷ m .c ∷ v ∷ [])) (search quotes depth 40 fits 9000) refl)
     (ring (coordinates (m .a ∷ m .b ∷ m .c ∷ v ∷ [])) (search quotes depth 40 fits 9000) refl)
 
-pub undo-origin : (m : Matrix) → undo m origin ≡ origin
-undo-origin m = vector-eq (simp zero-*ℤ) (simp zero-*ℤ) (simp zero-*ℤ)
+pub one-to-one : (m : Matrix) (u v : Vector) → det m ≢ pos 0 → apply m u ≡ apply m v → u ≡ v
+one-to-one m u v h k =
+    vector-eq (same (u .x) (v .x) (ap (λ (w : Vector). w .x) scaled)) (same (u .y) (v .y) (ap (λ (w : Vector). w .y) scaled))
+    (same (u .z) (v .z) (ap (λ (w : Vector). w .z) scaled))
+  where
+    scaled : scale (det m) u ≡ scale (det m) v
+    scaled = sym (undoes m u) ∙ ap (undo m) k ∙ undoes m v
+
+    same : (a b : ℤ) → det m *ℤ a ≡ det m *ℤ b → a ≡ b
+    same a b = cancel-factor (det m) a b h
 
 pub only-origin : (m : Matrix) (v : Vector) → det m ≢ pos 0 → apply m v ≡ origin → v ≡ origin
-only-origin m v h k = vector-eq (gone (v .x) (ap (λ (w : Vector). w .x) none)) (gone (v .y) (ap (λ (w : Vector). w .y) none)) (gone (v .z) (ap (λ (w : Vector). w .z) none))
-  where
-    none : scale (det m) v ≡ origin
-    none = sym (undoes m v) ∙ ap (undo m) k ∙ undo-origin m
-
-    gone : (n : ℤ) → det m *ℤ n ≡ pos 0 → n ≡ pos 0
-    gone n = zero-factor (det m) n h
+only-origin m v h k = one-to-one m v origin h (k ∙ sym (vector-eq (simp *ℤ-zero) (simp *ℤ-zero) (simp *ℤ-zero)))

@@ -1,0 +1,3 @@
+-- What the determinants of places in the positions mean, and how large they can be.
+pub mod Limits
+pub mod Places
