@@ -8,3 +8,5 @@ pub mod Alike
 pub mod Determinants
 pub mod Rearranged
 pub mod SamePoints
+pub mod Written
+pub mod EitherOrder
