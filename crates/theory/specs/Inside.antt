@@ -54,7 +54,7 @@ module _ (s : Scene) (a : Axis) where
 
 -- ---- pieces
 
-cond-keeps : {A : Type 0} (Q : A → Type 0) (c : Bool) (x y : A) → Q x → Q y → Q (cond c x y)
+pub cond-keeps : {A : Type 0} (Q : A → Type 0) (c : Bool) (x y : A) → Q x → Q y → Q (cond c x y)
 cond-keeps Q true x y p q = p
 cond-keeps Q false x y p q = q
 

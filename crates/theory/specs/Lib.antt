@@ -10,3 +10,4 @@ pub mod Rearranged
 pub mod SamePoints
 pub mod Written
 pub mod EitherOrder
+pub mod NoCrack
