@@ -11,3 +11,14 @@ pub mod SamePoints
 pub mod Written
 pub mod EitherOrder
 pub mod NoCrack
+pub mod Differences
+pub mod Solved
+pub mod Spread
+pub mod Gathered
+pub mod Shapes
+pub mod Agreement
+pub mod Reading
+pub mod Symbols
+pub mod Bridge
+pub mod Judged
+pub mod SevenPieces
