@@ -9,3 +9,5 @@ pub mod Boxes
 pub mod Motion
 pub mod List
 pub mod Judging
+pub mod Text
+pub mod Report

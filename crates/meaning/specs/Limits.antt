@@ -16,6 +16,10 @@ triangleLimit = 512
 abbrev pub textLimit : ℕ
 textLimit = 32_768
 
+-- a number in a text is one to nine digits
+abbrev pub digitLimit : ℕ
+digitLimit = 9
+
 -- the pairs that the report program has room for
 abbrev pub reportRoom : ℕ
 reportRoom = 2_048

@@ -64,3 +64,17 @@ pub enum ListAnswer {
     Listed(Made),
     Refused(Refusal, usize),
 }
+
+// How many vertices, edges and triangles a scene has.
+pub struct SceneCounts {
+    pub vertices: usize,
+    pub edges: usize,
+    pub triangles: usize,
+}
+
+// The answer to "read this text": the counts of the scene that now stands in the lent buffers, or a refusal with its line (0 where it
+// has none).
+pub enum TextAnswer {
+    Read(SceneCounts),
+    Refused(Refusal, usize),
+}

@@ -54,5 +54,9 @@ module _ {ℓ} {A : Type ℓ} where
   stands-inside {s} {l} {n} {m} h w =
       omega (arith, w .place, simp (length-append, length-drop) at (ap length (w .here)))
 
+  pub stands-inside-some : {s l : List A} {n m : ℕ} → 0 < length l → Stands s n l m → m ≤ length s
+  stands-inside-some {s} {l} {n} {m} h w =
+      omega (arith, w .place, simp (length-append, length-drop) at (ap length (w .here)))
+
   pub stands-at : {s l : List A} {n m : ℕ} (i : ℕ) (d : A) → Stands s n l m → i < length l → getD s (n + i) d ≡ getD l i d
   stands-at {s} {l} {n} {m} i d w h = cc (getD-drop n s i d, w .here, List·getD-append l (drop m s) d i h)

@@ -93,7 +93,7 @@ determinantˣ columns = determinantIn exprs equationsˣ columns
 
 pub determinant-worth : (e : List ℤ) (columns : List Unknownˣ) → eval e (determinantˣ columns) ≡ Meaning.determinant equations (map (unknownAt e) columns)
 determinant-worth e columns =
-    det-hom e (unknownAt e) (equations-worth e) columns ∙ sym (determinant-same equations (map (unknownAt e) columns))
+    det-hom e (unknownAt e) equationsˣ equations (equations-worth e) columns ∙ sym (determinant-same equations (map (unknownAt e) columns))
 
 -- ---- differences, and their volumes
 

@@ -1,0 +1,2 @@
+-- The loops of this crate, as laws over lists and numbers.
+pub mod Scan

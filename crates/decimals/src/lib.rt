@@ -1,0 +1,71 @@
+// The decimal digits of a number, read from bytes and written into them.
+ghost use Prim.Native.Nat.{_+_, _≤_};
+ghost use lib.ListN.{length};
+ghost use mathlib.Core.Path.{_≡_};
+ghost use Rattle.decimals.specs.Byte.{byteAt, digitTest};
+ghost use Rattle.decimals.specs.Digits.{digits};
+ghost use Rattle.decimals.specs.Number.{numberAt};
+ghost use Rattle.decimals.specs.Reading.{RunFrom};
+ghost use Rattle.sequences.specs.Wrote.{Wrote};
+
+// What reading a number finds: its value and the place behind it, or that no number of the right form stands there.
+pub enum NumberRead {
+    Number { value: u64, next: usize },
+    Bad,
+}
+
+// A run of digits: what it is worth, and the place behind it.
+struct Run {
+    worth: u64,
+    next: usize,
+}
+
+// The byte at a place, which is 0 past the end.
+pub fn byte_at(bytes: &[u8], at: usize) -> u8
+    ensures { λ r. ⌜ r ≡ byteAt (now (bytes .entry)) at ⌝ }
+{
+    if at < bytes.len() { bytes[at] } else { 0 }
+}
+
+pub fn is_digit(byte: u8) -> bool
+    ensures { λ r. ⌜ r ≡ digitTest byte ⌝ }
+{
+    (48 <= byte) & (byte <= 57)
+}
+
+// The longest run of digits from a place on, of at most limit digits.
+fn run_from(bytes: &[u8], at: usize, limit: usize) -> Run
+    requires { ⌜ limit ≤ 19 ⌝ }
+    ensures { λ r. ⌜ RunFrom (now (bytes .entry)) at limit (r .worth) (r .next) ⌝ }
+{
+    let mut worth: u64 = 0;
+    let mut next = at;
+    let mut left = limit;
+    while left > 0 {
+        let byte = byte_at(bytes, next);
+        if !is_digit(byte) {
+            break;
+        }
+        worth = worth * 10 + (byte as u64 - 48);
+        next += 1;
+        left -= 1;
+    }
+    Run { worth, next }
+}
+
+// The number that stands from a place on in at most limit digits. Whoever calls it looks at the byte behind it: one digit too many stands there.
+pub fn read_number(bytes: &[u8], at: usize, limit: usize) -> NumberRead
+    requires { ⌜ limit ≤ 19 ⌝ }
+    ensures { λ r. ⌜ r ≡ numberAt (now (bytes .entry)) at limit ⌝ }
+{
+    let run = run_from(bytes, at, limit);
+    let value = run.worth;
+    let next = run.next;
+    let count = next - at;
+    let first = byte_at(bytes, at);
+    if (0 < count) & ((count <= 1) | (48 < first)) {
+        NumberRead::Number { value, next }
+    } else {
+        NumberRead::Bad
+    }
+}

@@ -1,0 +1,4 @@
+-- Numbers and fields in a text: where they end, what a reader of them promises, and that only one answer meets the promise.
+pub mod Numerals
+pub mod Field
+pub mod Rows

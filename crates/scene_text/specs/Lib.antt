@@ -1,0 +1,3 @@
+-- Texts of scenes: that the meaning of a text is one, that a scene read from one is accepted, and what the reader's functions promise.
+pub mod Lines
+pub mod Unique

@@ -1,0 +1,30 @@
+-- From the check of a scene to an accepted scene and back, and the checks that come after the four.
+use mathlib.Core.List.{List, _∷_, [], _++_}
+use mathlib.Core.Path.{_≡_}
+use Rattle.meaning.specs.Scene.{Scene, Accepted}
+use Rattle.meaning.specs.Refusals.{Outcome, refused, given, numberOf, Check, Answers, sceneSays, sceneChecks, SceneChecked}
+use Rattle.meaning.specs.declared.Refusal.{Refusal}
+use Rattle.meaning.specs.declared.SceneAnswer as SceneAnswers
+use Rattle.scenes.specs.Answering.{is-given, refused-before, given-before}
+
+pub accepted-checked : (s : Scene) → Accepted s → SceneChecked s SceneAnswers.the-variants.Accepted
+unfolding Answers sceneSays
+accepted-checked s a = rw (a .shapely, a .inRange, a .known, a .distinct) tt
+
+pub checked-accepted : (s : Scene) → SceneChecked s SceneAnswers.the-variants.Accepted → Accepted s
+unfolding sceneSays
+checked-accepted s a =
+    let (h1, a1) = is-given (λ t. Unit {0}) _ _ tt a in
+    let (h2, a2) = is-given (λ t. Unit {0}) _ _ tt a1 in
+    let (h3, a3) = is-given (λ t. Unit {0}) _ _ tt a2 in
+    let (h4, a4) = is-given (λ t. Unit {0}) _ _ tt a3 in
+    record { shapely = h1; inRange = h2; known = h3; distinct = h4 }
+
+module _ {A : Type 0} (s : Scene) (more : List Check) (Right : A → Type 0) where
+  pub after-accepted : (o : Outcome A) → Accepted s → Answers more Right o → Answers (sceneChecks s ++ more) Right o
+  unfolding sceneSays
+  after-accepted o a p = given-before (λ t. Unit {0}) Right (sceneChecks s) more tt o (accepted-checked s a) p
+
+  pub after-refused : (x : Refusal) → SceneChecked s (SceneAnswers.the-variants.Refused x) → Answers (sceneChecks s ++ more) Right (refused (numberOf x) 0)
+  unfolding sceneSays
+  after-refused x p = refused-before (λ t. Unit {0}) Right (sceneChecks s) more (numberOf x) 0 p

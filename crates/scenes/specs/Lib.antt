@@ -1,0 +1,9 @@
+-- Accepted scenes: what the four checks give to whoever passes them, and how an answer is built on them.
+pub mod Below
+pub mod Scanning
+pub mod Answering
+pub mod Speaking
+pub mod Alone
+pub mod Accepting
+pub mod Facts
+pub mod Rising
