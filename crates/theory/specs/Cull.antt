@@ -38,7 +38,7 @@ culled-on s kind i j h = go (shares s kind i j) (meetOn s kind i j xAxis) (meetO
     go false true true false p q r h = onZ r
     go false true true true p q r h = absurd (false≢true h)
 
-lower-first : (P : ℕ → ℕ → Type 0) (i j : ℕ) → P i j → P j i → P (min i j) (max i j)
+pub lower-first : (P : ℕ → ℕ → Type 0) (i j : ℕ) → P i j → P j i → P (min i j) (max i j)
 lower-first P i j h k = go (decLe i j)
   where
     go : Dec (i ≤ j) → P (min i j) (max i j)

@@ -22,3 +22,6 @@ pub mod Symbols
 pub mod Bridge
 pub mod Judged
 pub mod SevenPieces
+pub mod Sent
+pub mod SentPieces
+pub mod Moved
