@@ -2,7 +2,10 @@
 pub mod Totals
 pub mod Bounds
 pub mod Spans
+pub mod Joints
+pub mod InOrder
 pub mod Inside
+pub mod MovingParts
 pub mod Cull
 pub mod Alike
 pub mod Determinants
@@ -11,6 +14,8 @@ pub mod SamePoints
 pub mod Written
 pub mod EitherOrder
 pub mod NoCrack
+pub mod AnyOrder
+pub mod Rewritten
 pub mod Differences
 pub mod Solved
 pub mod Spread

@@ -5,14 +5,14 @@ use mathlib.Core.List.{List, [], _∷_}
 use Prim.Native.Nat.{ℕ, zero, suc, _<_}
 use native.Mathlib.Omega.{arith}
 use lib.IntN.{ℤ, pos, _+ℤ_, _*ℤ_, +ℤ-idl, zero-*ℤ}
-use Rattle.meaning.specs.Scene.{Scene, edgeEnd, corner, before, among, endsOf, cornersOf}
+use Rattle.meaning.specs.Scene.{Scene, edgeEnd, before, among, endsOf, cornersOf}
 use Rattle.meaning.specs.Pieces.{Event, movingEdge, movingTriangle}
 use Rattle.meaning.specs.Equations.{total, one, xOf, yOf, zOf, timeOf, Touch}
 use Rattle.meaning.specs.declared.Ends.{Ends}
 use Rattle.meaning.specs.declared.Corners.{Corners}
-use Rattle.theory.specs.Inside.{cond-keeps}
+use Rattle.theory.specs.InOrder.{cond-keeps}
 use Rattle.theory.specs.Rearranged.{Rearranged, rearranged-back}
-use Rattle.theory.specs.Written.{Different, different-rearranged, corners-any-order}
+use Rattle.theory.specs.Written.{cornersWritten, Different, different-rearranged, corners-any-order}
 
 -- the list without its i-th element
 unfoldable pub without {ℓ} : {A : Type ℓ} → ℕ → List A → List A
@@ -49,10 +49,6 @@ among-has-edge : (s : Scene) (e : Ends) (c : ℕ) → EdgeOf (among s e c) e
 among-has-edge s e c =
     let Q : Corners → Type 0 = λ (k : Corners). EdgeOf k e in
     cond-keeps Q (before s c (e .low)) _ _ middleHigh (cond-keeps Q (before s c (e .high)) _ _ lowHigh lowMiddle)
-
--- the corners of triangle t, as the scene writes them
-abbrev pub cornersWritten : Scene → ℕ → List ℕ
-cornersWritten s t = corner s t 0 ∷ corner s t 1 ∷ corner s t 2 ∷ []
 
 -- triangle t has edge j: its corners are the edge's ends and one more vertex, in any order
 pub record HasEdge (s : Scene) (t j : ℕ) : Type 0 where

@@ -21,6 +21,7 @@ use Rattle.theory.specs.Differences.{baseAt, difference, differences, at
 use Rattle.theory.specs.Spread.{factor}
 use Rattle.theory.specs.Bridge.{singular-is}
 use Rattle.theory.specs.Alike.{Alike}
+use Rattle.theory.specs.MovingParts.{mapped}
 use Rattle.theory.specs.Sent.{sent, touch-there, touch-back}
 
 -- ---- the differences and the volumes
@@ -60,7 +61,7 @@ product-zero k n h = (λ e. cancel-factor k n (pos 0) h (e ∙ sym (*ℤ-zero k)
 -- ---- the pieces
 
 abbrev pub sentPiece : Matrix → Vector → Vector → Piece → Piece
-sentPiece m a b p = record { first = map (sent m a b) (p .first); second = map (sent m a b) (p .second) }
+sentPiece m a b p = mapped (sent m a b) p
 
 base-start : (a b : ℤ) → (pos 1 -ℤ pos 0) *ℤ a +ℤ pos 0 *ℤ b ≡ a
 base-start a b = ring (a ∷ b ∷ []) (search quotes depth 40 fits 9000) refl

@@ -7,12 +7,19 @@ use Prim.Native.Nat.{ℕ, _<_}
 use native.Mathlib.Omega.{arith}
 use native.Mathlib.Decide.{decLt}
 use lib.Dec.{T, lt→ltb, ltb→lt, eqb-refl, eqb→eq}
-use Rattle.meaning.specs.Scene.{Scene, countsAs, same, before, rising, among}
+use Rattle.meaning.specs.Scene.{Scene, edgeEnd, corner, countsAs, same, before, rising, among}
 use Rattle.meaning.specs.declared.Ends.{Ends}
 use Rattle.meaning.specs.declared.Corners.{Corners}
 use Rattle.theory.specs.Bounds.{Every}
 use Rattle.theory.specs.Determinants.{Exchanged, front, behind}
 use Rattle.theory.specs.Rearranged.{Rearranged, unmoved, moved, every-exchanged}
+
+-- as the scene writes them
+abbrev pub endsWritten : Scene → ℕ → List ℕ
+endsWritten s j = edgeEnd s j 0 ∷ edgeEnd s j 1 ∷ []
+
+abbrev pub cornersWritten : Scene → ℕ → List ℕ
+cornersWritten s j = corner s j 0 ∷ corner s j 1 ∷ corner s j 2 ∷ []
 
 is-true : (b : Bool) → T b → b ≡ true
 is-true true t = refl
