@@ -26,7 +26,15 @@ pub mod Reading
 pub mod Symbols
 pub mod Bridge
 pub mod Judged
+pub mod Computed
 pub mod SevenPieces
 pub mod Sent
 pub mod SentPieces
 pub mod Moved
+pub mod OneVerdict
+pub mod Fractions
+pub mod Rational
+pub mod Independence
+pub mod Balances
+pub mod OneSolution
+pub mod Singular
