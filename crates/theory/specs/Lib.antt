@@ -1,6 +1,21 @@
 -- What follows from the meaning.
 pub mod Totals
 pub mod Bounds
+pub mod Spans
+pub mod Joints
+pub mod InOrder
+pub mod Inside
+pub mod MovingParts
+pub mod Cull
+pub mod Alike
+pub mod Determinants
+pub mod Rearranged
+pub mod SamePoints
+pub mod Written
+pub mod EitherOrder
+pub mod NoCrack
+pub mod AnyOrder
+pub mod Rewritten
 pub mod Differences
 pub mod Solved
 pub mod Spread
@@ -13,6 +28,9 @@ pub mod Bridge
 pub mod Judged
 pub mod Computed
 pub mod SevenPieces
+pub mod Sent
+pub mod SentPieces
+pub mod Moved
 pub mod OneVerdict
 pub mod Fractions
 pub mod Rational
