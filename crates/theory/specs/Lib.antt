@@ -39,10 +39,3 @@ pub mod Balances
 pub mod OneSolution
 pub mod Singular
 pub mod RationalVerdicts
-pub mod Spans
-pub mod Inside
-pub mod Cull
-pub mod Alike
-pub mod Determinants
-pub mod Rearranged
-pub mod SamePoints
