@@ -1,10 +1,9 @@
 -- A pair that the list leaves out does not touch: in none of its pieces, singular or not, and nowhere in straight motion.
-use mathlib.Core.Path.{_≡_, refl, _∙_, subst₂}
+use mathlib.Core.Path.{_≡_, refl, _∙_}
 use mathlib.Core.Bool.{Bool, true, false, not, _&&_, false≢true, and-comm}
 use mathlib.Core.List.{List, [], _∷_, map}
-use Prim.Native.Nat.{ℕ, min, max, _/_, _%_, _≤_, _<_}
+use Prim.Native.Nat.{ℕ, _/_, _%_, _≤_, _<_}
 use native.Mathlib.Omega.{arith}
-use native.Mathlib.Decide.{decLe}
 use lib.IntN.{pos}
 use lib.Signed.{leZ}
 use Rattle.whole.specs.Order.{parts-lt}
@@ -20,7 +19,8 @@ use Rattle.meaning.specs.declared.Kind.the-variants.{PointTriangle, EdgeEdge}
 use Rattle.meaning.specs.declared.Verdict.the-variants.{Hit}
 use Rattle.theory.specs.Bounds.{Every, every-map, every-imp}
 use Rattle.theory.specs.Spans.{Holds, Boxed, boxed-apart, not-meeting, apart-stretched, stretched}
-use Rattle.theory.specs.Inside.{HoldsVertex, vertex-in-its-box, edge-in-its-box, triangle-in-its-box, rising-keeps, among-keeps, moving-point-in, moving-edge-in, moving-triangle-in, Linear, standing-in}
+use Rattle.theory.specs.InOrder.{rising-keeps, among-keeps, lower-first}
+use Rattle.theory.specs.Inside.{HoldsVertex, vertex-in-its-box, edge-in-its-box, triangle-in-its-box, moving-point-in, moving-edge-in, moving-triangle-in, Linear, standing-in}
 
 -- on some axis the boxes do not meet
 data SomeAxis (P : Axis → Type 0) : Type 0 where
@@ -37,13 +37,6 @@ culled-on s kind i j h = go (shares s kind i j) (meetOn s kind i j xAxis) (meetO
     go false true false z p q r h = onY q
     go false true true false p q r h = onZ r
     go false true true true p q r h = absurd (false≢true h)
-
-lower-first : (P : ℕ → ℕ → Type 0) (i j : ℕ) → P i j → P j i → P (min i j) (max i j)
-lower-first P i j h k = go (decLe i j)
-  where
-    go : Dec (i ≤ j) → P (min i j) (max i j)
-    go (yes o) = subst₂ P (omega arith) (omega arith) h
-    go (no o) = subst₂ P (omega arith) (omega arith) k
 
 module _ (s : Scene) (a : Axis) where
   boxed : (p q : Span) (f g : List Event) → meet p q ≡ false → Every (λ e. Holds p (a (e .place))) f → Every (λ e. Holds q (a (e .place))) g → Boxed (λ e. a (e .place)) f g

@@ -57,6 +57,20 @@ around a b = go (leZ a b) (compared a b)
     go true (ordered h) = omega (arith, ord)
     go false (reversed h) = omega (arith, ord)
 
+pub smaller-greatest : (c a b : ℤ) → c ≤ℤ a → c ≤ℤ b → c ≤ℤ smaller a b
+smaller-greatest c a b p q = go (leZ a b)
+  where
+    go : (d : Bool) → c ≤ℤ cond d a b
+    go true = p
+    go false = q
+
+pub larger-least : (c a b : ℤ) → a ≤ℤ c → b ≤ℤ c → larger a b ≤ℤ c
+larger-least c a b p q = go (leZ a b)
+  where
+    go : (d : Bool) → cond d b a ≤ℤ c
+    go true = q
+    go false = p
+
 pub joint-left : (p q : Span) (z : ℤ) → Holds p z → Holds (joint p q) z
 joint-left p q z h =
     let l = around (p .low) (q .low) in
