@@ -4,11 +4,11 @@ use mathlib.Core.Path.{_≡_, refl, sym, _∙_, ap, ap₂, fun-ext}
 use mathlib.Core.Logic.{_↔_}
 use mathlib.Core.Bool.{Bool}
 use mathlib.Core.List.{List, [], _∷_, map}
-use Prim.Native.Nat.{ℕ, _+_, _*_, _<_}
+use Prim.Native.Nat.{ℕ, _<_}
 use lib.IntN.{ℤ}
 use lib.ListN.{length}
-use Rattle.meaning.specs.Scene.{Scene, sceneOf, vectorAt, edgeCount, triangleCount, same}
-use Rattle.meaning.specs.Pieces.{Event, Piece, pieceOf}
+use Rattle.meaning.specs.Scene.{Scene, sceneOf, edgeCount, triangleCount, same}
+use Rattle.meaning.specs.Pieces.{starting, ending, Event, Piece, pieceOf}
 use Rattle.meaning.specs.Verdicts.{PieceIs, PairIs}
 use Rattle.meaning.specs.Refusals.{shares, notThere}
 use Rattle.meaning.specs.Boxes.{Span, Axis, xAxis, yAxis, zAxis, vertexSpan, edgeSpan, triangleSpan, meet, meetOn, listed, culled}
@@ -18,7 +18,6 @@ use Rattle.meaning.specs.declared.Kind.the-variants.{PointTriangle, EdgeEdge}
 use Rattle.meaning.specs.declared.Verdict.{Verdict}
 use Rattle.theory.specs.Bounds.{Every}
 use Rattle.theory.specs.Alike.{alike-same, alike-piece, alike-pair}
-use Rattle.theory.specs.Differences.{atStart, atEnd}
 use Rattle.theory.specs.MovingParts.{Follows, SameParts, mapped, piece-follows}
 use Rattle.theory.specs.Rearranged.{Rearranged}
 use Rattle.theory.specs.Written.{endsWritten, cornersWritten, Different, ends-any-order, corners-any-order}
@@ -40,8 +39,8 @@ WellMade s EdgeEdge i j = (i < edgeCount s) × Different s (endsWritten s i) × 
 module _ {s t : Scene} (h : Rewritten s t) where
   follows : Follows s t (λ e. e) (λ v. Unit {0})
   follows = record {
-    starts = λ v k. ap (λ (l : List ℤ). atStart (vectorAt l (6 * v))) (h .positions);
-    ends = λ v k. ap (λ (l : List ℤ). atEnd (vectorAt l (6 * v + 3))) (h .positions);
+    starts = λ v k. ap (λ (l : List ℤ). starting (sceneOf l [] []) v) (h .positions);
+    ends = λ v k. ap (λ (l : List ℤ). ending (sceneOf l [] []) v) (h .positions);
   }
 
   same-parts : (kind : Kind) (i j : ℕ) → WellMade s kind i j → SameParts s t kind i j
