@@ -33,7 +33,7 @@ abbrev pub AlikePairs : Kind → (ℕ → Piece) → (ℕ → Piece) → Type 0
 AlikePairs kind p q = (k : ℕ) → k < pieceCount kind → Alike (p k) (q k)
 
 module _ (kind : Kind) (s t : Scene) (i j m n : ℕ) (a : AlikePairs kind (pieceOf s kind i j) (pieceOf t kind m n)) where
-  some-alike : (v : Verdict) → SomePiece s kind i j v ↔ SomePiece t kind m n v
+  pub some-alike : (v : Verdict) → SomePiece s kind i j v ↔ SomePiece t kind m n v
   some-alike v = (
     λ p. record { which = p .which; there = p .there; has = alike-piece (a (p .which) (p .there)) v .0 (p .has) },
     λ p. record { which = p .which; there = p .there; has = alike-piece (a (p .which) (p .there)) v .1 (p .has) },

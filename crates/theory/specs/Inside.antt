@@ -22,10 +22,10 @@ pub record HoldsVertex (s : Scene) (a : Axis) (p : Span) (v : ℕ) : Type 0 wher
   pub ends : Holds p (a (endOf s v))
 
 module _ (s : Scene) (a : Axis) where
-  in-joint : (p q : Span) (v : ℕ) → HoldsVertex s a p v → HoldsVertex s a (joint p q) v
+  pub in-joint : (p q : Span) (v : ℕ) → HoldsVertex s a p v → HoldsVertex s a (joint p q) v
   in-joint p q v h = record { starts = joint-left p q _ (h .starts); ends = joint-left p q _ (h .ends) }
 
-  in-joint-too : (p q : Span) (v : ℕ) → HoldsVertex s a q v → HoldsVertex s a (joint p q) v
+  pub in-joint-too : (p q : Span) (v : ℕ) → HoldsVertex s a q v → HoldsVertex s a (joint p q) v
   in-joint-too p q v h = record { starts = joint-right p q _ (h .starts); ends = joint-right p q _ (h .ends) }
 
   pub vertex-in-its-box : (v : ℕ) → HoldsVertex s a (vertexSpan s a v) v
@@ -74,7 +74,7 @@ module _ (s : Scene) (a : Axis) (p : Span) where
 abbrev pub Linear : Axis → Type 0
 Linear a = (h k : ℤ) (u v : Vector) → a (plus (scale h u) (scale k v)) ≡ h *ℤ a u +ℤ k *ℤ a v
 
-mix-rises : (h k x y x′ y′ : ℤ) → pos 0 ≤ℤ h → pos 0 ≤ℤ k → x ≤ℤ x′ → y ≤ℤ y′ → (h *ℤ x +ℤ k *ℤ y) ≤ℤ (h *ℤ x′ +ℤ k *ℤ y′)
+pub mix-rises : (h k x y x′ y′ : ℤ) → pos 0 ≤ℤ h → pos 0 ≤ℤ k → x ≤ℤ x′ → y ≤ℤ y′ → (h *ℤ x +ℤ k *ℤ y) ≤ℤ (h *ℤ x′ +ℤ k *ℤ y′)
 mix-rises h k x y x′ y′ hn kn p q =
     let r = weighted-rises k y y′ (pos 0) (pos 0) kn q (≤ℤ-refl (pos 0)) in
     weighted-rises h x x′ (k *ℤ y) (k *ℤ y′) hn p (simp +ℤ-idr at r)

@@ -8,21 +8,21 @@ use Rattle.meaning.specs.Boxes.{smaller, larger, Span, joint}
 use Rattle.theory.specs.Spans.{around, smaller-greatest, larger-least}
 
 -- an order, and the best that stands before two numbers in it
-record Best (R : ℤ → ℤ → Type 0) (best : ℤ → ℤ → ℤ) : Type 0 where
-  onward : (a b c : ℤ) → R a b → R b c → R a c
-  same : (a b : ℤ) → R a b → R b a → a ≡ b
-  left : (a b : ℤ) → R (best a b) a
-  right : (a b : ℤ) → R (best a b) b
-  above : (c a b : ℤ) → R c a → R c b → R c (best a b)
+pub record Best (R : ℤ → ℤ → Type 0) (best : ℤ → ℤ → ℤ) : Type 0 where
+  pub onward : (a b c : ℤ) → R a b → R b c → R a c
+  pub same : (a b : ℤ) → R a b → R b a → a ≡ b
+  pub left : (a b : ℤ) → R (best a b) a
+  pub right : (a b : ℤ) → R (best a b) b
+  pub above : (c a b : ℤ) → R c a → R c b → R c (best a b)
 
 module _ {R : ℤ → ℤ → Type 0} {best : ℤ → ℤ → ℤ} (o : Best R best) where
-  either-way : (a b : ℤ) → best a b ≡ best b a
+  pub either-way : (a b : ℤ) → best a b ≡ best b a
   either-way a b = o .same _ _ (ahead a b) (ahead b a)
     where
       ahead : (a b : ℤ) → R (best a b) (best b a)
       ahead a b = o .above _ b a (o .right a b) (o .left a b)
 
-  exchanged : (a b c : ℤ) → best a (best b c) ≡ best b (best a c)
+  pub exchanged : (a b c : ℤ) → best a (best b c) ≡ best b (best a c)
   exchanged a b c = o .same _ _ (ahead a b c) (ahead b a c)
     where
       ahead : (a b c : ℤ) → R (best a (best b c)) (best b (best a c))
@@ -30,7 +30,7 @@ module _ {R : ℤ → ℤ → Type 0} {best : ℤ → ℤ → ℤ} (o : Best R b
           let inner = o .right a (best b c) in
           o .above _ b (best a c) (o .onward _ _ _ inner (o .left b c)) (o .above _ a c (o .left a (best b c)) (o .onward _ _ _ inner (o .right b c)))
 
-lowest : Best (λ a b. a ≤ℤ b) smaller
+pub lowest : Best (λ a b. a ≤ℤ b) smaller
 lowest = record {
   onward = λ a b c p q. omega (arith, ord);
   same = λ a b p q. omega (arith, ord);
@@ -39,7 +39,7 @@ lowest = record {
   above = smaller-greatest;
 }
 
-highest : Best (λ a b. b ≤ℤ a) larger
+pub highest : Best (λ a b. b ≤ℤ a) larger
 highest = record {
   onward = λ a b c p q. omega (arith, ord);
   same = λ a b p q. omega (arith, ord);

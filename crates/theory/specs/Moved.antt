@@ -41,16 +41,16 @@ pub record Known (s : Scene) (kind : Kind) (i j : ℕ) : Type 0 where
   pub second : Every (λ v. v < vertexCount s) (secondPart s kind j)
 
 module _ {m : Matrix} {a b : Vector} {s t : Scene} (h : Moves m a b s t) where
-  abbrev There : ℕ → Type 0
+  abbrev pub There : ℕ → Type 0
   There v = v < vertexCount s
 
-  follows : Follows s t (sent m a b) There
+  pub follows : Follows s t (sent m a b) There
   follows = record {
     starts = λ v k. ap atStart (h .starts v k) ∙ sym (start-sent m a b (startOf s v));
     ends = λ v k. ap atEnd (h .ends v k) ∙ sym (end-sent m a b (endOf s v));
   }
 
-  same-parts : (kind : Kind) (i j : ℕ) → SameParts s t kind i j
+  pub same-parts : (kind : Kind) (i j : ℕ) → SameParts s t kind i j
   unfolding SameParts
   same-parts PointTriangle i j =
       ap (λ (l : List ℕ). among s (rising s (getD l (3 * j + 0) 0) (getD l (3 * j + 1) 0)) (getD l (3 * j + 2) 0)) (h .triangles)
@@ -65,7 +65,7 @@ module _ {m : Matrix} {a b : Vector} {s t : Scene} (h : Moves m a b s t) where
   -- ---- the theorem
 
   module _ (kind : Kind) (i j : ℕ) (known : Known s kind i j) where
-    moved-alike : (k : ℕ) → Alike (pieceOf s kind i j k) (pieceOf t kind i j k)
+    pub moved-alike : (k : ℕ) → Alike (pieceOf s kind i j k) (pieceOf t kind i j k)
     moved-alike k = rw (piece-moves kind i j known k) (piece-alike m a b (h .nonzero) s kind i j k)
 
     pub moved-keeps-pieces : (k : ℕ) (v : Verdict) → PieceIs (pieceOf s kind i j k) v ↔ PieceIs (pieceOf t kind i j k) v

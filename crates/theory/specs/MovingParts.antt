@@ -43,12 +43,12 @@ module _ {s t : Scene} {f : Event → Event} {P : ℕ → Type 0} (h : Follows s
   triangle-follows c p (suc (suc k)) =
       λ i. h .starts (c .low) (p .0) i ∷ h .ends (c .low) (p .0) i ∷ h .ends (c .middle) (p .1) i ∷ h .ends (c .high) (p .2) i ∷ []
 
-  edge-at-follows : (j : ℕ) → endsOf t j ≡ endsOf s j → Every P (edgeEnd s j 0 ∷ edgeEnd s j 1 ∷ []) → (k : ℕ) → movingEdge t (endsOf t j) k ≡ map f (movingEdge s (endsOf s j) k)
+  pub edge-at-follows : (j : ℕ) → endsOf t j ≡ endsOf s j → Every P (edgeEnd s j 0 ∷ edgeEnd s j 1 ∷ []) → (k : ℕ) → movingEdge t (endsOf t j) k ≡ map f (movingEdge s (endsOf s j) k)
   edge-at-follows j e p k =
       ap (λ (n : Ends). movingEdge t n k) e
       ∙ edge-follows (endsOf s j) (rising-keeps s P (edgeEnd s j 0) (edgeEnd s j 1) (p .0) (p .1 .0)) k
 
-  triangle-at-follows : (j : ℕ) → cornersOf t j ≡ cornersOf s j → Every P (corner s j 0 ∷ corner s j 1 ∷ corner s j 2 ∷ []) → (k : ℕ) → movingTriangle t (cornersOf t j) k ≡ map f (movingTriangle s (cornersOf s j) k)
+  pub triangle-at-follows : (j : ℕ) → cornersOf t j ≡ cornersOf s j → Every P (corner s j 0 ∷ corner s j 1 ∷ corner s j 2 ∷ []) → (k : ℕ) → movingTriangle t (cornersOf t j) k ≡ map f (movingTriangle s (cornersOf s j) k)
   triangle-at-follows j e p k =
       let both = rising-keeps s P (corner s j 0) (corner s j 1) (p .0) (p .1 .0) in
       ap (λ (n : Corners). movingTriangle t n k) e

@@ -45,7 +45,7 @@ edge-pieces-are-faces s c e middleHigh (suc m) = record { piece = 1; there = ome
 
 -- ---- in a scene
 
-among-has-edge : (s : Scene) (e : Ends) (c : ℕ) → EdgeOf (among s e c) e
+pub among-has-edge : (s : Scene) (e : Ends) (c : ℕ) → EdgeOf (among s e c) e
 among-has-edge s e c =
     let Q : Corners → Type 0 = λ (k : Corners). EdgeOf k e in
     cond-keeps Q (before s c (e .low)) _ _ middleHigh (cond-keeps Q (before s c (e .high)) _ _ lowHigh lowMiddle)
@@ -68,13 +68,13 @@ no-crack s t t′ j d d′ h h′ m = (
 
 -- ---- what touches a face touches the piece, with weight 0 for the point left out
 
-put-in : ℕ → (ℕ → ℕ) → ℕ → ℕ
+pub put-in : ℕ → (ℕ → ℕ) → ℕ → ℕ
 put-in zero w zero = 0
 put-in zero w (suc n) = w n
 put-in (suc i) w zero = w 0
 put-in (suc i) w (suc n) = put-in i (λ n. w (suc n)) n
 
-put-in-total : {A : Type 0} (f : A → ℤ) (i : ℕ) (w : ℕ → ℕ) (l : List A) → total f (λ n. pos (put-in i w n)) l ≡ total f (λ n. pos (w n)) (without i l)
+pub put-in-total : {A : Type 0} (f : A → ℤ) (i : ℕ) (w : ℕ → ℕ) (l : List A) → total f (λ n. pos (put-in i w n)) l ≡ total f (λ n. pos (w n)) (without i l)
 unfolding total without put-in
 put-in-total f zero w [] = refl
 put-in-total f (suc i) w [] = refl

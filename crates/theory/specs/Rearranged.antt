@@ -37,7 +37,7 @@ module _ {ℓ} {A : Type ℓ} where
   rearranged-after (a ∷ p) r = rearranged-behind a (rearranged-after p r)
 
   -- one element goes through a list, and a list through a list
-  passes : (a : A) (p l : List A) → Rearranged (a ∷ (p ++ l)) (p ++ (a ∷ l))
+  pub passes : (a : A) (p l : List A) → Rearranged (a ∷ (p ++ l)) (p ++ (a ∷ l))
   passes a [] l = unmoved
   passes a (b ∷ p) l = moved front (rearranged-behind b (passes a p l))
 
@@ -53,7 +53,7 @@ module _ {ℓ} {A : Type ℓ} where
       before front = front
       before (behind e) = behind (before e)
 
-  exchanged-length : {k l : List A} → Exchanged k l → length k ≡ length l
+  pub exchanged-length : {k l : List A} → Exchanged k l → length k ≡ length l
   exchanged-length front = refl
   exchanged-length (behind e) = ap suc (exchanged-length e)
 

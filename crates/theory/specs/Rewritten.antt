@@ -4,11 +4,11 @@ use mathlib.Core.Path.{_≡_, refl, sym, _∙_, ap, ap₂, fun-ext}
 use mathlib.Core.Logic.{_↔_}
 use mathlib.Core.Bool.{Bool}
 use mathlib.Core.List.{List, [], _∷_, map}
-use Prim.Native.Nat.{ℕ, _+_, _*_, _<_}
+use Prim.Native.Nat.{ℕ, _<_}
 use lib.IntN.{ℤ}
 use lib.ListN.{length}
-use Rattle.meaning.specs.Scene.{Scene, sceneOf, vectorAt, edgeCount, triangleCount, same}
-use Rattle.meaning.specs.Pieces.{Event, Piece, pieceOf}
+use Rattle.meaning.specs.Scene.{Scene, sceneOf, edgeCount, triangleCount, same}
+use Rattle.meaning.specs.Pieces.{starting, ending, Event, Piece, pieceOf}
 use Rattle.meaning.specs.Verdicts.{PieceIs, PairIs}
 use Rattle.meaning.specs.Refusals.{shares, notThere}
 use Rattle.meaning.specs.Boxes.{Span, Axis, xAxis, yAxis, zAxis, vertexSpan, edgeSpan, triangleSpan, meet, meetOn, listed, culled}
@@ -18,7 +18,6 @@ use Rattle.meaning.specs.declared.Kind.the-variants.{PointTriangle, EdgeEdge}
 use Rattle.meaning.specs.declared.Verdict.{Verdict}
 use Rattle.theory.specs.Bounds.{Every}
 use Rattle.theory.specs.Alike.{alike-same, alike-piece, alike-pair}
-use Rattle.theory.specs.Differences.{atStart, atEnd}
 use Rattle.theory.specs.MovingParts.{Follows, SameParts, mapped, piece-follows}
 use Rattle.theory.specs.Rearranged.{Rearranged}
 use Rattle.theory.specs.Written.{endsWritten, cornersWritten, Different, ends-any-order, corners-any-order}
@@ -38,13 +37,13 @@ WellMade s PointTriangle i j = (j < triangleCount s) × Different s (cornersWrit
 WellMade s EdgeEdge i j = (i < edgeCount s) × Different s (endsWritten s i) × (j < edgeCount s) × Different s (endsWritten s j)
 
 module _ {s t : Scene} (h : Rewritten s t) where
-  follows : Follows s t (λ e. e) (λ v. Unit {0})
+  pub follows : Follows s t (λ e. e) (λ v. Unit {0})
   follows = record {
-    starts = λ v k. ap (λ (l : List ℤ). atStart (vectorAt l (6 * v))) (h .positions);
-    ends = λ v k. ap (λ (l : List ℤ). atEnd (vectorAt l (6 * v + 3))) (h .positions);
+    starts = λ v k. ap (λ (l : List ℤ). starting (sceneOf l [] []) v) (h .positions);
+    ends = λ v k. ap (λ (l : List ℤ). ending (sceneOf l [] []) v) (h .positions);
   }
 
-  same-parts : (kind : Kind) (i j : ℕ) → WellMade s kind i j → SameParts s t kind i j
+  pub same-parts : (kind : Kind) (i j : ℕ) → WellMade s kind i j → SameParts s t kind i j
   unfolding SameParts WellMade
   same-parts PointTriangle i j w = sym (corners-any-order s (h .triangles j (w .0)) (w .1))
   same-parts EdgeEdge i j w = (sym (ends-any-order s (h .edges i (w .0)) (w .1)), sym (ends-any-order s (h .edges j (w .2)) (w .3)))
@@ -89,16 +88,16 @@ module _ {s t : Scene} (h : Rewritten s t) where
       ∙ ap (λ (f : ℕ → Bool). any f (endsWritten s i)) (fun-ext (λ a. sym (any-rearranged (same s a) (h .edges j (w .2)))))
       ∙ sym (shares-ends s i j)
 
-  vertex-boxes : (a : Axis) → vertexSpan t a ≡ vertexSpan s a
+  pub vertex-boxes : (a : Axis) → vertexSpan t a ≡ vertexSpan s a
   vertex-boxes a = ap (λ (l : List ℤ). vertexSpan (sceneOf l [] []) a) (h .positions)
 
-  box-rewritten : (a : Axis) {k l : List ℕ} → Rearranged k l → spanIn (vertexSpan t a) l ≡ spanIn (vertexSpan s a) k
+  pub box-rewritten : (a : Axis) {k l : List ℕ} → Rearranged k l → spanIn (vertexSpan t a) l ≡ spanIn (vertexSpan s a) k
   box-rewritten a {k} {l} r = ap (λ (f : ℕ → Span). spanIn f l) (vertex-boxes a) ∙ sym (span-rearranged (vertexSpan s a) r)
 
-  edge-box : (a : Axis) (j : ℕ) → j < edgeCount s → edgeSpan t a j ≡ edgeSpan s a j
+  pub edge-box : (a : Axis) (j : ℕ) → j < edgeCount s → edgeSpan t a j ≡ edgeSpan s a j
   edge-box a j w = edge-box-is t a j ∙ box-rewritten a (h .edges j w) ∙ sym (edge-box-is s a j)
 
-  triangle-box : (a : Axis) (j : ℕ) → j < triangleCount s → triangleSpan t a j ≡ triangleSpan s a j
+  pub triangle-box : (a : Axis) (j : ℕ) → j < triangleCount s → triangleSpan t a j ≡ triangleSpan s a j
   triangle-box a j w = triangle-box-is t a j ∙ box-rewritten a (h .triangles j w) ∙ sym (triangle-box-is s a j)
 
   pub rewritten-meet : (kind : Kind) (i j : ℕ) → WellMade s kind i j → (a : Axis) → meetOn t kind i j a ≡ meetOn s kind i j a

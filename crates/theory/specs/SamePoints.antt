@@ -36,7 +36,7 @@ touch-turned t = record {
   some = rw (t .balanced .sums) at (t .some);
 }
 
-touch-first : {a a′ b : List Event} → Rearranged a a′ → Touch a b → Touch a′ b
+pub touch-first : {a a′ b : List Event} → Rearranged a a′ → Touch a b → Touch a′ b
 touch-first unmoved t = t
 touch-first {b = b} (moved e r) t = touch-first r (exchanged e t)
   where
@@ -66,7 +66,7 @@ columnsOf p = map ofFirst (p .first) ++ map ofSecond (p .second)
 abbrev pub pointsOf : Piece → ℕ
 pointsOf p = length (p .first) + length (p .second)
 
-columns-of-points : (p : Piece) → length (columnsOf p) ≡ pointsOf p
+pub columns-of-points : (p : Piece) → length (columnsOf p) ≡ pointsOf p
 columns-of-points p = simp (length-append, length-map)
 
 -- the same points in the same simplices
@@ -86,32 +86,32 @@ determinant-same-points p q r h =
 abbrev pub turned : Piece → Piece
 turned p = record { first = p .second; second = p .first }
 
-other : Unknown → Unknown
+pub other : Unknown → Unknown
 other (ofFirst e) = ofSecond e
 other (ofSecond e) = ofFirst e
 
-other-columns : (a b : List Event) → map other (map ofFirst a ++ map ofSecond b) ≡ map ofSecond a ++ map ofFirst b
+pub other-columns : (a b : List Event) → map other (map ofFirst a ++ map ofSecond b) ≡ map ofSecond a ++ map ofFirst b
 unfolding other
 other-columns [] [] = refl
 other-columns [] (e ∷ b) = ap (λ (l : List Unknown). ofFirst e ∷ l) (other-columns [] b)
 other-columns (e ∷ a) b = ap (λ (l : List Unknown). ofSecond e ∷ l) (other-columns a b)
 
-first-of-other : (c : Unknown) → inFirst (other c) ≡ inSecond c
+pub first-of-other : (c : Unknown) → inFirst (other c) ≡ inSecond c
 unfolding other inFirst inSecond
 first-of-other (ofFirst e) = refl
 first-of-other (ofSecond e) = refl
 
-second-of-other : (c : Unknown) → inSecond (other c) ≡ inFirst c
+pub second-of-other : (c : Unknown) → inSecond (other c) ≡ inFirst c
 unfolding other inFirst inSecond
 second-of-other (ofFirst e) = refl
 second-of-other (ofSecond e) = refl
 
-agrees-of-other : (f : Event → ℤ) (c : Unknown) → agrees f (other c) ≡ negℤ (agrees f c)
+pub agrees-of-other : (f : Event → ℤ) (c : Unknown) → agrees f (other c) ≡ negℤ (agrees f c)
 unfolding other agrees
 agrees-of-other f (ofFirst e) = refl
 agrees-of-other f (ofSecond e) = sym (negℤ-negℤ (f e))
 
-equations-of-other : (q : List Unknown) → Opposite (determinant equations (map other q)) (determinant equations q)
+pub equations-of-other : (q : List Unknown) → Opposite (determinant equations (map other q)) (determinant equations q)
 equations-of-other q = record {
   is =
       columns-mapped other equations q ∙ ap (λ (rows : List (Unknown → ℤ)). determinant rows q) rows-are
@@ -148,7 +148,7 @@ determinant-turned p h =
 
 -- ---- the verdict
 
-vanish-together : (a b : ℤ) → natAbs a ≡ natAbs b → (a ≡ pos 0) ↔ (b ≡ pos 0)
+pub vanish-together : (a b : ℤ) → natAbs a ≡ natAbs b → (a ≡ pos 0) ↔ (b ≡ pos 0)
 vanish-together a b h = (λ e. none b (sym h ∙ ap natAbs e), λ e. none a (h ∙ ap natAbs e))
   where
     none : (z : ℤ) → natAbs z ≡ 0 → z ≡ pos 0

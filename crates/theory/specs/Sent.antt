@@ -35,7 +35,7 @@ step r h k w t p S T c n e =
 none : (r : Vector) (h k : ℤ) → pos 0 ≡ dot r origin +ℤ ((pos 0 -ℤ pos 0) *ℤ h +ℤ pos 0 *ℤ k)
 none r h k = ring (h ∷ k ∷ coordinates (r ∷ [])) (search quotes depth 40 fits 9000) refl
 
-along : (r : Vector) (h k : ℤ) (w : ℕ → ℤ) (l : List Event) → total (λ (e : Event). dot r (e .place) +ℤ ((pos 1 -ℤ e .time) *ℤ h +ℤ e .time *ℤ k)) w l ≡ dot r (placeTotal w l) +ℤ ((total one w l -ℤ total timeOf w l) *ℤ h +ℤ total timeOf w l *ℤ k)
+pub along : (r : Vector) (h k : ℤ) (w : ℕ → ℤ) (l : List Event) → total (λ (e : Event). dot r (e .place) +ℤ ((pos 1 -ℤ e .time) *ℤ h +ℤ e .time *ℤ k)) w l ≡ dot r (placeTotal w l) +ℤ ((total one w l -ℤ total timeOf w l) *ℤ h +ℤ total timeOf w l *ℤ k)
 unfolding total
 along r h k w [] = none r h k
 along r h k w (e ∷ l) =
@@ -45,14 +45,14 @@ along r h k w (e ∷ l) =
 unshift : (c a b : ℤ) → a +ℤ c ≡ b +ℤ c → a ≡ b
 unshift c a b h = combine (a ∷ b ∷ c ∷ []) (times (pos 1) h ∷ []) (search quotes depth 40 fits 9000) refl
 
-unshifted : (c a b : Vector) → plus a c ≡ plus b c → a ≡ b
+pub unshifted : (c a b : Vector) → plus a c ≡ plus b c → a ≡ b
 unshifted c a b h =
     vector-eq (unshift (c .x) (a .x) (b .x) (ap (λ (v : Vector). v .x) h)) (unshift (c .y) (a .y) (b .y) (ap (λ (v : Vector). v .y) h))
     (unshift (c .z) (a .z) (b .z) (ap (λ (v : Vector). v .z) h))
 
 -- weights balance exactly when the sums, the times and the places do
 module _ (f g : List Event) (u v : ℕ → ℤ) where
-  by-places : total one u f ≡ total one v g → total timeOf u f ≡ total timeOf v g → placeTotal u f ≡ placeTotal v g → Balanced f g u v
+  pub by-places : total one u f ≡ total one v g → total timeOf u f ≡ total timeOf v g → placeTotal u f ≡ placeTotal v g → Balanced f g u v
   by-places s t p = record {
     sums = s;
     xs = ap (λ (c : Vector). c .x) p;
@@ -61,20 +61,20 @@ module _ (f g : List Event) (u v : ℕ → ℤ) where
     times = t;
   }
 
-  same-places : Balanced f g u v → placeTotal u f ≡ placeTotal v g
+  pub same-places : Balanced f g u v → placeTotal u f ≡ placeTotal v g
   same-places h = vector-eq (h .xs) (h .ys) (h .zs)
 
-  same-shift : (a b : Vector) → total one u f ≡ total one v g → total timeOf u f ≡ total timeOf v g → shifted a b u f ≡ shifted a b v g
+  pub same-shift : (a b : Vector) → total one u f ≡ total one v g → total timeOf u f ≡ total timeOf v g → shifted a b u f ≡ shifted a b v g
   same-shift a b s t = rw (s, t)
 
 module _ (m : Matrix) (a b : Vector) where
-  abbrev there : List Event → List Event
+  abbrev pub there : List Event → List Event
   there l = map (sent m a b) l
 
-  sums-sent : (w : ℕ → ℤ) (l : List Event) → total one w (there l) ≡ total one w l
+  pub sums-sent : (w : ℕ → ℤ) (l : List Event) → total one w (there l) ≡ total one w l
   sums-sent w l = total-map one (sent m a b) w l
 
-  times-sent : (w : ℕ → ℤ) (l : List Event) → total timeOf w (there l) ≡ total timeOf w l
+  pub times-sent : (w : ℕ → ℤ) (l : List Event) → total timeOf w (there l) ≡ total timeOf w l
   times-sent w l = total-map timeOf (sent m a b) w l
 
   pub places-sent : (w : ℕ → ℤ) (l : List Event) → placeTotal w (there l) ≡ plus (apply m (placeTotal w l)) (shifted a b w l)

@@ -33,12 +33,12 @@ along r p q o t h k = ring (t ∷ h ∷ k ∷ coordinates (r ∷ p ∷ q ∷ o �
 abbrev pub movedPlace : Matrix → Vector → Vector → Vector
 movedPlace m a p = plus (apply m p) a
 
-difference-sent : (m : Matrix) (a b p q : Vector) (e : Event) → difference (movedPlace m a p) (movedPlace m b q) (sent m a b e) ≡ apply m (difference p q e)
+pub difference-sent : (m : Matrix) (a b p q : Vector) (e : Event) → difference (movedPlace m a p) (movedPlace m b q) (sent m a b e) ≡ apply m (difference p q e)
 difference-sent m a b p q e =
     vector-eq (along (m .a) p q (e .place) (e .time) (a .x) (b .x)) (along (m .b) p q (e .place) (e .time) (a .y) (b .y))
     (along (m .c) p q (e .place) (e .time) (a .z) (b .z))
 
-volumes-grow : (m : Matrix) (d : Four Vector) → volumes (each (apply m) d) ≡ each (λ n. det m *ℤ n) (volumes d)
+pub volumes-grow : (m : Matrix) (d : Four Vector) → volumes (each (apply m) d) ≡ each (λ n. det m *ℤ n) (volumes d)
 volumes-grow m d = λ i. record {
   v0 = grows m (d .v1) (d .v2) (d .v3) i;
   v1 = negated (d .v0) (d .v2) (d .v3) i;
@@ -49,13 +49,13 @@ volumes-grow m d = λ i. record {
     negated : (u v w : Vector) → negℤ (volume (apply m u) (apply m v) (apply m w)) ≡ det m *ℤ negℤ (volume u v w)
     negated u v w = ap negℤ (grows m u v w) ∙ sym (*ℤ-negℤ (det m) (volume u v w))
 
-factor-grows : (form : Form) (k : ℤ) (n : Four ℤ) → factor form (each (λ v. k *ℤ v) n) ≡ k *ℤ factor form n
+pub factor-grows : (form : Form) (k : ℤ) (n : Four ℤ) → factor form (each (λ v. k *ℤ v) n) ≡ k *ℤ factor form n
 unfolding factor
 factor-grows alone k n = ring (k ∷ all n) (search quotes depth 40 fits 9000) refl
 factor-grows behind k n = ring (k ∷ all n) (search quotes depth 40 fits 9000) refl
 factor-grows ahead k n = ring (k ∷ all n) (search quotes depth 40 fits 9000) refl
 
-product-zero : (k n : ℤ) → k ≢ pos 0 → (k *ℤ n ≡ pos 0) ↔ (n ≡ pos 0)
+pub product-zero : (k n : ℤ) → k ≢ pos 0 → (k *ℤ n ≡ pos 0) ↔ (n ≡ pos 0)
 product-zero k n h = (λ e. cancel-factor k n (pos 0) h (e ∙ sym (*ℤ-zero k)), λ e. ap (λ x. k *ℤ x) e ∙ *ℤ-zero k)
 
 -- ---- the pieces
@@ -80,13 +80,13 @@ module _ (m : Matrix) (a b : Vector) where
       let e : baseAt a b (pos 1) ≡ b = vector-eq (base-end (a .x) (b .x)) (base-end (a .y) (b .y)) (base-end (a .z) (b .z)) in
       ap (λ (c : Vector). atEnd (plus (apply m q) c)) e
 
-  formed-sent : (form : Form) (p q : Vector) (o : Four Event) → sentPiece m a b (formed form p q o) ≡ formed form (movedPlace m a p) (movedPlace m b q) (each (sent m a b) o)
+  pub formed-sent : (form : Form) (p q : Vector) (o : Four Event) → sentPiece m a b (formed form p q o) ≡ formed form (movedPlace m a p) (movedPlace m b q) (each (sent m a b) o)
   unfolding formed
   formed-sent alone p q o = λ i. record { first = start-sent p i ∷ end-sent q i ∷ []; second = map (sent m a b) (all o) }
   formed-sent behind p q o = λ i. record { first = sent m a b (o .v0) ∷ start-sent p i ∷ end-sent q i ∷ []; second = map (sent m a b) (o .v1 ∷ o .v2 ∷ o .v3 ∷ []) }
   formed-sent ahead p q o = λ i. record { first = start-sent p i ∷ end-sent q i ∷ sent m a b (o .v0) ∷ []; second = map (sent m a b) (o .v1 ∷ o .v2 ∷ o .v3 ∷ []) }
 
-  factor-sent : (form : Form) (p q : Vector) (o : Four Event) → factor form (volumes (differences (movedPlace m a p) (movedPlace m b q) (each (sent m a b) o))) ≡ det m *ℤ factor form (volumes (differences p q o))
+  pub factor-sent : (form : Form) (p q : Vector) (o : Four Event) → factor form (volumes (differences (movedPlace m a p) (movedPlace m b q) (each (sent m a b) o))) ≡ det m *ℤ factor form (volumes (differences p q o))
   factor-sent form p q o =
       ap (λ (d : Four Vector). factor form (volumes d)) four ∙ ap (factor form) (volumes-grow m (differences p q o))
       ∙ factor-grows form (det m) (volumes (differences p q o))
@@ -100,28 +100,28 @@ module _ (m : Matrix) (a b : Vector) where
       }
 
   module _ (nonzero : det m ≢ pos 0) where
-    singular-sent : (form : Form) (p q : Vector) (o : Four Event) → (determinantOf (formed form p q o) ≡ pos 0) ↔ (determinantOf (sentPiece m a b (formed form p q o)) ≡ pos 0)
+    pub singular-sent : (form : Form) (p q : Vector) (o : Four Event) → (determinantOf (formed form p q o) ≡ pos 0) ↔ (determinantOf (sentPiece m a b (formed form p q o)) ≡ pos 0)
     singular-sent form p q o =
         Iff·trans (singular-is form p q o)
         (Iff·trans (Iff·symm (product-zero (det m) _ nonzero))
         (rw (formed-sent form p q o, ← factor-sent form p q o) (Iff·symm (singular-is form (movedPlace m a p) (movedPlace m b q) (each (sent m a b) o)))))
 
-    formed-alike : (form : Form) (p q : Vector) (o : Four Event) → Alike (formed form p q o) (sentPiece m a b (formed form p q o))
+    pub formed-alike : (form : Form) (p q : Vector) (o : Four Event) → Alike (formed form p q o) (sentPiece m a b (formed form p q o))
     formed-alike form p q o = record {
       vanishes = singular-sent form p q o;
       touches = (touch-there m a b _ _, touch-back m a b _ _ nonzero);
     }
 
-    abbrev AlikeWhenSent : Piece → Type 0
+    abbrev pub AlikeWhenSent : Piece → Type 0
     AlikeWhenSent p = Alike p (sentPiece m a b p)
 
-    point-alike : (s : Scene) (p : ℕ) (c : Corners) (k : ℕ) → AlikeWhenSent (record { first = movingPoint s p; second = movingTriangle s c k })
+    pub point-alike : (s : Scene) (p : ℕ) (c : Corners) (k : ℕ) → AlikeWhenSent (record { first = movingPoint s p; second = movingTriangle s c k })
     unfolding movingTriangle formed
     point-alike s p c zero = formed-alike alone _ _ _
     point-alike s p c (suc zero) = formed-alike alone _ _ _
     point-alike s p c (suc (suc k)) = formed-alike alone _ _ _
 
-    edge-alike : (s : Scene) (e : Ends) (i : ℕ) (f : Ends) (j : ℕ) → AlikeWhenSent (record { first = movingEdge s e i; second = movingEdge s f j })
+    pub edge-alike : (s : Scene) (e : Ends) (i : ℕ) (f : Ends) (j : ℕ) → AlikeWhenSent (record { first = movingEdge s e i; second = movingEdge s f j })
     unfolding movingEdge formed
     edge-alike s e zero f zero = formed-alike behind _ _ _
     edge-alike s e zero f (suc j) = formed-alike behind _ _ _

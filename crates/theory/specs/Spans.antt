@@ -20,11 +20,11 @@ pub record Holds (p : Span) (z : ℤ) : Type 0 where
 
 -- ---- the smaller and the larger of two numbers
 
-data Compared (a b : ℤ) : Bool → Type 0 where
+pub data Compared (a b : ℤ) : Bool → Type 0 where
   ordered : a ≤ℤ b → Compared a b true
   reversed : b <ℤ a → Compared a b false
 
-compared : (a b : ℤ) → Compared a b (leZ a b)
+pub compared : (a b : ℤ) → Compared a b (leZ a b)
 compared a b = go (leZ a b) refl
   where
     above : (a b : ℤ) → T (not (leZ a b)) → b <ℤ a

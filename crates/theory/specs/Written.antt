@@ -31,16 +31,16 @@ is-false false t = refl
 
 module _ (s : Scene) where
   -- a's number is lower than b's
-  abbrev Lower : ℕ → ℕ → Type 0
+  abbrev pub Lower : ℕ → ℕ → Type 0
   Lower a b = countsAs s a < countsAs s b
 
-  before-lower : (a b : ℕ) → Lower a b → before s a b ≡ true
+  pub before-lower : (a b : ℕ) → Lower a b → before s a b ≡ true
   before-lower a b h = is-true (before s a b) (lt→ltb (countsAs s a) (countsAs s b) h)
 
-  before-higher : (a b : ℕ) → Lower a b → before s b a ≡ false
+  pub before-higher : (a b : ℕ) → Lower a b → before s b a ≡ false
   before-higher a b h = is-false (before s b a) (λ t. let g = ltb→lt (countsAs s b) (countsAs s a) t in omega arith)
 
-  lower-or-higher : (a b : ℕ) → same s a b ≡ false → Lower a b ⊎ Lower b a
+  pub lower-or-higher : (a b : ℕ) → same s a b ≡ false → Lower a b ⊎ Lower b a
   lower-or-higher a b h = go (decLt (countsAs s a) (countsAs s b)) (decLt (countsAs s b) (countsAs s a))
     where
       go : Dec (Lower a b) → Dec (Lower b a) → Lower a b ⊎ Lower b a
@@ -65,10 +65,10 @@ module _ (s : Scene) where
 
   -- ---- two ends
 
-  rising-lower : (a b : ℕ) → Lower a b → rising s a b ≡ record { low = a; high = b }
+  pub rising-lower : (a b : ℕ) → Lower a b → rising s a b ≡ record { low = a; high = b }
   rising-lower a b h = rw (before-higher a b h)
 
-  rising-higher : (a b : ℕ) → Lower a b → rising s b a ≡ record { low = a; high = b }
+  pub rising-higher : (a b : ℕ) → Lower a b → rising s b a ≡ record { low = a; high = b }
   rising-higher a b h = rw (before-lower a b h)
 
   pub rising-either-way : (a b : ℕ) → same s a b ≡ false → rising s a b ≡ rising s b a
@@ -80,36 +80,36 @@ module _ (s : Scene) where
 
   -- ---- three corners
 
-  abbrev sorted : ℕ → ℕ → ℕ → Corners
+  abbrev pub sorted : ℕ → ℕ → ℕ → Corners
   sorted x y z = record { low = x; middle = y; high = z }
 
-  abbrev corners : ℕ → ℕ → ℕ → Corners
+  abbrev pub corners : ℕ → ℕ → ℕ → Corners
   corners a b c = among s (rising s a b) c
 
   -- whichever two come first, the third is put in its place
   module _ (x y z : ℕ) (p : Lower x y) (q : Lower y z) where
-    far : Lower x z
+    pub far : Lower x z
     far = omega arith
 
-    put-first : among s (record { low = y; high = z }) x ≡ sorted x y z
+    pub put-first : among s (record { low = y; high = z }) x ≡ sorted x y z
     put-first = rw (before-lower x y p)
 
-    put-between : among s (record { low = x; high = z }) y ≡ sorted x y z
+    pub put-between : among s (record { low = x; high = z }) y ≡ sorted x y z
     put-between = rw (before-higher x y p, before-lower y z q)
 
-    put-last : among s (record { low = x; high = y }) z ≡ sorted x y z
+    pub put-last : among s (record { low = x; high = y }) z ≡ sorted x y z
     put-last = rw (before-higher x z far, before-higher y z q)
 
     -- in all six orders
-    record SixOrders : Type 0 where
-      xyz : corners x y z ≡ sorted x y z
-      yxz : corners y x z ≡ sorted x y z
-      xzy : corners x z y ≡ sorted x y z
-      zxy : corners z x y ≡ sorted x y z
-      yzx : corners y z x ≡ sorted x y z
-      zyx : corners z y x ≡ sorted x y z
+    pub record SixOrders : Type 0 where
+      pub xyz : corners x y z ≡ sorted x y z
+      pub yxz : corners y x z ≡ sorted x y z
+      pub xzy : corners x z y ≡ sorted x y z
+      pub zxy : corners z x y ≡ sorted x y z
+      pub yzx : corners y z x ≡ sorted x y z
+      pub zyx : corners z y x ≡ sorted x y z
 
-    six-orders : SixOrders
+    pub six-orders : SixOrders
     six-orders = record {
       xyz = ap (λ (e : Ends). among s e z) (rising-lower x y p) ∙ put-last;
       yxz = ap (λ (e : Ends). among s e z) (rising-higher x y p) ∙ put-last;
@@ -119,7 +119,7 @@ module _ (s : Scene) where
       zyx = ap (λ (e : Ends). among s e x) (rising-higher y z q) ∙ put-first;
     }
 
-  corners-exchanged : (a b c : ℕ) → same s a b ≡ false → same s b c ≡ false → same s a c ≡ false → (corners a b c ≡ corners b a c) × (corners a b c ≡ corners a c b)
+  pub corners-exchanged : (a b c : ℕ) → same s a b ≡ false → same s b c ≡ false → same s a c ≡ false → (corners a b c ≡ corners b a c) × (corners a b c ≡ corners a c b)
   corners-exchanged a b c ab bc ac = go (lower-or-higher a b ab) (lower-or-higher b c bc) (lower-or-higher a c ac)
     where
       go : Lower a b ⊎ Lower b a → Lower b c ⊎ Lower c b → Lower a c ⊎ Lower c a → (corners a b c ≡ corners b a c) × (corners a b c ≡ corners a c b)
@@ -137,7 +137,7 @@ module _ (s : Scene) where
   Different [] = Unit {0}
   Different (a ∷ l) = Every (λ b. same s a b ≡ false) l × Different l
 
-  different-exchanged : {k l : List ℕ} → Exchanged k l → Different k → Different l
+  pub different-exchanged : {k l : List ℕ} → Exchanged k l → Different k → Different l
   different-exchanged (front {a} {b}) d = ((same-either-way b a ∙ d .0 .0, d .1 .0), (d .0 .1, d .1 .1))
   different-exchanged (behind {a = a} e) d = (every-exchanged (λ b. same s a b ≡ false) e (d .0), different-exchanged e (d .1))
 
@@ -145,13 +145,13 @@ module _ (s : Scene) where
   different-rearranged unmoved d = d
   different-rearranged (moved e r) d = different-rearranged r (different-exchanged e d)
 
-  endsIn : List ℕ → Ends
+  pub endsIn : List ℕ → Ends
   endsIn [] = record { low = 0; high = 0 }
   endsIn (a ∷ []) = record { low = 0; high = 0 }
   endsIn (a ∷ b ∷ []) = rising s a b
   endsIn (a ∷ b ∷ c ∷ l) = record { low = 0; high = 0 }
 
-  ends-exchanged : (k l : List ℕ) → Exchanged k l → Different k → endsIn k ≡ endsIn l
+  pub ends-exchanged : (k l : List ℕ) → Exchanged k l → Different k → endsIn k ≡ endsIn l
   unfolding endsIn
   ends-exchanged k m (front {a} {b} {l = []}) d = rising-either-way a b (d .0 .0)
   ends-exchanged k m (front {l = c ∷ l}) d = refl
@@ -159,14 +159,14 @@ module _ (s : Scene) where
   ends-exchanged k m (behind (behind front)) d = refl
   ends-exchanged k m (behind (behind (behind e))) d = refl
 
-  cornersIn : List ℕ → Corners
+  pub cornersIn : List ℕ → Corners
   cornersIn [] = sorted 0 0 0
   cornersIn (a ∷ []) = sorted 0 0 0
   cornersIn (a ∷ b ∷ []) = sorted 0 0 0
   cornersIn (a ∷ b ∷ c ∷ []) = corners a b c
   cornersIn (a ∷ b ∷ c ∷ d ∷ l) = sorted 0 0 0
 
-  corners-exchanged-in : (k l : List ℕ) → Exchanged k l → Different k → cornersIn k ≡ cornersIn l
+  pub corners-exchanged-in : (k l : List ℕ) → Exchanged k l → Different k → cornersIn k ≡ cornersIn l
   unfolding cornersIn
   corners-exchanged-in k m (front {l = []}) d = refl
   corners-exchanged-in k m (front {a} {b} {l = c ∷ []}) d = corners-exchanged a b c (d .0 .0) (d .1 .0 .0) (d .0 .1 .0) .0
@@ -178,7 +178,7 @@ module _ (s : Scene) where
   corners-exchanged-in k m (behind (behind (behind (behind e)))) d = refl
 
   -- what does not change under exchanges of neighbours does not change in any other order
-  rearranged-keeps : {B : Type 0} (f : List ℕ → B) → ((k l : List ℕ) → Exchanged k l → Different k → f k ≡ f l) → {k l : List ℕ} → Rearranged k l → Different k → f k ≡ f l
+  pub rearranged-keeps : {B : Type 0} (f : List ℕ → B) → ((k l : List ℕ) → Exchanged k l → Different k → f k ≡ f l) → {k l : List ℕ} → Rearranged k l → Different k → f k ≡ f l
   rearranged-keeps f h unmoved d = refl
   rearranged-keeps f h (moved {l = k} {m = l} e r) d = h k l e d ∙ rearranged-keeps f h r (different-exchanged e d)
 
