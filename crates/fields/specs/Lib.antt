@@ -2,3 +2,4 @@
 pub mod Numerals
 pub mod Field
 pub mod Rows
+pub mod Unique

@@ -95,8 +95,8 @@ row-cancel f parts [] (w ∷ ws) x y n s t e = absurd (omega arith)
 row-cancel f parts (z ∷ zs) [] x y n s t e = absurd (omega arith)
 row-cancel f parts (z ∷ zs) (w ∷ ws) x y n s t e =
     let (same, rest) =
-      numeral-cancel z w (rowOf f zs ++ x) (rowOf f ws ++ y) (parted f parts zs x s) (parted f parts ws y t)
-      (cc (append-assoc (numeral z) (rowOf f zs) x, append-assoc (numeral w) (rowOf f ws) y)) in
+    numeral-cancel z w (rowOf f zs ++ x) (rowOf f ws ++ y) (parted f parts zs x s) (parted f parts ws y t)
+    (cc (append-assoc (numeral z) (rowOf f zs) x, append-assoc (numeral w) (rowOf f ws) y)) in
     let (sames, more) = row-cancel f parts zs ws x y (suc-inj n) s t rest in
     (λ i. same i ∷ sames i, more)
 
@@ -138,5 +138,5 @@ module _ (s : List ℕ) (f : Form) (parts : ¬ IsDigit (f .separator)) where
       let (j, second, others) = row-first y ws w in
       let (same, place) = field-unique first second in
       let (same-rest, next) =
-        row-unique (count - 1) zs ws rest (rw (sym place) at others) (omega arith) (omega arith) (λ h. p (omega arith)) (λ h. q (omega arith)) in
+      row-unique (count - 1) zs ws rest (rw (sym place) at others) (omega arith) (omega arith) (λ h. p (omega arith)) (λ h. q (omega arith)) in
       (λ i. same i ∷ same-rest i, next)

@@ -38,8 +38,8 @@ numbers-cancel : (r q : Entry) (x y : List ℕ) → length (numbersOf r) ≡ len
     → (numbersOf r ≡ numbersOf q) × (x ≡ y)
 numbers-cancel r q x y n e =
     let (same, rest) =
-      row-cancel numberForm tab-parts (numbersOf r) (numbersOf q) (lineFeed ∷ x) (lineFeed ∷ y) n (line-ends x) (line-ends y)
-      (tail-eq-of-cons-eq (sym (line-is r x) ∙ e ∙ line-is q y)) in
+    row-cancel numberForm tab-parts (numbersOf r) (numbersOf q) (lineFeed ∷ x) (lineFeed ∷ y) n (line-ends x) (line-ends y)
+    (tail-eq-of-cons-eq (sym (line-is r x) ∙ e ∙ line-is q y)) in
     (same, tail-eq-of-cons-eq rest)
 
 letter-cancel : (r q : Entry) (x y : List ℕ) → lineOf r ++ x ≡ lineOf q ++ y → letterOf r ≡ letterOf q

@@ -34,11 +34,11 @@ ran-unique (r ∷ rs) [] {x} {y} v w s t =
     (t .never r (textOf rs ++ x) (v .sound .0) (sym (w .lines) ∙ v .lines ∙ append-assoc (lineOf r) (textOf rs) x) (v .sound .1))
 ran-unique {c} (r ∷ rs) (q ∷ qs) {x} {y} v w s t =
     let (same, rest) =
-      line-cancel r q (textOf rs ++ x) (textOf qs ++ y)
-      (sym (append-assoc (lineOf r) (textOf rs) x) ∙ sym (v .lines) ∙ w .lines ∙ append-assoc (lineOf q) (textOf qs) y) in
+    line-cancel r q (textOf rs ++ x) (textOf qs ++ y)
+    (sym (append-assoc (lineOf r) (textOf rs) x) ∙ sym (v .lines) ∙ w .lines ∙ append-assoc (lineOf q) (textOf qs) y) in
     let more : Ran (counted c r) (textOf rs ++ x) rs x = record { sound = v .sound .2; lines = refl } in
     let (sames, below) =
-      ran-unique rs qs (rw same at more) (record { sound = w .sound .2; lines = rest }) (rw same at s) t in
+    ran-unique rs qs (rw same at more) (record { sound = w .sound .2; lines = rest }) (rw same at s) t in
     (λ i. same i ∷ sames i, below)
 
 -- at its end, or at a fault, a text is stuck
@@ -50,11 +50,11 @@ fault-stuck (unformed e some never) = record { never = λ r rest short e j. neve
 fault-stuck {c} {text} {n} (misplaced r rest short e j) =
     record {
       never = λ q more shorter f k.
-        let (same, below) = line-cancel r q rest more (sym e ∙ f) in
-        let bad : EntryJudged c q (refused n 0) = rw same at j in
-        let z : given tt ≡ refused n 0 = one-answer (λ t. Unit {0}) (λ a b s t. refl) (entryChecks c q) (given tt) (refused n 0) k bad in
-        let y : _≡_ {A = ℕ} 0 1 = cc in
-        omega arith;
+          let (same, below) = line-cancel r q rest more (sym e ∙ f) in
+          let bad : EntryJudged c q (refused n 0) = rw same at j in
+          let z : given tt ≡ refused n 0 = one-answer (λ t. Unit {0}) (λ a b s t. refl) (entryChecks c q) (given tt) (refused n 0) k bad in
+          let y : _≡_ {A = ℕ} 0 1 = cc in
+          omega arith;
     }
 
 -- the fault of a line is one
@@ -70,7 +70,7 @@ fault-unique {c} {text} {n} {m} (misplaced r rest short e j) (misplaced q more s
     let (same, below) = line-cancel r q rest more (sym e ∙ f) in
     let first : EntryJudged c q (refused n 0) = rw same at j in
     let z : refused n 0 ≡ refused m 0 =
-      one-answer (λ t. Unit {0}) (λ a b s t. refl) (entryChecks c q) (refused n 0) (refused m 0) first k in
+    one-answer (λ t. Unit {0}) (λ a b s t. refl) (entryChecks c q) (refused n 0) (refused m 0) first k in
     cc
 
 holds-ran : {text : List ℕ} {s : Scene} (h : Holds text s) → Ran none text (h .entries) []
@@ -93,6 +93,6 @@ text-unique text (refused n line) (given s) h k =
     absurd (fault-some (rw end at (h .fault)))
 text-unique text (refused n line) (refused m place) h k =
     let (same, end) =
-      ran-unique (h .above) (k .above) (faulty-ran h) (faulty-ran k) (fault-stuck (h .fault)) (fault-stuck (k .fault)) in
+    ran-unique (h .above) (k .above) (faulty-ran h) (faulty-ran k) (fault-stuck (h .fault)) (fault-stuck (k .fault)) in
     let fault : Fault (countedAll none (k .above)) (k .below) n = rw (same, end) at (h .fault) in
     cc (fault-unique fault (k .fault), h .place, k .place, ap (length {A = Entry}) same)
