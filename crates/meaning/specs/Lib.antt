@@ -10,3 +10,4 @@ pub mod Motion
 pub mod List
 pub mod Judging
 pub mod Text
+pub mod Report

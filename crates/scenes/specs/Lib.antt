@@ -1,5 +1,6 @@
 -- Accepted scenes: what the four checks give to whoever passes them, and how an answer is built on them.
 pub mod Below
+pub mod Scanning
 pub mod Answering
 pub mod Speaking
 pub mod Alone

@@ -1,0 +1,19 @@
+//! Document 01 a second time, written from its text alone, so that the proved program has something to be held
+//! against. Where the proved program takes signs of 3 by 3 determinants of differences, this one sets up the six
+//! equations as they are written and solves them. Nothing here is meant to be fast.
+
+pub mod affine;
+pub mod cases;
+pub mod damage;
+pub mod equations;
+pub mod generate;
+pub mod listing;
+pub mod pieces;
+pub mod random;
+pub mod refusal;
+pub mod report;
+pub mod scene;
+pub mod slices;
+pub mod text;
+pub mod verdict;
+pub mod whole;

@@ -1,0 +1,32 @@
+//! The refusal numbers of document 01's table, under names.
+
+pub const BAD_SHAPE: u64 = 1;
+pub const OUT_OF_RANGE: u64 = 2;
+pub const NO_SUCH_VERTEX: u64 = 3;
+pub const VERTEX_TWICE: u64 = 4;
+pub const NOT_THERE: u64 = 5;
+pub const SHARES_A_VERTEX: u64 = 6;
+pub const NO_ROOM: u64 = 7;
+pub const TEXT_TOO_LONG: u64 = 8;
+pub const BAD_LINE: u64 = 9;
+pub const OUT_OF_ORDER: u64 = 10;
+pub const ONE_TOO_MANY: u64 = 11;
+pub const LENT_TOO_SHORT: u64 = 12;
+
+/// `third` is the third field of a refused report: the line, the needed count, or 0 where there is neither.
+#[derive(Clone, Copy, Debug, PartialEq, Eq)]
+pub struct Refusal {
+    pub number: u64,
+    pub third: u64,
+}
+
+impl Refusal {
+    pub fn new(number: u64, third: u64) -> Refusal {
+        Refusal { number, third }
+    }
+
+    /// A refusal that carries neither line nor count.
+    pub fn bare(number: u64) -> Refusal {
+        Refusal { number, third: 0 }
+    }
+}

@@ -1,0 +1,41 @@
+//! What the report program prints for a text.
+
+use crate::listing;
+use crate::refusal::Refusal;
+use crate::scene::{Kind, Pair, Scene};
+use crate::text;
+use crate::verdict::{self, Verdict};
+
+/// What a text comes to: each listed pair with its verdict, or the refusal.
+pub fn judged(text: &[u8], room: usize) -> Result<Vec<(Pair, Verdict)>, Refusal> {
+    let scene = text::read(text)?;
+    judged_scene(&scene, room)
+}
+
+pub fn judged_scene(scene: &Scene, room: usize) -> Result<Vec<(Pair, Verdict)>, Refusal> {
+    let listed = listing::list(scene, room)?;
+    Ok(listed.into_iter().map(|pair| (pair, verdict::of_pair(scene, pair))).collect())
+}
+
+pub fn report(text: &[u8], room: usize) -> String {
+    written(&judged(text, room))
+}
+
+pub fn written(judged: &Result<Vec<(Pair, Verdict)>, Refusal>) -> String {
+    let listed = match judged {
+        Err(refusal) => return format!("refused\t{}\t{}\n", refusal.number, refusal.third),
+        Ok(listed) => listed,
+    };
+    let mut out = String::new();
+    for (pair, verdict) in listed {
+        let kind = match pair.kind {
+            Kind::PointTriangle => "pt",
+            Kind::EdgeEdge => "ee",
+        };
+        out.push_str(&format!("{kind}\t{}\t{}\t{}\n", pair.first, pair.second, verdict.word()));
+    }
+    let count = |wanted: Verdict| listed.iter().filter(|(_, verdict)| *verdict == wanted).count();
+    let (hits, misses, degenerates) = (count(Verdict::Hit), count(Verdict::Miss), count(Verdict::Degenerate));
+    out.push_str(&format!("total\t{}\t{hits}\t{misses}\t{degenerates}\n", listed.len()));
+    out
+}

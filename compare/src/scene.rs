@@ -1,0 +1,68 @@
+//! A scene and its sizes.
+
+pub const COORDINATE_LIMIT: i64 = 262_143;
+pub const VERTEX_LIMIT: usize = 512;
+pub const EDGE_LIMIT: usize = 1_024;
+pub const TRIANGLE_LIMIT: usize = 512;
+pub const TEXT_LIMIT: usize = 32_768;
+pub const REPORT_ROOM: usize = 2_048;
+
+#[derive(Clone, Debug, Default, PartialEq, Eq)]
+pub struct Scene {
+    /// start x y z, end x y z
+    pub vertices: Vec<[i64; 6]>,
+    pub edges: Vec<[usize; 2]>,
+    pub triangles: Vec<[usize; 3]>,
+}
+
+pub fn in_range(coordinate: i64) -> bool {
+    (-COORDINATE_LIMIT..=COORDINATE_LIMIT).contains(&coordinate)
+}
+
+#[derive(Clone, Copy, Debug, PartialEq, Eq)]
+pub enum Kind {
+    PointTriangle,
+    EdgeEdge,
+}
+
+#[derive(Clone, Copy, Debug, PartialEq, Eq)]
+pub struct Pair {
+    pub kind: Kind,
+    pub first: usize,
+    pub second: usize,
+}
+
+impl Pair {
+    pub fn pt(vertex: usize, triangle: usize) -> Pair {
+        Pair { kind: Kind::PointTriangle, first: vertex, second: triangle }
+    }
+
+    pub fn ee(first: usize, second: usize) -> Pair {
+        Pair { kind: Kind::EdgeEdge, first, second }
+    }
+
+    /// The vertex numbers of its two parts.
+    pub fn parts<'a>(&'a self, scene: &'a Scene) -> (&'a [usize], &'a [usize]) {
+        match self.kind {
+            Kind::PointTriangle => (std::slice::from_ref(&self.first), &scene.triangles[self.second]),
+            Kind::EdgeEdge => (&scene.edges[self.first], &scene.edges[self.second]),
+        }
+    }
+
+    pub fn shares_a_vertex(&self, scene: &Scene) -> bool {
+        let (first, second) = self.parts(scene);
+        first.iter().any(|v| second.contains(v))
+    }
+}
+
+/// Every pair of the scene, sharing a vertex or not, in the order of the list.
+pub fn all_pairs(scene: &Scene) -> Vec<Pair> {
+    let mut out = Vec::new();
+    for vertex in 0..scene.vertices.len() {
+        out.extend((0..scene.triangles.len()).map(|triangle| Pair::pt(vertex, triangle)));
+    }
+    for first in 0..scene.edges.len() {
+        out.extend((first + 1..scene.edges.len()).map(|second| Pair::ee(first, second)));
+    }
+    out
+}

@@ -1,0 +1,102 @@
+//! A scene lent as slices, and a pair or a piece asked for. The numbers are as wide as Rust's widest, so that
+//! whatever width a caller has, what lies outside the rules can be said.
+
+use crate::listing;
+use crate::refusal::*;
+use crate::scene::*;
+use crate::text::any_twice;
+use crate::verdict::{self, Verdict};
+
+#[derive(Clone, Copy)]
+pub struct Slices<'a> {
+    pub positions: &'a [i64],
+    pub edges: &'a [u64],
+    pub triangles: &'a [u64],
+}
+
+/// Refusals 1, 2, 3, 4, each over the whole scene before the next.
+pub fn scene(slices: Slices) -> Result<Scene, Refusal> {
+    let Slices { positions, edges, triangles } = slices;
+    let shaped = |length: usize, step: usize, limit: usize| length.is_multiple_of(step) && length / step <= limit;
+    if !shaped(positions.len(), 6, VERTEX_LIMIT)
+        || !shaped(edges.len(), 2, EDGE_LIMIT)
+        || !shaped(triangles.len(), 3, TRIANGLE_LIMIT)
+    {
+        return Err(Refusal::bare(BAD_SHAPE));
+    }
+    if !positions.iter().all(|&coordinate| in_range(coordinate)) {
+        return Err(Refusal::bare(OUT_OF_RANGE));
+    }
+    let vertices = positions.len() as u64 / 6;
+    if edges.iter().chain(triangles).any(|&vertex| vertex >= vertices) {
+        return Err(Refusal::bare(NO_SUCH_VERTEX));
+    }
+    let place = |vertex: &u64| *vertex as usize;
+    let scene = Scene {
+        vertices: positions.chunks(6).map(|chunk| chunk.try_into().unwrap()).collect(),
+        edges: edges.chunks(2).map(|chunk| [0, 1].map(|i| place(&chunk[i]))).collect(),
+        triangles: triangles.chunks(3).map(|chunk| [0, 1, 2].map(|i| place(&chunk[i]))).collect(),
+    };
+    if scene.edges.iter().any(|edge| any_twice(edge)) || scene.triangles.iter().any(|triangle| any_twice(triangle)) {
+        return Err(Refusal::bare(VERTEX_TWICE));
+    }
+    Ok(scene)
+}
+
+fn asked(scene: &Scene, kind: Kind, first: u64, second: u64) -> Result<Pair, Refusal> {
+    let (firsts, seconds) = match kind {
+        Kind::PointTriangle => (scene.vertices.len(), scene.triangles.len()),
+        Kind::EdgeEdge => (scene.edges.len(), scene.edges.len()),
+    };
+    if first >= firsts as u64 || second >= seconds as u64 {
+        return Err(Refusal::bare(NOT_THERE));
+    }
+    Ok(Pair { kind, first: first as usize, second: second as usize })
+}
+
+fn apart(scene: &Scene, pair: Pair) -> Result<(), Refusal> {
+    if pair.shares_a_vertex(scene) {
+        return Err(Refusal::bare(SHARES_A_VERTEX));
+    }
+    Ok(())
+}
+
+pub fn pair_verdict(slices: Slices, kind: Kind, first: u64, second: u64) -> Result<Verdict, Refusal> {
+    let scene = scene(slices)?;
+    let pair = asked(&scene, kind, first, second)?;
+    apart(&scene, pair)?;
+    Ok(verdict::of_pair(&scene, pair))
+}
+
+pub fn piece_verdict(slices: Slices, kind: Kind, first: u64, second: u64, piece: u64) -> Result<Verdict, Refusal> {
+    let scene = scene(slices)?;
+    let pair = asked(&scene, kind, first, second)?;
+    let pieces = match kind {
+        Kind::PointTriangle => 3,
+        Kind::EdgeEdge => 4,
+    };
+    if piece >= pieces {
+        return Err(Refusal::bare(NOT_THERE));
+    }
+    apart(&scene, pair)?;
+    Ok(verdict::of_pieces(&scene, pair)[piece as usize])
+}
+
+/// The list as its entries: 0 for pt or 1 for ee, then the two places.
+pub fn list(slices: Slices, room: usize) -> Result<Vec<[u16; 3]>, Refusal> {
+    let scene = scene(slices)?;
+    let entry = |pair: &Pair| {
+        let kind = match pair.kind {
+            Kind::PointTriangle => 0,
+            Kind::EdgeEdge => 1,
+        };
+        [kind, pair.first as u16, pair.second as u16]
+    };
+    Ok(listing::list(&scene, room)?.iter().map(entry).collect())
+}
+
+/// A scene as the numbers that a caller lends.
+pub fn flat(scene: &Scene) -> (Vec<i64>, Vec<u64>, Vec<u64>) {
+    let numbers = |places: &[usize]| places.iter().map(|&v| v as u64).collect::<Vec<u64>>();
+    (scene.vertices.concat(), numbers(&scene.edges.concat()), numbers(&scene.triangles.concat()))
+}

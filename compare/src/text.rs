@@ -1,0 +1,125 @@
+//! Scene text, read by document 01's rules, and written.
+
+use crate::refusal::*;
+use crate::scene::*;
+
+enum Record {
+    Vertex([i64; 6]),
+    Edge([usize; 2]),
+    Triangle([usize; 3]),
+}
+
+pub fn read(text: &[u8]) -> Result<Scene, Refusal> {
+    if text.len() > TEXT_LIMIT {
+        return Err(Refusal::bare(TEXT_TOO_LONG));
+    }
+    let mut scene = Scene::default();
+    let mut lines: Vec<&[u8]> = text.split(|&byte| byte == b'\n').collect();
+    // what stands behind the last LF: nothing, or a last line without one
+    let unended = lines.pop().filter(|line| !line.is_empty());
+    let ended = lines.len();
+    for (above, line) in lines.iter().enumerate() {
+        take(&mut scene, line).map_err(|number| Refusal::new(number, above as u64 + 1))?;
+    }
+    match unended {
+        Some(_) => Err(Refusal::new(BAD_LINE, ended as u64 + 1)),
+        None => Ok(scene),
+    }
+}
+
+/// The same where the scene goes to lent buffers of these lengths.
+pub fn read_lent(text: &[u8], positions: usize, edges: usize, triangles: usize) -> Result<Scene, Refusal> {
+    if positions < 6 * VERTEX_LIMIT || edges < 2 * EDGE_LIMIT || triangles < 3 * TRIANGLE_LIMIT {
+        return Err(Refusal::bare(LENT_TOO_SHORT));
+    }
+    read(text)
+}
+
+fn take(scene: &mut Scene, line: &[u8]) -> Result<(), u64> {
+    let record = record(line).ok_or(BAD_LINE)?;
+    let no_triangle_above = scene.triangles.is_empty();
+    let no_edge_above = scene.edges.is_empty();
+    match record {
+        Record::Vertex(vertex) => {
+            refuse_unless(no_edge_above && no_triangle_above, OUT_OF_ORDER)?;
+            refuse_unless(scene.vertices.len() < VERTEX_LIMIT, ONE_TOO_MANY)?;
+            refuse_unless(vertex.into_iter().all(in_range), OUT_OF_RANGE)?;
+            scene.vertices.push(vertex);
+        }
+        Record::Edge(edge) => {
+            refuse_unless(no_triangle_above, OUT_OF_ORDER)?;
+            refuse_unless(scene.edges.len() < EDGE_LIMIT, ONE_TOO_MANY)?;
+            corners(&edge, scene.vertices.len())?;
+            scene.edges.push(edge);
+        }
+        Record::Triangle(triangle) => {
+            refuse_unless(scene.triangles.len() < TRIANGLE_LIMIT, ONE_TOO_MANY)?;
+            corners(&triangle, scene.vertices.len())?;
+            scene.triangles.push(triangle);
+        }
+    }
+    Ok(())
+}
+
+fn refuse_unless(fine: bool, number: u64) -> Result<(), u64> {
+    if fine {
+        Ok(())
+    } else {
+        Err(number)
+    }
+}
+
+fn corners(numbers: &[usize], vertices: usize) -> Result<(), u64> {
+    refuse_unless(numbers.iter().all(|&v| v < vertices), NO_SUCH_VERTEX)?;
+    refuse_unless(!any_twice(numbers), VERTEX_TWICE)
+}
+
+pub fn any_twice(numbers: &[usize]) -> bool {
+    (1..numbers.len()).any(|i| numbers[..i].contains(&numbers[i]))
+}
+
+/// Nothing for a line that is not of the form.
+fn record(line: &[u8]) -> Option<Record> {
+    let mut fields = line.split(|&byte| byte == b'\t');
+    let kind = fields.next()?;
+    let fields: Vec<&[u8]> = fields.collect();
+    match kind {
+        b"v" => Some(Record::Vertex(all(&fields, coordinate)?)),
+        b"e" => Some(Record::Edge(all(&fields, number)?)),
+        b"t" => Some(Record::Triangle(all(&fields, number)?)),
+        _ => None,
+    }
+}
+
+/// Exactly N fields, each of the form.
+fn all<T, const N: usize>(fields: &[&[u8]], form: fn(&[u8]) -> Option<T>) -> Option<[T; N]> {
+    let read: Option<Vec<T>> = fields.iter().map(|field| form(field)).collect();
+    read?.try_into().ok()
+}
+
+/// One to nine digits, no leading zero except 0 itself.
+fn number(field: &[u8]) -> Option<usize> {
+    let zero_in_front = field.len() > 1 && field[0] == b'0';
+    if !(1..=9).contains(&field.len()) || zero_in_front || !field.iter().all(u8::is_ascii_digit) {
+        return None;
+    }
+    std::str::from_utf8(field).ok()?.parse().ok()
+}
+
+fn coordinate(field: &[u8]) -> Option<i64> {
+    match field.strip_prefix(b"-") {
+        Some(b"0") => None,
+        Some(digits) => Some(-(number(digits)? as i64)),
+        None => Some(number(field)? as i64),
+    }
+}
+
+/// The text of a scene; whether it is accepted is not looked at, since texts that are refused are wanted too.
+pub fn write(scene: &Scene) -> String {
+    let mut out = String::new();
+    let mut line = |kind: &str, numbers: Vec<String>| out.push_str(&format!("{kind}\t{}\n", numbers.join("\t")));
+    scene.vertices.iter().for_each(|v| line("v", v.map(|n| n.to_string()).to_vec()));
+    scene.edges.iter().for_each(|e| line("e", e.map(|n| n.to_string()).to_vec()));
+    scene.triangles.iter().for_each(|t| line("t", t.map(|n| n.to_string()).to_vec()));
+    out
+}

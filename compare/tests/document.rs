@@ -1,0 +1,141 @@
+//! What document 01 says with numbers: the printed scene, the twelve shown cases, the facts that are only run, and
+//! each refusal with each tie in the order of the checks.
+
+use compare::cases::{shown, text_cases, PRINTED_REPORT, PRINTED_SCENE};
+use compare::equations::Solutions;
+use compare::listing::is_listed;
+use compare::pieces::pieces;
+use compare::refusal::*;
+use compare::report::report;
+use compare::scene::*;
+use compare::slices::{flat, list, pair_verdict, piece_verdict, Slices};
+use compare::text::{read, read_lent, write};
+use compare::verdict::{of_pieces, Verdict};
+use compare::whole::Whole;
+
+#[test]
+fn the_printed_scene() {
+    assert_eq!(report(PRINTED_SCENE.as_bytes(), REPORT_ROOM), PRINTED_REPORT);
+}
+
+#[test]
+fn the_twelve_shown_cases() {
+    for (place, case) in shown().iter().enumerate() {
+        assert_eq!(of_pieces(&case.scene, case.pair), case.pieces, "case {}", place + 1);
+        assert_eq!(is_listed(&case.scene, case.pair), case.listed, "case {}", place + 1);
+    }
+}
+
+#[test]
+fn the_weights_of_case_1() {
+    let case = &shown()[0];
+    let piece = &pieces(&case.scene, case.pair)[1];
+    let solved = Solutions::of(&piece.first, &piece.second).only();
+    for ((numerator, denominator), weight) in solved.iter().zip([2, 2, 2, 0, 1, 1]) {
+        // as shares of their sum, which is 4
+        assert_eq!(numerator.times(&Whole::from(4)), denominator.times(&Whole::from(weight)));
+    }
+}
+
+#[test]
+fn run_only_facts() {
+    let vertex = |x: &str| report(format!("v\t{x}\t0\t0\t0\t0\t0\n").as_bytes(), REPORT_ROOM);
+    assert_eq!(vertex("262143"), "total\t0\t0\t0\t0\n");
+    assert_eq!(vertex("-262143"), "total\t0\t0\t0\t0\n");
+    assert_eq!(vertex("262144"), "refused\t2\t1\n");
+    assert_eq!(vertex("-0"), "refused\t9\t1\n");
+    assert_eq!(report(PRINTED_SCENE.as_bytes(), 1), "refused\t7\t2\n");
+    assert_eq!(report(PRINTED_SCENE.as_bytes(), 2), PRINTED_REPORT);
+}
+
+#[test]
+fn texts_at_the_edges_of_the_rules() {
+    for case in text_cases() {
+        let report = report(&case.text, REPORT_ROOM);
+        let lines: Vec<&str> = report.split_terminator('\n').collect();
+        assert_eq!(*lines.last().unwrap(), case.last_line, "{}", case.name);
+        assert!(report.ends_with('\n'));
+        assert!(lines.len() == 1 || !case.last_line.starts_with("refused"), "{}", case.name);
+    }
+}
+
+#[test]
+fn lent_buffers_come_before_the_text() {
+    let bad = vec![b'x'; TEXT_LIMIT + 1];
+    for (positions, edges, triangles) in [(3_071, 2_048, 1_536), (3_072, 2_047, 1_536), (3_072, 2_048, 1_535)] {
+        assert_eq!(read_lent(&bad, positions, edges, triangles), Err(Refusal::bare(LENT_TOO_SHORT)));
+    }
+    assert_eq!(read_lent(&bad, 3_072, 2_048, 1_536), Err(Refusal::bare(TEXT_TOO_LONG)));
+    assert_eq!(read_lent(b"", 3_072, 2_048, 1_536), Ok(Scene::default()));
+}
+
+#[test]
+fn written_and_read_again() {
+    let scene = read(PRINTED_SCENE.as_bytes()).unwrap();
+    assert_eq!(write(&scene), PRINTED_SCENE);
+}
+
+fn refused(positions: &[i64], edges: &[u64], triangles: &[u64]) -> u64 {
+    compare::slices::scene(Slices { positions, edges, triangles }).unwrap_err().number
+}
+
+#[test]
+fn slices_are_checked_whole_before_the_next_check() {
+    let (three, far) = ([0; 18], [0, 0, 0, 0, 0, 262_144]);
+    assert_eq!(refused(&[0; 5], &[], &[]), BAD_SHAPE);
+    assert_eq!(refused(&[], &[0], &[]), BAD_SHAPE);
+    assert_eq!(refused(&[], &[], &[0, 1]), BAD_SHAPE);
+    assert_eq!(refused(&[0; 6 * 513], &[], &[]), BAD_SHAPE);
+    assert_eq!(refused(&three, &[0, 1].repeat(1_025), &[]), BAD_SHAPE);
+    assert_eq!(refused(&three, &[], &[0, 1, 2].repeat(513)), BAD_SHAPE);
+    assert_eq!(refused(&far, &[0], &[]), BAD_SHAPE);
+    assert_eq!(refused(&far, &[0, 9], &[]), OUT_OF_RANGE);
+    assert_eq!(refused(&[-262_144, 0, 0, 0, 0, 0], &[0, 0], &[]), OUT_OF_RANGE);
+    assert_eq!(refused(&[i64::MIN; 6], &[], &[]), OUT_OF_RANGE);
+    assert_eq!(refused(&[], &[0, 1], &[]), NO_SUCH_VERTEX);
+    assert_eq!(refused(&three, &[1, 1, 0, 3], &[]), NO_SUCH_VERTEX);
+    assert_eq!(refused(&three, &[1, 1], &[0, 1, 3]), NO_SUCH_VERTEX);
+    assert_eq!(refused(&three, &[0, u64::MAX], &[]), NO_SUCH_VERTEX);
+    assert_eq!(refused(&three, &[1, 1], &[0, 1, 2]), VERTEX_TWICE);
+    assert_eq!(refused(&three, &[0, 1], &[2, 1, 2]), VERTEX_TWICE);
+    let full = compare::slices::scene(Slices {
+        positions: &[262_143; 3_072],
+        edges: &[0, 511].repeat(1_024),
+        triangles: &[0, 1, 511].repeat(512),
+    });
+    assert!(full.is_ok());
+}
+
+#[test]
+fn a_pair_or_a_piece_asked_for() {
+    let (positions, edges, triangles) = flat(&read(PRINTED_SCENE.as_bytes()).unwrap());
+    let slices = Slices { positions: &positions, edges: &edges, triangles: &triangles };
+    let (pt, ee) = (Kind::PointTriangle, Kind::EdgeEdge);
+    let pair = |kind, first, second| pair_verdict(slices, kind, first, second).map_err(|refusal| refusal.number);
+    let piece = |kind, first, second, piece| piece_verdict(slices, kind, first, second, piece).map_err(|refusal| refusal.number);
+    assert_eq!(pair(pt, 3, 0), Ok(Verdict::Hit));
+    assert_eq!(pair(ee, 0, 1), Ok(Verdict::Hit));
+    assert_eq!(pair(ee, 1, 0), Ok(Verdict::Hit));
+    assert_eq!(pair(pt, 5, 0), Err(NOT_THERE));
+    assert_eq!(pair(pt, 3, 1), Err(NOT_THERE));
+    assert_eq!(pair(pt, 0, u64::MAX), Err(NOT_THERE));
+    assert_eq!(pair(ee, 0, 2), Err(NOT_THERE));
+    assert_eq!(pair(ee, 2, 2), Err(NOT_THERE));
+    assert_eq!(pair(pt, 0, 0), Err(SHARES_A_VERTEX));
+    assert_eq!(pair(ee, 1, 1), Err(SHARES_A_VERTEX));
+    assert_eq!(piece(pt, 3, 0, 0), Ok(Verdict::Miss));
+    assert_eq!(piece(pt, 3, 0, 2), Ok(Verdict::Hit));
+    assert_eq!(piece(pt, 3, 0, 3), Err(NOT_THERE));
+    assert_eq!(piece(pt, 0, 0, 3), Err(NOT_THERE));
+    assert_eq!(piece(pt, 0, 0, 2), Err(SHARES_A_VERTEX));
+    assert_eq!(piece(ee, 0, 1, 4), Err(NOT_THERE));
+    assert_eq!(piece(ee, 1, 1, 3), Err(SHARES_A_VERTEX));
+    for number in 0..4 {
+        assert_eq!(piece(ee, 0, 1, number), piece(ee, 1, 0, number));
+    }
+    let bad = Slices { positions: &positions[1..], edges: &edges, triangles: &triangles };
+    assert_eq!(pair_verdict(bad, pt, 9, 9), Err(Refusal::bare(BAD_SHAPE)));
+    assert_eq!(list(slices, 2), Ok(vec![[0, 3, 0], [1, 0, 1]]));
+    assert_eq!(list(slices, 1), Err(Refusal::new(NO_ROOM, 2)));
+    assert_eq!(list(bad, 0), Err(Refusal::bare(BAD_SHAPE)));
+}

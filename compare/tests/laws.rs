@@ -1,0 +1,195 @@
+//! The independent program held against other ways of saying the same thing, and against the demands, on scenes
+//! from seeds.
+
+use compare::affine::{determinant, Affine};
+use compare::equations::{meet, Point, Solutions};
+use compare::generate::{self, rewritten, KINDS};
+use compare::listing::{is_culled, list};
+use compare::pieces::{pieces, Piece};
+use compare::random::Random;
+use compare::report::{judged_scene, written};
+use compare::scene::*;
+use compare::text::{read, write};
+use compare::verdict::{of_pair, of_piece, of_pieces, touches, Verdict};
+use compare::whole::Whole;
+
+/// The crowded kind is left out where every pair is looked at.
+fn small_scenes(rounds: u64) -> impl Iterator<Item = (u64, Scene)> {
+    let kinds = KINDS.len() as u64;
+    (0..rounds * kinds).filter(move |seed| seed % kinds != kinds - 1).map(|seed| (seed, generate::scene(seed)))
+}
+
+fn unshared_pairs(scene: &Scene) -> Vec<Pair> {
+    all_pairs(scene).into_iter().filter(|pair| !pair.shares_a_vertex(scene)).collect()
+}
+
+fn small_pieces(rounds: u64) -> impl Iterator<Item = Piece> {
+    small_scenes(rounds).flat_map(|(_, scene)| {
+        let pairs = unshared_pairs(&scene);
+        pairs.into_iter().flat_map(|pair| pieces(&scene, pair)).take(60).collect::<Vec<Piece>>()
+    })
+}
+
+fn cofactors(rows: &[Vec<i128>]) -> i128 {
+    let Some((top, below)) = rows.split_first() else { return 1 };
+    let without = |column: usize| -> Vec<Vec<i128>> {
+        below.iter().map(|row| row.iter().enumerate().filter(|(i, _)| *i != column).map(|(_, n)| *n).collect()).collect()
+    };
+    let signed = |column: usize| if column.is_multiple_of(2) { top[column] } else { -top[column] };
+    (0..top.len()).filter(|&column| top[column] != 0).map(|column| signed(column) * cofactors(&without(column))).sum()
+}
+
+/// The six equations' columns, for the determinant by its plain definition. (At most 6! times the limit cubed, so
+/// it fits.)
+fn columns(piece: &Piece) -> Vec<Vec<i128>> {
+    let column = |first: i128, p: &Point| -> Vec<i128> {
+        let agree = p.iter().map(|&n| if first == 1 { n as i128 } else { -(n as i128) });
+        [first, 1 - first].into_iter().chain(agree).collect()
+    };
+    let first = piece.first.iter().map(|p| column(1, p));
+    first.chain(piece.second.iter().map(|p| column(0, p))).collect()
+}
+
+#[test]
+fn singular_exactly_when_the_determinant_by_cofactors_is_0() {
+    let (mut flat, mut whole) = (0, 0);
+    for piece in small_pieces(6) {
+        let zero = cofactors(&columns(&piece)) == 0;
+        assert_eq!(of_piece(&piece) == Verdict::Degenerate, zero, "{piece:?}");
+        *(if zero { &mut flat } else { &mut whole }) += 1;
+    }
+    assert!(flat > 300 && whole > 300, "{flat} singular, {whole} not");
+}
+
+/// Cramer's rule with the 6 by 6 determinants as they stand.
+#[test]
+fn the_solved_weights_are_those_of_cramers_rule() {
+    for piece in small_pieces(2) {
+        let columns = columns(&piece);
+        let below = cofactors(&columns);
+        if below == 0 {
+            continue;
+        }
+        let solved = Solutions::of(&piece.first, &piece.second).only();
+        for (place, (numerator, denominator)) in solved.iter().enumerate() {
+            let mut replaced = columns.clone();
+            replaced[place] = vec![1, 1, 0, 0, 0, 0];
+            let above = cofactors(&replaced);
+            assert_eq!(denominator.sign(), 1);
+            assert_eq!(numerator.times(&Whole::from(below)), denominator.times(&Whole::from(above)), "{piece:?}");
+        }
+    }
+}
+
+/// A system with weights has some whose points, those of weight 0 left out, allow no others: one of the 63 choices.
+fn meets_by_choices(piece: &Piece) -> bool {
+    let chosen = |points: &[Point], choice: usize| -> Vec<Point> {
+        points.iter().enumerate().filter(|(i, _)| choice >> i & 1 == 1).map(|(_, p)| *p).collect()
+    };
+    (1..1usize << piece.first.len()).any(|a| {
+        (1..1usize << piece.second.len()).any(|b| {
+            let solutions = Solutions::of(&chosen(&piece.first, a), &chosen(&piece.second, b));
+            !solutions.singular() && solutions.any_nonnegative()
+        })
+    })
+}
+
+#[test]
+fn touching_is_found_alike_by_bounds_and_by_choices() {
+    let (mut touch, mut apart) = (0, 0);
+    for piece in small_pieces(3) {
+        let touching = touches(&piece);
+        assert_eq!(touching, meets_by_choices(&piece), "{piece:?}");
+        match of_piece(&piece) {
+            Verdict::Hit => assert!(touching),
+            Verdict::Miss => assert!(!touching),
+            Verdict::Degenerate => *(if touching { &mut touch } else { &mut apart }) += 1,
+        }
+    }
+    assert!(touch > 50 && apart > 50, "of the singular pieces {touch} touch, {apart} do not");
+}
+
+#[test]
+fn cases_6_and_7_are_apart_and_touch() {
+    let shown = compare::cases::shown();
+    let touching = |place: usize| pieces(&shown[place].scene, shown[place].pair).iter().any(touches);
+    assert!(!touching(5));
+    assert!(touching(6));
+}
+
+#[test]
+fn a_culled_pair_touches_in_no_piece_and_at_no_time() {
+    let mut culled = 0;
+    for (_, scene) in small_scenes(12) {
+        for pair in unshared_pairs(&scene).into_iter().filter(|&pair| is_culled(&scene, pair)).take(20) {
+            culled += 1;
+            assert!(!pieces(&scene, pair).iter().any(touches));
+            for (p, q) in [(0, 1), (1, 1), (1, 2), (1, 3), (5, 7), (999, 1000)] {
+                let at = |vertex: &usize| {
+                    let v = scene.vertices[*vertex];
+                    [0, 1, 2, 3].map(|axis| if axis == 3 { 0 } else { (q - p) * v[axis] + p * v[axis + 3] })
+                };
+                let (first, second) = pair.parts(&scene);
+                let (first, second): (Vec<Point>, Vec<Point>) = (first.iter().map(at).collect(), second.iter().map(at).collect());
+                assert!(!meet(&first, &second));
+            }
+        }
+    }
+    assert!(culled > 500, "{culled} culled");
+}
+
+#[test]
+fn demand_3_every_unshared_pair_and_piece_keeps_its_verdict() {
+    let (mut pairs, mut both_listed, mut one_listed) = (0, 0, 0);
+    for (seed, scene) in small_scenes(12) {
+        let affine = Affine::draw(&mut Random::new(seed), &scene);
+        assert_ne!(determinant(&affine.matrix), 0);
+        let sent = affine.send(&scene);
+        if read(write(&sent).as_bytes()).is_err() {
+            continue;
+        }
+        for pair in unshared_pairs(&scene).into_iter().take(60) {
+            pairs += 1;
+            assert_eq!(of_pieces(&scene, pair), of_pieces(&sent, pair), "seed {seed}, {pair:?}, {affine:?}");
+            let culled = is_culled(&scene, pair) as u32 + is_culled(&sent, pair) as u32;
+            assert!(culled == 0 || of_pair(&scene, pair) != Verdict::Hit);
+            both_listed += (culled == 0) as u32;
+            one_listed += (culled == 1) as u32;
+        }
+    }
+    assert!(
+        pairs > 2000 && both_listed > 500 && one_listed > 50,
+        "{pairs} pairs, {both_listed} listed in both, {one_listed} in one"
+    );
+}
+
+#[test]
+fn the_order_of_ends_and_corners_changes_nothing() {
+    for (seed, scene) in small_scenes(12) {
+        let report = |scene: &Scene| written(&judged_scene(scene, REPORT_ROOM));
+        let other = rewritten(&mut Random::new(seed), &scene);
+        assert_eq!(report(&scene), report(&other), "seed {seed}");
+    }
+}
+
+#[test]
+fn an_edge_pair_is_the_same_from_either_side() {
+    for (_, scene) in small_scenes(4) {
+        for pair in unshared_pairs(&scene).into_iter().filter(|pair| pair.kind == Kind::EdgeEdge).take(20) {
+            assert_eq!(of_pieces(&scene, pair), of_pieces(&scene, Pair::ee(pair.second, pair.first)));
+        }
+    }
+}
+
+#[test]
+fn accepted_texts_are_the_scenes_they_were_written_from() {
+    for seed in 0..50 * KINDS.len() as u64 {
+        let scene = generate::scene(seed);
+        if let Ok(read) = read(write(&scene).as_bytes()) {
+            assert_eq!(read, scene);
+        }
+        if let Err(refusal) = list(&scene, REPORT_ROOM) {
+            assert!(refusal.third > REPORT_ROOM as u64);
+        }
+    }
+}

@@ -1,0 +1,8 @@
+-- `faults::repeated_vertex`: what its calls ensure, put together.
+use borrow.Author.Needs.{needs}
+use Rattle.scenes.proofs.faults.repeated_vertex.Statement.{statement}
+use Rattle.scenes.proofs.faults.repeated_vertex.Tie as tie
+
+pub repeated-vertex-spec : {M : Type 1} → statement M
+repeated-vertex-spec =
+    tie.close (tie.spec (λ c κs. search needs) (λ c κs. search needs) (λ c. cc))

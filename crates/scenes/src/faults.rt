@@ -1,0 +1,131 @@
+// What each of the refusals 1 to 4 asks of the whole scene.
+
+ghost use Prim.Native.Nat.{_<_};
+ghost use mathlib.Core.List.{[]};
+ghost use mathlib.Core.Path.{_≡_};
+ghost use lib.Dec.{leb};
+ghost use lib.IntN.{pos};
+ghost use lib.ListN.{length, getD};
+ghost use Rattle.meaning.specs.Scene.{sceneOf, edgeCount, triangleCount, someBelow, wrongShape, outside, outOfRange, unknownIn, unknownVertex, twiceInEdge, twiceInTriangle, repeatedVertex};
+ghost use Rattle.scenes.specs.Alone.{onlyPositions, onlyEdges, onlyTriangles};
+use super::written::corner;
+use super::written::edge_end;
+use super::written::wide;
+
+const COORDINATE_LIMIT: i32 = 262143;
+
+const VERTEX_LIMIT: usize = 512;
+
+const EDGE_LIMIT: usize = 1024;
+
+const TRIANGLE_LIMIT: usize = 512;
+
+// 1: a length that is no multiple, or a count over its size.
+pub fn wrong_shape(positions: &[i32], edges: &[u16], triangles: &[u16]) -> bool
+    ensures { λ r. ⌜ r ≡ wrongShape (sceneOf (now (positions .entry)) (now (edges .entry)) (now (triangles .entry))) ⌝ }
+{
+    (positions.len() % 6 != 0)
+        | (edges.len() % 2 != 0)
+        | (triangles.len() % 3 != 0)
+        | (VERTEX_LIMIT < positions.len() / 6)
+        | (EDGE_LIMIT < edges.len() / 2)
+        | (TRIANGLE_LIMIT < triangles.len() / 3)
+}
+
+// 2: a coordinate outside its range.
+fn outside(positions: &[i32], i: usize) -> bool
+    requires { ⌜ i < length (now positions) ⌝ }
+    ensures { λ r. ⌜ r ≡ outside (getD (now (positions .entry)) i (pos 0)) ⌝ }
+{
+    let c = positions[i];
+    (c < -COORDINATE_LIMIT) | (COORDINATE_LIMIT < c)
+}
+
+pub fn out_of_range(positions: &[i32]) -> bool
+    ensures { λ r. ⌜ r ≡ outOfRange (onlyPositions (now (positions .entry))) ⌝ }
+{
+    let mut found = false;
+    let mut i = 0;
+    while i < positions.len() {
+        found = found | outside(positions, i);
+        i += 1;
+    }
+    found
+}
+
+// 3: a vertex number that is not below the count.
+fn unknown(list: &[u16], i: usize, count: usize) -> bool
+    requires { ⌜ i < length (now list) ⌝ }
+    ensures { λ r. ⌜ r ≡ leb count (getD (now (list .entry)) i 0) ⌝ }
+{
+    count <= wide(list[i])
+}
+
+fn unknown_in(list: &[u16], count: usize) -> bool
+    ensures { λ r. ⌜ r ≡ unknownIn count (now (list .entry)) ⌝ }
+{
+    let mut found = false;
+    let mut i = 0;
+    while i < list.len() {
+        found = found | unknown(list, i, count);
+        i += 1;
+    }
+    found
+}
+
+pub fn unknown_vertex(positions: &[i32], edges: &[u16], triangles: &[u16]) -> bool
+    ensures { λ r. ⌜ r ≡ unknownVertex (sceneOf (now (positions .entry)) (now (edges .entry)) (now (triangles .entry))) ⌝ }
+{
+    let count = positions.len() / 6;
+    unknown_in(edges, count) | unknown_in(triangles, count)
+}
+
+// 4: a vertex twice in one edge or triangle.
+fn twice_in_edge(edges: &[u16], j: usize) -> bool
+    requires { ⌜ j < edgeCount (onlyEdges (now edges)) ⌝ }
+    ensures { λ r. ⌜ r ≡ twiceInEdge (onlyEdges (now (edges .entry))) j ⌝ }
+{
+    edge_end(edges, j, 0) == edge_end(edges, j, 1)
+}
+
+fn twice_in_triangle(triangles: &[u16], j: usize) -> bool
+    requires { ⌜ j < triangleCount (onlyTriangles (now triangles)) ⌝ }
+    ensures { λ r. ⌜ r ≡ twiceInTriangle (onlyTriangles (now (triangles .entry))) j ⌝ }
+{
+    let a = corner(triangles, j, 0);
+    let b = corner(triangles, j, 1);
+    let c = corner(triangles, j, 2);
+    (a == b) | (a == c) | (b == c)
+}
+
+fn repeated_in_edges(edges: &[u16]) -> bool
+    ensures { λ r. ⌜ r ≡ someBelow (edgeCount (onlyEdges (now (edges .entry)))) (twiceInEdge (onlyEdges (now (edges .entry)))) ⌝ }
+{
+    let count = edges.len() / 2;
+    let mut found = false;
+    let mut j = 0;
+    while j < count {
+        found = found | twice_in_edge(edges, j);
+        j += 1;
+    }
+    found
+}
+
+fn repeated_in_triangles(triangles: &[u16]) -> bool
+    ensures { λ r. ⌜ r ≡ someBelow (triangleCount (onlyTriangles (now (triangles .entry)))) (twiceInTriangle (onlyTriangles (now (triangles .entry)))) ⌝ }
+{
+    let count = triangles.len() / 3;
+    let mut found = false;
+    let mut j = 0;
+    while j < count {
+        found = found | twice_in_triangle(triangles, j);
+        j += 1;
+    }
+    found
+}
+
+pub fn repeated_vertex(edges: &[u16], triangles: &[u16]) -> bool
+    ensures { λ r. ⌜ r ≡ repeatedVertex (sceneOf [] (now (edges .entry)) (now (triangles .entry))) ⌝ }
+{
+    repeated_in_edges(edges) | repeated_in_triangles(triangles)
+}
