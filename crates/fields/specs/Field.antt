@@ -115,7 +115,7 @@ pub record MinusThere (s : List ℕ) (at : ℕ) (f : Form) : Type 0 where
   pub inside : at < length s
   pub here : Stands s at (minusSign ∷ []) (at + 1)
 
-front-byte : {s l : List ℕ} {b at next : ℕ} → Stands s at (b ∷ l) next → byteAt s at ≡ b
+pub front-byte : {s l : List ℕ} {b at next : ℕ} → Stands s at (b ∷ l) next → byteAt s at ≡ b
 front-byte {at} w = rw add-zero at (stands-at 0 0 w (omega arith))
 
 module _ (s : List ℕ) (at : ℕ) (f : Form) where

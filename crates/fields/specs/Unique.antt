@@ -8,8 +8,10 @@ use Rattle.sequences.specs.Wrote.{Wrote, wrote-unique}
 use Rattle.decimals.specs.Byte.{IsDigit}
 use Rattle.fields.specs.Field.{Found, Got, FieldStands, negative, field-unique}
 use Rattle.fields.specs.Rows.{RowRead, row-unique}
+use Rattle.fields.specs.Ended.{RowEnded}
 use Rattle.fields.specs.declared.Form.{Form}
 use Rattle.fields.specs.declared.Row.{Row}
+use Rattle.fields.specs.declared.Ending.{Ending}
 use Rattle.fields.specs.declared.Field.{Field}
 use Rattle.fields.specs.declared.Field.the-variants.{Number, Bad}
 
@@ -33,3 +35,10 @@ one-row s at f parts count sizes u v minus x y r r′ g h =
     let signed : Wrote minus 0 (map negative (g .zs)) y (r′ .count) = rw (sym same) at (h .signed) in
     let (buffer, count) = wrote-unique (g .sized) sized in
     (λ i. record { count = count i; next = place i }, buffer, wrote-unique (g .signed) signed .0)
+
+pub one-ending : (s : List ℕ) (at : ℕ) (f : Form) → ¬ IsDigit (f .separator) → (count : ℕ) (sizes u v : List ℕ) (minus x y : List Bool) (r r′ : Ending)
+    → RowEnded s at f count sizes u minus x r → RowEnded s at f count sizes v minus y r′ → (r ≡ r′) × (u ≡ v) × (x ≡ y)
+one-ending s at f parts count sizes u v minus x y r r′ g h =
+    let (same, buffer, signs) =
+    one-row s at f parts count sizes u v minus x y (g .row) (h .row) (g .read) (h .read) in
+    (cc (g .ends, h .ends), buffer, signs)

@@ -2,6 +2,7 @@
 // be is the caller's; a number's sign and its size are kept apart.
 ghost use Prim.Native.Nat.{_≤_};
 ghost use lib.ListN.{length};
+ghost use Rattle.fields.specs.Ended.{RowEnded};
 ghost use Rattle.fields.specs.Rows.{RowRead};
 ghost use Rattle.fields.specs.Field.{Found, PlainFound, NumeralStands, FieldStands};
 use decimals::NumberRead;
@@ -23,6 +24,12 @@ pub enum Field {
 pub struct Row {
     pub count: usize,
     pub next: usize,
+}
+
+// Where the line after a row begins, if the row has as many fields as it should and ends its line.
+pub enum Ending {
+    At(usize),
+    Nowhere,
 }
 
 // Digits that are a number, and no digit behind them.
@@ -124,4 +131,29 @@ pub fn read_fields(
         }
     }
     Row { count: found, next }
+}
+
+// A row of count fields, not more and not fewer, that ends its line: the place of the next line.
+pub fn read_row(
+    s: &[u8],
+    at: usize,
+    form: Form,
+    count: usize,
+    sizes: &mut [u64],
+    minus: &mut [bool],
+) -> Ending
+    requires { ⌜ form .most ≤ 19 ⌝ }
+    requires { ⌜ count ≤ length (now sizes) ⌝ }
+    requires { ⌜ count ≤ length (now minus) ⌝ }
+    ensures { λ r. ⌜ RowEnded (now (s .entry)) at form count (now (sizes .entry)) (now (sizes .exit)) (now (minus .entry)) (now (minus .exit)) r ⌝ }
+{
+    let row = read_fields(s, at, form, count, sizes, minus);
+    let found = row.count;
+    let next = row.next;
+    let end = decimals::byte_at(s, next);
+    if (found == count) & (end == b'\n') {
+        Ending::At(next + 1)
+    } else {
+        Ending::Nowhere
+    }
 }
