@@ -4,3 +4,4 @@ pub mod Unique
 pub mod Reading
 pub mod Judging
 pub mod Stepping
+pub mod Inspecting

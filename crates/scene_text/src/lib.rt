@@ -1,8 +1,9 @@
 // The reader of scene texts. It goes over the bytes twice: first it looks at every line, and only where none is at fault it fills the
 // lent buffers.
-ghost use Prim.Native.Nat.{_≤_, _<_};
+ghost use Prim.Native.Nat.{_+_, _≤_, _<_};
 ghost use lib.ListN.{length};
 ghost use mathlib.Core.Path.{_≡_};
+ghost use Rattle.scene_text.specs.Inspecting.{Inspected};
 ghost use Rattle.scene_text.specs.Judging.{FaultIs, judgedSays, farIn, Judging};
 ghost use Rattle.scene_text.specs.Reading.{lineEnded, LineRead};
 ghost use Rattle.scene_text.specs.Stepping.{Bounded, countedBy, Stepped};
@@ -10,6 +11,7 @@ use fields::Ending;
 use fields::Form;
 use meaning::Refusal;
 use meaning::SceneCounts;
+use meaning::TextAnswer;
 
 const COORDINATE_LIMIT: u64 = 262143;
 
@@ -199,4 +201,38 @@ fn next_line(text: &[u8], at: usize, c: SceneCounts, sizes: &mut [u64], minus: &
             Judged::Good => Step::Taken(sort, counted(c, sort), next),
         },
     }
+}
+
+// The number of the line below so many records, counted from 1: each line above it holds one.
+fn line_number(c: SceneCounts) -> usize
+    requires { ⌜ Bounded c ⌝ }
+    ensures { λ r. ⌜ r ≡ c .vertices + c .edges + c .triangles + 1 ⌝ }
+{
+    c.vertices + c.edges + c.triangles + 1
+}
+
+// The first pass: the counts of the text's scene, or the first faulty line with its fault.
+fn inspect(text: &[u8]) -> TextAnswer
+    ensures { λ r. ⌜ Inspected (now (text .entry)) r ⌝ }
+{
+    let mut sizes = [0u64; 6];
+    let mut minus = [false; 6];
+    let mut c = SceneCounts {
+        vertices: 0,
+        edges: 0,
+        triangles: 0,
+    };
+    let mut at = 0;
+    while at < text.len() {
+        match next_line(text, at, c, &mut sizes, &mut minus) {
+            Step::Fault(fault) => {
+                return TextAnswer::Refused(fault, line_number(c));
+            }
+            Step::Taken(_, after, next) => {
+                c = after;
+                at = next;
+            }
+        }
+    }
+    TextAnswer::Read(c)
 }
