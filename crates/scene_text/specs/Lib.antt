@@ -5,3 +5,4 @@ pub mod Reading
 pub mod Judging
 pub mod Stepping
 pub mod Inspecting
+pub mod Filling
