@@ -52,7 +52,7 @@ Judging Vertex c l o = (p q : Vector) → SizedAs (coordinates p q) l → EntryJ
 Judging Edge c l o = (i j : ℕ) → SizedAs (pos i ∷ pos j ∷ []) l → EntryJudged c (edge i j) o
 Judging Triangle c l o = (i j k : ℕ) → SizedAs (pos i ∷ pos j ∷ pos k ∷ []) l → EntryJudged c (triangle i j k) o
 
-sized-at : (zs : List ℤ) (l : List ℕ) (i : ℕ) → SizedAs zs l → i < length zs → getD l i 0 ≡ natAbs (getD zs i (pos 0))
+pub sized-at : (zs : List ℤ) (l : List ℕ) (i : ℕ) → SizedAs zs l → i < length zs → getD l i 0 ≡ natAbs (getD zs i (pos 0))
 sized-at zs l i e h = sym (getD-take (length zs) l i 0 h) ∙ ap (λ (k : List ℕ). getD k i 0) e ∙ List·getD-map natAbs zs i (pos 0)
 
 module _ (c : SceneCounts) (l : List ℕ) (o : Outcome (Unit {0})) where

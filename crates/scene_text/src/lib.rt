@@ -6,7 +6,8 @@ ghost use mathlib.Core.List.{[], _∷_};
 ghost use mathlib.Core.Path.{_≡_};
 ghost use Rattle.sequences.specs.Wrote.{Wrote};
 ghost use Rattle.meaning.specs.Limits.{coordinateLimit};
-ghost use Rattle.scene_text.specs.Filling.{signedOf, pointFrom, vertexFrom, Near};
+ghost use Rattle.meaning.specs.Scene.{sceneOf};
+ghost use Rattle.scene_text.specs.Filling.{signedOf, pointFrom, vertexFrom, Near, Ready, Roomy, Put};
 ghost use Rattle.scene_text.specs.Inspecting.{Inspected};
 ghost use Rattle.scene_text.specs.Judging.{FaultIs, judgedSays, farIn, Judging};
 ghost use Rattle.scene_text.specs.Reading.{lineEnded, LineRead};
@@ -293,4 +294,31 @@ fn put_triangle(out: &mut [u16], at: usize, a: u16, b: u16, d: u16)
     out[at] = a;
     out[at + 1] = b;
     out[at + 2] = d;
+}
+
+// A record goes into its buffer, behind those that stand there.
+fn put(
+    sort: Sort,
+    c: SceneCounts,
+    sizes: &[u64],
+    minus: &[bool],
+    positions: &mut [i32],
+    edges: &mut [u16],
+    triangles: &mut [u16],
+)
+    requires { ⌜ Ready sort c (now sizes) (now minus) ⌝ }
+    requires { ⌜ Roomy (sceneOf (now positions) (now edges) (now triangles)) ⌝ }
+    ensures { λ _. ⌜ Put sort c (now (sizes .entry)) (now (minus .entry)) (sceneOf (now (positions .entry)) (now (edges .entry)) (now (triangles .entry))) (sceneOf (now (positions .exit)) (now (edges .exit)) (now (triangles .exit))) ⌝ }
+{
+    match sort {
+        Sort::Vertex => put_vertex(positions, 6 * c.vertices, sizes, minus),
+        Sort::Edge => put_edge(edges, 2 * c.edges, sizes[0] as u16, sizes[1] as u16),
+        Sort::Triangle => put_triangle(
+            triangles,
+            3 * c.triangles,
+            sizes[0] as u16,
+            sizes[1] as u16,
+            sizes[2] as u16,
+        ),
+    }
 }
