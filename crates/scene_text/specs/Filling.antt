@@ -1,235 +1,161 @@
--- What is put into the lent buffers for a record, and when it can be.
-use mathlib.Core.Bool.{Bool, true, false}
-use mathlib.Core.List.{List, [], _∷_, _++_, map}
+-- What the second pass promises, and how it goes on from line to line.
+use mathlib.Core.Bool.{Bool}
+use mathlib.Core.List.{List, [], _∷_, _++_, flatMap, nil≢cons}
 use mathlib.Core.Path.{_≡_, refl, sym, ap, _∙_}
-use Prim.Native.Nat.{ℕ, suc, _+_, _*_, _^_, _≤_, _<_}
+use Prim.Native.Nat.{ℕ, _+_, _*_, _≤_, _<_}
 use native.Mathlib.Omega.{arith}
-use lib.Dec.{leb, ltb}
-use lib.IntN.{ℤ, pos, negsuc, negℤ, natAbs}
-use lib.ListN.{length, take, getD, List·getD-map}
-use lib.Seq.{getD-take}
-use borrow.Author.Tests.{leb-false, ltb-false}
-use Rattle.whole.specs.Vector.{Vector}
-use Rattle.sequences.specs.Wrote.{Wrote, wrote-none}
-use Rattle.scenes.specs.Below.{or-left, or-rest}
-use Rattle.fields.specs.Field.{negative}
-use Rattle.fields.specs.Ended.{InFront}
-use Rattle.meaning.specs.Limits.{coordinateLimit, vertexLimit, edgeLimit, triangleLimit}
+use lib.ListN.{length, drop, length-drop, drop-of-length-le}
+use Rattle.sequences.specs.Flat.{flat-cons, flat-nil}
+use Rattle.sequences.specs.Stands.{stands-inside}
+use Rattle.sequences.specs.Writing.{Writing, writing-starts-front, writing-steps, writing-as, writing-ends-front}
+use Rattle.meaning.specs.Limits.{vertexLimit, edgeLimit, triangleLimit}
 use Rattle.meaning.specs.Scene.{Scene, sceneOf}
-use Rattle.meaning.specs.Refusals.{given}
-use Rattle.meaning.specs.Text.{Entry, vertex, edge, triangle, coordinates, numbersOf, EntryJudged, far, unknown, excess, counted, coordinatesIn, endsIn, cornersIn, shortBuffer}
+use Rattle.meaning.specs.Refusals.{given, numberOf}
+use Rattle.meaning.specs.Text as Text
+use Rattle.meaning.specs.Text.{Entry, lineOf, EntryJudged, none, counted, countedAll, Sound, textOf, coordinatesIn, endsIn, cornersIn, sceneFrom, Holds, filled}
+use Rattle.meaning.specs.declared.Refusal.{Refusal}
 use Rattle.meaning.specs.declared.SceneCounts.{SceneCounts}
-use Rattle.scene_text.specs.Reading.{sortOf}
-use Rattle.scene_text.specs.Judging.{sized-at}
-use Rattle.scene_text.specs.Stepping.{Bounded, Faultless, faultless}
+use Rattle.scene_text.specs.Lines.{line-is, line-cancel}
+use Rattle.scene_text.specs.Unique.{fault-stuck}
+use Rattle.scene_text.specs.Stepping.{Bounded, bounded-more, Stepped, Took}
+use Rattle.scene_text.specs.Inspecting.{Lengths, lengths, line-some}
+use Rattle.scene_text.specs.Putting.{Roomy, Ready, Put, PutEntry, put-entry, ready-entry}
 use Rattle.scene_text.specs.declared.Sort.{Sort}
-use Rattle.scene_text.specs.declared.Sort.the-variants.{Vertex, Edge, Triangle}
+use Rattle.scene_text.specs.declared.Step.{Step}
+use Rattle.scene_text.specs.declared.Step.the-variants.{Fault, Taken}
 
--- ---- numbers from the two buffers
+-- the text is the lines of a scene
+pub record HoldsOne (text : List ℕ) : Type 0 where
+  pub scene : Scene
+  pub holds : Holds text scene
 
-abbrev pub signedOf : Bool → ℕ → ℤ
-signedOf true n = negℤ (pos n)
-signedOf false n = pos n
+-- the buffers were lent, and now hold the scene of the text in front
+pub record Filled (text : List ℕ) (lent left : Scene) : Type 0 where
+  pub scene : Scene
+  pub holds : Holds text scene
+  pub leaves : left ≡ filled (given scene) lent
 
-abbrev pub signedAt : List ℕ → List Bool → ℕ → ℤ
-signedAt sizes minus i = signedOf (getD minus i false) (getD sizes i 0)
+-- all the records of the text, those that are still to come, and what stands in the buffers: with what is still to come it is the scene
+pub record Filling (text : List ℕ) (lent left : Scene) (c : SceneCounts) (at : ℕ) : Type 0 where
+  pub all : List Entry
+  pub below : List Entry
+  pub whole : Holds text (sceneFrom all)
+  pub sound : Sound c below
+  pub ahead : drop at text ≡ textOf below
+  pub bounded : Bounded c
+  pub within : at ≤ length text
+  pub positions : Writing (lent .positions) (flatMap coordinatesIn all) (left .positions) (6 * c .vertices) (flatMap coordinatesIn below)
+  pub edges : Writing (lent .edges) (flatMap endsIn all) (left .edges) (2 * c .edges) (flatMap endsIn below)
+  pub triangles : Writing (lent .triangles) (flatMap cornersIn all) (left .triangles) (3 * c .triangles) (flatMap cornersIn below)
 
-abbrev pub pointFrom : List ℕ → List Bool → ℕ → List ℤ
-pointFrom sizes minus k = signedAt sizes minus k ∷ signedAt sizes minus (k + 1) ∷ signedAt sizes minus (k + 2) ∷ []
+bounded-none : Bounded none
+bounded-none = record { vertices = omega arith; edges = omega arith; triangles = omega arith }
 
-abbrev pub vertexFrom : List ℕ → List Bool → List ℤ
-vertexFrom sizes minus = pointFrom sizes minus 0 ++ pointFrom sizes minus 3
+bounded-all : (c : SceneCounts) (rs : List Entry) → Bounded c → Sound c rs → Bounded (countedAll c rs)
+unfolding Sound countedAll
+bounded-all c [] b s = b
+bounded-all c (r ∷ rs) b s = bounded-all (counted c r) rs (bounded-more r b (s .1)) (s .2)
 
-signed-is : (z : ℤ) → signedOf (negative z) (natAbs z) ≡ z
-signed-is (pos n) = refl
-signed-is (negsuc n) = refl
-
-minus-at : (zs : List ℤ) (l : List Bool) (i : ℕ) → take (length zs) l ≡ map negative zs → i < length zs → getD l i false ≡ negative (getD zs i (pos 0))
-minus-at zs l i e h =
-    sym (getD-take (length zs) l i false h) ∙ ap (λ (k : List Bool). getD k i false) e ∙ List·getD-map negative zs i (pos 0)
-
-signed-at : {sizes : List ℕ} {minus : List Bool} (zs : List ℤ) (i : ℕ) → InFront zs sizes minus → i < length zs
-    → signedAt sizes minus i ≡ getD zs i (pos 0)
-signed-at {sizes} {minus} zs i f h =
-    rw (sized-at zs sizes i (f .sized) h, minus-at zs minus i (f .signed) h) (signed-is (getD zs i (pos 0)))
-
-vertex-from : {sizes : List ℕ} {minus : List Bool} (p q : Vector) → InFront (coordinates p q) sizes minus
-    → vertexFrom sizes minus ≡ coordinates p q
-vertex-from {sizes} {minus} p q f =
-    let zs : List ℤ = coordinates p q in
-    cc (
-      signed-at zs 0 f (omega arith),
-      signed-at zs 1 f (omega arith),
-      signed-at zs 2 f (omega arith),
-      signed-at zs 3 f (omega arith),
-      signed-at zs 4 f (omega arith),
-      signed-at zs 5 f (omega arith),
-    )
-
--- ---- when a record can be put: its numbers fit, and there is a place for it
-
--- the three sizes from place k on are within the range of coordinates
-pub record Near (sizes : List ℕ) (k : ℕ) : Type 0 where
-  pub first : getD sizes k 0 ≤ coordinateLimit
-  pub second : getD sizes (k + 1) 0 ≤ coordinateLimit
-  pub third : getD sizes (k + 2) 0 ≤ coordinateLimit
-
-pub record VertexReady (c : SceneCounts) (sizes : List ℕ) : Type 0 where
-  pub start : Near sizes 0
-  pub finish : Near sizes 3
-  pub place : c .vertices < vertexLimit
-
-pub record EdgeReady (c : SceneCounts) (sizes : List ℕ) : Type 0 where
-  pub first : getD sizes 0 0 < vertexLimit
-  pub second : getD sizes 1 0 < vertexLimit
-  pub place : c .edges < edgeLimit
-
-pub record TriangleReady (c : SceneCounts) (sizes : List ℕ) : Type 0 where
-  pub first : getD sizes 0 0 < vertexLimit
-  pub second : getD sizes 1 0 < vertexLimit
-  pub third : getD sizes 2 0 < vertexLimit
-  pub place : c .triangles < triangleLimit
-
-unfoldable pub ReadyAs : Sort → SceneCounts → List ℕ → Type 0
-ReadyAs Vertex c sizes = VertexReady c sizes
-ReadyAs Edge c sizes = EdgeReady c sizes
-ReadyAs Triangle c sizes = TriangleReady c sizes
-
-pub record Ready (sort : Sort) (c : SceneCounts) (sizes : List ℕ) (minus : List Bool) : Type 0 where
-  pub sized : 6 ≤ length sizes
-  pub signed : 6 ≤ length minus
-  pub fits : ReadyAs sort c sizes
-
-module _ {sort : Sort} {c : SceneCounts} {sizes : List ℕ} {minus : List Bool} (r : Ready sort c sizes minus) where
-  pub ready-vertex : sort ≡ Vertex → VertexReady c sizes
-  unfolding ReadyAs
-  ready-vertex e = rw e at (r .fits)
-
-  pub ready-edge : sort ≡ Edge → EdgeReady c sizes
-  unfolding ReadyAs
-  ready-edge e = rw e at (r .fits)
-
-  pub ready-triangle : sort ≡ Triangle → TriangleReady c sizes
-  unfolding ReadyAs
-  ready-triangle e = rw e at (r .fits)
-
--- the buffers have room for the largest scene
-pub record Roomy (lent : Scene) : Type 0 where
-  pub positions : 6 * vertexLimit ≤ length (lent .positions)
-  pub edges : 2 * edgeLimit ≤ length (lent .edges)
-  pub triangles : 3 * triangleLimit ≤ length (lent .triangles)
-
--- ---- what is put
-
-pub record PutEntry (c : SceneCounts) (r : Entry) (lent left : Scene) : Type 0 where
-  pub positions : Wrote (lent .positions) (6 * c .vertices) (coordinatesIn r) (left .positions) (6 * counted c r .vertices)
-  pub edges : Wrote (lent .edges) (2 * c .edges) (endsIn r) (left .edges) (2 * counted c r .edges)
-  pub triangles : Wrote (lent .triangles) (3 * c .triangles) (cornersIn r) (left .triangles) (3 * counted c r .triangles)
-
--- whatever record of this kind has these numbers
-unfoldable pub Put : Sort → SceneCounts → List ℕ → List Bool → Scene → Scene → Type 0
-Put Vertex c sizes minus lent left = (p q : Vector) → InFront (coordinates p q) sizes minus → PutEntry c (vertex p q) lent left
-Put Edge c sizes minus lent left = (a b : ℕ) → InFront (pos a ∷ pos b ∷ []) sizes minus → PutEntry c (edge a b) lent left
-Put Triangle c sizes minus lent left =
-    (a b d : ℕ) → InFront (pos a ∷ pos b ∷ pos d ∷ []) sizes minus → PutEntry c (triangle a b d) lent left
-
--- ---- the laws
-
--- a vertex number of a record that is not at fault
-small : {c : SceneCounts} → Bounded c → (zs : List ℤ) (sizes : List ℕ) (i : ℕ) → take (length zs) sizes ≡ map natAbs zs → i < length zs
-    → leb (c .vertices) (natAbs (getD zs i (pos 0))) ≡ false → getD sizes i 0 < vertexLimit
-small {c} b zs sizes i e h k =
-    rw (sized-at zs sizes i e h) (omega (arith, leb-false (c .vertices) (natAbs (getD zs i (pos 0))) k, b .vertices))
-
--- a record that is not at fault, with its numbers in front of the buffers, can be put
-pub ready-entry : {c : SceneCounts} {sizes : List ℕ} {minus : List Bool} (r : Entry) → Bounded c → EntryJudged c r (given tt)
-    → InFront (numbersOf r) sizes minus → ReadyAs (sortOf r) c sizes
-unfolding ReadyAs sortOf numbersOf far unknown excess
-ready-entry {c} {sizes} {minus} (vertex p q) b a f =
-    let zs : List ℤ = coordinates p q in
-    let z : Faultless c (vertex p q) = faultless (vertex p q) a in
-    let near : far (vertex p q) ≡ false = z .near in
+pub fill-starts : (text : List ℕ) (lent : Scene) → HoldsOne text → Roomy lent → Filling text lent lent none 0
+fill-starts text lent h room =
+    let rs : List Entry = h .holds .entries in
+    let l : Lengths none rs = lengths none rs in
+    let b : Bounded (countedAll none rs) = bounded-all none rs bounded-none (h .holds .sound) in
     record {
-      start = record {
-        first = rw (sized-at zs sizes 0 (f .sized) (omega arith)) (ltb-false _ _ (search (or-left, or-rest)));
-        second = rw (sized-at zs sizes 1 (f .sized) (omega arith)) (ltb-false _ _ (search (or-left, or-rest)));
-        third = rw (sized-at zs sizes 2 (f .sized) (omega arith)) (ltb-false _ _ (search (or-left, or-rest)));
-      };
-      finish = record {
-        first = rw (sized-at zs sizes 3 (f .sized) (omega arith)) (ltb-false _ _ (search (or-left, or-rest)));
-        second = rw (sized-at zs sizes 4 (f .sized) (omega arith)) (ltb-false _ _ (search (or-left, or-rest)));
-        third = rw (sized-at zs sizes 5 (f .sized) (omega arith)) (ltb-false _ _ (search (or-left, or-rest)));
-      };
-      place = leb-false _ _ (z .room);
-    }
-ready-entry {c} {sizes} {minus} (edge i j) b a f =
-    let zs : List ℤ = pos i ∷ pos j ∷ [] in
-    let z : Faultless c (edge i j) = faultless (edge i j) a in
-    let known : unknown c (edge i j) ≡ false = z .known in
-    record {
-      first = small b zs sizes 0 (f .sized) (omega arith) (search (or-left, or-rest));
-      second = small b zs sizes 1 (f .sized) (omega arith) (search (or-left, or-rest));
-      place = leb-false _ _ (z .room);
-    }
-ready-entry {c} {sizes} {minus} (triangle i j k) b a f =
-    let zs : List ℤ = pos i ∷ pos j ∷ pos k ∷ [] in
-    let z : Faultless c (triangle i j k) = faultless (triangle i j k) a in
-    let known : unknown c (triangle i j k) ≡ false = z .known in
-    record {
-      first = small b zs sizes 0 (f .sized) (omega arith) (search (or-left, or-rest));
-      second = small b zs sizes 1 (f .sized) (omega arith) (search (or-left, or-rest));
-      third = small b zs sizes 2 (f .sized) (omega arith) (search (or-left, or-rest));
-      place = leb-false _ _ (z .room);
+      all = rs;
+      below = rs;
+      whole = record { entries = rs; sound = h .holds .sound; lines = h .holds .lines; scene = refl };
+      sound = h .holds .sound;
+      ahead = h .holds .lines;
+      bounded = bounded-none;
+      within = omega arith;
+      positions = writing-starts-front (lent .positions) (flatMap coordinatesIn rs) (omega (arith, l .vertices, b .vertices, room .positions));
+      edges = writing-starts-front (lent .edges) (flatMap endsIn rs) (omega (arith, l .edges, b .edges, room .edges));
+      triangles = writing-starts-front (lent .triangles) (flatMap cornersIn rs) (omega (arith, l .triangles, b .triangles, room .triangles));
     }
 
--- what was put is the record's
-module _ (c : SceneCounts) (sizes : List ℕ) (minus : List Bool) (lent : Scene) where
-  put-as : {left : Scene} (r : Entry) → InFront (numbersOf r) sizes minus → Put (sortOf r) c sizes minus lent left → PutEntry c r lent left
-  unfolding Put sortOf numbersOf
-  put-as (vertex p q) f w = w p q f
-  put-as (edge a b) f w = w a b f
-  put-as (triangle a b d) f w = w a b d f
+text-none : (rs : List Entry) → textOf rs ≡ [] → rs ≡ []
+unfolding flatMap
+text-none [] e = refl
+text-none (r ∷ rs) e = absurd (nil≢cons (sym e ∙ line-is r (textOf rs)))
 
-  pub put-entry : {sort : Sort} {left : Scene} (r : Entry) → sortOf r ≡ sort → InFront (numbersOf r) sizes minus
-      → Put sort c sizes minus lent left → PutEntry c r lent left
-  put-entry r e f w = put-as r f (rw e w)
+-- there is a next record
+next-record : (text : List ℕ) (at : ℕ) (rs : List Entry) → at < length text → drop at text ≡ textOf rs
+    → (r : Entry) × (more : List Entry) × (rs ≡ r ∷ more)
+unfolding flatMap
+next-record text at [] h e = absurd (omega (arith, simp length-drop at (ap length e)))
+next-record text at (r ∷ rs) h e = (r, rs, refl)
 
-  pub puts-vertex : {o : List ℤ} → Wrote (lent .positions) (6 * c .vertices) (vertexFrom sizes minus) o (6 * c .vertices + 6)
-      → Put Vertex c sizes minus lent (sceneOf o (lent .edges) (lent .triangles))
-  unfolding Put counted coordinatesIn endsIn cornersIn
-  puts-vertex w p q f =
-      let next : 6 * c .vertices + 6 ≡ 6 * (c .vertices + 1) = omega arith in
+module _ {text : List ℕ} {lent left : Scene} {c : SceneCounts} {at : ℕ} (f : Filling text lent left c at) where
+  -- there is room as there was
+  pub fill-roomy : Roomy lent → Roomy left
+  fill-roomy room =
       record {
-        positions = rw (vertex-from p q f, next) at w;
-        edges = wrote-none (lent .edges) (2 * c .edges);
-        triangles = wrote-none (lent .triangles) (3 * c .triangles);
+        positions = omega (arith, f .positions .same, room .positions);
+        edges = omega (arith, f .edges .same, room .edges);
+        triangles = omega (arith, f .triangles .same, room .triangles);
       }
 
-  pub puts-edge : {o : List ℕ} → Wrote (lent .edges) (2 * c .edges) (getD sizes 0 0 ∷ getD sizes 1 0 ∷ []) o (2 * c .edges + 2)
-      → Put Edge c sizes minus lent (sceneOf (lent .positions) o (lent .triangles))
-  unfolding Put counted coordinatesIn endsIn cornersIn
-  puts-edge w a b f =
-      let zs : List ℤ = pos a ∷ pos b ∷ [] in
-      let next : 2 * c .edges + 2 ≡ 2 * (c .edges + 1) = omega arith in
+  pub fill-ends : length text ≤ at → Filled text lent left
+  unfolding filled
+  fill-ends h =
+      let done : f .below ≡ [] = text-none (f .below) (sym (f .ahead) ∙ drop-of-length-le text h) in
+      let positions : left .positions ≡ filled (given (sceneFrom (f .all))) lent .positions =
+      writing-ends-front (writing-as (ap (flatMap coordinatesIn) done ∙ flat-nil coordinatesIn) (f .positions)) in
+      let edges : left .edges ≡ filled (given (sceneFrom (f .all))) lent .edges =
+      writing-ends-front (writing-as (ap (flatMap endsIn) done ∙ flat-nil endsIn) (f .edges)) in
+      let triangles : left .triangles ≡ filled (given (sceneFrom (f .all))) lent .triangles =
+      writing-ends-front (writing-as (ap (flatMap cornersIn) done ∙ flat-nil cornersIn) (f .triangles)) in
       record {
-        positions = wrote-none (lent .positions) (6 * c .vertices);
-        edges = rw (sized-at zs sizes 0 (f .sized) (omega arith), sized-at zs sizes 1 (f .sized) (omega arith), next) at w;
-        triangles = wrote-none (lent .triangles) (3 * c .triangles);
+        scene = sceneFrom (f .all);
+        holds = f .whole;
+        leaves = λ i. record { positions = positions i; edges = edges i; triangles = triangles i };
       }
 
-  pub puts-triangle : {o : List ℕ} → Wrote (lent .triangles) (3 * c .triangles) (getD sizes 0 0 ∷ getD sizes 1 0 ∷ getD sizes 2 0 ∷ []) o (3 * c .triangles + 3)
-      → Put Triangle c sizes minus lent (sceneOf (lent .positions) (lent .edges) o)
-  unfolding Put counted coordinatesIn endsIn cornersIn
-  puts-triangle w a b d f =
-      let zs : List ℤ = pos a ∷ pos b ∷ pos d ∷ [] in
-      let next : 3 * c .triangles + 3 ≡ 3 * (c .triangles + 1) = omega arith in
-      record {
-        positions = wrote-none (lent .positions) (6 * c .vertices);
-        edges = wrote-none (lent .edges) (2 * c .edges);
-        triangles = rw (
-          sized-at zs sizes 0 (f .sized) (omega arith),
-          sized-at zs sizes 1 (f .sized) (omega arith),
-          sized-at zs sizes 2 (f .sized) (omega arith),
-          next,
-        ) at w;
-      }
+  module _ (inside : at < length text) {r : Step} (sizes : List ℕ) (minus : List Bool) (s : Stepped text at c sizes minus r) where
+    -- no line is at fault
+    pub fill-never : {x : Refusal} → r ≡ Fault x → ⊥
+    unfolding Stepped Sound
+    fill-never {x} e =
+        let (q, qs, is) = next-record text at (f .below) inside (f .ahead) in
+        let sound : Sound c (q ∷ qs) = rw is at (f .sound) in
+        let fault : Text.Fault c (drop at text) (numberOf x) = rw e at s in
+        fault-stuck fault .never q (textOf qs) (sound .0) (f .ahead ∙ ap textOf is ∙ flat-cons lineOf q qs) (sound .1)
+
+    pub fill-ready : {sort : Sort} {after : SceneCounts} {next : ℕ} → r ≡ Taken sort after next → 6 ≤ length sizes → 6 ≤ length minus
+        → Ready sort c sizes minus
+    unfolding Stepped
+    fill-ready {sort} {after} {next} e u v =
+        let took : Took text at c sizes minus sort after next = rw e at s in
+        record {
+          sized = u;
+          signed = v;
+          fits = rw (took .line .sorted) at (ready-entry (took .line .entry) (f .bounded) (took .good) (took .line .front));
+        }
+
+    pub fill-goes : {sort : Sort} {after : SceneCounts} {next : ℕ} {left′ : Scene} → r ≡ Taken sort after next
+        → Put sort c sizes minus left left′ → Filling text lent left′ after next × (at < next)
+    unfolding Stepped Sound
+    fill-goes {sort} {after} {next} {left′} e p =
+        let took : Took text at c sizes minus sort after next = rw e at s in
+        let r₀ : Entry = took .line .entry in
+        let w : PutEntry c r₀ left left′ = put-entry c sizes minus left r₀ (took .line .sorted) (took .line .front) p in
+        let (q, qs, is) = next-record text at (f .below) inside (f .ahead) in
+        let (same, rest) =
+        line-cancel r₀ q (drop next text) (textOf qs) (sym (took .line .stands .here) ∙ f .ahead ∙ ap textOf is ∙ flat-cons lineOf q qs) in
+        let next-one : f .below ≡ r₀ ∷ qs = is ∙ ap (λ (x : Entry). x ∷ qs) (sym same) in
+        let sound : Sound c (r₀ ∷ qs) = rw next-one at (f .sound) in (
+          rw (took .adds) (record {
+            all = f .all;
+            below = qs;
+            whole = f .whole;
+            sound = sound .2;
+            ahead = rest;
+            bounded = bounded-more r₀ (f .bounded) (took .good);
+            within = stands-inside (f .within) (took .line .stands);
+            positions = writing-steps (writing-as (ap (flatMap coordinatesIn) next-one ∙ flat-cons coordinatesIn r₀ qs) (f .positions)) (w .positions);
+            edges = writing-steps (writing-as (ap (flatMap endsIn) next-one ∙ flat-cons endsIn r₀ qs) (f .edges)) (w .edges);
+            triangles = writing-steps (writing-as (ap (flatMap cornersIn) next-one ∙ flat-cons cornersIn r₀ qs) (f .triangles)) (w .triangles);
+          }),
+          omega (arith, took .line .stands .place, line-some r₀),
+        )

@@ -41,7 +41,7 @@ unfolding Sound countedAll
 sound-append c [] qs s t = t
 sound-append c (r ∷ rs) qs s t = (s .0, s .1, sound-append (counted c r) rs qs (s .2) t)
 
-line-some : (r : Entry) → 0 < length (lineOf r)
+pub line-some : (r : Entry) → 0 < length (lineOf r)
 unfolding lineOf
 line-some r = omega arith
 

@@ -5,4 +5,5 @@ pub mod Reading
 pub mod Judging
 pub mod Stepping
 pub mod Inspecting
+pub mod Putting
 pub mod Filling

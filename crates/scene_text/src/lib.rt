@@ -7,7 +7,8 @@ ghost use mathlib.Core.Path.{_≡_};
 ghost use Rattle.sequences.specs.Wrote.{Wrote};
 ghost use Rattle.meaning.specs.Limits.{coordinateLimit};
 ghost use Rattle.meaning.specs.Scene.{sceneOf};
-ghost use Rattle.scene_text.specs.Filling.{signedOf, pointFrom, vertexFrom, Near, Ready, Roomy, Put};
+ghost use Rattle.scene_text.specs.Putting.{signedOf, pointFrom, vertexFrom, Near, Ready, Roomy, Put};
+ghost use Rattle.scene_text.specs.Filling.{HoldsOne, Filled};
 ghost use Rattle.scene_text.specs.Inspecting.{Inspected};
 ghost use Rattle.scene_text.specs.Judging.{FaultIs, judgedSays, farIn, Judging};
 ghost use Rattle.scene_text.specs.Reading.{lineEnded, LineRead};
@@ -320,5 +321,33 @@ fn put(
             sizes[1] as u16,
             sizes[2] as u16,
         ),
+    }
+}
+
+// The second pass, over a text without a faulty line: the buffers then hold its scene in front.
+fn fill(text: &[u8], positions: &mut [i32], edges: &mut [u16], triangles: &mut [u16])
+    requires { ⌜ HoldsOne (now text) ⌝ }
+    requires { ⌜ Roomy (sceneOf (now positions) (now edges) (now triangles)) ⌝ }
+    ensures { λ _. ⌜ Filled (now (text .entry)) (sceneOf (now (positions .entry)) (now (edges .entry)) (now (triangles .entry))) (sceneOf (now (positions .exit)) (now (edges .exit)) (now (triangles .exit))) ⌝ }
+{
+    let mut sizes = [0u64; 6];
+    let mut minus = [false; 6];
+    let mut c = SceneCounts {
+        vertices: 0,
+        edges: 0,
+        triangles: 0,
+    };
+    let mut at = 0;
+    while at < text.len() {
+        match next_line(text, at, c, &mut sizes, &mut minus) {
+            Step::Fault(_) => {
+                return;
+            }
+            Step::Taken(sort, after, next) => {
+                put(sort, c, &sizes, &minus, positions, edges, triangles);
+                c = after;
+                at = next;
+            }
+        }
     }
 }

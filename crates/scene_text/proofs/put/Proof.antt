@@ -2,7 +2,7 @@
 use native.Mathlib.Omega.{arith}
 use denote.Ref.{now}
 use borrow.Author.Needs.{needs}
-use Rattle.scene_text.specs.Filling.{VertexReady, EdgeReady, TriangleReady, ready-vertex, ready-edge, ready-triangle, puts-vertex, puts-edge, puts-triangle}
+use Rattle.scene_text.specs.Putting.{VertexReady, EdgeReady, TriangleReady, ready-vertex, ready-edge, ready-triangle, puts-vertex, puts-edge, puts-triangle}
 use Rattle.scene_text.proofs.put.Statement.{statement}
 use Rattle.scene_text.proofs.put.Tie as tie
 
