@@ -7,3 +7,4 @@ pub mod Stepping
 pub mod Inspecting
 pub mod Putting
 pub mod Filling
+pub mod Answering

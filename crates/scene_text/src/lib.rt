@@ -7,6 +7,7 @@ ghost use mathlib.Core.Path.{_≡_};
 ghost use Rattle.sequences.specs.Wrote.{Wrote};
 ghost use Rattle.meaning.specs.Limits.{coordinateLimit};
 ghost use Rattle.meaning.specs.Scene.{sceneOf};
+ghost use Rattle.meaning.specs.Text.{TextRead};
 ghost use Rattle.scene_text.specs.Putting.{signedOf, pointFrom, vertexFrom, Near, Ready, Roomy, Put};
 ghost use Rattle.scene_text.specs.Filling.{HoldsOne, Filled};
 ghost use Rattle.scene_text.specs.Inspecting.{Inspected};
@@ -26,6 +27,8 @@ const VERTEX_LIMIT: usize = 512;
 const EDGE_LIMIT: usize = 1024;
 
 const TRIANGLE_LIMIT: usize = 512;
+
+const TEXT_LIMIT: usize = 32768;
 
 // The three kinds of record.
 enum Sort {
@@ -348,6 +351,32 @@ fn fill(text: &[u8], positions: &mut [i32], edges: &mut [u16], triangles: &mut [
                 c = after;
                 at = next;
             }
+        }
+    }
+}
+
+// Reads a scene text into the lent buffers. The answer is the counts of the scene that then stands in front of them, or the refusal with
+// its line; a refusal changes none of them.
+pub fn read_scene(
+    text: &[u8],
+    positions: &mut [i32],
+    edges: &mut [u16],
+    triangles: &mut [u16],
+) -> TextAnswer
+    ensures { λ r. ⌜ TextRead (now (text .entry)) (sceneOf (now (positions .entry)) (now (edges .entry)) (now (triangles .entry))) (sceneOf (now (positions .exit)) (now (edges .exit)) (now (triangles .exit))) r ⌝ }
+{
+    let few = positions.len() < 6 * VERTEX_LIMIT;
+    if few | (edges.len() < 2 * EDGE_LIMIT) | (triangles.len() < 3 * TRIANGLE_LIMIT) {
+        return TextAnswer::Refused(Refusal::ShortBuffer, 0);
+    }
+    if TEXT_LIMIT < text.len() {
+        return TextAnswer::Refused(Refusal::LongText, 0);
+    }
+    match inspect(text) {
+        TextAnswer::Refused(fault, line) => TextAnswer::Refused(fault, line),
+        TextAnswer::Read(c) => {
+            fill(text, positions, edges, triangles);
+            TextAnswer::Read(c)
         }
     }
 }
