@@ -2,3 +2,5 @@
 pub mod Numerals
 pub mod Field
 pub mod Rows
+pub mod Ended
+pub mod Unique

@@ -1,6 +1,7 @@
 -- Where a number in a text ends: what follows it is no digit. So a text begins with one number at most.
 use mathlib.Core.Bool.{Bool, true, false, true≢false}
 use mathlib.Core.List.{List, [], _∷_, _++_, List·Memᴰ, List·Memᴰ·head, List·Memᴰ·tail}
+use mathlib.Core.Logic.{⊎-elim}
 use mathlib.Core.Path.{_≡_, refl, sym, ap, _∙_, subst}
 use Prim.Native.Nat.{ℕ, suc, _+_, _<_}
 use native.Mathlib.Nat.{suc-inj, add-zero}
@@ -8,7 +9,8 @@ use native.Mathlib.Omega.{arith}
 use lib.IntN.{ℤ, pos, negsuc}
 use lib.ListN.{length, getD, drop}
 use lib.Seq.{getD-drop}
-use Rattle.decimals.specs.Byte.{IsDigit, byteAt, digitTest, digit-passes}
+use Rattle.sequences.specs.Pick.{either}
+use Rattle.decimals.specs.Byte.{IsDigit, byteAt, digitTest, digit-passes, digit-passed}
 use Rattle.decimals.specs.Digits.{digits}
 use Rattle.decimals.specs.Value.{digits-unique, digits-canonical}
 use Rattle.meaning.specs.Text.{numeral, minusSign}
@@ -25,6 +27,14 @@ ends-at s n e = front (drop n s) (rw (getD-drop, add-zero) e)
     front : (l : List ℕ) → digitTest (getD l 0 0) ≡ false → Ends l
     front [] t = tt
     front (b ∷ l) t = λ d. true≢false (sym (digit-passes d) ∙ t)
+
+pub ends-byte : (s : List ℕ) (n : ℕ) → Ends (drop n s) → digitTest (byteAt s n) ≡ false
+unfolding Ends
+ends-byte s n e = rw (getD-drop, add-zero) at (front (drop n s) e)
+  where
+    front : (l : List ℕ) → Ends l → digitTest (getD l 0 0) ≡ false
+    front [] t = refl
+    front (b ∷ l) t = ⊎-elim (λ d. absurd (t (digit-passed b d))) (λ d. d) (either (digitTest b))
 
 abbrev Each : List ℕ → Type 0
 Each l = (b : ℕ) → List·Memᴰ b l → IsDigit b

@@ -1,6 +1,6 @@
 -- 'Scene text' of document 01: a record and the bytes of its line, the texts that are scenes, the first faulty line, and what a reader
 -- of texts answers.
-use Prim.Native.Nat.{ℕ, suc, _+_, _*_, _^_, _<_}
+use Prim.Native.Nat.{ℕ, suc, _+_, _*_, _≤_}
 use mathlib.Core.Bool.{Bool, false, cond, _||_}
 use mathlib.Core.List.{List, [], _∷_, _++_, map, flatMap}
 use mathlib.Core.Logic.{_≢_}
@@ -62,10 +62,10 @@ further separator (f ∷ fs) = (separator ∷ f) ++ further separator fs
 unfoldable pub lineOf : Entry → List ℕ
 lineOf r = (letterOf r ∷ further tab (map numeral (numbersOf r))) ++ (lineFeed ∷ [])
 
--- a number has at most so many digits
+-- each number has at most so many digits
 unfoldable pub Short : ℕ → List ℤ → Type 0
 Short most [] = Unit
-Short most (z ∷ zs) = (natAbs z < 10 ^ most) × Short most zs
+Short most (z ∷ zs) = (length (digits (natAbs z)) ≤ most) × Short most zs
 
 -- ---- what may be wrong with a record, given how many stand above it
 

@@ -1,0 +1,78 @@
+-- `fields::read_numeral` meets its contract: behind a minus digits other than 0 are a number; where no minus is taken, digits are.
+use mathlib.Core.Path.{_≡_}
+use native.Mathlib.Omega.{arith}
+use denote.Ref.{now}
+use Prim.Native.Nat.{_<_}
+use borrow.Author.Needs.{needs}
+use Rattle.fields.specs.Field.{plain-told, plain-told-bad, minus-there, MinusThere, minus-got, minus-zero, minus-bad, plain-got, plain-none}
+use Rattle.fields.proofs.read_numeral.Statement.{statement}
+use Rattle.fields.proofs.read_numeral.Tie as tie
+
+byte-at-requires : tie.Need-byte-at-requires
+byte-at-requires c κs = search needs
+
+minus : (c : tie.Then1) → MinusThere (now (c .before .before .before .before .args .s)) (c .before .before .before .before .args .at) (c .before .before .before .before .args .form)
+minus c = minus-there _ _ _ (c .before .before .byte-at .ensures) (c .if1 .taken)
+
+add-read-plain : tie.Need-add-read-plain
+add-read-plain c = omega (arith, minus c .inside)
+
+read-plain-requires : tie.Need-read-plain-requires
+read-plain-requires c κs = search needs
+
+enum-known-value : tie.Need-enum-known-value
+enum-known-value c = search needs
+
+enum-told : tie.Need-enum-told
+enum-told c = search needs
+
+read-plain-requires-2 : tie.Need-read-plain-requires-2
+read-plain-requires-2 c κs = search needs
+
+enum-known-value-2 : tie.Need-enum-known-value-2
+enum-known-value-2 c = search needs
+
+enum-told-2 : tie.Need-enum-told-2
+enum-told-2 c = search needs
+
+returns : tie.Need-returns
+returns c =
+    let v = c .before .before .value .given .1 in
+    minus-zero _ _ _ (minus (c .before .before .before .before .before))
+    (rw (c .if2 .taken) at (plain-told _ _ _ (c .before .before .before .before .read-plain .ensures) v))
+
+returns-2 : tie.Need-returns-2
+returns-2 c =
+    let v = c .before .before .value .given in
+    minus-got _ _ _ (minus (c .before .before .before .before .before)) (omega arith)
+    (plain-told _ _ _ (c .before .before .before .before .read-plain .ensures) (v .1))
+
+returns-3 : tie.Need-returns-3
+returns-3 c =
+    minus-bad _ _ _ (minus (c .before .before .before)) (plain-told-bad _ _ _ (c .before .before .read-plain .ensures) (c .enum-told .given .1))
+
+returns-4 : tie.Need-returns-4
+returns-4 c = plain-got _ _ _ (plain-told _ _ _ (c .before .before .before .read-plain2 .ensures) (c .before .value2 .given .1))
+
+returns-5 : tie.Need-returns-5
+returns-5 c =
+    plain-none _ _ _ (c .before .before .before .before .before .byte-at .ensures) (c .before .before .before .if1 .left)
+    (plain-told-bad _ _ _ (c .before .before .read-plain2 .ensures) (c .enum-told2 .given .1))
+
+pub read-numeral-spec : {M : Type 1} → statement M
+read-numeral-spec =
+    tie.close
+    (tie.spec
+    byte-at-requires
+    add-read-plain
+    read-plain-requires
+    enum-known-value
+    enum-told
+    read-plain-requires-2
+    enum-known-value-2
+    enum-told-2
+    returns
+    returns-2
+    returns-3
+    returns-4
+    returns-5)

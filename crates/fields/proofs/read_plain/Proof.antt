@@ -1,0 +1,49 @@
+-- `fields::read_plain` meets its contract: what was read is a number unless a digit stands behind it.
+use mathlib.Core.Path.{sym, _∙_}
+use borrow.Author.Needs.{needs}
+use Rattle.fields.specs.Field.{plain-found, plain-long, plain-bad}
+use Rattle.fields.proofs.read_plain.Statement.{statement}
+use Rattle.fields.proofs.read_plain.Tie as tie
+
+read-number-requires : tie.Need-read-number-requires
+read-number-requires c κs = search needs
+
+enum-known-read : tie.Need-enum-known-read
+enum-known-read c = search needs
+
+byte-at-requires : tie.Need-byte-at-requires
+byte-at-requires c κs = search needs
+
+is-digit-requires : tie.Need-is-digit-requires
+is-digit-requires c κs = search needs
+
+enum-told : tie.Need-enum-told
+enum-told c = search needs
+
+returns : tie.Need-returns
+returns c =
+    let r = c .before .before .before .before .before .before in
+    let v = c .before .before .before .before .read .given in
+    plain-long _ _ _ _ _ (sym (r .read-number .ensures) ∙ v .1) (cc (c .before .is-digit .ensures, c .before .before .byte-at .ensures, c .if1 .taken))
+
+returns-2 : tie.Need-returns-2
+returns-2 c =
+    let r = c .before .before .before .before .before .before in
+    let v = c .before .before .before .before .read .given in
+    plain-found _ _ _ _ _ (sym (r .read-number .ensures) ∙ v .1) (cc (c .before .is-digit .ensures, c .before .before .byte-at .ensures, c .if1 .left))
+
+returns-3 : tie.Need-returns-3
+returns-3 c = plain-bad _ _ _ (sym (c .before .before .read-number .ensures) ∙ c .enum-told .given .1)
+
+pub read-plain-spec : {M : Type 1} → statement M
+read-plain-spec =
+    tie.close
+    (tie.spec
+    read-number-requires
+    enum-known-read
+    byte-at-requires
+    is-digit-requires
+    enum-told
+    returns
+    returns-2
+    returns-3)
