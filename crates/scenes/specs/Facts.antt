@@ -55,7 +55,7 @@ accepted-coordinate {s} a i = by-place (decLt i (length (s .positions)))
     by-place (yes h) = ltb-false _ _ (none-passes (λ k. outside (getD (s .positions) k (pos 0))) (length (s .positions)) (a .inRange) i h)
     by-place (no h) = rw (List·getD-eq-default (s .positions) (pos 0) {n = i} (omega arith)) (omega arith)
 
-known-inside : (n : ℕ) (l : List ℕ) → unknownIn n l ≡ false → (i : ℕ) → i < length l → getD l i 0 < n
+pub known-inside : (n : ℕ) (l : List ℕ) → unknownIn n l ≡ false → (i : ℕ) → i < length l → getD l i 0 < n
 known-inside n l e i h = leb-false _ _ (none-passes (λ k. leb n (getD l k 0)) (length l) e i h)
 
 pub accepted-end : {s : Scene} → Accepted s → (j k : ℕ) → j < edgeCount s → k < 2 → edgeEnd s j k < vertexCount s
