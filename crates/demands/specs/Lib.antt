@@ -1,0 +1,4 @@
+-- The demands, clause by clause, as theorems about the meaning.
+pub mod InOrder
+pub mod Demand2
+pub mod Standing
