@@ -58,7 +58,7 @@ pub record ToList (s : Scene) (p : Pair) : Type 0 where
 both-there : (m n i j : ℕ) → i < m → j < n → leb m i || leb n j ≡ false
 both-there m n i j h k = rw (lt-leb m i h, lt-leb n j k)
 
-are-there : (m n i j : ℕ) → leb m i || leb n j ≡ false → (i < m) × (j < n)
+pub are-there : (m n i j : ℕ) → leb m i || leb n j ≡ false → (i < m) × (j < n)
 are-there m n i j h = (leb-false m i (or-left (leb m i) (leb n j) h), leb-false n j (or-rest (leb m i) (leb n j) h))
 
 -- a row's pair, of the kind with m first and n second places, the second from the place `from i` on

@@ -2,3 +2,4 @@
 pub mod InOrder
 pub mod Demand2
 pub mod Standing
+pub mod Demand3
