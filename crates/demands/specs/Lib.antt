@@ -3,3 +3,4 @@ pub mod InOrder
 pub mod Demand2
 pub mod Standing
 pub mod Demand3
+pub mod Cases
