@@ -1,26 +1,23 @@
--- 'The twelve below are the proved set': the shown cases of document 01 as one table, each row right in every column. One test computes
--- that no row has a fault, and one law says what a row without a fault is.
-use Prim.Native.Nat.{ℕ, _-_, _<_}
+-- 'Prove the twelve cases as one table under a single statement': one test computes that no row has a fault, and one law says what a row
+-- without a fault is.
+use Prim.Native.Nat.{ℕ, _<_}
 use mathlib.Core.Bool.{Bool, true, false, not, cond, _||_, true≢false}
-use mathlib.Core.List.{List, [], _∷_, _++_}
+use mathlib.Core.List.{List, [], _∷_}
 use mathlib.Core.Path.{_≡_, refl, sym, _∙_}
-use native.Mathlib.Omega.{arith}
 use lib.Dec.{eqb}
-use lib.IntN.{ℤ, pos, negsuc}
+use lib.IntN.{ℤ, pos}
 use lib.ListN.{length, getD}
 use lib.Signed.{_<ℤ_, ltZ-yes}
 use borrow.Author.Tests.{eqb-true, not-false}
-use Rattle.whole.specs.Vector.{Vector, volume}
-use Rattle.meaning.specs.Scene.{Scene, sceneOf, Accepted, wrongShape, outOfRange, unknownVertex, repeatedVertex, someBelow}
+use Rattle.whole.specs.Vector.{volume}
+use Rattle.meaning.specs.Scene.{Scene, wrongShape, outOfRange, unknownVertex, repeatedVertex, someBelow}
 use Rattle.meaning.specs.Pieces.{Piece, movingTriangle, pieceOf, pieceCount}
 use Rattle.meaning.specs.Equations.{one, total, Balanced}
-use Rattle.meaning.specs.Verdicts.{PieceIs}
 use Rattle.meaning.specs.Refusals.{notThere, shares}
 use Rattle.meaning.specs.Boxes.{meetOn, listed}
 use Rattle.meaning.specs.Judging.{byteOf}
-use Rattle.meaning.specs.Text.{coordinates}
 use Rattle.meaning.specs.declared.Kind.{Kind}
-use Rattle.meaning.specs.declared.Kind.the-variants.{PointTriangle, EdgeEdge}
+use Rattle.meaning.specs.declared.Kind.the-variants.{PointTriangle}
 use Rattle.meaning.specs.declared.Verdict.{Verdict}
 use Rattle.meaning.specs.declared.Verdict.the-variants.{Hit, Miss, Degenerate}
 use Rattle.theory.specs.Bounds.{Every}
@@ -28,85 +25,8 @@ use Rattle.theory.specs.Reading.{verdictOf, agreeing}
 use Rattle.theory.specs.Computed.{pieceVerdict, pointDifferences, edgeDifferences, startSum, endSum}
 use Rattle.theory.specs.OneVerdict.{piece-is}
 use Rattle.scenes.specs.Below.{or-left, or-rest, none-passes}
-use Rattle.demands.specs.Standing.{Stands, stands-is}
-
--- a row: the pair, the verdicts of its pieces, and whether it stands in the list
-pub record Case : Type 0 where
-  pub scene : Scene
-  pub kind : Kind
-  pub first : ℕ
-  pub second : ℕ
-  pub pieces : List Verdict
-  pub inList : Bool
-
--- ---- the scenes
-
-abbrev pub at : ℤ → ℤ → ℤ → Vector
-at x y z = record { x = x; y = y; z = z }
-
-abbrev atRest : Vector → List ℤ
-atRest p = coordinates p p
-
--- T is the resting triangle (0,0,0), (4,0,0), (0,4,0), vertices 0, 1, 2; the point is vertex 3
-abbrev pub pointCase : Vector → Vector → List Verdict → Bool → Case
-pointCase p q pieces inList =
-    record {
-      scene = sceneOf
-          (atRest (at (pos 0) (pos 0) (pos 0)) ++ atRest (at (pos 4) (pos 0) (pos 0)) ++ atRest (at (pos 0) (pos 4) (pos 0)) ++ coordinates p q)
-          [] (0 ∷ 1 ∷ 2 ∷ []);
-      kind = PointTriangle;
-      first = 3;
-      second = 0;
-      pieces = pieces;
-      inList = inList;
-    }
-
--- E is the resting edge (-2,0,0), (2,0,0), vertices 0, 1; the other edge, c d, is 2, 3; E is edge 0 and c d edge 1; z from 1 to -1
-abbrev pub edgeCase : (ℤ → Vector) → (ℤ → Vector) → List Verdict → Bool → Case
-edgeCase c d pieces inList =
-    record {
-      scene = sceneOf
-          (atRest (at (negsuc 1) (pos 0) (pos 0)) ++ atRest (at (pos 2) (pos 0) (pos 0)) ++ coordinates (c (pos 1)) (c (negsuc 0))
-          ++ coordinates (d (pos 1)) (d (negsuc 0)))
-          (0 ∷ 1 ∷ 2 ∷ 3 ∷ []) [];
-      kind = EdgeEdge;
-      first = 0;
-      second = 1;
-      pieces = pieces;
-      inList = inList;
-    }
-
--- ---- the table
-
-abbrev pub cases : List Case
-cases =
-    pointCase (at (pos 1) (pos 1) (pos 1)) (at (pos 1) (pos 1) (negsuc 0)) (Miss ∷ Hit ∷ Hit ∷ []) true
-    ∷ pointCase (at (pos 3) (pos 3) (pos 1)) (at (pos 3) (pos 3) (negsuc 0)) (Miss ∷ Miss ∷ Miss ∷ []) true
-    ∷ pointCase (at (pos 1) (pos 1) (pos 1)) (at (pos 1) (pos 1) (pos 0)) (Miss ∷ Miss ∷ Hit ∷ []) true
-    ∷ pointCase (at (pos 1) (pos 1) (pos 0)) (at (pos 1) (pos 1) (pos 1)) (Hit ∷ Miss ∷ Miss ∷ []) true
-    ∷ pointCase (at (pos 5) (pos 5) (pos 1)) (at (pos 5) (pos 5) (negsuc 0)) (Miss ∷ Miss ∷ Miss ∷ []) false
-    ∷ pointCase (at (pos 1) (pos 1) (pos 1)) (at (pos 1) (pos 1) (pos 1)) (Degenerate ∷ Degenerate ∷ Degenerate ∷ []) false
-    ∷ pointCase (at (pos 1) (pos 1) (pos 0)) (at (pos 2) (pos 1) (pos 0)) (Degenerate ∷ Degenerate ∷ Degenerate ∷ []) true
-    ∷ pointCase (at (pos 4) (pos 0) (pos 1)) (at (pos 4) (pos 0) (negsuc 0)) (Miss ∷ Hit ∷ Miss ∷ []) true
-    ∷ edgeCase (at (pos 0) (negsuc 1)) (at (pos 0) (pos 2)) (Hit ∷ Hit ∷ Hit ∷ Hit ∷ []) true
-    ∷ edgeCase (at (pos 0) (pos 3)) (at (pos 3) (pos 0)) (Miss ∷ Miss ∷ Miss ∷ Miss ∷ []) true
-    ∷ edgeCase (at (pos 2) (negsuc 1)) (at (pos 2) (pos 2)) (Hit ∷ Hit ∷ Miss ∷ Miss ∷ []) true
-    ∷ edgeCase (at (pos 3) (negsuc 1)) (at (pos 3) (pos 2)) (Miss ∷ Miss ∷ Miss ∷ Miss ∷ []) false
-    ∷ []
-
--- ---- what a row says
-
--- the scene is accepted and the pair is there; each piece has its verdict; the pair stands in the list or does not
-unfoldable pub StandsIf : Bool → Scene → Kind → ℕ → ℕ → Type 0
-StandsIf true s kind i j = Stands s kind i j
-StandsIf false s kind i j = ¬ Stands s kind i j
-
-pub record IsRight (c : Case) : Type 0 where
-  pub accepted : Accepted (c .scene)
-  pub there : notThere (c .scene) (c .kind) (c .first) (c .second) ≡ false
-  pub asMany : length (c .pieces) ≡ pieceCount (c .kind)
-  pub each : (k : ℕ) → k < pieceCount (c .kind) → PieceIs (pieceOf (c .scene) (c .kind) (c .first) (c .second) k) (getD (c .pieces) k Miss)
-  pub list : StandsIf (c .inList) (c .scene) (c .kind) (c .first) (c .second)
+use Rattle.demands.specs.Standing.{stands-is}
+use Rattle.demands.specs.Table.{Case, cases, numbered, StandsIf, IsRight}
 
 -- ---- the test
 
@@ -180,10 +100,6 @@ all-right (c ∷ l) e = (faultless c (or-left (fault c) (faults l) e), all-right
 
 pub twelve-cases : Every IsRight cases
 twelve-cases = all-right cases no-faults
-
--- the case with a number of the table
-abbrev pub numbered : ℕ → Case
-numbered n = getD cases (n - 1) (pointCase (at (pos 0) (pos 0) (pos 0)) (at (pos 0) (pos 0) (pos 0)) [] false)
 
 -- ---- 'Case 1, piece 1: weights 2, 2 against 2, 0, 1, 1'
 

@@ -3,4 +3,6 @@ pub mod InOrder
 pub mod Demand2
 pub mod Standing
 pub mod Demand3
+pub mod Table
 pub mod Cases
+pub mod OneAnswer
