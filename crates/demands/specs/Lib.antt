@@ -6,3 +6,4 @@ pub mod Demand3
 pub mod Table
 pub mod Cases
 pub mod OneAnswer
+pub mod OneText

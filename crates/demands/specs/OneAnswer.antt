@@ -62,7 +62,7 @@ one-listing s o o′ o″ r r′ p q =
     let same : r ≡ r′ = one-count s (listChecks s (roomOf o)) r r′ (p .answer) (q .answer) in
     (same, p .buffer ∙ ap (λ (a : ListAnswer). leaves (listSays a) (entries (pairs s)) o) same ∙ sym (q .buffer))
 
-all-judged-one : (s : Scene) (ps : List Pair) (vs ws : List Verdict) → AllJudged s ps vs → AllJudged s ps ws → vs ≡ ws
+pub all-judged-one : (s : Scene) (ps : List Pair) (vs ws : List Verdict) → AllJudged s ps vs → AllJudged s ps ws → vs ≡ ws
 unfolding AllJudged
 all-judged-one s [] [] [] h k = refl
 all-judged-one s [] [] (w ∷ ws) h k = absurd k
