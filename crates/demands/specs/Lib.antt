@@ -1,0 +1,9 @@
+-- The demands, clause by clause, as theorems about the meaning.
+pub mod InOrder
+pub mod Demand2
+pub mod Standing
+pub mod Demand3
+pub mod Table
+pub mod Cases
+pub mod OneAnswer
+pub mod OneText
