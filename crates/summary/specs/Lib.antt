@@ -1,0 +1,2 @@
+-- The tally, and how large the lines of a report are.
+pub mod Tallied
