@@ -2,7 +2,6 @@
 
 ghost use mathlib.Core.Path.{_≡_};
 ghost use Rattle.summary.specs.Tallied.{oneMore, tallied};
-
 use meaning::Verdict;
 
 pub struct Tally {
