@@ -1,7 +1,7 @@
 -- A line is its parts, one behind the other, and no line is long.
 use Prim.Native.Nat.{ℕ, _+_, _≤_, _<_, _^_}
 use mathlib.Core.List.{List, [], _∷_, _++_, append-assoc, append-nil}
-use mathlib.Core.Path.{_≡_, refl}
+use mathlib.Core.Path.{_≡_, refl, sym, ap}
 use native.Mathlib.Omega.{arith}
 use lib.ListN.{length, length-append}
 use Rattle.decimals.specs.Digits.{digits}
@@ -21,7 +21,8 @@ wrote-as e w = rw e at w
 -- fields written one behind the other, each with its tab, and the LF
 pub two-fields : (w a b : List ℕ) → ((w ++ (tab ∷ a)) ++ (tab ∷ b)) ++ (lineFeed ∷ []) ≡ reportLine w (a ∷ b ∷ [])
 unfolding further
-two-fields w a b = simp (append-assoc, append-nil) (simp append-assoc)
+two-fields w a b =
+    simp (append-assoc, append-nil) (ap (λ (l : List ℕ). w ++ l) (sym (append-assoc (tab ∷ a) (tab ∷ b) (lineFeed ∷ []))))
 
 pub three-fields : (w a b v : List ℕ) → ((((w ++ (tab ∷ a)) ++ (tab ∷ b)) ++ (tab ∷ [])) ++ v) ++ (lineFeed ∷ []) ≡ reportLine w (a ∷ b ∷ v ∷ [])
 unfolding further
