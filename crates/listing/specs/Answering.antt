@@ -16,7 +16,7 @@ use Rattle.meaning.specs.declared.SceneAnswer as SceneAnswers
 use Rattle.meaning.specs.declared.SceneAnswer.{SceneAnswer}
 use Rattle.meaning.specs.declared.ListAnswer as ListAnswers
 use Rattle.meaning.specs.declared.ListAnswer.{ListAnswer}
-use Rattle.scenes.specs.Answering.{refuses, lets-by, gives}
+use Rattle.scenes.specs.Answering.{refuses, lets-pass, gives}
 use Rattle.scenes.specs.Accepting.{checked-accepted, after-accepted, after-refused}
 
 -- an answer gives the count of the listed pairs
@@ -46,7 +46,7 @@ module _ (s : Scene) (room : ℕ) {n : ℕ} (counted : IsCount s n) (o : List �
   unfolding listSays leaves
   listed h e =
       record {
-        answer = lets-by (IsCount s) _ [] (given n) (le-ltb room (length (pairs s)) (rw counted at h)) (gives (IsCount s) n counted);
+        answer = lets-pass (IsCount s) _ [] (given n) (le-ltb room (length (pairs s)) (rw counted at h)) (gives (IsCount s) n counted);
         buffer = e;
       }
 
@@ -60,7 +60,7 @@ module _ (s : Scene) {checked : SceneAnswer} (p : SceneChecked s checked) where
     pub listing-refused : (x : Refusal) → checked ≡ SceneAnswers.the-variants.Refused x → Listing s o o (ListAnswers.the-variants.Refused x 0)
     unfolding listSays leaves
     listing-refused x e =
-        record { answer = after-refused s (roomChecks s (roomOf o)) (IsCount s) x (rw e at p); buffer = refl }
+        record { answer = after-refused s (roomChecks s (roomOf o)) (IsCount s) e p; buffer = refl }
 
     pub listing-accepted : {o′ : List ℕ} {r : ListAnswer} {room : ℕ} → checked ≡ SceneAnswers.the-variants.Accepted → room ≡ roomOf o
         → ListedIn s room o o′ r → Listing s o o′ r
@@ -72,7 +72,7 @@ module _ (s : Scene) {checked : SceneAnswer} (p : SceneChecked s checked) where
 
   pub counted-refused : (x : Refusal) → checked ≡ SceneAnswers.the-variants.Refused x → Counted s (ListAnswers.the-variants.Refused x 0)
   unfolding listSays
-  counted-refused x e = after-refused s [] (IsCount s) x (rw e at p)
+  counted-refused x e = after-refused s [] (IsCount s) e p
 
   pub counted-accepted : {n : ℕ} → checked ≡ SceneAnswers.the-variants.Accepted → IsCount s n
       → Counted s (ListAnswers.the-variants.Listed (record { count = n }))
