@@ -58,9 +58,13 @@ unfoldable pub further : ℕ → List (List ℕ) → List ℕ
 further separator [] = []
 further separator (f ∷ fs) = (separator ∷ f) ++ further separator fs
 
--- fields parted by one tab, the line ended by LF
+-- fields parted by one tab
+abbrev pub rendered : Entry → List ℕ
+rendered r = letterOf r ∷ further tab (map numeral (numbersOf r))
+
+-- each line ended by LF
 unfoldable pub lineOf : Entry → List ℕ
-lineOf r = (letterOf r ∷ further tab (map numeral (numbersOf r))) ++ (lineFeed ∷ [])
+lineOf r = rendered r ++ (lineFeed ∷ [])
 
 -- each number has at most so many digits
 unfoldable pub Short : ℕ → List ℤ → Type 0

@@ -48,10 +48,10 @@ pub record Filling (text : List ℕ) (lent left : Scene) (c : SceneCounts) (at :
   pub edges : Writing (lent .edges) (flatMap endsIn all) (left .edges) (2 * c .edges) (flatMap endsIn below)
   pub triangles : Writing (lent .triangles) (flatMap cornersIn all) (left .triangles) (3 * c .triangles) (flatMap cornersIn below)
 
-bounded-none : Bounded none
+pub bounded-none : Bounded none
 bounded-none = record { vertices = omega arith; edges = omega arith; triangles = omega arith }
 
-bounded-all : (c : SceneCounts) (rs : List Entry) → Bounded c → Sound c rs → Bounded (countedAll c rs)
+pub bounded-all : (c : SceneCounts) (rs : List Entry) → Bounded c → Sound c rs → Bounded (countedAll c rs)
 unfolding Sound countedAll
 bounded-all c [] b s = b
 bounded-all c (r ∷ rs) b s = bounded-all (counted c r) rs (bounded-more r b (s .1)) (s .2)

@@ -8,3 +8,5 @@ pub mod Inspecting
 pub mod Putting
 pub mod Filling
 pub mod Answering
+pub mod Accepted
+pub mod Using

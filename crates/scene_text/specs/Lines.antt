@@ -1,18 +1,21 @@
 -- Rendering is one-to-one: a text begins with the line of one record at most.
 use mathlib.Core.Bool.{true, false}
-use mathlib.Core.List.{List, [], _∷_, _++_, append-assoc, head-eq-of-cons-eq, tail-eq-of-cons-eq}
+use mathlib.Core.List.{List, [], _∷_, _++_, append-assoc, nil≢cons, head-eq-of-cons-eq, tail-eq-of-cons-eq, List·Memᴰ, List·Memᴰ·head, List·Memᴰ·tail}
+use mathlib.Core.Logic.{_≢_}
 use mathlib.Core.Path.{_≡_, refl, sym, ap, _∙_}
-use Prim.Native.Nat.{ℕ, _+_}
+use Prim.Native.Nat.{ℕ, suc}
 use native.Mathlib.Omega.{arith}
-use lib.IntN.{ℤ, pos, natAbs}
+use lib.IntN.{ℤ, pos, negsuc, natAbs}
 use lib.ListN.{length}
 use Rattle.whole.specs.Vector.{Vector}
 use Rattle.decimals.specs.Byte.{IsDigit}
+use Rattle.decimals.specs.Digits.{digits}
+use Rattle.decimals.specs.Value.{digits-canonical}
 use Rattle.fields.specs.Numerals.{Ends}
 use Rattle.fields.specs.Rows.{rowOf, row-cancel}
 use Rattle.fields.specs.declared.Form.{Form}
 use Rattle.meaning.specs.Limits.{digitLimit}
-use Rattle.meaning.specs.Text.{Entry, vertex, edge, triangle, coordinates, letterOf, numbersOf, lineOf, tab, lineFeed}
+use Rattle.meaning.specs.Text.{Entry, vertex, edge, triangle, coordinates, letterOf, numbersOf, numeral, further, rendered, lineOf, tab, lineFeed}
 
 -- coordinates may have a minus, vertex numbers not
 abbrev pub coordinateForm : Form
@@ -85,3 +88,62 @@ line-cancel (triangle a b c) (edge d f) x y e = absurd (omega (arith, letter-can
 line-cancel (triangle a b c) (triangle d f g) x y e =
     let (same, rest) = numbers-cancel (triangle a b c) (triangle d f g) x y refl e in
     (three a b c d f g same, rest)
+
+-- ---- a record stands in one line
+
+unfoldable pub NoFeed : List ℕ → Type 0
+NoFeed [] = Unit
+NoFeed (b ∷ l) = (b ≢ lineFeed) × NoFeed l
+
+feed-append : (l k : List ℕ) → NoFeed l → NoFeed k → NoFeed (l ++ k)
+unfolding NoFeed
+feed-append [] k s t = t
+feed-append (b ∷ l) k s t = (s .0, feed-append l k (s .1) t)
+
+digits-feed : (l : List ℕ) → ((b : ℕ) → List·Memᴰ b l → IsDigit b) → NoFeed l
+unfolding NoFeed
+digits-feed [] each = tt
+digits-feed (b ∷ l) each =
+    (λ e. omega (arith, each b (List·Memᴰ·head refl) .low), digits-feed l (λ c m. each c (List·Memᴰ·tail m)))
+
+numeral-feed : (z : ℤ) → NoFeed (numeral z)
+unfolding numeral NoFeed
+numeral-feed (pos n) = digits-feed (digits n) (digits-canonical n .each)
+numeral-feed (negsuc n) = (λ e. omega (arith, e), digits-feed (digits (suc n)) (digits-canonical (suc n) .each))
+
+row-feed : (zs : List ℤ) → NoFeed (rowOf numberForm zs)
+unfolding further NoFeed
+row-feed [] = tt
+row-feed (z ∷ zs) = (λ e. omega (arith, e), feed-append (numeral z) (rowOf numberForm zs) (numeral-feed z) (row-feed zs))
+
+pub rendered-feed : (r : Entry) → NoFeed (rendered r)
+unfolding letterOf NoFeed
+rendered-feed (vertex p q) = (λ e. omega (arith, e), row-feed (numbersOf (vertex p q)))
+rendered-feed (edge a b) = (λ e. omega (arith, e), row-feed (numbersOf (edge a b)))
+rendered-feed (triangle a b c) = (λ e. omega (arith, e), row-feed (numbersOf (triangle a b c)))
+
+feed-cancel : (l k x y : List ℕ) → NoFeed l → NoFeed k → l ++ (lineFeed ∷ x) ≡ k ++ (lineFeed ∷ y) → (l ≡ k) × (x ≡ y)
+unfolding NoFeed
+feed-cancel [] [] x y s t e = (refl, tail-eq-of-cons-eq e)
+feed-cancel [] (b ∷ k) x y s t e = absurd (t .0 (sym (head-eq-of-cons-eq e)))
+feed-cancel (a ∷ l) [] x y s t e = absurd (s .0 (head-eq-of-cons-eq e))
+feed-cancel (a ∷ l) (b ∷ k) x y s t e =
+    let (same, rest) = feed-cancel l k x y (s .1) (t .1) (tail-eq-of-cons-eq e) in
+    (λ i. head-eq-of-cons-eq e i ∷ same i, rest)
+
+-- so a text begins with a record's line exactly when its first line, up to the first LF, is the record rendered
+pub first-line : (l x y : List ℕ) (r : Entry) → NoFeed l → l ++ (lineFeed ∷ x) ≡ lineOf r ++ y → (l ≡ rendered r) × (x ≡ y)
+unfolding lineOf
+first-line l x y r s e = feed-cancel l (rendered r) x y s (rendered-feed r) (e ∙ append-assoc (rendered r) (lineFeed ∷ []) y)
+
+feed-none : (l k y : List ℕ) → NoFeed l → l ≡ k ++ (lineFeed ∷ y) → ⊥
+unfolding NoFeed
+feed-none [] [] y s e = nil≢cons e
+feed-none [] (b ∷ k) y s e = nil≢cons e
+feed-none (a ∷ l) [] y s e = s .0 (head-eq-of-cons-eq e)
+feed-none (a ∷ l) (b ∷ k) y s e = feed-none l k y (s .1) (tail-eq-of-cons-eq e)
+
+-- and a text without LF begins with none
+pub no-line : (l y : List ℕ) (r : Entry) → NoFeed l → l ≡ lineOf r ++ y → ⊥
+unfolding lineOf
+no-line l y r s e = feed-none l (rendered r) y s (e ∙ append-assoc (rendered r) (lineFeed ∷ []) y)

@@ -346,10 +346,10 @@ fn fill(text: &[u8], positions: &mut [i32], edges: &mut [u16], triangles: &mut [
             Step::Fault(_) => {
                 return;
             }
-            Step::Taken(sort, after, next) => {
+            Step::Taken(sort, after, behind) => {
                 put(sort, c, &sizes, &minus, positions, edges, triangles);
                 c = after;
-                at = next;
+                at = behind;
             }
         }
     }
