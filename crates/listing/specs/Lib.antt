@@ -5,3 +5,4 @@ pub mod Entries
 pub mod Stepping
 pub mod Entering
 pub mod Answering
+pub mod InOrder
