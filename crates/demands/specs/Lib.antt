@@ -1,5 +1,7 @@
 -- The demands, clause by clause, as theorems about the meaning.
+pub mod Deciding
 pub mod InOrder
+pub mod Demand1
 pub mod Demand2
 pub mod Standing
 pub mod Demand3
