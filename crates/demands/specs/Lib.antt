@@ -2,6 +2,7 @@
 pub mod Deciding
 pub mod InOrder
 pub mod Demand1
+pub mod Unchanged
 pub mod Demand2
 pub mod Standing
 pub mod Demand3
