@@ -10,7 +10,7 @@ use lib.Dec.{eqb}
 use borrow.Author.Tests.{eqb-true, eq-eqb, not-true}
 use Rattle.sequences.specs.Pick.{both}
 use Rattle.meaning.specs.Refusals.{Outcome, given, refused, Check, Answers}
-use Rattle.scenes.specs.Answering.{is-refused, is-past, is-given}
+use Rattle.scenes.specs.Answering.{refuses, lets-pass, is-refused, is-past, is-given}
 
 -- n's condition holds, and no check before it does
 unfoldable pub Refuses : List Check → ℕ → Type 0
@@ -35,7 +35,7 @@ unfoldable pub distinct : List Check → Bool
 distinct [] = true
 distinct (k ∷ ks) = absent (k .number) ks && distinct ks
 
-holds-or-not : (b : Bool) {P : Type 0} → (b ≡ true → P) → (b ≡ false → P) → P
+pub holds-or-not : (b : Bool) {P : Type 0} → (b ≡ true → P) → (b ≡ false → P) → P
 holds-or-not true t f = t refl
 holds-or-not false t f = f refl
 
@@ -138,3 +138,15 @@ module _ {A : Type 0} (Right : A → Type 0) where
         let (b, e) = given-exactly ks o p .1 (h .0) in
         e ∙ ap given (one b a (given-right ks b (subst (Answers ks Right) e p)) (h .1)),
   )
+
+  -- and where the table says so, that refusal is right
+  pub refuses-answers : (ks : List Check) (n : ℕ) → Refuses ks n → Answers ks Right (refused n (carriedBy ks n))
+  unfolding Refuses carriedBy
+  refuses-answers [] n h = absurd h
+  refuses-answers (k ∷ ks) n h = go (eqb (k .number) n) refl h (refuses-answers ks n)
+    where
+      go : (same : Bool) → eqb (k .number) n ≡ same → cond same (k .holds ≡ true) ((k .holds ≡ false) × Refuses ks n)
+          → (Refuses ks n → Answers ks Right (refused n (carriedBy ks n)))
+          → Answers (k ∷ ks) Right (refused n (cond same (k .carries) (carriedBy ks n)))
+      go true e t rest = refuses Right k ks _ t (ap (λ m. refused m (k .carries)) (sym (eqb-true (k .number) n e)))
+      go false e (t, h) rest = lets-pass Right k ks _ t (rest h)

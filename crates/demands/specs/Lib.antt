@@ -2,6 +2,8 @@
 pub mod Deciding
 pub mod InOrder
 pub mod Demand1
+pub mod LineTable
+pub mod TextTable
 pub mod Unchanged
 pub mod Demand2
 pub mod Standing
