@@ -12,3 +12,6 @@ pub mod Table
 pub mod Cases
 pub mod OneAnswer
 pub mod OneText
+pub mod Printed
+pub mod Barred
+pub mod BarredLists
