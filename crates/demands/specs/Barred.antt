@@ -1,10 +1,10 @@
 -- 'Try these against it': the wrong programs that document 01 names, each barred by a promise. What the promises leave to a program is the
 -- one right answer, so each is shown on a scene where the wrong program would give another.
 use Prim.Native.Nat.{ℕ, _≤_, _<_}
-use mathlib.Core.Bool.{Bool, true, false, _||_}
+use mathlib.Core.Bool.{false, _||_}
 use mathlib.Core.List.{List}
 use mathlib.Core.Logic.{_≢_}
-use mathlib.Core.Path.{_≡_, refl, sym, _∙_, ap}
+use mathlib.Core.Path.{_≡_, refl}
 use native.Mathlib.Omega.{arith}
 use lib.Dec.{leb}
 use lib.ListN.{length, getD}
@@ -13,7 +13,7 @@ use Rattle.whole.specs.Vector.{volume}
 use Rattle.meaning.specs.Scene.{Scene, Accepted}
 use Rattle.meaning.specs.Pieces.{pieceOf, pieceCount}
 use Rattle.meaning.specs.Verdicts.{PieceIs, PairIs}
-use Rattle.meaning.specs.Refusals.{given, refused, sceneSays, pairSays, notThere, shares, SceneChecked, PairJudged, PieceJudged}
+use Rattle.meaning.specs.Refusals.{sceneSays, pairSays, notThere, shares, SceneChecked, PairJudged, PieceJudged}
 use Rattle.meaning.specs.List.{pairs, roomOf, listSays, Listing}
 use Rattle.meaning.specs.declared.Kind.{Kind}
 use Rattle.meaning.specs.declared.Kind.the-variants.{PointTriangle}

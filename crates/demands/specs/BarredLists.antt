@@ -1,8 +1,8 @@
 -- 'Try these against it', of lists: a call that writes nothing, one that fills the list up to its room and refuses after, and one that judges
 -- the first pair and copies its verdict.
-use Prim.Native.Nat.{ℕ, min}
-use mathlib.Core.List.{List, [], _∷_, _++_, map, flatMap}
-use mathlib.Core.Path.{_≡_, refl, sym, _∙_, ap}
+use Prim.Native.Nat.{ℕ}
+use mathlib.Core.List.{List, [], _∷_, _++_, flatMap}
+use mathlib.Core.Path.{_≡_, refl, _∙_}
 use native.Mathlib.Omega.{arith}
 use lib.IntN.{pos}
 use lib.ListN.{length}
@@ -13,7 +13,7 @@ use Rattle.meaning.specs.Scene.{Scene, sceneOf, Accepted, someBelow}
 use Rattle.meaning.specs.Pieces.{pieceCount}
 use Rattle.meaning.specs.Refusals.{given, numberOf, shares}
 use Rattle.meaning.specs.Boxes.{meetOn}
-use Rattle.meaning.specs.List.{pair, pairs, entry, entries, kindNumber, roomOf, listSays, leaves, Listing}
+use Rattle.meaning.specs.List.{pair, pairs, entry, entries, kindNumber, listSays, leaves, Listing}
 use Rattle.meaning.specs.Judging.{byteOf, AllJudged, JudgedScene}
 use Rattle.meaning.specs.Text.{coordinates}
 use Rattle.meaning.specs.declared.Kind.the-variants.{PointTriangle}

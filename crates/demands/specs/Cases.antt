@@ -1,6 +1,6 @@
 -- 'Prove the twelve cases as one table under a single statement': one test computes that no row has a fault, and one law says what a row
 -- without a fault is.
-use Prim.Native.Nat.{ℕ, _<_}
+use Prim.Native.Nat.{ℕ}
 use mathlib.Core.Bool.{Bool, true, false, not, cond, _||_, true≢false}
 use mathlib.Core.List.{List, [], _∷_}
 use mathlib.Core.Path.{_≡_, refl, sym, _∙_}

@@ -11,7 +11,7 @@ use borrow.Author.Tests.{ltb-true, ltb-false, lt-ltb, le-ltb}
 use Rattle.meaning.specs.Scene.{Scene, Accepted, wrongShape, outOfRange, unknownVertex, repeatedVertex}
 use Rattle.meaning.specs.Pieces.{pieceOf, pieceCount}
 use Rattle.meaning.specs.Verdicts.{PieceIs, PairIs}
-use Rattle.meaning.specs.Refusals.{Outcome, given, refused, Check, Answers, sceneSays, pairSays, sceneChecks, notThere, shares, pairChecks, pieceChecks, SceneChecked, PairJudged, PieceJudged}
+use Rattle.meaning.specs.Refusals.{Outcome, given, refused, Check, Answers, sceneSays, pairSays, sceneChecks, notThere, shares, SceneChecked, PairJudged, PieceJudged}
 use Rattle.meaning.specs.List.{pairs, roomOf, listSays, listChecks, Counted, Listing}
 use Rattle.meaning.specs.Judging.{JudgedScene}
 use Rattle.meaning.specs.declared.Kind.{Kind}

@@ -12,6 +12,7 @@ pub mod Table
 pub mod Cases
 pub mod OneAnswer
 pub mod OneText
+pub mod SameAnswer
 pub mod Printed
 pub mod Barred
 pub mod BarredLists

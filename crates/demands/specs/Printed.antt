@@ -11,14 +11,13 @@ use lib.IntN.{pos}
 use Rattle.sequences.specs.Range.{times, over}
 use Rattle.sequences.specs.Gather.{gather}
 use Rattle.decimals.specs.Digits.{digits, digitsWithin}
-use lib.ListN.{length}
 use Rattle.whole.specs.Vector.{volume}
 use Rattle.meaning.specs.Scene.{Scene, Accepted, someBelow}
 use Rattle.meaning.specs.Pieces.{pieceCount}
 use Rattle.meaning.specs.Refusals.{Answers, shares}
 use Rattle.meaning.specs.Boxes.{meetOn}
-use Rattle.meaning.specs.List.{Pair, pair, pairs}
-use Rattle.meaning.specs.Text.{Entry, vertex, edge, triangle, letterOf, numbersOf, numeral, further, lineOf, Short, late, excess, far, unknown, twice, none, counted, Sound, coordinatesIn, endsIn, cornersIn, sceneFrom, Holds}
+use Rattle.meaning.specs.List.{pair, pairs}
+use Rattle.meaning.specs.Text.{Entry, vertex, edge, triangle, letterOf, numbersOf, numeral, further, lineOf, Short, late, excess, far, unknown, twice, counted, Sound, coordinatesIn, endsIn, cornersIn, sceneFrom, Holds}
 use Rattle.meaning.specs.Judging.{AllJudged}
 use Rattle.meaning.specs.Report.{kindWord, verdictWord, pairLines, isOne, howMany, totalLine, ReportOf, judged}
 use Rattle.meaning.specs.declared.Kind.the-variants.{PointTriangle, EdgeEdge}

@@ -6,7 +6,7 @@ use mathlib.Core.Path.{_≡_, refl, sym, _∙_, ap}
 use native.Mathlib.Omega.{arith}
 use lib.ListN.{length}
 use Rattle.sequences.specs.Flat.{flat-length}
-use Rattle.sequences.specs.Wrote.{Wrote, written, wrote-written}
+use Rattle.sequences.specs.Wrote.{Wrote, wrote-written}
 use Rattle.meaning.specs.Scene.{Scene}
 use Rattle.meaning.specs.Refusals.{Outcome, given, refused}
 use Rattle.meaning.specs.List.{Pair, pairs, entry, entries, listSays, leaves, Listing}
