@@ -1,6 +1,6 @@
 -- 'Prove the twelve cases as one table under a single statement': one test computes that no row has a fault, and one law says what a row
 -- without a fault is.
-use Prim.Native.Nat.{ℕ, _<_}
+use Prim.Native.Nat.{ℕ}
 use mathlib.Core.Bool.{Bool, true, false, not, cond, _||_, true≢false}
 use mathlib.Core.List.{List, [], _∷_}
 use mathlib.Core.Path.{_≡_, refl, sym, _∙_}
@@ -40,6 +40,7 @@ fault : Case → Bool
 fault c =
     wrongShape (c .scene) || outOfRange (c .scene) || unknownVertex (c .scene) || repeatedVertex (c .scene)
     || notThere (c .scene) (c .kind) (c .first) (c .second)
+    || shares (c .scene) (c .kind) (c .first) (c .second)
     || not (eqb (length (c .pieces)) (pieceCount (c .kind)))
     || someBelow (pieceCount (c .kind)) (differs c)
     || cond (c .inList) (not (listed (c .scene) (c .kind) (c .first) (c .second))) (listed (c .scene) (c .kind) (c .first) (c .second))
@@ -84,6 +85,7 @@ faultless c e =
         distinct = search (or-left, or-rest) depth 12;
       };
       there = there;
+      apart = search (or-left, or-rest) depth 12;
       asMany = eqb-true _ _ (not-false _ (search (or-left, or-rest) depth 12));
       each = λ k h.
           piece-is (c .scene) (c .kind) (c .first) (c .second) k (getD (c .pieces) k Miss) .1

@@ -7,12 +7,11 @@ use lib.ListN.{length}
 use Rattle.meaning.specs.Scene.{Scene}
 use Rattle.meaning.specs.Pieces.{pieceOf}
 use Rattle.meaning.specs.Verdicts.{PieceIs, PairIs}
-use Rattle.meaning.specs.Refusals.{Outcome, Check, Answers, pairSays, sceneChecks, pairChecks, pieceChecks, SceneChecked, PairJudged, PieceJudged}
+use Rattle.meaning.specs.Refusals.{Check, Answers, pairSays, sceneChecks, pairChecks, pieceChecks, SceneChecked, PairJudged, PieceJudged}
 use Rattle.meaning.specs.List.{Pair, pairs, entries, roomOf, listSays, listChecks, leaves, Counted, Listing}
 use Rattle.meaning.specs.Judging.{byteOf, AllJudged, JudgedScene}
 use Rattle.meaning.specs.declared.Kind.{Kind}
 use Rattle.meaning.specs.declared.Verdict.{Verdict}
-use Rattle.meaning.specs.declared.Made.{Made}
 use Rattle.meaning.specs.declared.SceneAnswer.{SceneAnswer}
 use Rattle.meaning.specs.declared.PairAnswer.{PairAnswer}
 use Rattle.meaning.specs.declared.ListAnswer as ListAnswers

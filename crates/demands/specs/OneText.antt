@@ -13,7 +13,6 @@ use Rattle.meaning.specs.Judging.{AllJudged}
 use Rattle.meaning.specs.Text.{Holds, FaultyAt, TextIs, shortBuffer, longText, TextOutcome, countsTold, textSays, filled, TextRead}
 use Rattle.meaning.specs.Report.{refusedLine, pairLines, totalLine, ReportOf, tooLong, faulty, noRoom, judged, Reported}
 use Rattle.meaning.specs.declared.Verdict.{Verdict}
-use Rattle.meaning.specs.declared.SceneCounts.{SceneCounts}
 use Rattle.meaning.specs.declared.TextAnswer.{TextAnswer}
 use Rattle.meaning.specs.declared.TextAnswer.the-variants.{Read, Refused}
 use Rattle.scenes.specs.Speaking.{one-number}

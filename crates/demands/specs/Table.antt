@@ -9,7 +9,7 @@ use Rattle.whole.specs.Vector.{Vector}
 use Rattle.meaning.specs.Scene.{Scene, sceneOf, Accepted}
 use Rattle.meaning.specs.Pieces.{pieceOf, pieceCount}
 use Rattle.meaning.specs.Verdicts.{PieceIs}
-use Rattle.meaning.specs.Refusals.{notThere}
+use Rattle.meaning.specs.Refusals.{notThere, shares}
 use Rattle.meaning.specs.Text.{coordinates}
 use Rattle.meaning.specs.declared.Kind.{Kind}
 use Rattle.meaning.specs.declared.Kind.the-variants.{PointTriangle, EdgeEdge}
@@ -95,10 +95,11 @@ unfoldable pub StandsIf : Bool → Scene → Kind → ℕ → ℕ → Type 0
 StandsIf true s kind i j = Stands s kind i j
 StandsIf false s kind i j = ¬ Stands s kind i j
 
--- the scene is accepted and the pair is there; each piece has its verdict; the pair stands in the list or does not
+-- the scene is accepted, the pair is there and shares no vertex; each piece has its verdict; the pair stands in the list or does not
 pub record IsRight (c : Case) : Type 0 where
   pub accepted : Accepted (c .scene)
   pub there : notThere (c .scene) (c .kind) (c .first) (c .second) ≡ false
+  pub apart : shares (c .scene) (c .kind) (c .first) (c .second) ≡ false
   pub asMany : length (c .pieces) ≡ pieceCount (c .kind)
   pub each : (k : ℕ) → k < pieceCount (c .kind) → PieceIs (pieceOf (c .scene) (c .kind) (c .first) (c .second) k) (getD (c .pieces) k Miss)
   pub list : StandsIf (c .inList) (c .scene) (c .kind) (c .first) (c .second)
