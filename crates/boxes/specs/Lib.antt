@@ -4,3 +4,4 @@ pub mod Storing
 pub mod Working
 pub mod Filling
 pub mod Parts
+pub mod Once

@@ -11,7 +11,7 @@ use Rattle.meaning.specs.Scene.{Scene, Accepted, vertexCount, edgeCount, triang
 use Rattle.scenes.specs.Below.{or-left, or-rest}
 use Rattle.scenes.specs.Facts.{known-inside, edge-inside, triangle-inside}
 use Rattle.boxes.specs.Kept.{Box, boxAt, jointBox, vertexBox, edgeBox, triangleBox, VerticesIn}
-use Rattle.boxes.specs.Storing.{BoxStored}
+use Rattle.boxes.specs.Storing.{BoxStored, others-kept}
 
 -- in an accepted scene every end and every corner is a vertex
 pub ends-known : {s : Scene} → Accepted s → unknownIn (vertexCount s) (s .edges) ≡ false
@@ -55,10 +55,11 @@ module _ {s : Scene} {l : List ℤ} {place : ℕ} (ready : Ready s (s .triangles
       let two : boxAt l b ≡ vertexBox s (corner s j 1) = rw q (vertex-in s l (ready .vertices) (corner s j 1) (corner-known 1 (omega arith))) in
       let away = corner-known 2 (omega arith) in
       let three : boxAt l₁ c ≡ vertexBox s (corner s j 2) =
-      first .others c (omega (arith, ready .behind)) ∙ rw r (vertex-in s l (ready .vertices) (corner s j 2) away) in
+      others-kept first c (omega (arith, ready .behind)) ∙ rw r (vertex-in s l (ready .vertices) (corner s j 2) away) in
       let half = first .here ∙ λ t. jointBox (one t) (two t) in
       rw (← o) (record {
         here = second .here ∙ λ t. jointBox (half t) (three t);
-        others = λ i h. second .others i h ∙ first .others i h;
+        front = λ n h. second .front n h ∙ first .front n h;
+        behind = λ n h. second .behind n h ∙ first .behind n h;
         same = second .same ∙ first .same;
       })

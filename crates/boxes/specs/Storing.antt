@@ -1,12 +1,13 @@
--- What it is to store a box: it stands there, and every other box is as it was.
-use Prim.Native.Nat.{ℕ, _+_, _*_, _<_}
+-- What it is to store a box: it stands there, and every other number of the list is as it was.
+use Prim.Native.Nat.{ℕ, _+_, _*_, _≤_, _<_}
 use mathlib.Core.List.{List}
-use mathlib.Core.Logic.{_≢_}
+use mathlib.Core.Logic.{_≢_, ⊎-elim}
 use mathlib.Core.Path.{_≡_, _∙_}
 use native.Mathlib.Omega.{arith}
 use lib.IntN.{ℤ, pos}
 use lib.ListN.{length, getD, set, length-set}
 use lib.Seq.{getD-set-same, getD-set-other}
+use Rattle.sequences.specs.Range.{le-or-lt}
 use Rattle.meaning.specs.Boxes.{Span}
 use Rattle.boxes.specs.Kept.{Box, spanAt, boxAt}
 
@@ -16,7 +17,8 @@ withSpan l i p = set (set l i (p .low)) (i + 3) (p .high)
 
 pub record BoxStored (l : List ℤ) (k : ℕ) (b : Box) (l′ : List ℤ) : Type 0 where
   pub here : boxAt l′ k ≡ b
-  pub others : (i : ℕ) → i ≢ k → boxAt l′ i ≡ boxAt l i
+  pub front : (n : ℕ) → n < 6 * k → getD l′ n (pos 0) ≡ getD l n (pos 0)
+  pub behind : (n : ℕ) → 6 * k + 6 ≤ n → getD l′ n (pos 0) ≡ getD l n (pos 0)
   pub same : length l′ ≡ length l
 
 -- two spans have no place in common
@@ -48,18 +50,13 @@ abbrev pub withBox : List ℤ → ℕ → Box → List ℤ
 withBox l k b = withSpan (withSpan (withSpan l (6 * k) (b .x)) (6 * k + 1) (b .y)) (6 * k + 2) (b .z)
 
 module _ (l : List ℤ) (k : ℕ) (b : Box) where
-  other-span : (j : ℕ) → Apart (6 * k) j → Apart (6 * k + 1) j → Apart (6 * k + 2) j → spanAt (withBox l k b) j ≡ spanAt l j
-  other-span j p q r =
-      span-kept (withSpan (withSpan l (6 * k) (b .x)) (6 * k + 1) (b .y)) (6 * k + 2) (b .z) j r
-      ∙ span-kept (withSpan l (6 * k) (b .x)) (6 * k + 1) (b .y) j q
-      ∙ span-kept l (6 * k) (b .x) j p
-
-  box-kept : (i : ℕ) → i ≢ k → boxAt (withBox l k b) i ≡ boxAt l i
-  box-kept i h =
-      let x = other-span (6 * i) (omega arith) (omega arith) (omega arith) in
-      let y = other-span (6 * i + 1) (omega arith) (omega arith) (omega arith) in
-      let z = other-span (6 * i + 2) (omega arith) (omega arith) (omega arith) in
-      λ t. record { x = x t; y = y t; z = z t }
+  -- a number that is none of the six
+  number-kept : (n : ℕ) → n ≢ 6 * k → n ≢ 6 * k + 1 → n ≢ 6 * k + 2 → n ≢ 6 * k + 3 → n ≢ 6 * k + 1 + 3 → n ≢ 6 * k + 2 + 3
+      → getD (withBox l k b) n (pos 0) ≡ getD l n (pos 0)
+  number-kept n x y z u v w =
+      place-kept (withSpan (withSpan l (6 * k) (b .x)) (6 * k + 1) (b .y)) (6 * k + 2) (b .z) n z w
+      ∙ place-kept (withSpan l (6 * k) (b .x)) (6 * k + 1) (b .y) n y v
+      ∙ place-kept l (6 * k) (b .x) n x u
 
   box-here : 6 * k + 5 < length l → boxAt (withBox l k b) k ≡ b
   box-here h =
@@ -76,4 +73,34 @@ module _ (l : List ℤ) (k : ℕ) (b : Box) where
       λ t. record { x = x t; y = y t; z = z t }
 
   pub box-stored : 6 * k + 5 < length l → BoxStored l k b (withBox l k b)
-  box-stored h = record { here = box-here h; others = box-kept; same = simp length-set }
+  box-stored h =
+      record {
+        here = box-here h;
+        front = λ n p. number-kept n (omega arith) (omega arith) (omega arith) (omega arith) (omega arith) (omega arith);
+        behind = λ n p. number-kept n (omega arith) (omega arith) (omega arith) (omega arith) (omega arith) (omega arith);
+        same = simp length-set;
+      }
+
+-- boxes whose six numbers are the same are the same
+same-box : (l l′ : List ℤ) (i : ℕ) → ((n : ℕ) → 6 * i ≤ n → n < 6 * i + 6 → getD l′ n (pos 0) ≡ getD l n (pos 0)) → boxAt l′ i ≡ boxAt l i
+same-box l l′ i e =
+    let xl = e (6 * i) (omega arith) (omega arith) in
+    let yl = e (6 * i + 1) (omega arith) (omega arith) in
+    let zl = e (6 * i + 2) (omega arith) (omega arith) in
+    let xh = e (6 * i + 3) (omega arith) (omega arith) in
+    let yh = e (6 * i + 1 + 3) (omega arith) (omega arith) in
+    let zh = e (6 * i + 2 + 3) (omega arith) (omega arith) in
+    λ t.
+    record {
+      x = record { low = xl t; high = xh t };
+      y = record { low = yl t; high = yh t };
+      z = record { low = zl t; high = zh t };
+    }
+
+-- every other box is as it was
+pub others-kept : {l l′ : List ℤ} {k : ℕ} {b : Box} → BoxStored l k b l′ → (i : ℕ) → i ≢ k → boxAt l′ i ≡ boxAt l i
+others-kept {l} {l′} {k} so i h =
+    ⊎-elim
+    (λ le. same-box l l′ i (λ n p q. so .behind n (omega arith)))
+    (λ lt. same-box l l′ i (λ n p q. so .front n (omega arith)))
+    (le-or-lt k i)

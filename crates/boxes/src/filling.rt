@@ -7,9 +7,10 @@ ghost use mathlib.Core.Path.{_≡_};
 ghost use lib.ListN.{length};
 ghost use Rattle.meaning.specs.Scene.{sceneOf, Accepted, vertexCount, edgeCount, triangleCount, unknownIn};
 ghost use Rattle.scenes.specs.Alone.{onlyPositions, onlyEdges, onlyTriangles};
-ghost use Rattle.boxes.specs.Kept.{edgePlace, trianglePlace, edgeBox, triangleBox, VerticesIn, EdgesIn, Boxed, boxNumbers};
+ghost use Rattle.boxes.specs.Kept.{edgePlace, trianglePlace, edgeBox, triangleBox, VerticesIn, EdgesIn, boxNumbers};
 ghost use Rattle.boxes.specs.Storing.{BoxStored};
 ghost use Rattle.boxes.specs.Parts.{Ready};
+ghost use Rattle.boxes.specs.Filling.{KeptBehind, Filled};
 use super::kept::store_joint_box;
 use super::kept::store_vertex;
 use scenes::parts::edge_count;
@@ -20,7 +21,7 @@ use scenes::written::edge_end;
 
 fn fill_vertices(positions: &[i32], boxes: &mut [i32])
     requires { ⌜ 6 * vertexCount (onlyPositions (now positions)) ≤ length (now boxes) ⌝ }
-    ensures { λ _. ⌜ VerticesIn (onlyPositions (now (positions .entry))) (now (boxes .exit)) ⌝ }
+    ensures { λ _. ⌜ VerticesIn (onlyPositions (now (positions .entry))) (now (boxes .exit)) × KeptBehind (now (boxes .entry)) (now (boxes .exit)) (vertexCount (onlyPositions (now (positions .entry)))) ⌝ }
 {
     let count = vertex_count(positions);
     let mut v = 0;
@@ -61,7 +62,7 @@ fn fill_edges(positions: &[i32], edges: &[u16], boxes: &mut [i32])
     requires { ⌜ unknownIn (vertexCount (onlyPositions (now positions))) (now edges) ≡ false ⌝ }
     requires { ⌜ 6 * edgePlace (onlyPositions (now positions)) (edgeCount (onlyEdges (now edges))) ≤ length (now boxes) ⌝ }
     requires { ⌜ VerticesIn (onlyPositions (now positions)) (now boxes) ⌝ }
-    ensures { λ _. ⌜ VerticesIn (onlyPositions (now (positions .entry))) (now (boxes .exit)) × EdgesIn (sceneOf (now (positions .entry)) (now (edges .entry)) []) (now (boxes .exit)) ⌝ }
+    ensures { λ _. ⌜ VerticesIn (onlyPositions (now (positions .entry))) (now (boxes .exit)) × EdgesIn (sceneOf (now (positions .entry)) (now (edges .entry)) []) (now (boxes .exit)) × KeptBehind (now (boxes .entry)) (now (boxes .exit)) (edgePlace (onlyPositions (now (positions .entry))) (edgeCount (onlyEdges (now (edges .entry))))) ⌝ }
 {
     let count = edge_count(edges);
     let mut j = 0;
@@ -75,7 +76,7 @@ fn fill_triangles(positions: &[i32], edges: &[u16], triangles: &[u16], boxes: &m
     requires { ⌜ unknownIn (vertexCount (onlyPositions (now positions))) (now triangles) ≡ false ⌝ }
     requires { ⌜ 6 * trianglePlace (sceneOf (now positions) (now edges) []) (triangleCount (onlyTriangles (now triangles))) ≤ length (now boxes) ⌝ }
     requires { ⌜ VerticesIn (onlyPositions (now positions)) (now boxes) × EdgesIn (sceneOf (now positions) (now edges) []) (now boxes) ⌝ }
-    ensures { λ _. ⌜ Boxed (sceneOf (now (positions .entry)) (now (edges .entry)) (now (triangles .entry))) (now (boxes .exit)) ⌝ }
+    ensures { λ _. ⌜ Filled (sceneOf (now (positions .entry)) (now (edges .entry)) (now (triangles .entry))) (now (boxes .entry)) (now (boxes .exit)) ⌝ }
 {
     let count = triangle_count(triangles);
     let mut j = 0;
@@ -88,7 +89,7 @@ fn fill_triangles(positions: &[i32], edges: &[u16], triangles: &[u16], boxes: &m
 // The boxes of all vertices, then of all edges, then of all triangles of an accepted scene.
 pub fn fill(positions: &[i32], edges: &[u16], triangles: &[u16], boxes: &mut [i32])
     requires { ⌜ Accepted (sceneOf (now positions) (now edges) (now triangles)) × (boxNumbers ≤ length (now boxes)) ⌝ }
-    ensures { λ _. ⌜ Boxed (sceneOf (now (positions .entry)) (now (edges .entry)) (now (triangles .entry))) (now (boxes .exit)) ⌝ }
+    ensures { λ _. ⌜ Filled (sceneOf (now (positions .entry)) (now (edges .entry)) (now (triangles .entry))) (now (boxes .entry)) (now (boxes .exit)) ⌝ }
 {
     fill_vertices(positions, boxes);
     fill_edges(positions, edges, boxes);

@@ -1,6 +1,6 @@
 -- An entry of the list is taken apart here and nowhere else: what stands at its number, and that it is the pair that was written.
-use Prim.Native.Nat.{ℕ, _+_, _*_, _≤_, _<_}
-use mathlib.Core.List.{List}
+use Prim.Native.Nat.{ℕ, zero, suc, _+_, _*_, _≤_, _<_}
+use mathlib.Core.List.{List, [], _∷_, flatMap, List·Memᴰ, List·Memᴰ·head, List·Memᴰ·tail}
 use mathlib.Core.Path.{_≡_, refl, _∙_}
 use native.Mathlib.Nat.{add-zero}
 use native.Mathlib.Omega.{arith}
@@ -26,6 +26,21 @@ entry-length p = refl
 
 pub entries-length : (ps : List Pair) → length (entries ps) ≡ length ps * 3
 entries-length ps = flat-length entry 3 entry-length ps
+
+kind-small : (kind : Kind) → kindNumber kind ≤ 1
+unfolding kindNumber
+kind-small PointTriangle = omega arith
+kind-small EdgeEdge = omega arith
+
+-- numbers that are small in each pair are small in the entries
+pub entries-below : (n : ℕ) → 1 < n → (ps : List Pair) → ((p : Pair) → List·Memᴰ p ps → (p .first < n) × (p .second < n))
+    → (i : ℕ) → getD (entries ps) i 0 < n
+unfolding entry flatMap
+entries-below n h [] all i = omega arith
+entries-below n h (p ∷ ps) all zero = omega (arith, kind-small (p .kind))
+entries-below n h (p ∷ ps) all (suc zero) = all p (List·Memᴰ·head refl) .0
+entries-below n h (p ∷ ps) all (suc (suc zero)) = all p (List·Memᴰ·head refl) .1
+entries-below n h (p ∷ ps) all (suc (suc (suc i))) = entries-below n h ps (λ q m. all q (List·Memᴰ·tail m)) i
 
 own-kind : (kind : Kind) → kindOf (kindNumber kind) ≡ kind
 unfolding kindNumber

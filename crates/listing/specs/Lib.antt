@@ -2,7 +2,9 @@
 pub mod Rows
 pub mod Meeting
 pub mod Entries
-pub mod Stepping
 pub mod Entering
+pub mod Stepping
 pub mod Answering
+pub mod Once
 pub mod InOrder
+pub mod Sizes

@@ -1,11 +1,11 @@
 // An entry of the list is three numbers: the kind's, and the two places. Nothing else makes an entry or takes one apart.
 
-ghost use Prim.Native.Nat.{_+_, _*_, _<_};
+ghost use Prim.Native.Nat.{_+_, _<_};
+ghost use mathlib.Core.List.{[], _∷_};
 ghost use mathlib.Core.Path.{_≡_};
-ghost use lib.ListN.{length};
-ghost use Rattle.sequences.specs.Wrote.{Wrote};
-ghost use Rattle.meaning.specs.List.{pair, kindNumber, entry, roomOf};
+ghost use Rattle.meaning.specs.List.{pair, kindNumber, roomOf};
 ghost use Rattle.listing.specs.Entries.{pairAt};
+ghost use Rattle.listing.specs.Entering.{Entered};
 use meaning::Kind;
 
 // How many entries a lent buffer has room for.
@@ -27,7 +27,7 @@ fn kind_number(kind: Kind) -> u16
 // The pair is entered at number k.
 pub fn put(list: &mut [u16], k: usize, kind: Kind, first: usize, second: usize)
     requires { ⌜ (k < roomOf (now list)) × (first < 65536) × (second < 65536) ⌝ }
-    ensures { λ _. ⌜ Wrote (now (list .entry)) (k * 3) (entry (pair kind first second)) (now (list .exit)) (k * 3 + 3) ⌝ }
+    ensures { λ _. ⌜ Entered (now (list .entry)) k (pair kind first second ∷ []) (now (list .exit)) (k + 1) ⌝ }
 {
     let number = kind_number(kind);
     list[k * 3] = number;

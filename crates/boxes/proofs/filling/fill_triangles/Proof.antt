@@ -1,20 +1,20 @@
 -- `filling::fill_triangles`: the boxes of the triangles passed stand behind those of the edges.
 use borrow.Author.Needs.{needs}
-use mathlib.Core.Path.{_≡_, refl, _∙_}
 use native.Mathlib.Omega.{arith}
 use Prim.Native.Nat.{_+_, _-_, _≤_}
-use lib.ListN.{length}
 use mathlib.Core.List.{[]}
+use mathlib.Core.Path.{refl}
 use Rattle.meaning.specs.Scene.{sceneOf, vertexCount, edgeCount}
 use Rattle.scenes.specs.Alone.{onlyPositions}
 use Rattle.boxes.specs.Kept.{Holds, triangleBox, VerticesIn, EdgesIn}
-use Rattle.boxes.specs.Filling.{holds-none, holds-kept, holds-more, holds-all}
+use Rattle.boxes.specs.Filling.{holds-none, holds-kept, holds-more, holds-all, KeptBehind, kept-all, kept-wider, kept-more}
 use Rattle.boxes.proofs.filling.fill_triangles.Statement.{statement}
 use Rattle.boxes.proofs.filling.fill_triangles.Tie as tie
 
 abbrev Inv-loop : tie.InvT-loop
 Inv-loop positions edges triangles boxes₀ count j₀ boxes j =
-    (j ≤ count) × (length boxes ≡ length boxes₀) × VerticesIn (onlyPositions positions) boxes
+    (j ≤ count) × KeptBehind boxes₀ boxes (vertexCount (onlyPositions positions) + edgeCount (sceneOf positions edges []) + j)
+    × VerticesIn (onlyPositions positions) boxes
     × EdgesIn (sceneOf positions edges []) boxes
     × Holds boxes (vertexCount (onlyPositions positions) + edgeCount (sceneOf positions edges [])) j (triangleBox (sceneOf positions edges triangles))
 
@@ -24,7 +24,7 @@ abbrev μ-loop : tie.MeasureT-loop
 loop-holds : tie.Need-loop-holds Inv-loop μ-loop
 loop-holds c =
     let before = c .before .before .before .pre .1 .1 in
-    (omega arith, refl, before .0, before .1, holds-none _ _ _)
+    (omega arith, kept-all _ _, before .0, before .1, holds-none _ _ _)
 
 store-triangle-requires : tie.Need-store-triangle-requires Inv-loop μ-loop
 store-triangle-requires c κs =
@@ -37,7 +37,7 @@ loop-again c =
     let inv = c .before .before .before .before .loop .inv in
     let stored = c .before .store-triangle .ensures in (
       omega arith,
-      stored .same ∙ inv .1,
+      kept-more (inv .1) stored (omega arith) (omega arith),
       holds-kept (inv .2) stored (omega arith),
       holds-kept (inv .3) stored (omega arith),
       holds-more (inv .4) refl stored,
@@ -47,11 +47,10 @@ returns : tie.Need-returns Inv-loop μ-loop
 returns c =
     let start = c .before .before .before .before .before in
     let inv = c .before .loop .inv in
+    let room = start .pre .1 .0 in
     record {
-      vertices = inv .2;
-      edges = inv .3;
-      triangles = holds-all (omega arith) (inv .4);
-      room = omega (arith, start .pre .1 .0, inv .1);
+      boxed = record { vertices = inv .2; edges = inv .3; triangles = holds-all (omega arith) (inv .4); room = omega (arith, room, inv .1 .same) };
+      kept = kept-wider (omega arith) (inv .1);
     }
 
 pub fill-triangles-spec : {M : Type 1} → statement M

@@ -3,7 +3,7 @@ use borrow.Author.Needs.{needs}
 use native.Mathlib.Omega.{arith}
 use Rattle.meaning.specs.Scene.{sceneOf}
 use Rattle.meaning.specs.List.{pairs}
-use Rattle.listing.specs.Entries.{entries-length}
+use Rattle.listing.specs.Entering.{room-for}
 use Rattle.listing.specs.Answering.{too-many, listed}
 use Rattle.listing.proofs.accepted.list_accepted.Statement.{statement}
 use Rattle.listing.proofs.accepted.list_accepted.Tie as tie
@@ -16,8 +16,8 @@ write-all-requires c κs =
     let start = c .before .before .before .before .before .before .before .before .before .before .before in
     let a = start .args in
     let s = sceneOf (a .positions .now) (a .edges .now) (a .triangles .now) in (
-      record { accepted = start .pre .0; boxed = c .before .before .before .before .before .before .fill .ensures },
-      record { room = omega (arith, entries-length (pairs s), c .before .before .before .count-all .ensures, c .before .before .if1 .left, start .pre .1) },
+      record { accepted = start .pre .0; boxed = c .before .before .before .before .before .before .fill .ensures .boxed },
+      room-for (a .list .now) (pairs s) (omega (arith, c .before .before .before .count-all .ensures, c .before .before .if1 .left, start .pre .1)),
     )
 
 returns-2 : tie.Need-returns-2

@@ -4,12 +4,13 @@ use native.Mathlib.Omega.{arith}
 use lib.ListN.{length-set}
 use Rattle.sequences.specs.Wrote.{wrote-three}
 use Rattle.meaning.specs.List.{entry}
+use Rattle.listing.specs.Entering.{entered}
 use Rattle.listing.proofs.entries.put.Statement.{statement}
 use Rattle.listing.proofs.entries.put.Tie as tie
 
 returns : tie.Need-returns
 unfolding entry
-returns c = rw (← c .kind-number .ensures) (wrote-three _ _ _ _ _ (omega (arith, c .before .before .pre)))
+returns c = entered _ _ (rw (← c .kind-number .ensures) (wrote-three _ _ _ _ _ (omega (arith, c .before .before .pre))))
 
 pub put-spec : {M : Type 1} → statement M
 put-spec =

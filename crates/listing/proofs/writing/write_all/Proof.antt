@@ -26,7 +26,7 @@ returns c =
     let start = c .before .before .before .before .before .before .before .before .before .before .before in
     let a = start .args in
     let s = sceneOf (a .positions .now) (a .edges .now) (a .triangles .now) in
-    rw (pairs-rows s) (entered-front (c .before .before .before .before .before .before .write-rows .ensures) (c .before .before .write-rows2 .ensures))
+    rw (pairs-rows s) (entered-front (rowsOf s PointTriangle) (rowsOf s EdgeEdge) (c .before .before .before .before .before .before .write-rows .ensures) (c .before .before .write-rows2 .ensures))
 
 pub write-all-spec : {M : Type 1} → statement M
 write-all-spec =

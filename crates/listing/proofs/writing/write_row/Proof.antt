@@ -4,7 +4,7 @@ use native.Mathlib.Omega.{arith}
 use Prim.Native.Nat.{_-_}
 use Rattle.meaning.specs.Scene.{sceneOf}
 use Rattle.listing.specs.Rows.{secondCount, secondFrom, candidate, few-firsts, few-seconds}
-use Rattle.listing.specs.Entering.{Entering, entering-starts, entering-room, entering-more, entering-all}
+use Rattle.listing.specs.Entering.{Entering, entering-starts, entering-length, entering-room, entering-more, entering-all}
 use Rattle.listing.proofs.writing.write_row.Statement.{statement}
 use Rattle.listing.proofs.writing.write_row.Tie as tie
 
@@ -45,14 +45,14 @@ loop-again c =
     entering-more (candidate s (a .kind) (a .i)) (secondCount s (a .kind)) (c .before .before .before .before .before .loop .inv) (omega arith) (c .before .before .write-one .ensures)
 
 same-length : tie.Need-same-length Inv-loop μ-loop
-same-length c = c .before .loop .inv .writing .same
+same-length c = entering-length _ _ (c .before .loop .inv)
 
 returns : tie.Need-returns Inv-loop μ-loop
 returns c =
     let start = c .before .before .before .before .before .before .before in
     let a = start .args in
     let s = sceneOf (a .positions .now) (a .edges .now) (a .triangles .now) in
-    entering-all (candidate s (a .kind) (a .i)) (secondCount s (a .kind)) (c .before .loop .inv) (omega arith) (omega (arith, start .pre .1))
+    entering-all (candidate s (a .kind) (a .i)) (secondCount s (a .kind)) (c .before .loop .inv) (omega arith) (start .pre .1)
 
 pub write-row-spec : {M : Type 1} → statement M
 write-row-spec =
