@@ -14,71 +14,55 @@ Inv-loop s at form count sizes₀ minus₀ found₀ next₀ sizes minus found ne
 abbrev μ-loop : tie.MeasureT-loop
 μ-loop s at form count sizes₀ minus₀ found₀ next₀ sizes minus found next = count - found
 
--- src/lib.rt:95:5
 loop-holds : tie.Need-loop-holds Inv-loop μ-loop
 loop-holds c = starts _ _ _ _ _ _
 
--- src/lib.rt:96:15
 read-field-requires : tie.Need-read-field-requires Inv-loop μ-loop
 read-field-requires c κs = c .before .before .before .before .before .pre .0
 
--- src/lib.rt:97:36
 enum-known-sign : tie.Need-enum-known-sign Inv-loop μ-loop
 enum-known-sign c = search needs
 
--- src/lib.rt:98:17
 mul-sizes : tie.Need-mul-sizes Inv-loop μ-loop
 mul-sizes c = omega arith
 
--- src/lib.rt:98:17
 slice-write-sizes : tie.Need-slice-write-sizes Inv-loop μ-loop
 slice-write-sizes c = omega (arith, c .before .before .before .before .before .loop .inv .sized .same)
 
--- src/lib.rt:99:17
 slice-write-minus : tie.Need-slice-write-minus Inv-loop μ-loop
 slice-write-minus c = omega (arith, c .before .before .before .before .before .loop .inv .signed .same)
 
--- src/lib.rt:100:17
 add-found : tie.Need-add-found Inv-loop μ-loop
 add-found c = omega arith
 
--- src/lib.rt:95:5
 loop-less : tie.Need-loop-less Inv-loop μ-loop
 loop-less c = omega arith
 
--- src/lib.rt:95:5
 loop-again : tie.Need-loop-again Inv-loop μ-loop
 loop-again c =
     let a = c .before .before .before .before .before .before .before .before .before in
     more (c .before .before .before .before .before .loop .inv) (c .before .before .before .before .loop-test .taken)
     (a .pre .1 .0) (a .pre .1 .1) (c .before .before .before .read-field .ensures) (c .before .sign .given .1)
 
--- src/lib.rt:104:17
 enum-told : tie.Need-enum-told Inv-loop μ-loop
 enum-told c = search needs
 
--- src/lib.rt:104:17
 same-length : tie.Need-same-length Inv-loop μ-loop
 same-length c = c .before .before .before .before .loop .inv .sized .same
 
--- src/lib.rt:104:17
 same-length-2 : tie.Need-same-length-2 Inv-loop μ-loop
 same-length-2 c = c .before .before .before .before .loop .inv .signed .same
 
--- src/lib.rt:104:17
 returns : tie.Need-returns Inv-loop μ-loop
 returns c =
     stopped (c .before .before .before .before .loop .inv) (c .before .before .read-field .ensures) (c .enum-told .given .1)
 
--- src/lib.rt:87:1
 same-length-3 : tie.Need-same-length-3 Inv-loop μ-loop
 same-length-3 c = c .before .loop .inv .sized .same
 
--- src/lib.rt:87:1
 same-length-4 : tie.Need-same-length-4 Inv-loop μ-loop
 same-length-4 c = c .before .loop .inv .signed .same
 
--- src/lib.rt:87:1
 returns-2 : tie.Need-returns-2 Inv-loop μ-loop
 returns-2 c = enough (c .before .loop .inv) (c .loop-test .left)
 

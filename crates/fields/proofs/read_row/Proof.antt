@@ -12,15 +12,12 @@ use Rattle.fields.proofs.read_row.Lts as lts
 use Rattle.decimals.proofs.byte_at.Reads as byte-at-reads
 use Rattle.fields.proofs.read_fields.Reads as read-fields-reads
 
--- src/lib.rt:143:9
 read-fields-requires : tie.Need-read-fields-requires
 read-fields-requires c κs = search needs
 
--- src/lib.rt:146:9
 byte-at-requires : tie.Need-byte-at-requires
 byte-at-requires c κs = search needs
 
--- src/lib.rt:148:20
 add-t19 : tie.Need-add-t19
 add-t19 c =
     let read = c .before .before .before .before .before .before .read-fields .result in
@@ -30,27 +27,21 @@ add-t19 c =
       ended-inside (now (a .s)) (read .next) (eqb (read .count) (a .count)) (c .before .byte-at .ensures) (c .if1 .taken),
     )
 
--- src/lib.rt:137:1
 same-length : tie.Need-same-length
 same-length c = search needs
 
--- src/lib.rt:137:1
 same-length-2 : tie.Need-same-length-2
 same-length-2 c = search needs
 
--- src/lib.rt:137:1
 returns : tie.Need-returns
 returns c = ended-by true (c .before .before .before .before .before .before .read-fields .ensures) (c .before .byte-at .ensures) (c .if1 .taken)
 
--- src/lib.rt:137:1
 same-length-3 : tie.Need-same-length-3
 same-length-3 c = search needs
 
--- src/lib.rt:137:1
 same-length-4 : tie.Need-same-length-4
 same-length-4 c = search needs
 
--- src/lib.rt:137:1
 returns-2 : tie.Need-returns-2
 returns-2 c = ended-by false (c .before .before .before .before .before .before .read-fields .ensures) (c .before .byte-at .ensures) (c .if1 .left)
 

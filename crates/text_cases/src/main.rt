@@ -1,0 +1,138 @@
+// Runs the reader of scene texts on texts that are taken, on one for each refusal, and on one for each two refusals that can meet. After
+// each it looks at every number of the lent buffers, which were all marked before, and prints what it saw.
+mod cases; // cases.rt: the texts
+mod marks; // marks.rt: what is seen of a buffer after a call
+mod texts; // texts.rt: texts made of lines, each so many times
+
+use marks::kept;
+use marks::kept_plain;
+use marks::print;
+use marks::print_number;
+use marks::stand;
+use marks::stand_plain;
+use meaning::Refusal;
+use meaning::SceneCounts;
+use meaning::TextAnswer;
+use scene_text::read_scene;
+
+fn number_of(refusal: Refusal) -> usize {
+    match refusal {
+        Refusal::Shape => 1,
+        Refusal::Coordinate => 2,
+        Refusal::UnknownVertex => 3,
+        Refusal::RepeatedVertex => 4,
+        Refusal::NotThere => 5,
+        Refusal::SharedVertex => 6,
+        Refusal::NoRoom => 7,
+        Refusal::LongText => 8,
+        Refusal::BadLine => 9,
+        Refusal::LateRecord => 10,
+        Refusal::TooMany => 11,
+        Refusal::ShortBuffer => 12,
+    }
+}
+
+fn print_kept(all: bool) {
+    if all {
+        print(b", the rest kept\n");
+    } else {
+        print(b", the rest CHANGED\n");
+    }
+}
+
+// The counts, whether the wanted numbers stand in front, and whether the numbers behind the scene are still marks.
+fn print_read(c: SceneCounts, front: bool, positions: &[i32], edges: &[u16], triangles: &[u16]) {
+    let v = c.vertices;
+    let e = c.edges;
+    let t = c.triangles;
+    print(b"read");
+    print_number(v);
+    print_number(e);
+    print_number(t);
+    if front {
+        print(b", as written");
+    } else {
+        print(b", WRONG");
+    }
+    if v <= 512 {
+        if e <= 1024 {
+            if t <= 512 {
+                print_kept(
+                    kept(positions, 6 * v)
+                        & kept_plain(edges, 2 * e)
+                        & kept_plain(triangles, 3 * t),
+                );
+            }
+        }
+    }
+}
+
+fn print_refused(
+    refusal: Refusal,
+    line: usize,
+    positions: &[i32],
+    edges: &[u16],
+    triangles: &[u16],
+) {
+    print(b"refused");
+    print_number(number_of(refusal));
+    print_number(line);
+    print_kept(kept(positions, 0) & kept_plain(edges, 0) & kept_plain(triangles, 0));
+}
+
+// Reads a text into buffers that hold marks. A refused text has no wanted numbers.
+fn show_in(
+    text: &[u8],
+    want: &[i32],
+    ends: &[u16],
+    corners: &[u16],
+    positions: &mut [i32],
+    edges: &mut [u16],
+    triangles: &mut [u16],
+) {
+    match read_scene(text, positions, edges, triangles) {
+        TextAnswer::Read(c) => {
+            let front = stand(positions, want)
+                & stand_plain(edges, ends)
+                & stand_plain(triangles, corners);
+            print_read(c, front, positions, edges, triangles);
+        }
+        TextAnswer::Refused(refusal, line) => print_refused(
+            refusal,
+            line,
+            positions,
+            edges,
+            triangles,
+        ),
+    }
+}
+
+// Room for the largest scene, and not one number more.
+fn show_read(text: &[u8], want: &[i32], ends: &[u16], corners: &[u16]) {
+    let mut positions = [77i32; 3072];
+    let mut edges = [77u16; 2048];
+    let mut triangles = [77u16; 1536];
+    show_in(
+        text,
+        want,
+        ends,
+        corners,
+        &mut positions,
+        &mut edges,
+        &mut triangles,
+    );
+}
+
+fn show(text: &[u8]) {
+    show_read(text, &[], &[], &[]);
+}
+
+fn main() {
+    cases::taken();
+    cases::formless();
+    cases::refused();
+    cases::meeting();
+    cases::long();
+    cases::longer();
+    cases::buffers();
+}

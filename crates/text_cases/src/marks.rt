@@ -1,0 +1,62 @@
+// What is seen of a buffer after a call: every number of it was the mark before.
+
+pub fn print(text: &[u8]) {
+    io::write_all(1, text);
+}
+
+pub fn print_number(n: usize) {
+    io::write_all(1, b" ");
+    io::print_decimal(1, n as u64);
+}
+
+// Each number from a place on is still the mark.
+pub fn kept(b: &[i32], from: usize) -> bool {
+    let mut i = from;
+    while i < b.len() {
+        if b[i] != 77 {
+            return false;
+        }
+        i += 1;
+    }
+    true
+}
+
+pub fn kept_plain(b: &[u16], from: usize) -> bool {
+    let mut i = from;
+    while i < b.len() {
+        if b[i] != 77 {
+            return false;
+        }
+        i += 1;
+    }
+    true
+}
+
+// The wanted numbers stand in front.
+pub fn stand(b: &[i32], want: &[i32]) -> bool {
+    let mut i: usize = 0;
+    while i < want.len() {
+        if b.len() <= i {
+            return false;
+        }
+        if b[i] != want[i] {
+            return false;
+        }
+        i += 1;
+    }
+    true
+}
+
+pub fn stand_plain(b: &[u16], want: &[u16]) -> bool {
+    let mut i: usize = 0;
+    while i < want.len() {
+        if b.len() <= i {
+            return false;
+        }
+        if b[i] != want[i] {
+            return false;
+        }
+        i += 1;
+    }
+    true
+}
