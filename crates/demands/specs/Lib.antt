@@ -16,6 +16,7 @@ pub mod OneText
 pub mod SameAnswer
 pub mod StillAccepted
 pub mod AnyWriting
+pub mod NoCracks
 pub mod Printed
 pub mod Barred
 pub mod BarredLists
