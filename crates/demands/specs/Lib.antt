@@ -8,11 +8,15 @@ pub mod Unchanged
 pub mod Demand2
 pub mod Standing
 pub mod Demand3
+pub mod Sending
 pub mod Table
 pub mod Cases
 pub mod OneAnswer
 pub mod OneText
 pub mod SameAnswer
+pub mod StillAccepted
+pub mod AnyWriting
+pub mod NoCracks
 pub mod Printed
 pub mod Barred
 pub mod BarredLists

@@ -1,49 +1,24 @@
 -- The same of texts: two results that meet the promise of a reader, or of the report, are equal, lent buffers too.
 use Prim.Native.Nat.{ℕ, _≤_, _<_}
-use mathlib.Core.Bool.{Bool, true, false, cond}
 use mathlib.Core.List.{List, _++_}
 use mathlib.Core.Path.{_≡_, refl, sym, _∙_, ap}
 use native.Mathlib.Omega.{arith}
 use lib.ListN.{length}
 use Rattle.sequences.specs.Wrote.{written}
 use Rattle.meaning.specs.Scene.{Scene}
-use Rattle.meaning.specs.Refusals.{Outcome, given, refused}
+use Rattle.meaning.specs.Refusals.{given, refused}
 use Rattle.meaning.specs.List.{pairs}
 use Rattle.meaning.specs.Judging.{AllJudged}
-use Rattle.meaning.specs.Text.{Holds, FaultyAt, TextIs, shortBuffer, longText, TextOutcome, countsTold, textSays, filled, TextRead}
+use Rattle.meaning.specs.Text.{Holds, FaultyAt, TextIs, TextRead}
 use Rattle.meaning.specs.Report.{refusedLine, pairLines, totalLine, ReportOf, tooLong, faulty, noRoom, judged, Reported}
 use Rattle.meaning.specs.declared.Verdict.{Verdict}
 use Rattle.meaning.specs.declared.TextAnswer.{TextAnswer}
-use Rattle.meaning.specs.declared.TextAnswer.the-variants.{Read, Refused}
-use Rattle.scenes.specs.Speaking.{one-number}
 use Rattle.scene_text.specs.Unique.{text-unique}
+use Rattle.scene_text.specs.Using.{one-text-answer}
 use Rattle.demands.specs.OneAnswer.{all-judged-one}
 
-pub text-says-one : (r r′ : TextAnswer) → textSays r ≡ textSays r′ → r ≡ r′
-unfolding textSays
-text-says-one (Read c) (Read d) e = ap Read (cc)
-text-says-one (Read c) (Refused y m) e = cc
-text-says-one (Refused x n) (Read d) e = cc
-text-says-one (Refused x n) (Refused y m) e =
-    let k : x ≡ y = one-number x y (cc) in
-    let l : n ≡ m = cc in
-    λ i. Refused (k i) (l i)
-
-one-outcome : (text : List ℕ) (lent : Scene) (o o′ : Outcome Scene) → TextOutcome text lent o → TextOutcome text lent o′ → o ≡ o′
-one-outcome text lent o o′ = go (shortBuffer lent) (longText text)
-  where
-    go : (b c : Bool) → cond b (o ≡ refused 12 0) (cond c (o ≡ refused 8 0) (TextIs text o))
-        → cond b (o′ ≡ refused 12 0) (cond c (o′ ≡ refused 8 0) (TextIs text o′)) → o ≡ o′
-    go true c p q = p ∙ sym q
-    go false true p q = p ∙ sym q
-    go false false p q = text-unique text o o′ p q
-
 pub one-reading : (text : List ℕ) (lent left left′ : Scene) (r r′ : TextAnswer) → TextRead text lent left r → TextRead text lent left′ r′ → (r ≡ r′) × (left ≡ left′)
-one-reading text lent left left′ r r′ p q =
-    let same : p .outcome ≡ q .outcome = one-outcome text lent (p .outcome) (q .outcome) (p .right) (q .right) in (
-      text-says-one r r′ (p .says ∙ ap countsTold same ∙ sym (q .says)),
-      p .leaves ∙ ap (λ (o : Outcome Scene). filled o lent) same ∙ sym (q .leaves),
-    )
+one-reading text lent left left′ r r′ p q = one-text-answer p q
 
 -- ---- the report
 

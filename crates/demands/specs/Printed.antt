@@ -12,7 +12,7 @@ use Rattle.sequences.specs.Range.{times, over}
 use Rattle.sequences.specs.Gather.{gather}
 use Rattle.decimals.specs.Digits.{digits, digitsWithin}
 use Rattle.whole.specs.Vector.{volume}
-use Rattle.meaning.specs.Scene.{Scene, Accepted, someBelow}
+use Rattle.meaning.specs.Scene.{Scene, Accepted}
 use Rattle.meaning.specs.Pieces.{pieceCount}
 use Rattle.meaning.specs.Refusals.{Answers, shares}
 use Rattle.meaning.specs.Boxes.{meetOn}
@@ -25,6 +25,7 @@ use Rattle.meaning.specs.declared.Verdict.the-variants.{Hit}
 use Rattle.theory.specs.Reading.{verdictOf, agreeing}
 use Rattle.theory.specs.Computed.{pieceVerdict, pointDifferences, edgeDifferences, startSum, endSum, joined, joinedBelow}
 use Rattle.theory.specs.OneVerdict.{pair-is}
+use Rattle.scene_text.specs.Accepted.{text-accepted}
 use Rattle.demands.specs.OneText.{one-report}
 use Rattle.demands.specs.Table.{at, neg}
 
@@ -57,8 +58,7 @@ unfolding bytesOf records printedScene Sound Short numbersOf Answers late excess
 printed-holds = record { entries = records; sound = (omega arith, tt, (omega arith, tt, (omega arith, tt, (omega arith, tt, (omega arith, tt, (omega arith, tt, (omega arith, tt, (omega arith, tt, tt)))))))); lines = refl; scene = refl }
 
 pub printed-accepted : Accepted printedScene
-unfolding records printedScene flatMap coordinatesIn endsIn cornersIn someBelow
-printed-accepted = record { shapely = refl; inRange = refl; known = refl; distinct = refl }
+printed-accepted = text-accepted printed-holds
 
 pub printed-pairs : pairs printedScene ≡ pair PointTriangle 3 0 ∷ pair EdgeEdge 0 1 ∷ []
 unfolding records printedScene flatMap coordinatesIn endsIn cornersIn pairs gather over times shares meetOn

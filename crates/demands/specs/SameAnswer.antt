@@ -34,16 +34,18 @@ piece-in-either-order s i j k r r′ p q = one-piece s EdgeEdge j i k r r′ (pi
 
 -- ---- of two accepted scenes
 
-module _ {s t : Scene} {missing shared : Bool} {Is Be : Verdict → Type 0} {o o′ : Outcome Verdict} (a : Accepted s) (b : Accepted t)
-    (p : AskedTable s missing shared Is o) (q : AskedTable t missing shared Be o′) where
-  pub answered-alike : ExactlyOne Is → (missing ≡ false → shared ≡ false → (v : Verdict) → Is v ↔ Be v) → o ≡ o′
-  answered-alike one same =
+module _ {s t : Scene} {missing shared other : Bool} {Is Be : Verdict → Type 0} {o o′ : Outcome Verdict} (a : Accepted s) (b : Accepted t)
+    (p : AskedTable s missing shared Is o) (q : AskedTable t missing other Be o′) where
+  pub answered-alike : (missing ≡ false → other ≡ shared) → ExactlyOne Is → (missing ≡ false → shared ≡ false → (v : Verdict) → Is v ↔ Be v) → o ≡ o′
+  answered-alike shares one same =
       holds-or-not missing
       (λ m. p .no5 .1 (a, m) ∙ sym (q .no5 .1 (b, m)))
       (λ m.
       holds-or-not shared
-      (λ h. p .no6 .1 (a, (m, h)) ∙ sym (q .no6 .1 (b, (m, h))))
-      (λ h. p .judged (one .verdict) .1 (a, (m, h, one .is)) ∙ sym (q .judged (one .verdict) .1 (b, (m, h, same m h (one .verdict) .0 (one .is))))))
+      (λ h. p .no6 .1 (a, (m, h)) ∙ sym (q .no6 .1 (b, (m, shares m ∙ h))))
+      (λ h.
+      p .judged (one .verdict) .1 (a, (m, h, one .is))
+      ∙ sym (q .judged (one .verdict) .1 (b, (m, shares m ∙ h, same m h (one .verdict) .0 (one .is))))))
 
 -- ---- demand 3, in answers
 
@@ -62,12 +64,12 @@ module _ {m : Matrix} {d e : Vector} {s t : Scene} (h : Moves m d e s t) where
     pub pair-answer-kept : (r r′ : PairAnswer) → PairJudged s kind i j r → PairJudged t kind i j r′ → r ≡ r′
     pair-answer-kept r r′ p q =
         pair-says-one r r′
-        (answered-alike a b (demand1-pair s kind i j r p) (rw (there-alike kind i j, shares-alike kind i j) at (demand1-pair t kind i j r′ q))
-        (demand2-verdicts s kind i j .pair .one) (λ n f. demand3 h a b kind i j n f .pair))
+        (answered-alike a b (demand1-pair s kind i j r p) (rw (there-alike kind i j) at (demand1-pair t kind i j r′ q))
+        (λ n. shares-alike kind i j) (demand2-verdicts s kind i j .pair .one) (λ n f. demand3 h a b kind i j n f .pair))
 
     pub piece-answer-kept : (k : ℕ) (r r′ : PairAnswer) → PieceJudged s kind i j k r → PieceJudged t kind i j k r′ → r ≡ r′
     piece-answer-kept k r r′ p q =
         pair-says-one r r′
-        (answered-alike a b (demand1-piece s kind i j k r p) (rw (there-alike kind i j, shares-alike kind i j) at (demand1-piece t kind i j k r′ q))
-        (demand2-verdicts s kind i j .pieces k .one)
+        (answered-alike a b (demand1-piece s kind i j k r p) (rw (there-alike kind i j) at (demand1-piece t kind i j k r′ q))
+        (λ n. shares-alike kind i j) (demand2-verdicts s kind i j .pieces k .one)
         (λ n f. demand3 h a b kind i j (or-left (notThere s kind i j) (leb (pieceCount kind) k) n) f .pieces k))
