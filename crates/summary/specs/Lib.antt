@@ -1,3 +1,6 @@
 -- The tally, and how large the lines of a report are.
 pub mod Tallied
 pub mod Lines
+pub mod Rendered
+pub mod Counted
+pub mod Sizes

@@ -3,3 +3,4 @@
 mod words; // words.rt: words and numbers, written into a lent buffer
 mod lines; // lines.rt: the lines of the report
 pub mod tally; // tally.rt: how many pairs have each verdict
+mod pairs; // pairs.rt: the lines of a list and its totals
