@@ -4,3 +4,5 @@ pub mod Lines
 pub mod Rendered
 pub mod Counted
 pub mod Sizes
+pub mod Whole
+pub mod FromCalls
