@@ -53,18 +53,18 @@ tally-goes {vs} {t} Hit few h =
     record {
       hits = rw (one-behind Hit vs Hit, h .hits, more (howMany Hit vs) (omega (arith, at-most Hit vs))) refl;
       misses = rw (one-behind Miss vs Hit, h .misses) (sym (add-zero (howMany Miss vs)));
-      degenerates = rw (one-behind Degenerate vs Hit, h .degenerates) (sym (add-zero (howMany Degenerate vs)))
+      degenerates = rw (one-behind Degenerate vs Hit, h .degenerates) (sym (add-zero (howMany Degenerate vs)));
     }
 tally-goes {vs} {t} Miss few h =
     record {
       hits = rw (one-behind Hit vs Miss, h .hits) (sym (add-zero (howMany Hit vs)));
       misses = rw (one-behind Miss vs Miss, h .misses, more (howMany Miss vs) (omega (arith, at-most Miss vs))) refl;
-      degenerates = rw (one-behind Degenerate vs Miss, h .degenerates) (sym (add-zero (howMany Degenerate vs)))
+      degenerates = rw (one-behind Degenerate vs Miss, h .degenerates) (sym (add-zero (howMany Degenerate vs)));
     }
 tally-goes {vs} {t} Degenerate few h =
     record {
       hits = rw (one-behind Hit vs Degenerate, h .hits) (sym (add-zero (howMany Hit vs)));
       misses = rw (one-behind Miss vs Degenerate, h .misses) (sym (add-zero (howMany Miss vs)));
       degenerates =
-        rw (one-behind Degenerate vs Degenerate, h .degenerates, more (howMany Degenerate vs) (omega (arith, at-most Degenerate vs))) refl
+          rw (one-behind Degenerate vs Degenerate, h .degenerates, more (howMany Degenerate vs) (omega (arith, at-most Degenerate vs))) refl;
     }

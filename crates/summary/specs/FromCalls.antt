@@ -59,8 +59,8 @@ judged-list {s} {room} {o} {o′} {b} {b′} {r} {m} h k j e =
       held = record {
         few = omega (arith, l .counts, l .fits);
         entries = omega (arith, l .counts, stands .room);
-        judged = omega (arith, l .counts, simp length-append at long, bytes-length s (pairs s))
-      }
+        judged = omega (arith, l .counts, simp length-append at long, bytes-length s (pairs s));
+      };
     }
 
 -- a list that had no room

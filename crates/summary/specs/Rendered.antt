@@ -34,9 +34,9 @@ gather-is {A} xs f d same i =
     towards (length xs) (λ i. gather (λ k. f k ∷ []) i (length xs) ≡ drop i xs)
     (λ i past. gather-none (λ k. f k ∷ []) i (length xs) past ∙ sym (drop-of-length-le xs past))
     (λ i lt next.
-      gather-first (λ k. f k ∷ []) i (length xs) lt
-      ∙ (λ t. same i lt t ∷ next t)
-      ∙ sym (drop-next xs i d lt))
+    gather-first (λ k. f k ∷ []) i (length xs) lt
+    ∙ (λ t. same i lt t ∷ next t)
+    ∙ sym (drop-next xs i d lt))
     i
 
 -- lines made place by place are the lines of the pairs and their verdicts
@@ -47,12 +47,12 @@ unfolding pairLines
 lines-are ps vs f long same i =
     towards (length ps) (λ i. gather f i (length ps) ≡ pairLines (drop i ps) (drop i vs))
     (λ i past.
-      gather-none f i (length ps) past
-      ∙ sym (ap (λ (l : List Pair). pairLines l (drop i vs)) (drop-of-length-le ps past)))
+    gather-none f i (length ps) past
+    ∙ sym (ap (λ (l : List Pair). pairLines l (drop i vs)) (drop-of-length-le ps past)))
     (λ i lt next.
-      gather-first f i (length ps) lt
-      ∙ (λ t. same i lt t ++ next t)
-      ∙ (λ t. pairLines (sym (drop-next ps i noPair lt) t) (sym (drop-next vs i Hit (rw long lt)) t)))
+    gather-first f i (length ps) lt
+    ∙ (λ t. same i lt t ++ next t)
+    ∙ (λ t. pairLines (sym (drop-next ps i noPair lt) t) (sym (drop-next vs i Hit (rw long lt)) t)))
     i
 
 -- ---- no line is long, and the verdicts are no more than there are

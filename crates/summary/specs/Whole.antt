@@ -66,7 +66,7 @@ module _ (s : Scene) {l b : List ℕ} (b₀ : List ℕ) (stands : ListStands s l
       record {
         report = pairLines (pairs s) (verdictsOf s (pairs s)) ++ totalLine (verdictsOf s (pairs s));
         right = judged (verdictsOf s (pairs s)) few (all-judged s (pairs s));
-        wrote = wrote-as (λ t. lines-stand n e t ++ totalLine (verdicts-stand n e t)) w
+        wrote = wrote-as (λ t. lines-stand n e t ++ totalLine (verdicts-stand n e t)) w;
       }
 
 pub room-refused : (s : Scene) {o o′ : List ℕ} {n r : ℕ} → n ≡ length (pairs s) → reportRoom < length (pairs s)
@@ -75,7 +75,7 @@ room-refused s {o} {o′} {n} {r} e h w =
     record {
       report = refusedLine 7 (length (pairs s));
       right = noRoom h;
-      wrote = wrote-as (ap (refusedLine 7) e) w
+      wrote = wrote-as (ap (refusedLine 7) e) w;
     }
 
 -- ---- from a scene's report to a text's
@@ -86,7 +86,7 @@ scene-to-text {text} {o} {o′} {n} s short holds w =
       report = w .report;
       right = as-text (w .report) (w .right);
       length-is = w .wrote .place ∙ zero-add (length (w .report));
-      buffer = wrote-front (w .wrote)
+      buffer = wrote-front (w .wrote);
     }
   where
     as-text : (l : List ℕ) → SceneReport s l → ReportOf text l
@@ -101,5 +101,5 @@ refused-text {text} {o} {o′} {n} number line right w =
       report = refusedLine number line;
       right = right;
       length-is = w .place ∙ zero-add (length (refusedLine number line));
-      buffer = wrote-front w
+      buffer = wrote-front w;
     }

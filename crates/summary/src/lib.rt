@@ -12,7 +12,6 @@ ghost use Rattle.meaning.specs.Refusals.{numberOf};
 ghost use Rattle.meaning.specs.Report.{Reported};
 ghost use Rattle.summary.specs.Sizes.{reportLength};
 ghost use Rattle.summary.specs.Whole.{SceneReported};
-
 use lines::refused_line;
 use meaning::ListAnswer;
 use meaning::Refusal;

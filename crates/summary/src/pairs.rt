@@ -12,7 +12,6 @@ ghost use Rattle.meaning.specs.Report.{totalLine};
 ghost use Rattle.summary.specs.Rendered.{lineAt, verdictsIn};
 ghost use Rattle.summary.specs.Counted.{TallyOf};
 ghost use Rattle.summary.specs.Sizes.{reportLength, Held};
-
 use crate::lines::pair_line;
 use crate::lines::total_line;
 use crate::tally::Tally;
@@ -68,5 +67,12 @@ pub fn pairs_report(list: &[u16], verdicts: &[u8], count: usize, out: &mut [u8])
 {
     let next = pair_lines(list, verdicts, count, out);
     let tally = tally_of(verdicts, count);
-    total_line(out, next, count as u64, tally.hits, tally.misses, tally.degenerates)
+    total_line(
+        out,
+        next,
+        count as u64,
+        tally.hits,
+        tally.misses,
+        tally.degenerates,
+    )
 }

@@ -18,9 +18,11 @@ abbrev μ-loop : tie.MeasureT-loop
 
 -- src/pairs.rt:39:5
 loop-holds : tie.Need-loop-holds Inv-loop μ-loop
-loop-holds c =
-    (omega arith, omega arith,
-    writing-starts-front _ _ (omega (arith, c .before .before .before .pre .0 .few, c .before .before .before .pre .1, lines-short (c .before .before .before .args .list .now) (c .before .before .before .args .verdicts .now) (λ i. omega (arith, c .before .before .shared-slice-known .given i)) (c .before .before .before .args .count))))
+loop-holds c = (
+  omega arith,
+  omega arith,
+  writing-starts-front _ _ (omega (arith, c .before .before .before .pre .0 .few, c .before .before .before .pre .1, lines-short (c .before .before .before .args .list .now) (c .before .before .before .args .verdicts .now) (λ i. omega (arith, c .before .before .shared-slice-known .given i)) (c .before .before .before .args .count))),
+)
 
 -- src/pairs.rt:40:9
 entry-line-requires : tie.Need-entry-line-requires Inv-loop μ-loop
@@ -41,9 +43,11 @@ loop-less c = omega arith
 loop-again : tie.Need-loop-again Inv-loop μ-loop
 loop-again c =
     let i = c .before .before .before .before .before .loop .inv in
-    let w = c .before .before .entry-line .ensures in
-    (omega arith, omega (arith, w .place, i .1, line-short (c .before .before .before .before .before .before .before .before .before .args .list .now) (c .before .before .before .before .before .before .before .before .before .args .verdicts .now) (λ i. omega (arith, c .before .before .before .before .before .before .before .before .shared-slice-known .given i)) (c .before .before .before .before .before .loop .k)),
-    writing-steps (writing-as (gather-first (lineAt (c .before .before .before .before .before .before .before .before .before .args .list .now) (c .before .before .before .before .before .before .before .before .before .args .verdicts .now)) (c .before .before .before .before .before .loop .k) (c .before .before .before .before .before .before .before .before .before .args .count) (c .before .before .before .before .loop-test .taken)) (i .2)) w)
+    let w = c .before .before .entry-line .ensures in (
+      omega arith,
+      omega (arith, w .place, i .1, line-short (c .before .before .before .before .before .before .before .before .before .args .list .now) (c .before .before .before .before .before .before .before .before .before .args .verdicts .now) (λ i. omega (arith, c .before .before .before .before .before .before .before .before .shared-slice-known .given i)) (c .before .before .before .before .before .loop .k)),
+      writing-steps (writing-as (gather-first (lineAt (c .before .before .before .before .before .before .before .before .before .args .list .now) (c .before .before .before .before .before .before .before .before .before .args .verdicts .now)) (c .before .before .before .before .before .loop .k) (c .before .before .before .before .before .before .before .before .before .args .count) (c .before .before .before .before .loop-test .taken)) (i .2)) w,
+    )
 
 -- src/pairs.rt:33:1
 same-length : tie.Need-same-length Inv-loop μ-loop
@@ -52,9 +56,10 @@ same-length c = c .before .loop .inv .2 .same
 -- src/pairs.rt:33:1
 returns : tie.Need-returns Inv-loop μ-loop
 returns c =
-    let i = c .before .loop .inv in
-    (writing-ends (omega arith) (writing-as (gather-none (lineAt (c .before .before .before .before .before .args .list .now) (c .before .before .before .before .before .args .verdicts .now)) (c .before .loop .k) (c .before .before .before .before .before .args .count) (c .loop-test .left)) (i .2)),
-    omega (arith, i .0, i .1, c .before .before .before .before .before .pre .0 .few))
+    let i = c .before .loop .inv in (
+      writing-ends (omega arith) (writing-as (gather-none (lineAt (c .before .before .before .before .before .args .list .now) (c .before .before .before .before .before .args .verdicts .now)) (c .before .loop .k) (c .before .before .before .before .before .args .count) (c .loop-test .left)) (i .2)),
+      omega (arith, i .0, i .1, c .before .before .before .before .before .pre .0 .few),
+    )
 
 pub pair-lines-spec : {M : Type 1} → statement M
 pair-lines-spec =

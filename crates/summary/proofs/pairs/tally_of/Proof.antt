@@ -47,9 +47,11 @@ loop-less c = omega arith
 loop-again : tie.Need-loop-again Inv-loop μ-loop
 loop-again c =
     let b = c .before .before .before .before .before .before .args .verdicts .now in
-    let k = c .before .before .before .before .loop .k in
-    (omega arith, rw (gather-last (λ k. verdictAt (c .before .before .before .before .before .before .args .verdicts .now) k ∷ []) 0 k (omega arith), c .add .ensures, c .before .verdict-of .ensures)
-    (tally-goes (verdictAt b k) (omega (arith, verdicts-short b k, c .before .before .before .before .before .before .pre)) (c .before .before .before .before .loop .inv .1)))
+    let k = c .before .before .before .before .loop .k in (
+      omega arith,
+      rw (gather-last (λ k. verdictAt (c .before .before .before .before .before .before .args .verdicts .now) k ∷ []) 0 k (omega arith), c .add .ensures, c .before .verdict-of .ensures)
+          (tally-goes (verdictAt b k) (omega (arith, verdicts-short b k, c .before .before .before .before .before .before .pre)) (c .before .before .before .before .loop .inv .1)),
+    )
 
 -- src/pairs.rt:47:1
 returns : tie.Need-returns Inv-loop μ-loop
