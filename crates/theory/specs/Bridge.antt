@@ -17,25 +17,25 @@ use Rattle.theory.specs.Symbols.{Vectorˣ, Eventˣ, Unknownˣ, ofFirstˣ
 
 -- ---- twenty-two letters: the base's two places, then the place and the time of each of the four others
 
-abbrev pub placeˣ : ℕ → Vectorˣ
+abbrev placeˣ : ℕ → Vectorˣ
 placeˣ i = record { x = var i; y = var (i + 1); z = var (i + 2) }
 
-abbrev pub startˣ : Eventˣ
+abbrev startˣ : Eventˣ
 startˣ = record { place = placeˣ 0; time = con (pos 0) }
 
-abbrev pub endˣ : Eventˣ
+abbrev endˣ : Eventˣ
 endˣ = record { place = placeˣ 3; time = con (pos 1) }
 
-abbrev pub otherˣ : ℕ → Eventˣ
+abbrev otherˣ : ℕ → Eventˣ
 otherˣ i = record { place = placeˣ i; time = var (i + 3) }
 
-abbrev pub othersˣ : Four Eventˣ
+abbrev othersˣ : Four Eventˣ
 othersˣ = record { v0 = otherˣ 6; v1 = otherˣ 10; v2 = otherˣ 14; v3 = otherˣ 18 }
 
-abbrev pub numbers : Event → List ℤ
+abbrev numbers : Event → List ℤ
 numbers o = o .place .x ∷ o .place .y ∷ o .place .z ∷ o .time ∷ []
 
-abbrev pub environment : Vector → Vector → Four Event → List ℤ
+abbrev environment : Vector → Vector → Four Event → List ℤ
 environment p q o =
     p .x ∷ p .y ∷ p .z ∷ q .x ∷ q .y ∷ q .z ∷ numbers (o .v0) ++ numbers (o .v1) ++ numbers (o .v2) ++ numbers (o .v3)
 
@@ -47,7 +47,7 @@ columnsˣ behind =
 columnsˣ ahead =
     map ofFirstˣ (startˣ ∷ endˣ ∷ othersˣ .v0 ∷ []) ++ map ofSecondˣ (othersˣ .v1 ∷ othersˣ .v2 ∷ othersˣ .v3 ∷ [])
 
-abbrev pub volumeˣ : Four Expr
+abbrev volumeˣ : Four Expr
 volumeˣ = spannedˣ (placeˣ 0) (placeˣ 3) othersˣ
 
 abbrev threeˣ : Expr
