@@ -18,6 +18,7 @@ pub mod SameAnswer
 pub mod StillAccepted
 pub mod AnyWriting
 pub mod NoCracks
+pub mod Columns
 pub mod FivePoints
 pub mod Printed
 pub mod Barred
