@@ -11,12 +11,13 @@ use lib.IntN.{ℤ, pos}
 use lib.ListN.{length, getD, length-append, List·getD-append}
 use lib.Seq.{getD-append-add, ext-getD}
 use Rattle.sequences.specs.Flat.{flat-length, flat-at}
-use Rattle.whole.specs.Vector.{Vector, plus}
+use Rattle.whole.specs.Vector.{Vector, plus, volume}
 use Rattle.whole.specs.VectorLaws.{Matrix, apply, det, vector-eq}
-use Rattle.meaning.specs.Scene.{Scene, sceneOf, Accepted, vertexCount, startOf, endOf}
+use Rattle.meaning.specs.Scene.{Scene, sceneOf, Accepted, vertexCount, startOf, endOf, someBelow}
 use Rattle.meaning.specs.Text.{coordinates}
 use Rattle.theory.specs.Moved.{Moves}
 use Rattle.scenes.specs.Facts.{accepted-sized}
+use Rattle.demands.specs.Table.{neg, at, numbered}
 
 -- 0, 1, … up to and without n
 unfoldable pub upTo : ℕ → List ℕ
@@ -97,3 +98,15 @@ module _ (m : Matrix) (a b : Vector) where
           let e : i ≡ 6 * (i / 6) + i % 6 = omega arith in
           ap (λ n. getD (t .positions) n (pos 0)) e ∙ moved-at (i / 6) (i % 6) (omega arith) (omega arith) ∙ sym (sent-at (i / 6) (i % 6) i (omega arith) (omega arith) e)) in
           λ n. sceneOf (positions n) (h .edges n) (h .triangles n)
+
+abbrev pub turning : Matrix
+turning = record { a = at (pos 0) (pos 1) (pos 0); b = at (pos 2) (pos 1) (pos 0); c = at (pos 3) (pos 0) (pos 1) }
+
+-- both scenes can be accepted: the scene of case 1, through a matrix of determinant -2, with two shifts
+pub both-accepted : Accepted (send turning (at (pos 5) (pos 0) (neg 7)) (at (neg 1) (pos 9) (pos 0)) (numbered 1 .scene))
+unfolding send upTo flatMap someBelow
+both-accepted = record { shapely = refl; inRange = refl; known = refl; distinct = refl }
+
+turning-nonzero : det turning ≡ neg 2
+unfolding volume
+turning-nonzero = refl

@@ -81,7 +81,7 @@ unfolding Meaning.expand expandIn
 expand-same row m m′ h passed [] = refl
 expand-same row m m′ h passed (c ∷ cs) = simp (h, expand-same row m m′ h (passed ++ (c ∷ [])) cs)
 
-determinant-same : {A : Type 0} (rows : List (A → ℤ)) (columns : List A) → Meaning.determinant rows columns ≡ determinantIn wholes rows columns
+pub determinant-same : {A : Type 0} (rows : List (A → ℤ)) (columns : List A) → Meaning.determinant rows columns ≡ determinantIn wholes rows columns
 unfolding Meaning.determinant determinantIn
 determinant-same [] columns = refl
 determinant-same (row ∷ rows) columns =
