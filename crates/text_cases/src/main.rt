@@ -1,5 +1,8 @@
 // Runs the reader of scene texts on texts that are taken, on one for each refusal, and on one for each two refusals that can meet. After
 // each it looks at every number of the lent buffers, which were all marked before, and prints what it saw.
+ghost use Prim.Native.Nat.{_≤_};
+ghost use lib.ListN.{length};
+
 mod cases; // cases.rt: the texts
 mod marks; // marks.rt: what is seen of a buffer after a call
 mod texts; // texts.rt: texts made of lines, each so many times
@@ -34,9 +37,9 @@ fn number_of(refusal: Refusal) -> usize {
 
 fn print_kept(all: bool) {
     if all {
-        print(b", the rest kept\n");
+        print(b", the rest kept");
     } else {
-        print(b", the rest CHANGED\n");
+        print(b", the rest CHANGED");
     }
 }
 
@@ -45,7 +48,7 @@ fn print_read(c: SceneCounts, front: bool, positions: &[i32], edges: &[u16], tri
     let v = c.vertices;
     let e = c.edges;
     let t = c.triangles;
-    print(b"read");
+    print(b": read");
     print_number(v);
     print_number(e);
     print_number(t);
@@ -74,7 +77,7 @@ fn print_refused(
     edges: &[u16],
     triangles: &[u16],
 ) {
-    print(b"refused");
+    print(b": refused");
     print_number(number_of(refusal));
     print_number(line);
     print_kept(kept(positions, 0) & kept_plain(edges, 0) & kept_plain(triangles, 0));
@@ -127,12 +130,50 @@ fn show(text: &[u8]) {
     show_read(text, &[], &[], &[]);
 }
 
+// Buffers of these lengths.
+fn show_cut(text: &[u8], p: usize, e: usize, t: usize)
+    requires { ⌜ p ≤ 3080 ⌝ }
+    requires { ⌜ e ≤ 2056 ⌝ }
+    requires { ⌜ t ≤ 1544 ⌝ }
+{
+    let mut positions = [77i32; 3080];
+    let mut edges = [77u16; 2056];
+    let mut triangles = [77u16; 1544];
+    show_part(text, &mut positions, &mut edges, &mut triangles, p, e, t);
+}
+
+fn show_part(
+    text: &[u8],
+    positions: &mut [i32],
+    edges: &mut [u16],
+    triangles: &mut [u16],
+    p: usize,
+    e: usize,
+    t: usize,
+)
+    requires { ⌜ p ≤ length (now positions) ⌝ }
+    requires { ⌜ e ≤ length (now edges) ⌝ }
+    requires { ⌜ t ≤ length (now triangles) ⌝ }
+{
+    show_in(
+        text,
+        &[],
+        &[],
+        &[],
+        &mut positions[..p],
+        &mut edges[..e],
+        &mut triangles[..t],
+    );
+}
+
 fn main() {
+    let mut buffer = io::large_buffer();
+    let n = io::read_full(0, &mut buffer);
+    cases::given(&buffer[..n]);
     cases::taken();
-    cases::formless();
-    cases::refused();
-    cases::meeting();
     cases::long();
     cases::longer();
+    cases::longest();
     cases::buffers();
+    print(b"\n");
 }

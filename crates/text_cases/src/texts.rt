@@ -1,6 +1,7 @@
 // Texts made of lines, each so many times.
 ghost use Prim.Native.Nat.{_≤_};
 ghost use lib.ListN.{length};
+ghost use Rattle.text_cases.specs.Between.{Between};
 
 // Puts a line at a place, as far as there is room, and answers the place behind it.
 fn append(out: &mut [u8], at: usize, line: &[u8]) -> usize
@@ -31,4 +32,19 @@ pub fn repeat(out: &mut [u8], at: usize, line: &[u8], times: usize) -> usize
         left -= 1;
     }
     end
+}
+
+// The place of the first such byte from a place on, or the end.
+pub fn byte_from(all: &[u8], at: usize, byte: u8) -> usize
+    requires { ⌜ at ≤ length (now all) ⌝ }
+    ensures { λ r. ⌜ Between at r (length (now (all .entry))) ⌝ }
+{
+    let mut i = at;
+    while i < all.len() {
+        if all[i] == byte {
+            return i;
+        }
+        i += 1;
+    }
+    i
 }

@@ -5,15 +5,6 @@ use Rattle.fields.specs.Field.{field-found, field-none}
 use Rattle.fields.proofs.read_field.Statement.{statement}
 use Rattle.fields.proofs.read_field.Tie as tie
 
-shared-slice-read-if2 : tie.Need-shared-slice-read-if2
-shared-slice-read-if2 c = search needs
-
-add-read-numeral : tie.Need-add-read-numeral
-add-read-numeral c = search needs
-
-read-numeral-requires : tie.Need-read-numeral-requires
-read-numeral-requires c κs = search needs
-
 returns : tie.Need-returns
 returns c =
     field-found _ _ _ (c .before .before .before .before .if1 .taken) (c .before .if2 .taken) _ (c .read-numeral .ensures)
@@ -26,4 +17,4 @@ returns-3 c = field-none _ _ _ (λ h e. omega arith)
 
 pub read-field-spec : {M : Type 1} → statement M
 read-field-spec =
-    tie.close (tie.spec shared-slice-read-if2 add-read-numeral read-numeral-requires returns returns-2 returns-3)
+    tie.close (tie.spec (λ c. search needs) (λ c. search needs) (λ c κs. search needs) returns returns-2 returns-3)

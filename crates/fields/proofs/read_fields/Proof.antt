@@ -4,9 +4,6 @@ use borrow.Author.Needs.{needs}
 use Rattle.fields.proofs.Reading.{RowReading, starts, more, stopped, enough}
 use Rattle.fields.proofs.read_fields.Statement.{statement}
 use Rattle.fields.proofs.read_fields.Tie as tie
-use Rattle.fields.proofs.read_fields.Reads as reads
-use Rattle.fields.proofs.read_fields.Lts as lts
-use Rattle.fields.proofs.read_field.Reads as read-field-reads
 
 abbrev Inv-loop : tie.InvT-loop
 Inv-loop s at form count sizes₀ minus₀ found₀ next₀ sizes minus found next = RowReading s at form count sizes₀ sizes minus₀ minus found next
@@ -20,32 +17,17 @@ loop-holds c = starts _ _ _ _ _ _
 read-field-requires : tie.Need-read-field-requires Inv-loop μ-loop
 read-field-requires c κs = c .before .before .before .before .before .pre .0
 
-enum-known-sign : tie.Need-enum-known-sign Inv-loop μ-loop
-enum-known-sign c = search needs
-
-mul-sizes : tie.Need-mul-sizes Inv-loop μ-loop
-mul-sizes c = omega arith
-
 slice-write-sizes : tie.Need-slice-write-sizes Inv-loop μ-loop
 slice-write-sizes c = omega (arith, c .before .before .before .before .before .loop .inv .sized .same)
 
 slice-write-minus : tie.Need-slice-write-minus Inv-loop μ-loop
 slice-write-minus c = omega (arith, c .before .before .before .before .before .loop .inv .signed .same)
 
-add-found : tie.Need-add-found Inv-loop μ-loop
-add-found c = omega arith
-
-loop-less : tie.Need-loop-less Inv-loop μ-loop
-loop-less c = omega arith
-
 loop-again : tie.Need-loop-again Inv-loop μ-loop
 loop-again c =
     let a = c .before .before .before .before .before .before .before .before .before in
     more (c .before .before .before .before .before .loop .inv) (c .before .before .before .before .loop-test .taken)
     (a .pre .1 .0) (a .pre .1 .1) (c .before .before .before .read-field .ensures) (c .before .sign .given .1)
-
-enum-told : tie.Need-enum-told Inv-loop μ-loop
-enum-told c = search needs
 
 same-length : tie.Need-same-length Inv-loop μ-loop
 same-length c = c .before .before .before .before .loop .inv .sized .same
@@ -74,14 +56,14 @@ read-fields-spec =
     μ-loop
     loop-holds
     read-field-requires
-    enum-known-sign
-    mul-sizes
+    (λ c. search needs)
+    (λ c. omega arith)
     slice-write-sizes
     slice-write-minus
-    add-found
-    loop-less
+    (λ c. omega arith)
+    (λ c. omega arith)
     loop-again
-    enum-told
+    (λ c. search needs)
     same-length
     same-length-2
     returns

@@ -8,32 +8,11 @@ use Rattle.fields.specs.Field.{plain-told, plain-told-bad, minus-there, 
 use Rattle.fields.proofs.read_numeral.Statement.{statement}
 use Rattle.fields.proofs.read_numeral.Tie as tie
 
-byte-at-requires : tie.Need-byte-at-requires
-byte-at-requires c κs = search needs
-
 minus : (c : tie.Then1) → MinusThere (now (c .before .before .before .before .args .s)) (c .before .before .before .before .args .at) (c .before .before .before .before .args .form)
 minus c = minus-there _ _ _ (c .before .before .byte-at .ensures) (c .if1 .taken)
 
 add-read-plain : tie.Need-add-read-plain
 add-read-plain c = omega (arith, minus c .inside)
-
-read-plain-requires : tie.Need-read-plain-requires
-read-plain-requires c κs = search needs
-
-enum-known-value : tie.Need-enum-known-value
-enum-known-value c = search needs
-
-enum-told : tie.Need-enum-told
-enum-told c = search needs
-
-read-plain-requires-2 : tie.Need-read-plain-requires-2
-read-plain-requires-2 c κs = search needs
-
-enum-known-value-2 : tie.Need-enum-known-value-2
-enum-known-value-2 c = search needs
-
-enum-told-2 : tie.Need-enum-told-2
-enum-told-2 c = search needs
 
 returns : tie.Need-returns
 returns c =
@@ -63,14 +42,14 @@ pub read-numeral-spec : {M : Type 1} → statement M
 read-numeral-spec =
     tie.close
     (tie.spec
-    byte-at-requires
+    (λ c κs. search needs)
     add-read-plain
-    read-plain-requires
-    enum-known-value
-    enum-told
-    read-plain-requires-2
-    enum-known-value-2
-    enum-told-2
+    (λ c κs. search needs)
+    (λ c. search needs)
+    (λ c. search needs)
+    (λ c κs. search needs)
+    (λ c. search needs)
+    (λ c. search needs)
     returns
     returns-2
     returns-3

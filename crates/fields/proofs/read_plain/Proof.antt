@@ -5,21 +5,6 @@ use Rattle.fields.specs.Field.{plain-found, plain-long, plain-bad}
 use Rattle.fields.proofs.read_plain.Statement.{statement}
 use Rattle.fields.proofs.read_plain.Tie as tie
 
-read-number-requires : tie.Need-read-number-requires
-read-number-requires c κs = search needs
-
-enum-known-read : tie.Need-enum-known-read
-enum-known-read c = search needs
-
-byte-at-requires : tie.Need-byte-at-requires
-byte-at-requires c κs = search needs
-
-is-digit-requires : tie.Need-is-digit-requires
-is-digit-requires c κs = search needs
-
-enum-told : tie.Need-enum-told
-enum-told c = search needs
-
 returns : tie.Need-returns
 returns c =
     let r = c .before .before .before .before .before .before in
@@ -39,11 +24,11 @@ pub read-plain-spec : {M : Type 1} → statement M
 read-plain-spec =
     tie.close
     (tie.spec
-    read-number-requires
-    enum-known-read
-    byte-at-requires
-    is-digit-requires
-    enum-told
+    (λ c κs. search needs)
+    (λ c. search needs)
+    (λ c κs. search needs)
+    (λ c κs. search needs)
+    (λ c. search needs)
     returns
     returns-2
     returns-3)

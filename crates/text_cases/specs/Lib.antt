@@ -1,0 +1,2 @@
+-- The one statement that the program's own functions share.
+pub mod Between
