@@ -19,6 +19,9 @@ use scenes::parts::vertex_count;
 use scenes::written::corner;
 use scenes::written::edge_end;
 
+// Six numbers for each part that a scene can have.
+pub const BOX_NUMBERS: usize = 12288;
+
 fn fill_vertices(positions: &[i32], boxes: &mut [i32])
     requires { ⌜ 6 * vertexCount (onlyPositions (now positions)) ≤ length (now boxes) ⌝ }
     ensures { λ _. ⌜ VerticesIn (onlyPositions (now (positions .entry))) (now (boxes .exit)) × KeptBehind (now (boxes .entry)) (now (boxes .exit)) (vertexCount (onlyPositions (now (positions .entry)))) ⌝ }

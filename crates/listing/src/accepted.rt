@@ -8,6 +8,7 @@ ghost use Rattle.meaning.specs.List.{pairs, roomOf};
 ghost use Rattle.listing.specs.Answering.{ListedIn};
 use super::counting::count_all;
 use super::writing::write_all;
+use boxes::filling::BOX_NUMBERS;
 use boxes::filling::fill;
 use meaning::ListAnswer;
 use meaning::Made;
@@ -17,7 +18,7 @@ pub fn count_accepted(positions: &[i32], edges: &[u16], triangles: &[u16]) -> us
     requires { ⌜ Accepted (sceneOf (now positions) (now edges) (now triangles)) ⌝ }
     ensures { λ r. ⌜ r ≡ length (pairs (sceneOf (now (positions .entry)) (now (edges .entry)) (now (triangles .entry)))) ⌝ }
 {
-    let mut boxes = [0i32; 12288];
+    let mut boxes = [0i32; BOX_NUMBERS];
     fill(positions, edges, triangles, &mut boxes);
     count_all(positions, edges, triangles, &boxes)
 }
@@ -33,7 +34,7 @@ pub fn list_accepted(
     requires { ⌜ Accepted (sceneOf (now positions) (now edges) (now triangles)) × (room ≤ roomOf (now list)) ⌝ }
     ensures { λ r. ⌜ ListedIn (sceneOf (now (positions .entry)) (now (edges .entry)) (now (triangles .entry))) room (now (list .entry)) (now (list .exit)) r ⌝ }
 {
-    let mut boxes = [0i32; 12288];
+    let mut boxes = [0i32; BOX_NUMBERS];
     fill(positions, edges, triangles, &mut boxes);
     let count = count_all(positions, edges, triangles, &boxes);
     if room < count {
