@@ -6,6 +6,8 @@ pub mod Solved
 pub mod Spread
 pub mod Gathered
 pub mod Shapes
+pub mod Agreement
+pub mod Reading
 pub mod Symbols
 pub mod Bridge
 pub mod Spans
@@ -15,3 +17,5 @@ pub mod Alike
 pub mod Determinants
 pub mod Rearranged
 pub mod SamePoints
+pub mod Judged
+pub mod SevenPieces
