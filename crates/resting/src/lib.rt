@@ -1,0 +1,1 @@
+// Cloth at rest: a degenerate piece decided by leaving corners out.
