@@ -3,3 +3,8 @@ pub mod Level
 pub mod Left
 pub mod Tightest
 pub mod Leave
+pub mod Others
+pub mod Signed
+pub mod Slots
+pub mod Filled
+pub mod Candidate
