@@ -87,12 +87,12 @@ pub record Fits (m : ℕ) (l : List Event) (left : ℕ → Bool) (s e : ℕ) (q 
   pub others : (k : Place) → pos 0 ≤ℤ sided way (sided (ltb (pick k q) m) (pick k E))
 
 -- the candidate's numbers for all the corners
-record Spread (l : List Event) (s e : ℕ) (q : Four ℕ) (E : Four ℤ) : Type 0 where
-  number : ℕ → ℤ
-  four : each number q ≡ E
-  remains : Remains l s e q number
+pub record Spread (l : List Event) (s e : ℕ) (q : Four ℕ) (E : Four ℤ) : Type 0 where
+  pub number : ℕ → ℤ
+  pub four : each number q ≡ E
+  pub remains : Remains l s e q number
 
-spread : {l : List Event} {s e : ℕ} {q : Four ℕ} → Based l s e q → (E : Four ℤ) → Spread l s e q E
+pub spread : {l : List Event} {s e : ℕ} {q : Four ℕ} → Based l s e q → (E : Four ℤ) → Spread l s e q E
 spread {l} {s} {e} {q} b E = record {
   number = N .number;
   four = four;

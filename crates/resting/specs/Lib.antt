@@ -8,3 +8,6 @@ pub mod Signed
 pub mod Slots
 pub mod Filled
 pub mod Candidate
+pub mod Flat
+pub mod Dependent
+pub mod Opened
