@@ -1,18 +1,19 @@
 -- Reading a number from a place of a text: a computed answer, and the theorem that says what it means.
 use mathlib.Core.Bool.{Bool, true, false, _&&_, _||_}
-use mathlib.Core.List.{List, [], _∷_, _++_}
-use mathlib.Core.Logic.{_⊎_, inl, inr, ⊎-elim, _↔_}
-use mathlib.Core.Path.{_≡_, refl, sym, ap, _∙_, subst₂}
+use mathlib.Core.List.{List}
+use mathlib.Core.Logic.{_⊎_, inr, ⊎-elim, _↔_}
+use mathlib.Core.Path.{_≡_, sym, ap, _∙_, subst₂}
 use Prim.Native.Nat.{ℕ, _+_, _-_, _^_, _≤_, _<_}
 use native.Mathlib.Nat.{add-zero}
 use native.Mathlib.Omega.{arith}
 use lib.Dec.{leb, ltb}
 use lib.ListN.{length, getD, drop, List·getD-append}
 use lib.Seq.{drop-drop, getD-drop}
-use borrow.Author.Tests.{leb-true, leb-false, ltb-true, lt-ltb, le-leb, lt-leb}
+use borrow.Author.Tests.{leb-true, ltb-true, lt-ltb, le-leb, lt-leb}
 use Rattle.sequences.specs.Pick.{pick, pick-gave, both, one-of}
 use Rattle.sequences.specs.Range.{le-or-lt}
-use Rattle.sequences.specs.Stands.{Stands, stands-from, stands-inside-some}
+use Rattle.sequences.specs.Stands.{Stands, stands-from, stands-inside-some, wrote-stands}
+use Rattle.sequences.specs.Wrote.{Wrote}
 use Rattle.decimals.specs.Byte.{byteAt, digitTest}
 use Rattle.decimals.specs.Digits.{digits}
 use Rattle.decimals.specs.Reading.{run, Run, run-has, run-is, RunFrom}
@@ -128,3 +129,8 @@ module _ (s : List ℕ) (at limit : ℕ) where
   number-inside {v} {n} e =
       let h : NumberStands s at limit v n = found e in
       (omega (arith, h .stands .place, digits-some v), stands-inside-some (digits-some v) (h .stands), digits-below v limit (h .short))
+
+-- reading what was written, where no digit follows, gives the number back
+pub written-read : {o o′ : List ℕ} {at m : ℕ} (v limit : ℕ) → at ≤ length o → Wrote o at (digits v) o′ m → length (digits v) ≤ limit
+    → digitTest (byteAt o′ m) ≡ false → numberAt o′ at limit ≡ Number v m
+written-read {o′} {at} v limit h w short stops = number-read o′ at limit v (wrote-stands h w) short stops

@@ -1,18 +1,15 @@
 -- What reading a number finds: the longest run of digits from a place on, of at most so many, which is a number if it is canonical.
-use mathlib.Core.Bool.{Bool, true, false, _&&_, _||_, not}
+use mathlib.Core.Bool.{false}
 use mathlib.Core.List.{List, [], _∷_, _++_, List·Memᴰ, List·Memᴰ·head, List·Memᴰ·tail, List·Memᴰ·not-nil, List·Memᴰ·cases-cons, nil≢cons, head-eq-of-cons-eq, tail-eq-of-cons-eq}
-use mathlib.Core.Logic.{_⊎_, inl, inr, ⊎-elim, _↔_}
-use mathlib.Core.Path.{_≡_, refl, sym, ap, _∙_, subst}
-use Prim.Native.Nat.{ℕ, zero, suc, _+_, _≤_, _<_}
+use mathlib.Core.Logic.{_⊎_, inl, inr, ⊎-elim}
+use mathlib.Core.Path.{_≡_, refl, sym, ap, subst}
+use Prim.Native.Nat.{ℕ, zero, suc, _+_, _≤_}
 use native.Mathlib.Nat.{suc-inj}
 use native.Mathlib.Omega.{arith}
-use lib.Dec.{leb, ltb}
-use lib.ListN.{length, getD, drop, length-append}
+use lib.ListN.{length, getD, drop}
 use Rattle.sequences.specs.Pick.{pick, pick-has}
-use Rattle.sequences.specs.Stands.{Stands, stands-from}
-use Rattle.decimals.specs.Byte.{byteAt, IsDigit, digitTest, digit-passes, digit-passed}
-use Rattle.decimals.specs.Digits.{digits}
-use Rattle.decimals.specs.Value.{value, Canonical, digits-canonical, digits-value, value-digits}
+use Rattle.decimals.specs.Byte.{IsDigit, digitTest, digit-passes, digit-passed}
+use Rattle.decimals.specs.Value.{value}
 
 -- the longest run of digits in front of a list, of at most so many
 unfoldable pub run : ℕ → List ℕ → List ℕ

@@ -1,12 +1,10 @@
 -- What a list of digits is worth; the lists that are digits of some number; and that each of the two gives back the other.
-use mathlib.Core.Bool.{Bool, true, false, _&&_, _||_, not}
 use mathlib.Core.List.{List, [], _∷_, _++_, append-assoc, append-nil, List·Memᴰ, List·Memᴰ·head, List·Memᴰ·tail, List·Memᴰ·append-cases, List·Memᴰ·eq-of-singleton}
 use mathlib.Core.Logic.{⊎-elim, _↔_}
 use mathlib.Core.Path.{_≡_, refl, sym, ap, _∙_, subst}
 use Prim.Native.Nat.{ℕ, zero, suc, _+_, _-_, _*_, _/_, _%_, _^_, _≤_, _<_}
 use native.Mathlib.Nat.{pow-suc, pow-le-pow-right, div-lt-iff-lt-mul}
 use native.Mathlib.Omega.{arith}
-use lib.Dec.{leb, ltb, eqb}
 use lib.ListN.{length, getD, length-append, List·getD-append}
 use Rattle.sequences.specs.Range.{le-or-lt}
 use Rattle.decimals.specs.Byte.{IsDigit}
@@ -128,6 +126,10 @@ digits-length (suc (suc k)) n some h =
     (omega (arith, digits-length (suc k) (n / 10) (omega arith) (div-lt-iff-lt-mul {k = 10} (omega arith) .1 (rw (pow-suc 10 (suc k)) at h)))))
     (λ small. rw (digits-small n small) (omega arith))
     (le-or-lt 10 n)
+
+-- a number of 64 bits has at most twenty
+pub digits-length-u64 : (n : ℕ) → n < 2 ^ 64 → length (digits n) ≤ 20
+digits-length-u64 n h = digits-length 20 n (omega arith) (omega arith)
 
 pub digits-below : (n k : ℕ) → length (digits n) ≤ k → n < 10 ^ k
 digits-below =

@@ -15,7 +15,7 @@ pub enum NumberRead {
 }
 
 // A run of digits: what it is worth, and the place behind it.
-struct Run {
+struct DigitRun {
     worth: u64,
     next: usize,
 }
@@ -27,6 +27,7 @@ pub fn byte_at(bytes: &[u8], at: usize) -> u8
     if at < bytes.len() { bytes[at] } else { 0 }
 }
 
+// Whether a byte is one of the digits 0 to 9.
 pub fn is_digit(byte: u8) -> bool
     ensures { λ r. ⌜ r ≡ digitTest byte ⌝ }
 {
@@ -34,7 +35,7 @@ pub fn is_digit(byte: u8) -> bool
 }
 
 // The longest run of digits from a place on, of at most limit digits.
-fn run_from(bytes: &[u8], at: usize, limit: usize) -> Run
+fn run_from(bytes: &[u8], at: usize, limit: usize) -> DigitRun
     requires { ⌜ limit ≤ 19 ⌝ }
     ensures { λ r. ⌜ RunFrom (now (bytes .entry)) at limit (r .worth) (r .next) ⌝ }
 {
@@ -50,10 +51,11 @@ fn run_from(bytes: &[u8], at: usize, limit: usize) -> Run
         next += 1;
         left -= 1;
     }
-    Run { worth, next }
+    DigitRun { worth, next }
 }
 
-// The number that stands from a place on in at most limit digits. Whoever calls it looks at the byte behind it: one digit too many stands there.
+// The number that stands from a place on, in at most limit digits and with no leading zero. Whoever calls it looks at the byte behind
+// it, where a digit too many stands.
 pub fn read_number(bytes: &[u8], at: usize, limit: usize) -> NumberRead
     requires { ⌜ limit ≤ 19 ⌝ }
     ensures { λ r. ⌜ r ≡ numberAt (now (bytes .entry)) at limit ⌝ }
@@ -68,4 +70,33 @@ pub fn read_number(bytes: &[u8], at: usize, limit: usize) -> NumberRead
     } else {
         NumberRead::Bad
     }
+}
+
+// How many digits a number has.
+pub fn digit_count(n: u64) -> usize
+    ensures { λ r. ⌜ r ≡ length (digits n) ⌝ }
+{
+    let mut rest = n;
+    let mut count: usize = 1;
+    while rest >= 10 {
+        rest = rest / 10;
+        count += 1;
+    }
+    count
+}
+
+// Writes a number from a place on, where there is room for it, and returns the place behind it.
+pub fn write_number(out: &mut [u8], at: usize, n: u64) -> usize
+    requires { ⌜ at + length (digits n) ≤ length (now out) ⌝ }
+    ensures { λ r. ⌜ Wrote (now (out .entry)) at (digits n) (now (out .exit)) r ⌝ }
+{
+    let end = at + digit_count(n);
+    let mut next = end;
+    let mut rest = n;
+    while at < next {
+        next -= 1;
+        out[next] = (48 + rest % 10) as u8;
+        rest = rest / 10;
+    }
+    end
 }

@@ -3,9 +3,10 @@ use mathlib.Core.List.{List, [], _∷_, _++_, append-assoc, append-nil, append-c
 use mathlib.Core.Path.{_≡_, refl, ap, _∙_}
 use Prim.Native.Nat.{ℕ, _+_, _≤_, _<_}
 use native.Mathlib.Omega.{arith}
-use lib.ListN.{length, drop, getD, length-append, length-drop, List·getD-append}
-use lib.Seq.{drop-drop, drop-append-seam, drop-length, getD-drop}
+use lib.ListN.{length, take, drop, getD, length-append, length-drop, List·getD-append, take-append-drop}
+use lib.Seq.{drop-drop, drop-append-seam, drop-length, getD-drop, drop-at, length-take-le}
 use Rattle.sequences.specs.Parts.{drop-next}
+use Rattle.sequences.specs.Wrote.{Wrote}
 
 module _ {ℓ} {A : Type ℓ} where
   -- in s, from the place n on, the list l stands, and m is the place behind it
@@ -60,3 +61,11 @@ module _ {ℓ} {A : Type ℓ} where
 
   pub stands-at : {s l : List A} {n m : ℕ} (i : ℕ) (d : A) → Stands s n l m → i < length l → getD s (n + i) d ≡ getD l i d
   stands-at {s} {l} {n} {m} i d w h = cc (getD-drop n s i d, w .here, List·getD-append l (drop m s) d i h)
+
+  -- what was written stands there
+  pub wrote-stands : {o l o′ : List A} {n m : ℕ} → n ≤ length o → Wrote o n l o′ m → Stands o′ n l m
+  wrote-stands {o} {l} {o′} {n} {m} h w =
+      record {
+        here = cc (take-append-drop m o′, w .front, append-assoc (take n o) l (drop m o′), drop-at (take n o) (l ++ drop m o′) n (length-take-le n o h));
+        place = w .place;
+      }

@@ -96,6 +96,9 @@ module _ {ℓ} {A : Type ℓ} where
         room = (omega (arith, w .room), rw length-set (omega (arith, w .room)));
       }
 
+  pub down-as : {o₀ want o rest other : List A} {n : ℕ} → rest ≡ other → WritingDown o₀ want o n rest → WritingDown o₀ want o n other
+  down-as e w = rw e at w
+
   pub down-ends : {o₀ l o : List A} {at m : ℕ} → m ≡ at + length l → WritingDown o₀ (l ++ drop m o₀) o at [] → Wrote o₀ at l o m
   down-ends {o₀} {l} {o} {at} {m} e w =
       record {

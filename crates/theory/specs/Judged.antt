@@ -1,6 +1,5 @@
 -- The verdict of a piece of each form, read off the signs of its common factor and of a few numbers made of its four volumes. For the
 -- point against four others only the volumes need testing: what falls to the point follows.
-use mathlib.Core.Path.{_≡_, refl}
 use mathlib.Core.Logic.{_≢_, _↔_}
 use mathlib.Core.List.{List, [], _∷_, map}
 use lib.Dec.{T}

@@ -1,17 +1,17 @@
 -- The verdict read off signs: of the common factor, and of the numbers that are to agree with it. Here is what the reading means for
 -- a piece that the numbers solve, and how comparisons with 0 compute it.
-use mathlib.Core.Path.{_≡_, refl, sym, _∙_, ap, subst}
+use mathlib.Core.Path.{_≡_, refl, sym, ap, subst}
 use mathlib.Core.Logic.{_≢_, _↔_}
 use mathlib.Core.Bool.{Bool, true, false, not, cond, _&&_, _||_, or-false}
 use mathlib.Core.List.{List, [], _∷_, map}
 use Prim.Native.Nat.{ℕ, zero, suc, _<_}
 use native.Mathlib.Nat.{not-suc-le-zero}
 use native.Mathlib.Omega.{arith}
-use lib.Dec.{T, T-not, not-T}
+use lib.Dec.{T}
 use lib.IntN.{ℤ, pos}
-use lib.ListN.{length, getD}
+use lib.ListN.{length}
 use lib.Signed.{leZ}
-use Rattle.whole.specs.Signs.{Sgn, positive, nought, negative, sgn, nought-is, isNought, isNegative, isPositive, isNought-is, le-nought, nought-le, zero-test, agree, agree-is, Agrees}
+use Rattle.whole.specs.Signs.{Sgn, positive, nought, negative, sgn, nought-is, isNought, isNegative, isPositive, isNought-is, le-nought, nought-le, agree, agree-is, Agrees}
 use Rattle.meaning.specs.Pieces.{Piece}
 use Rattle.meaning.specs.Equations.{determinantOf, Touches}
 use Rattle.meaning.specs.Verdicts.{PieceIs}
@@ -31,7 +31,7 @@ verdictOf d l = cond (isNought d) Degenerate (cond (agreeing d l) Hit Miss)
 
 -- ---- what it means
 
-T-both : (a b : Bool) → T (a && b) ↔ (T a × T b)
+pub T-both : (a b : Bool) → T (a && b) ↔ (T a × T b)
 T-both true b = (λ t. (tt, t), λ t. t .1)
 T-both false b = (λ t. absurd t, λ t. t .0)
 
