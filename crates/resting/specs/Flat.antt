@@ -11,7 +11,7 @@ use Rattle.whole.specs.VectorLaws.{vector-eq, coordinates, cross}
 use Rattle.whole.specs.Quote.{quotes, ring, combine, times}
 use Rattle.whole.specs.Cramer.{balance}
 
-zero-or : (z : ℤ) → (z ≡ pos 0) ⊎ (z ≢ pos 0)
+pub zero-or : (z : ℤ) → (z ≡ pos 0) ⊎ (z ≢ pos 0)
 zero-or (pos zero) = inl refl
 zero-or (pos (suc n)) = inr (λ e. let k = ap natAbs e in omega arith)
 zero-or (negsuc n) = inr (λ e. let k = ap natAbs e in omega arith)

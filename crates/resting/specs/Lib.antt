@@ -11,3 +11,8 @@ pub mod Candidate
 pub mod Flat
 pub mod Dependent
 pub mod Opened
+pub mod Points
+pub mod Answer
+pub mod Base
+pub mod Tests
+pub mod Right
