@@ -14,29 +14,8 @@ use Rattle.resting.specs.declared.SixPoints.{SixPoints}
 use Rattle.resting.specs.Others.{Order, order-of, othersOf}
 use Rattle.resting.specs.Slots.{Based, eventIn, Preferred}
 use Rattle.resting.specs.Points.{atEnd, isLeft, eventAt, pieceAt, SixIn, six-long, six-at}
-use Rattle.resting.specs.Answer.{firstOf, sameBool, baseOf}
-
--- ---- the first that passes a test
-
-module _ (test : ℕ → Bool) where
-  record Passed (r n : ℕ) : Type 0 where
-    there : r < n
-    passes : test r ≡ true
-
-  record Failed (i n : ℕ) : Type 0 where
-    each : (j : ℕ) → i ≤ j → j < n → test j ≡ false
-
-  found-or : (k i d : ℕ) → Passed (firstOf test i k d) (i + k) ⊎ ((firstOf test i k d ≡ d) × Failed i (i + k))
-  unfolding firstOf
-  found-or zero i d = inr (refl, record { each = λ j h g. absurd (omega arith) })
-  found-or (suc k) i d = go (test i) refl (found-or k (i + 1) d)
-    where
-      go : (c : Bool) → test i ≡ c → Passed (firstOf test (i + 1) k d) (i + 1 + k) ⊎ ((firstOf test (i + 1) k d ≡ d) × Failed (i + 1) (i + 1 + k)) → Passed (cond c i (firstOf test (i + 1) k d)) (i + suc k) ⊎ ((cond c i (firstOf test (i + 1) k d) ≡ d) × Failed i (i + suc k))
-      go true e r = inl (record { there = omega arith; passes = e })
-      go false e (inl p) = inl (record { there = omega (arith, p .there); passes = p .passes })
-      go false e (inr (h, f)) = inr (h, record { each = λ j l g. ⊎-elim (λ z. ap test (sym z) ∙ e) (λ z. f .each j (omega arith) (omega arith)) (eq-or-lt-of-le l) })
-
--- ---- the bases
+use Rattle.resting.specs.First.{Passed, Failed, found-or}
+use Rattle.resting.specs.Answer.{sameBool, baseOf}
 
 never : true ≡ false → ⊥
 never e = let x : _≡_ {A = ℕ} 0 1 = cc in omega arith
@@ -66,6 +45,7 @@ pub record BaseIs (six : SixPoints) (left : List Bool) (end : Bool) (r : ℕ) : 
 
 module _ {ps : List ℤ} {six : SixPoints} (h : SixIn ps six) (left : List Bool) where
   pub base-is : (end : Bool) → BaseIs six left end (baseOf six left end)
+  unfolding baseOf
   base-is end = go (found-or test 6 0 (cond end 5 0))
     where
       test : ℕ → Bool

@@ -12,7 +12,9 @@ pub mod Flat
 pub mod Dependent
 pub mod Opened
 pub mod Points
+pub mod First
 pub mod Answer
 pub mod Base
 pub mod Tests
 pub mod Right
+pub mod Slotted

@@ -42,7 +42,7 @@ skip-below zero k h = absurd (omega arith)
 skip-below (suc i) zero h = refl
 skip-below (suc i) (suc k) h = ap suc (skip-below i k (omega arith))
 
-skip-most : (i k : ℕ) → skip i k ≤ suc k
+pub skip-most : (i k : ℕ) → skip i k ≤ suc k
 unfolding skip
 skip-most zero k = omega arith
 skip-most (suc i) zero = omega arith

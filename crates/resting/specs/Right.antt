@@ -31,7 +31,7 @@ use Rattle.resting.specs.Dependent.{Some, Vanish}
 use Rattle.resting.specs.Flat.{zero-or}
 use Rattle.resting.specs.Opened.{open-leaves}
 use Rattle.resting.specs.Points.{offset, atEnd, isLeft, eventAt, pieceAt, TouchLeft, SixIn, six-at, first-long}
-use Rattle.resting.specs.Answer.{sameBool, seenFrom, slotsAt, none, judgedBy, turnOf, otherwise, leafOf, baseOf}
+use Rattle.resting.specs.Answer.{sameBool, seenFrom, slotsAt, none, fitting, judgedBy, turnOf, otherwise, leafOf, baseOf}
 use Rattle.resting.specs.Base.{base-is, based, preferred}
 use Rattle.resting.specs.Tests.{Along, along-is, zero-but-is}
 
@@ -136,9 +136,7 @@ module _ {ps : List ℤ} {six : SixPoints} (h : SixIn ps six) (left : List Bool)
       (sum (kept (each not (each (atEnd six) q)) n)) (sum (kept (each (atEnd six) q) n))
 
   abbrev test : Four ℤ → Bool
-  test n =
-      zeroBut (each (isLeft left) q) n
-      && oneWay (each (atEnd six) q) firsts (ltb s (six .first)) (ltb e (six .first)) n
+  test n = fitting six left s e q n
 
   abbrev FitsHere : Four ℤ → Type 0
   FitsHere n = Fits (six .first) (a ++ b) (isLeft left) s e q n
@@ -182,7 +180,7 @@ module _ {ps : List ℤ} {six : SixPoints} (h : SixIn ps six) (left : List Bool)
   TurnIs f Open = Vanish f (each (isLeft left) q) (differencesIn (a ++ b) s e q)
 
   turn-is : (f : ℕ) → TurnIs f (turnOf ps six left s e f)
-  unfolding judgedBy TurnIs
+  unfolding judgedBy turnOf TurnIs
   turn-is f = go (zeroBut none n) (test n) refl refl
     where
       n : Four ℤ
