@@ -1,6 +1,6 @@
 -- What a match says of an answer: it is open, or it is not.
 use mathlib.Core.Path.{_≡_, refl}
-use mathlib.Core.Logic.{⊎-elim}
+use mathlib.Core.Logic.{_⊎_, inl, inr, ⊎-elim}
 use mathlib.Core.List.{[], _∷_}
 use native.Mathlib.Omega.{arith}
 use types.Run.{OneOf}
@@ -20,3 +20,8 @@ unfolding otherwise
 not-open Yes h x = refl
 not-open No h x = refl
 not-open Open h x = absurd (⊎-elim (λ e. omega arith) (λ e. omega arith) h)
+
+pub decided : (r : Leaf) → OneOf (0 ∷ 1 ∷ []) (tagOf the-type r) → (r ≡ Yes) ⊎ (r ≡ No)
+decided Yes h = inl refl
+decided No h = inr refl
+decided Open h = absurd (⊎-elim (λ e. omega arith) (λ e. omega arith) h)

@@ -18,3 +18,5 @@ pub mod Base
 pub mod Tests
 pub mod Right
 pub mod Slotted
+pub mod Says
+pub mod Step

@@ -38,8 +38,8 @@ abbrev pub pieceAt : List ℤ → SixPoints → Piece
 pieceAt ps six = record { first = take (six .first) (sixEvents ps six); second = drop (six .first) (sixEvents ps six) }
 
 -- weights with 0 for every point that is not left
-abbrev pub TouchLeft : List ℤ → SixPoints → List Bool → Type 0
-TouchLeft ps six left = TouchIn (pieceAt ps six .first) (pieceAt ps six .second) (isLeft left)
+pub record TouchLeft (ps : List ℤ) (six : SixPoints) (left : List Bool) : Type 0 where
+  pub weights : TouchIn (pieceAt ps six .first) (pieceAt ps six .second) (isLeft left)
 
 -- what code asks of six points: each stands in the positions; as in every piece, the first is at the start and the last at the end
 pub record SixIn (ps : List ℤ) (six : SixPoints) : Type 0 where

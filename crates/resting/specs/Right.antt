@@ -193,8 +193,8 @@ module _ {ps : List ℤ} {six : SixPoints} (h : SixIn ps six) (left : List Bool)
       )
 
       decided : (t : Bool) → test n ≡ t → (k : Place) → pick k n ≢ pos 0 → TurnIs f (cond t Yes No)
-      decided true p k some = may-touch a b (based h left) (in-place f) k some (preferred h left) (fits .1 (subst T (sym p) tt))
-      decided false p k some = λ t. absurd (subst T p (fits .0 (must-fit a b (based h left) (in-place f) k some t)))
+      decided true p k some = record { weights = may-touch a b (based h left) (in-place f) k some (preferred h left) (fits .1 (subst T (sym p) tt)) }
+      decided false p k some = λ t. absurd (subst T p (fits .0 (must-fit a b (based h left) (in-place f) k some (t .weights))))
 
       go : (z t : Bool) → zeroBut none n ≡ z → test n ≡ t → TurnIs f (cond z Open (cond t Yes No))
       go true t p r = record {
@@ -221,4 +221,4 @@ module _ {ps : List ℤ} {six : SixPoints} (h : SixIn ps six) (left : List Bool)
       go Open No r₂ x y z = y
       go Open Open Yes x y z = z
       go Open Open No x y z = z
-      go Open Open Open x y z = open-leaves a b (based h left) (preferred h left) (turns x y z)
+      go Open Open Open x y z = λ t. open-leaves a b (based h left) (preferred h left) (turns x y z) (t .weights)
