@@ -20,3 +20,4 @@ pub mod Right
 pub mod Slotted
 pub mod Says
 pub mod Step
+pub mod Settles

@@ -8,9 +8,9 @@ ghost use lib.ListN.{set};
 ghost use Rattle.resting.specs.Points.{SixIn};
 ghost use Rattle.resting.specs.Answer.{leafOf};
 ghost use Rattle.resting.specs.Says.{isYes, Says};
-use super::leaf::ask;
-use super::leaf::Leaf;
 use super::SixPoints;
+use super::leaf::Leaf;
+use super::leaf::ask;
 
 fn is_yes(answer: Leaf) -> bool
     ensures { λ r. ⌜ r ≡ isYes answer ⌝ }

@@ -64,32 +64,33 @@ pub +first+second-spec : {M : Type 1} → statement M
     (λ c. search needs)
     (λ c κs. search needs)
     (λ c.
-        let a = c .before .before in
-        rw (c .is-yes .ensures) (says-answer (a .before .pre .1) _ _ _ _ _ (a .ask-once .ensures) (decided _ (c .before .match .keys2))))
+    let a = c .before .before in
+    rw (c .is-yes .ensures) (says-answer (a .before .pre .1) _ _ _ _ _ (a .ask-once .ensures) (decided _ (c .before .match .keys2))))
     (λ c. (omega (arith, c .before .before .before .pre .1 .split), none-yet _ _))
     (λ c. omega (arith, c .before .before .before .before .before .pre .1 .split))
     (λ c κs. omega (arith, c .before .before .before .before .before .before .pre .1 .split))
     (λ c κs.
-        let s = c .before .before .before .before .before .before .before in
-        (falls-without _ _ _ _ (s .pre .0) (c .without .ensures) (c .before .if1 .taken), s .pre .1))
+    let s = c .before .before .before .before .before .before .before in
+    (falls-without _ _ _ _ (s .pre .0) (c .without .ensures) (c .before .if1 .taken), s .pre .1))
     (λ c. found _ _ (c .before .before .without .ensures) (c .before .second .ensures) _ _ _ (c .if2 .taken))
     (λ c. omega (arith, c .before .before .before .before .before .before .pre .1 .split))
     (λ c. omega arith)
     (λ c.
-        let l = c .before .before .loop in
-        let left = c .before .before .before .before .before .before .args .t3 in
-        (omega arith,
-          more left (l .inv .1)
-          (⊎-elim (λ w e. not-found left (l .i) (w .1 .ensures) (w .2 .ensures) (w .3 .left)) (λ w. not-left left (l .i) (w .left)) (c .if1 .came))))
+    let l = c .before .before .loop in
+    let left = c .before .before .before .before .before .before .args .t3 in (
+      omega arith,
+      more left (l .inv .1)
+          (⊎-elim (λ w e. not-found left (l .i) (w .1 .ensures) (w .2 .ensures) (w .3 .left)) (λ w. not-left left (l .i) (w .left)) (c .if1 .came)),
+    ))
     (λ c.
-        let l = c .before .before in
-        says-tried (l .before .before .before .before .pre .1) _ _ _ _ _ (c .if3 .taken) (omega arith) (l .loop .inv .1))
+    let l = c .before .before in
+    says-tried (l .before .before .before .before .pre .1) _ _ _ _ _ (c .if3 .taken) (omega arith) (l .loop .inv .1))
     (λ c κs. let s = c .before .before .before .before .before .before in (falls-handed _ _ (s .pre .0) (c .if3 .left), s .pre .1))
     (λ c.
-        let l = c .before .before .before in
-        let m = l .before .before in
-        let s = m .before .before in
-        says-last (s .pre .1) _ _ _ _ _ _ (on-a-side _) _ (c .before .if3 .left) _ (m .before .ask-once .ensures) (is-open _ (m .match .keys1)) (omega arith) (l .loop .inv .1) _ (c .second2 .ensures)))
+    let l = c .before .before .before in
+    let m = l .before .before in
+    let s = m .before .before in
+    says-last (s .pre .1) _ _ _ _ _ _ (on-a-side _) _ (c .before .if3 .left) _ (m .before .ask-once .ensures) (is-open _ (m .match .keys1)) (omega arith) (l .loop .inv .1) _ (c .second2 .ensures)))
     (λ t. second-lts.spec
     (ask-once-reads.Asked, ask-once-reads.Learnt, is-yes-reads.Asked, is-yes-reads.Learnt, without-reads.Asked, without-reads.Learnt, first-below t, first.Post)
     (second-at t)
@@ -100,29 +101,30 @@ pub +first+second-spec : {M : Type 1} → statement M
     (λ c. search needs)
     (λ c κs. search needs)
     (λ c.
-        let a = c .before .before in
-        rw (c .is-yes .ensures) (says-answer (a .before .pre .1) _ _ _ _ _ (a .ask-once .ensures) (decided _ (c .before .match .keys2))))
+    let a = c .before .before in
+    rw (c .is-yes .ensures) (says-answer (a .before .pre .1) _ _ _ _ _ (a .ask-once .ensures) (decided _ (c .before .match .keys2))))
     (λ c. (omega (arith, c .before .before .before .pre .1 .split), none-yet _ _))
     (λ c. omega (arith, c .before .before .before .before .before .pre .1 .split))
     (λ c κs. omega (arith, c .before .before .before .before .before .before .pre .1 .split))
     (λ c κs.
-        let s = c .before .before .before .before .before .before .before in
-        (falls-without _ _ _ _ (s .pre .0) (c .without .ensures) (c .before .if1 .taken), s .pre .1))
+    let s = c .before .before .before .before .before .before .before in
+    (falls-without _ _ _ _ (s .pre .0) (c .without .ensures) (c .before .if1 .taken), s .pre .1))
     (λ c. found _ _ (c .before .before .without .ensures) (c .before .first .ensures) _ _ _ (c .if2 .taken))
     (λ c. omega (arith, c .before .before .before .before .before .before .pre .1 .split))
     (λ c. omega arith)
     (λ c.
-        let l = c .before .before .loop in
-        let left = c .before .before .before .before .before .before .args .t3 in
-        (omega arith,
-          more left (l .inv .1)
-          (⊎-elim (λ w e. not-found left (l .i) (w .1 .ensures) (w .2 .ensures) (w .3 .left)) (λ w. not-left left (l .i) (w .left)) (c .if1 .came))))
+    let l = c .before .before .loop in
+    let left = c .before .before .before .before .before .before .args .t3 in (
+      omega arith,
+      more left (l .inv .1)
+          (⊎-elim (λ w e. not-found left (l .i) (w .1 .ensures) (w .2 .ensures) (w .3 .left)) (λ w. not-left left (l .i) (w .left)) (c .if1 .came)),
+    ))
     (λ c.
-        let l = c .before .before in
-        says-tried (l .before .before .before .before .pre .1) _ _ _ _ _ (c .if3 .taken) (omega arith) (l .loop .inv .1))
+    let l = c .before .before in
+    says-tried (l .before .before .before .before .pre .1) _ _ _ _ _ (c .if3 .taken) (omega arith) (l .loop .inv .1))
     (λ c κs. let s = c .before .before .before .before .before .before in (falls-handed _ _ (s .pre .0) (c .if3 .left), s .pre .1))
     (λ c.
-        let l = c .before .before .before in
-        let m = l .before .before in
-        let s = m .before .before in
-        says-last (s .pre .1) _ _ _ _ _ _ (λ j k. ⊎-swap (on-a-side _ j k)) _ (c .before .if3 .left) _ (m .before .ask-once .ensures) (is-open _ (m .match .keys1)) (omega arith) (l .loop .inv .1) _ (c .first2 .ensures)))
+    let l = c .before .before .before in
+    let m = l .before .before in
+    let s = m .before .before in
+    says-last (s .pre .1) _ _ _ _ _ _ (λ j k. ⊎-swap (on-a-side _ j k)) _ (c .before .if3 .left) _ (m .before .ask-once .ensures) (is-open _ (m .match .keys1)) (omega arith) (l .loop .inv .1) _ (c .first2 .ensures)))
