@@ -1,5 +1,4 @@
 -- Hit and miss stay; a degenerate piece is what the search says.
-use borrow.Author.Needs.{needs}
 use mathlib.Core.Path.{_≡_, refl, sym, subst}
 use mathlib.Core.Logic.{⊎-elim}
 use mathlib.Core.List.{[], _∷_}
@@ -31,10 +30,10 @@ pub settle-piece-spec : {M : Type 1} → statement M
 settle-piece-spec =
     tie.close
     (tie.spec
-    (λ c. search needs)
-    (λ c κs. search needs)
+    (λ c. c .match .keys1)
+    (λ c κs. tt)
     (λ c. rw (c .keep .ensures) (stays _ _ (c .before .before .pre .1) (c .before .match .keys2)))
-    (λ c κs. search needs)
+    (λ c κs. c .before .before .pre .0)
     (λ c.
     let m = c .before .before .before in
     settles-touch _ _ (m .before .pre .1) (goes-on _ (m .match .keys1)) (c .before .first .ensures) (c .if1 .taken))

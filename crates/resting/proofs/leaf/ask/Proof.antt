@@ -1,10 +1,9 @@
 -- Three turns: what the first that is not open says.
-use borrow.Author.Needs.{needs}
 use mathlib.Core.Path.{_≡_, refl, sym, _∙_, ap}
 use mathlib.Core.Bool.{Bool, true, false}
 use mathlib.Core.List.{List}
 use Prim.Native.Nat.{ℕ, _<_}
-use native.Mathlib.Omega.{arith}
+use lib.Dec.{lit<}
 use lib.IntN.{ℤ}
 use Rattle.resting.specs.declared.SixPoints.{SixPoints}
 use Rattle.resting.specs.declared.leaf.Leaf.{Leaf}
@@ -42,22 +41,22 @@ pub ask-spec : {M : Type 1} → statement M
 ask-spec =
     tie.close
     (tie.spec
-    (λ c κs. search needs)
-    (λ c κs. search needs)
-    (λ c κs. asked _ _ _ _ _ (c .before .base .ensures) (c .base2 .ensures) (c .before .before .pre) _ (omega arith))
-    (λ c. search needs)
+    (λ c κs. tt)
+    (λ c κs. tt)
+    (λ c κs. asked _ _ _ _ _ (c .before .base .ensures) (c .base2 .ensures) (c .before .before .pre) _ (lit< tt))
+    (λ c. c .match .keys1)
     (λ c. let b = c .before .before in first _ _ _ _ _ (b .before .base .ensures) (b .base2 .ensures) (c .before .turn .ensures) (not-open _ (c .match .keys2)))
     (λ c κs.
     let b = c .before .before .before in
-    asked _ _ _ _ _ (b .before .base .ensures) (b .base2 .ensures) (b .before .before .pre) _ (omega arith))
-    (λ c. search needs)
+    asked _ _ _ _ _ (b .before .base .ensures) (b .base2 .ensures) (b .before .before .pre) _ (lit< tt))
+    (λ c. c .match2 .keys1)
     (λ c.
     let m = c .before .before .before in
     let b = m .before .before in
     second _ _ _ _ _ (b .before .base .ensures) (b .base2 .ensures) (m .before .turn .ensures) (is-open _ (m .match .keys1)) (c .before .turn2 .ensures) (not-open _ (c .match2 .keys2)))
     (λ c κs.
     let b = c .before .before .before .before .before .before in
-    asked _ _ _ _ _ (b .before .base .ensures) (b .base2 .ensures) (b .before .before .pre) _ (omega arith))
+    asked _ _ _ _ _ (b .before .base .ensures) (b .base2 .ensures) (b .before .before .pre) _ (lit< tt))
     (λ c.
     let m₂ = c .before .before in
     let m₁ = m₂ .before .before .before in

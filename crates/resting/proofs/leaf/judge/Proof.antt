@@ -1,5 +1,4 @@
 -- Nothing yet where all volumes are 0, else by the two tests.
-use borrow.Author.Needs.{needs}
 use mathlib.Core.Path.{_≡_, _∙_, sym}
 use mathlib.Core.Bool.{Bool, _&&_}
 use Rattle.resting.specs.Answer.{judged-open, judged-yes, judged-no}
@@ -13,18 +12,18 @@ pub judge-spec : {M : Type 1} → statement M
 judge-spec =
     tie.close
     (tie.spec
-    (λ c κs. search needs)
+    (λ c κs. tt)
     (λ c. judged-open _ _ _ _ _ _ (sym (c .before .zero-but .ensures) ∙ c .if1 .taken))
-    (λ c. search needs)
-    (λ c. search needs)
-    (λ c. search needs)
-    (λ c. search needs)
-    (λ c κs. search needs)
-    (λ c. search needs)
-    (λ c. search needs)
-    (λ c. search needs)
-    (λ c. search needs)
-    (λ c κs. search needs)
+    (λ c. c .before .before .pre .1)
+    (λ c. c .before .before .pre .2)
+    (λ c. c .before .before .pre .3)
+    (λ c. c .before .before .pre .4)
+    (λ c κs. tt)
+    (λ c. c .before .before .before .pre .1)
+    (λ c. c .before .before .before .before .pre .2)
+    (λ c. c .before .before .before .before .before .pre .3)
+    (λ c. c .before .before .before .before .before .before .pre .4)
+    (λ c κs. c .before .before .before .before .before .before .before .pre .0)
     (λ c.
     let z = c .before .before .before .before .before .before in
     judged-yes _ _ _ _ _ _ (sym (z .before .before .zero-but .ensures) ∙ z .before .if1 .left) (joined (z .zero-but2 .ensures) (c .before .one-way .ensures) (c .if2 .taken)))

@@ -1,29 +1,36 @@
 -- Four arrows in the slots of the four others, their volumes, and what these say.
-use borrow.Author.Needs.{needs}
 use mathlib.Core.Path.{_≡_, _∙_}
+use Prim.Native.Nat.{ℕ, suc, _+_, _≤_, _<_}
+use native.Mathlib.Nat.{lt-trans}
+use native.Mathlib.Omega.{arith}
+use lib.Dec.{lit<}
 use Rattle.exact.specs.Volumes.{holds-small, holds-same}
 use Rattle.resting.specs.Slotted.{standing, turned}
 use Rattle.resting.proofs.leaf.turn.Statement.{statement}
 use Rattle.resting.proofs.leaf.turn.Tie as tie
 
+-- the next axis is at most one further
+below : {a b n : ℕ} → a ≤ b + 1 → b < n → a < suc n
+below h k = omega arith
+
 pub turn-spec : {M : Type 1} → statement M
 turn-spec =
     tie.close
     (tie.spec
-    (λ c κs. search needs)
-    (λ c κs. search needs)
-    (λ c κs. search needs)
-    (λ c κs. search needs)
-    (λ c. search needs)
-    (λ c κs. search needs)
-    (λ c. search needs)
-    (λ c κs. search needs)
-    (λ c. search needs)
-    (λ c κs. search needs)
-    (λ c κs. search needs)
-    (λ c κs. search needs)
-    (λ c κs. search needs)
-    (λ c κs. search needs)
+    (λ c κs. lit< tt)
+    (λ c κs. lit< tt)
+    (λ c κs. lit< tt)
+    (λ c κs. lit< tt)
+    (λ c. c .before .before .before .other .ensures .1)
+    (λ c κs. lt-trans (c .before .before .before .before .pre .3) (lit< tt))
+    (λ c. c .before .before .before .other2 .ensures .1)
+    (λ c κs. below (c .next .ensures .1) (lt-trans (c .before .before .before .before .before .pre .3) (lit< tt)))
+    (λ c. c .before .before .before .other3 .ensures .1)
+    (λ c κs. below (c .next2 .ensures .1) (lt-trans (below (c .before .next .ensures .1) (c .before .before .before .before .before .before .pre .3)) (lit< tt)))
+    (λ c κs. let o = c .before .before .before in let p = o .before .before .before .before .pre in (p .1, p .2, o .before .before .before .other .ensures .1))
+    (λ c κs. let o = c .before .before .before .before in let p = o .before .before .before .before .pre in (p .1, p .2, o .before .before .other2 .ensures .1))
+    (λ c κs. let o = c .before .before .before .before .before in let p = o .before .before .before .before .pre in (p .1, p .2, o .before .other3 .ensures .1))
+    (λ c κs. let o = c .before .before .before .before .before .before in let p = o .before .before .before .before .pre in (p .1, p .2, o .other4 .ensures .1))
     (λ c κs.
     let n = c .before .before .before .before in
     let o = n .before .before .before in

@@ -1,8 +1,9 @@
 -- The two steps, which call each other. Twice the corners left, and one more where the points were not handed over as they are, falls with
 -- each call. The loop has tried the step's own corners up to i.
-use borrow.Author.Needs.{needs}
+use native.Mathlib.Nat.{le-antisymm, lt-of-lt-of-le}
+use native.Mathlib.Numerals.{add-one-le}
 use native.Mathlib.Omega.{arith}
-use Prim.Native.Nat.{ℕ, _≤_, _<_, _-_}
+use Prim.Native.Nat.{ℕ, _≤_, _<_, _-_, zero-le}
 use mathlib.Core.Logic.{⊎-elim, ⊎-swap}
 use Rattle.resting.specs.Says.{NoneWithout}
 use Rattle.resting.specs.Step.{toTry, falls-without, falls-handed, none-yet, more, not-left, on-a-side, found, not-found, says-answer, says-tried, says-last}
@@ -61,36 +62,36 @@ pub +first+second-spec : {M : Type 1} → statement M
     first-Inv-loop
     first-μ-loop
     (λ c κs. c .pre .1)
-    (λ c. search needs)
-    (λ c κs. search needs)
+    (λ c. c .match .keys1)
+    (λ c κs. tt)
     (λ c.
     let a = c .before .before in
     rw (c .is-yes .ensures) (says-answer (a .before .pre .1) _ _ _ _ _ (a .ask-once .ensures) (decided _ (c .before .match .keys2))))
-    (λ c. (omega (arith, c .before .before .before .pre .1 .split), none-yet _ _))
-    (λ c. omega (arith, c .before .before .before .before .before .pre .1 .split))
-    (λ c κs. omega (arith, c .before .before .before .before .before .before .pre .1 .split))
+    (λ c. (zero-le, none-yet _ _))
+    (λ c. lt-of-lt-of-le (c .loop-test .taken) (c .before .before .before .before .before .pre .1 .split))
+    (λ c κs. lt-of-lt-of-le (c .before .loop-test .taken) (c .before .before .before .before .before .before .pre .1 .split))
     (λ c κs.
     let s = c .before .before .before .before .before .before .before in
     (falls-without _ _ _ _ (s .pre .0) (c .without .ensures) (c .before .if1 .taken), s .pre .1))
     (λ c. found _ _ (c .before .before .without .ensures) (c .before .second .ensures) _ _ _ (c .if2 .taken))
-    (λ c. omega (arith, c .before .before .before .before .before .before .pre .1 .split))
-    (λ c. omega arith)
+    (λ c. let h = c .before .loop-test .taken in let k = c .before .before .before .before .before .before .pre .1 .split in omega arith)
+    (λ c. let h = c .before .loop-test .taken in omega arith)
     (λ c.
     let l = c .before .before .loop in
     let left = c .before .before .before .before .before .before .args .t3 in (
-      omega arith,
+      add-one-le (c .before .loop-test .taken),
       more left (l .inv .1)
           (⊎-elim (λ w e. not-found left (l .i) (w .1 .ensures) (w .2 .ensures) (w .3 .left)) (λ w. not-left left (l .i) (w .left)) (c .if1 .came)),
     ))
     (λ c.
     let l = c .before .before in
-    says-tried (l .before .before .before .before .pre .1) _ _ _ _ _ (c .if3 .taken) (omega arith) (l .loop .inv .1))
+    says-tried (l .before .before .before .before .pre .1) _ _ _ _ _ (c .if3 .taken) (le-antisymm (l .loop .inv .0) (c .before .loop-test .left)) (l .loop .inv .1))
     (λ c κs. let s = c .before .before .before .before .before .before in (falls-handed _ _ (s .pre .0) (c .if3 .left), s .pre .1))
     (λ c.
     let l = c .before .before .before in
     let m = l .before .before in
     let s = m .before .before in
-    says-last (s .pre .1) _ _ _ _ _ _ (on-a-side _) _ (c .before .if3 .left) _ (m .before .ask-once .ensures) (is-open _ (m .match .keys1)) (omega arith) (l .loop .inv .1) _ (c .second2 .ensures)))
+    says-last (s .pre .1) _ _ _ _ _ _ (on-a-side _) _ (c .before .if3 .left) _ (m .before .ask-once .ensures) (is-open _ (m .match .keys1)) (le-antisymm (l .loop .inv .0) (c .before .before .loop-test .left)) (l .loop .inv .1) _ (c .second2 .ensures)))
     (λ t. second-lts.spec
     (ask-once-reads.Asked, ask-once-reads.Learnt, is-yes-reads.Asked, is-yes-reads.Learnt, without-reads.Asked, without-reads.Learnt, first-below t, first.Post)
     (second-at t)
@@ -98,33 +99,33 @@ pub +first+second-spec : {M : Type 1} → statement M
     second-Inv-loop
     second-μ-loop
     (λ c κs. c .pre .1)
-    (λ c. search needs)
-    (λ c κs. search needs)
+    (λ c. c .match .keys1)
+    (λ c κs. tt)
     (λ c.
     let a = c .before .before in
     rw (c .is-yes .ensures) (says-answer (a .before .pre .1) _ _ _ _ _ (a .ask-once .ensures) (decided _ (c .before .match .keys2))))
-    (λ c. (omega (arith, c .before .before .before .pre .1 .split), none-yet _ _))
-    (λ c. omega (arith, c .before .before .before .before .before .pre .1 .split))
-    (λ c κs. omega (arith, c .before .before .before .before .before .before .pre .1 .split))
+    (λ c. (c .before .before .before .pre .1 .split, none-yet _ _))
+    (λ c. c .loop-test .taken)
+    (λ c κs. c .before .loop-test .taken)
     (λ c κs.
     let s = c .before .before .before .before .before .before .before in
     (falls-without _ _ _ _ (s .pre .0) (c .without .ensures) (c .before .if1 .taken), s .pre .1))
     (λ c. found _ _ (c .before .before .without .ensures) (c .before .first .ensures) _ _ _ (c .if2 .taken))
-    (λ c. omega (arith, c .before .before .before .before .before .before .pre .1 .split))
-    (λ c. omega arith)
+    (λ c. let h = c .before .loop-test .taken in let k = c .before .before .before .before .before .before .pre .1 .split in omega arith)
+    (λ c. let h = c .before .loop-test .taken in omega arith)
     (λ c.
     let l = c .before .before .loop in
     let left = c .before .before .before .before .before .before .args .t3 in (
-      omega arith,
+      add-one-le (c .before .loop-test .taken),
       more left (l .inv .1)
           (⊎-elim (λ w e. not-found left (l .i) (w .1 .ensures) (w .2 .ensures) (w .3 .left)) (λ w. not-left left (l .i) (w .left)) (c .if1 .came)),
     ))
     (λ c.
     let l = c .before .before in
-    says-tried (l .before .before .before .before .pre .1) _ _ _ _ _ (c .if3 .taken) (omega arith) (l .loop .inv .1))
+    says-tried (l .before .before .before .before .pre .1) _ _ _ _ _ (c .if3 .taken) (le-antisymm (l .loop .inv .0) (c .before .loop-test .left)) (l .loop .inv .1))
     (λ c κs. let s = c .before .before .before .before .before .before in (falls-handed _ _ (s .pre .0) (c .if3 .left), s .pre .1))
     (λ c.
     let l = c .before .before .before in
     let m = l .before .before in
     let s = m .before .before in
-    says-last (s .pre .1) _ _ _ _ _ _ (λ j k. ⊎-swap (on-a-side _ j k)) _ (c .before .if3 .left) _ (m .before .ask-once .ensures) (is-open _ (m .match .keys1)) (omega arith) (l .loop .inv .1) _ (c .first2 .ensures)))
+    says-last (s .pre .1) _ _ _ _ _ _ (λ j k. ⊎-swap (on-a-side _ j k)) _ (c .before .if3 .left) _ (m .before .ask-once .ensures) (is-open _ (m .match .keys1)) (le-antisymm (l .loop .inv .0) (c .before .before .loop-test .left)) (l .loop .inv .1) _ (c .first2 .ensures)))
