@@ -5,3 +5,5 @@ pub mod Bounds
 pub mod BySigns
 pub mod BySignsLaws
 pub mod Volumes
+pub mod Arrows
+pub mod OneWay

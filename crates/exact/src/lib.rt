@@ -1,5 +1,8 @@
 // Exact volumes of places in the positions, in 64 bits, and the verdicts that their signs and the signs of their sums give.
 // No sum of determinants leaves this crate as a number.
+
+pub mod arrows; // arrows.rt: volumes with a unit axis among the vectors, and numbers of one sign
+
 ghost use mathlib.Core.Path.{_≡_};
 ghost use mathlib.Core.List.{[], _∷_};
 ghost use Prim.Native.Nat.{_<_};
