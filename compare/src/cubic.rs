@@ -134,26 +134,32 @@ fn turns(cubic: [f64; 4]) -> ([f64; 3], usize) {
     (out, count + 1)
 }
 
-/// Newton's steps, and a halving wherever one would leave the bracket.
+/// After a step in time as short as this the next would be about its square, which no double can tell.
+const LAST_STEP: f64 = 1e-9;
+
+/// Newton's steps from where the chord crosses, and a halving wherever one would leave the bracket.
 fn root_between(cubic: [f64; 4], low: (f64, f64), high: (f64, f64)) -> f64 {
     let (mut below, mut above) = if low.1 < 0.0 { (low.0, high.0) } else { (high.0, low.0) };
-    let mut time = 0.5 * (below + above);
+    let mut time = low.0 + (high.0 - low.0) * low.1 / (low.1 - high.1);
     for _ in 0..60 {
         let value = at(cubic, time);
-        if value < 0.0 {
+        if value == 0.0 {
+            break;
+        } else if value < 0.0 {
             below = time;
         } else {
             above = time;
         }
         let slope = (3.0 * cubic[3] * time + 2.0 * cubic[2]) * time + cubic[1];
         let mut next = time - value / slope;
-        if !(next > below.min(above) && next < below.max(above)) {
+        if !(below.min(above)..=below.max(above)).contains(&next) {
             next = 0.5 * (below + above);
         }
-        if next == time {
+        let step = (next - time).abs();
+        time = next;
+        if step <= LAST_STEP {
             break;
         }
-        time = next;
     }
     time
 }
