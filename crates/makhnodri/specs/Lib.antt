@@ -3,3 +3,4 @@ pub mod Numbers
 pub mod Small
 pub mod Telling
 pub mod Back
+pub mod OneResult

@@ -1,5 +1,5 @@
 -- What an answer tells or carries stays below 2^32: a list has few pairs, and a text few lines.
-use Prim.Native.Nat.{ℕ, _+_, _*_, _≤_, _<_}
+use Prim.Native.Nat.{ℕ, _+_, _*_, _≤_, _<_, min}
 use mathlib.Core.Bool.{Bool, true, false}
 use mathlib.Core.List.{List, [], _∷_, _++_, flatMap}
 use mathlib.Core.Path.{_≡_, refl, sym, ap, _∙_, subst}
@@ -88,13 +88,21 @@ module _ (s : Scene) where
   unfolding IsCount
   counted-small r p = small-after [] (listSays r) (counted-right (listSays r)) p
 
-  pub listed-small : (room : ℕ) (r : ListAnswer) → Answers (listChecks s room) (λ n. n ≡ length (pairs s)) (listSays r) → toldIn (listSays r) < upper
+  listed-small : (room : ℕ) (o : Outcome ℕ) → Answers (listChecks s room) IsCount o → toldIn o < upper
   unfolding IsCount toldIn
-  listed-small room r p =
-      small-after _ (listSays r) (λ a q.
+  listed-small room o =
+      small-after _ o (λ a q.
       holds-or-not _
-      (λ h. let e = is-refused IsCount _ [] (listSays r) h q in rw e (pairs-few a))
-      (λ h. counted-right (listSays r) a (is-past IsCount _ [] (listSays r) h q))) p
+      (λ h. let e = is-refused IsCount _ [] o h q in rw e (pairs-few a))
+      (λ h. counted-right o a (is-past IsCount _ [] o h q)))
+
+pub listing-small : {s : Scene} {o o′ : List ℕ} {r : ListAnswer} → Listing s o o′ r → toldIn (listSays r) < upper
+unfolding IsCount
+listing-small {s} {o} {o′} {r} p = listed-small s (roomOf o) (listSays r) (p .answer)
+
+pub judging-small : {s : Scene} {o o′ b b′ : List ℕ} {r : ListAnswer} → JudgedScene s o o′ b b′ r → toldIn (listSays r) < upper
+unfolding IsCount
+judging-small {s} {o} {o′} {b} {b′} {r} p = listed-small s (min (roomOf o) (length b)) (listSays r) (p .answer)
 
 -- ---- a text
 
@@ -123,10 +131,10 @@ unfolding lineIn
 line-small {text} {lent} {left} {r} p =
     let x = p .outcome in
     let small : lineIn x < upper =
-        holds-or-not (shortBuffer lent)
-        (λ h. let e : x ≡ refused 12 0 = rw h at (p .right) in rw e (omega arith))
-        (λ h.
-        holds-or-not (longText text)
-        (λ k. let e : x ≡ refused 8 0 = rw (h, k) at (p .right) in rw e (omega arith))
-        (λ k. let t : TextIs text x = rw (h, k) at (p .right) in text-line-small text x (ltb-false textLimit (length text) k) t)) in
+    holds-or-not (shortBuffer lent)
+    (λ h. let e : x ≡ refused 12 0 = rw h at (p .right) in rw e (omega arith))
+    (λ h.
+    holds-or-not (longText text)
+    (λ k. let e : x ≡ refused 8 0 = rw (h, k) at (p .right) in rw e (omega arith))
+    (λ k. let t : TextIs text x = rw (h, k) at (p .right) in text-line-small text x (ltb-false textLimit (length text) k) t)) in
     rw (p .says, told-line x) small

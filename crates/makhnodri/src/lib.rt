@@ -85,11 +85,7 @@ fn put_counts(counts: &mut [usize; 3], c: SceneCounts)
 
 // May this scene be used?
 #[no_mangle]
-pub extern "C" fn makhnodri_check_scene(
-    positions: &[i32],
-    edges: &[u16],
-    triangles: &[u16],
-) -> u64
+pub extern "C" fn makhnodri_check_scene(positions: &[i32], edges: &[u16], triangles: &[u16]) -> u64
     ensures { λ r. ⌜ Told sceneNumber (SceneChecked (sceneOf (now (positions .entry)) (now (edges .entry)) (now (triangles .entry)))) r ⌝ }
 {
     scene_number(scenes::check_scene(positions, edges, triangles))
@@ -97,11 +93,7 @@ pub extern "C" fn makhnodri_check_scene(
 
 // How many pairs are listed.
 #[no_mangle]
-pub extern "C" fn makhnodri_count_pairs(
-    positions: &[i32],
-    edges: &[u16],
-    triangles: &[u16],
-) -> u64
+pub extern "C" fn makhnodri_count_pairs(positions: &[i32], edges: &[u16], triangles: &[u16]) -> u64
     ensures { λ r. ⌜ Told listNumber (Counted (sceneOf (now (positions .entry)) (now (edges .entry)) (now (triangles .entry)))) r ⌝ }
 {
     list_number(listing::count_pairs(positions, edges, triangles))
@@ -166,14 +158,7 @@ pub extern "C" fn makhnodri_judge_ee(
 ) -> u64
     ensures { λ r. ⌜ Told pairNumber (PairJudged (sceneOf (now (positions .entry)) (now (edges .entry)) (now (triangles .entry))) EdgeEdge first second) r ⌝ }
 {
-    pair_number(verdicts::judge_pair(
-        positions,
-        edges,
-        triangles,
-        Kind::EdgeEdge,
-        first,
-        second,
-    ))
+    pair_number(verdicts::judge_pair(positions, edges, triangles, Kind::EdgeEdge, first, second))
 }
 
 #[no_mangle]
