@@ -17,7 +17,7 @@ use Rattle.meaning.specs.declared.PairAnswer.{PairAnswer}
 use Rattle.theory.specs.Rewritten.{Rewritten, WellMade, rewritten-notThere, rewritten-shares, rewritten-meet, rewritten-keeps-pieces, rewritten-keeps-pairs}
 use Rattle.scenes.specs.Below.{or-left}
 use Rattle.scenes.specs.Speaking.{pair-says-one}
-use Rattle.demands.specs.InOrder.{ToList, are-there, list-is, list-only}
+use Rattle.listing.specs.InOrder.{ToList, are-there, list-is, list-only}
 use Rattle.demands.specs.Demand1.{demand1-pair, demand1-piece}
 use Rattle.demands.specs.Demand2.{demand2-verdicts}
 use Rattle.demands.specs.SameAnswer.{answered-alike}

@@ -25,7 +25,7 @@ use Rattle.theory.specs.OneVerdict.{piece-is, judged-pair, pair-is}
 use Rattle.theory.specs.Computed.{pieceVerdict, pairVerdict}
 use Rattle.theory.specs.SevenPieces.{judged-piece}
 use Rattle.theory.specs.Cull.{culled-apart, culled-apart-in-motion}
-use Rattle.demands.specs.InOrder.{Earlier, ToList, list-is, list-only, list-once}
+use Rattle.listing.specs.InOrder.{Earlier, ToList, list-is, list-only, list-once}
 
 -- one of the three, and no other
 pub record ExactlyOne (Is : Verdict → Type 0) : Type 0 where

@@ -20,7 +20,7 @@ use Rattle.meaning.specs.declared.Verdict.{Verdict}
 use Rattle.meaning.specs.declared.Verdict.the-variants.{Hit}
 use Rattle.theory.specs.Moved.{Moves, Known, moved-keeps-pieces, moved-keeps-pairs, culled-in-either-hit-in-neither}
 use Rattle.scenes.specs.Facts.{accepted-end, accepted-corner}
-use Rattle.demands.specs.InOrder.{are-there}
+use Rattle.listing.specs.InOrder.{are-there}
 
 -- in an accepted scene the vertices of a pair that is there are there
 vertices-there : {s : Scene} → Accepted s → (kind : Kind) (i j : ℕ) → notThere s kind i j ≡ false → Known s kind i j

@@ -1,6 +1,5 @@
 -- The demands, clause by clause, as theorems about the meaning.
 pub mod Deciding
-pub mod InOrder
 pub mod Demand1
 pub mod LineTable
 pub mod TextTable

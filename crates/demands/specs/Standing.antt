@@ -15,7 +15,7 @@ use Rattle.meaning.specs.List.{Pair, pair, pairs}
 use Rattle.meaning.specs.declared.Kind.{Kind}
 use Rattle.meaning.specs.declared.Kind.the-variants.{PointTriangle, EdgeEdge}
 use Rattle.theory.specs.EitherOrder.{listed-either-order, notThere-either-order}
-use Rattle.demands.specs.InOrder.{FirstBelow, tests, list-is}
+use Rattle.listing.specs.InOrder.{FirstBelow, tests, list-is}
 
 -- the pair as the list writes it: of two edges the lower place first
 unfoldable pub asListed : Kind → ℕ → ℕ → Pair
