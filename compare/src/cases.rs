@@ -70,7 +70,7 @@ pub fn text_cases() -> Vec<TextCase> {
 fn case(text: impl Into<Vec<u8>>, last_line: &str) -> TextCase {
     let text = text.into();
     let end: Vec<u8> = text[text.len().saturating_sub(60)..].to_vec();
-    let name = format!("{} bytes that end {:?}", text.len(), end.escape_ascii().to_string());
+    let name = format!("{} bytes that end '{}'", text.len(), end.escape_ascii());
     TextCase { name, text, last_line: last_line.replace(' ', "\t") }
 }
 

@@ -1,11 +1,12 @@
 //! Scenes from seeds. Each kind is after something that a wrong program gets wrong.
 
+use crate::extremes::{flat, just_the_length, just_the_room, touching_boxes};
 use crate::random::Random;
 use crate::scene::*;
 
 type Maker = fn(&mut Random) -> Scene;
 
-pub const KINDS: [(&str, Maker); 11] = [
+pub const KINDS: [(&str, Maker); 13] = [
     ("tiny", tiny),
     ("limit", limit),
     ("touching", touching),
@@ -16,6 +17,8 @@ pub const KINDS: [(&str, Maker); 11] = [
     ("repeated", repeated),
     ("touching again", touching),
     ("fan", fan),
+    ("flat", flat),
+    ("touching boxes", touching_boxes),
     ("crowd or sizes", crowd_or_sizes),
 ];
 
@@ -210,9 +213,11 @@ fn fan(random: &mut Random) -> Scene {
 
 /// The scenes that take long to compare take their turn seldom.
 fn crowd_or_sizes(random: &mut Random) -> Scene {
-    match random.below(6) {
+    match random.below(8) {
         0 => sizes(random),
-        1 | 2 => crowd(random),
+        1 => crowd(random),
+        2 => just_the_room(random),
+        3 => just_the_length(random),
         _ => sheets(random),
     }
 }

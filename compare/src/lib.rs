@@ -4,16 +4,27 @@
 
 pub mod affine;
 pub mod cases;
+pub mod crossed;
+pub mod cubic;
 pub mod damage;
 pub mod equations;
+pub mod explain;
+pub mod extremes;
+pub mod faults;
 pub mod generate;
+pub mod kept;
 pub mod listing;
+pub mod looks;
+pub mod mistakes;
 pub mod pieces;
 pub mod random;
 pub mod refusal;
 pub mod report;
+pub mod running;
 pub mod scene;
+pub mod signs;
 pub mod slices;
 pub mod text;
+pub mod trials;
 pub mod verdict;
 pub mod whole;

@@ -29,8 +29,13 @@ pub fn is_culled(scene: &Scene, pair: Pair) -> bool {
     !boxes_meet(scene, pair) && !pair.shares_a_vertex(scene)
 }
 
+/// Every listed pair, in order.
+pub fn listed(scene: &Scene) -> Vec<Pair> {
+    all_pairs(scene).into_iter().filter(|&pair| is_listed(scene, pair)).collect()
+}
+
 pub fn list(scene: &Scene, room: usize) -> Result<Vec<Pair>, Refusal> {
-    let listed: Vec<Pair> = all_pairs(scene).into_iter().filter(|&pair| is_listed(scene, pair)).collect();
+    let listed = listed(scene);
     if listed.len() > room {
         return Err(Refusal::new(NO_ROOM, listed.len() as u64));
     }

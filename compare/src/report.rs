@@ -7,12 +7,14 @@ use crate::text;
 use crate::verdict::{self, Verdict};
 
 /// What a text comes to: each listed pair with its verdict, or the refusal.
-pub fn judged(text: &[u8], room: usize) -> Result<Vec<(Pair, Verdict)>, Refusal> {
+pub type Judged = Result<Vec<(Pair, Verdict)>, Refusal>;
+
+pub fn judged(text: &[u8], room: usize) -> Judged {
     let scene = text::read(text)?;
     judged_scene(&scene, room)
 }
 
-pub fn judged_scene(scene: &Scene, room: usize) -> Result<Vec<(Pair, Verdict)>, Refusal> {
+pub fn judged_scene(scene: &Scene, room: usize) -> Judged {
     let listed = listing::list(scene, room)?;
     Ok(listed.into_iter().map(|pair| (pair, verdict::of_pair(scene, pair))).collect())
 }
@@ -21,7 +23,7 @@ pub fn report(text: &[u8], room: usize) -> String {
     written(&judged(text, room))
 }
 
-pub fn written(judged: &Result<Vec<(Pair, Verdict)>, Refusal>) -> String {
+pub fn written(judged: &Judged) -> String {
     let listed = match judged {
         Err(refusal) => return format!("refused\t{}\t{}\n", refusal.number, refusal.third),
         Ok(listed) => listed,

@@ -19,13 +19,13 @@ pub fn in_range(coordinate: i64) -> bool {
     (-COORDINATE_LIMIT..=COORDINATE_LIMIT).contains(&coordinate)
 }
 
-#[derive(Clone, Copy, Debug, PartialEq, Eq)]
+#[derive(Clone, Copy, Debug, PartialEq, Eq, Hash)]
 pub enum Kind {
     PointTriangle,
     EdgeEdge,
 }
 
-#[derive(Clone, Copy, Debug, PartialEq, Eq)]
+#[derive(Clone, Copy, Debug, PartialEq, Eq, Hash)]
 pub struct Pair {
     pub kind: Kind,
     pub first: usize,

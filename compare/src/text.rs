@@ -3,7 +3,7 @@
 use crate::refusal::*;
 use crate::scene::*;
 
-enum Record {
+pub enum Record {
     Vertex([i64; 6]),
     Edge([usize; 2]),
     Triangle([usize; 3]),
@@ -35,7 +35,8 @@ pub fn read_lent(text: &[u8], positions: usize, edges: usize, triangles: usize) 
     read(text)
 }
 
-fn take(scene: &mut Scene, line: &[u8]) -> Result<(), u64> {
+/// The scene with one record more, or the number that the line is refused with.
+pub fn take(scene: &mut Scene, line: &[u8]) -> Result<(), u64> {
     let record = record(line).ok_or(BAD_LINE)?;
     let no_triangle_above = scene.triangles.is_empty();
     let no_edge_above = scene.edges.is_empty();
@@ -79,7 +80,7 @@ pub fn any_twice(numbers: &[usize]) -> bool {
 }
 
 /// Nothing for a line that is not of the form.
-fn record(line: &[u8]) -> Option<Record> {
+pub fn record(line: &[u8]) -> Option<Record> {
     let mut fields = line.split(|&byte| byte == b'\t');
     let kind = fields.next()?;
     let fields: Vec<&[u8]> = fields.collect();
@@ -106,7 +107,7 @@ fn number(field: &[u8]) -> Option<usize> {
     std::str::from_utf8(field).ok()?.parse().ok()
 }
 
-fn coordinate(field: &[u8]) -> Option<i64> {
+pub fn coordinate(field: &[u8]) -> Option<i64> {
     match field.strip_prefix(b"-") {
         Some(b"0") => None,
         Some(digits) => Some(-(number(digits)? as i64)),

@@ -1,148 +1,201 @@
-//! usage: compare-with REPORT_PROGRAM [SEEDS [LAUNCHER WORDS...]]
-//! Runs the report program on many texts and holds each of its reports, byte for byte, to the independent one. Ends
-//! with status 1 on a difference, whose text is kept. LAUNCHER is a command to put before the program, as a loader.
+//! usage: compare-with [--table] [--limit SECONDS] REPORT_PROGRAM [SEEDS [LAUNCHER WORDS...]]
+//! Runs the report program on many texts and holds each of its reports, byte for byte, to the independent one. Of a
+//! difference it keeps the text, names the first line that differs and which mistake that looks like. Ends with
+//! status 1 on a difference, on a run that takes longer than its limit, and where the texts left some refusal, or
+//! some two faults at once, untried; `--table` shows how often each was tried. LAUNCHER is a command to put before
+//! the program, as a loader.
 
-use compare::affine::Affine;
-use compare::cases;
-use compare::damage::damaged;
-use compare::generate;
-use compare::random::Random;
-use compare::report::{judged, written};
+use compare::faults::{self, Cell, LINE_CHECKS};
+use compare::looks::{in_words, like, parting};
+use compare::mistakes::{self, Mistake, Right};
+use compare::refusal::{NO_ROOM, TEXT_TOO_LONG};
+use compare::report::{judged, written, Judged};
+use compare::running::{Failed, Program};
 use compare::scene::REPORT_ROOM;
-use compare::text::write;
+use compare::trials::{self, Trial};
 use compare::verdict::Verdict;
-use std::io::Write;
-use std::path::{Path, PathBuf};
-use std::process::{exit, Command, Stdio};
+use std::collections::BTreeMap;
+use std::process::exit;
+use std::time::Duration;
 
 const SEEDS: u64 = 1_000;
-const MOST_SHOWN: usize = 5;
+const LIMIT: Duration = Duration::from_secs(20);
+/// Differences that are shown, that are looked for, and mistakes that are named for one.
+const MOST_SHOWN: usize = 3;
+const MOST_FOUND: usize = 40;
+const MOST_NAMED: usize = 4;
 
 fn main() {
-    let words: Vec<String> = std::env::args().skip(1).collect();
+    let mut words: Vec<String> = std::env::args().skip(1).collect();
+    let table = taken(&mut words, "--table", 0).is_some();
+    let limit = match taken(&mut words, "--limit", 1) {
+        Some(seconds) => Duration::from_secs(number(&seconds[0])),
+        None => LIMIT,
+    };
     let Some((program, rest)) = words.split_first() else {
-        eprintln!("usage: compare-with REPORT_PROGRAM [SEEDS [LAUNCHER WORDS...]]");
+        eprintln!("usage: compare-with [--table] [--limit SECONDS] REPORT_PROGRAM [SEEDS [LAUNCHER WORDS...]]");
         exit(2);
     };
     let (seeds, launcher) = match rest.split_first() {
-        Some((word, launcher)) => (word.parse().expect("SEEDS is a number"), launcher),
+        Some((word, launcher)) => (number(word), launcher),
         None => (SEEDS, rest),
     };
-    let mut comparison = Comparison { command: [launcher, std::slice::from_ref(program)].concat(), ..Comparison::default() };
-    comparison.fixed_texts();
-    comparison.kept_scenes();
-    (0..seeds).for_each(|seed| comparison.seeded(seed));
-    comparison.close(seeds);
+    let mistakes = mistakes::all();
+    let command = [launcher, std::slice::from_ref(program)].concat();
+    let mut comparison = Comparison::new(Program { command, limit }, &mistakes);
+    trials::fixed().iter().for_each(|trial| comparison.hold(trial));
+    (0..seeds).flat_map(trials::seeded).for_each(|trial| comparison.hold(&trial));
+    comparison.close(seeds, table);
 }
 
-#[derive(Default)]
-struct Comparison {
-    command: Vec<String>,
+/// Takes a flag, with as many words as belong to it, out of the words.
+fn taken(words: &mut Vec<String>, flag: &str, more: usize) -> Option<Vec<String>> {
+    let at = words.iter().position(|word| word == flag)?;
+    if at + more >= words.len() {
+        return None;
+    }
+    Some(words.drain(at..=at + more).skip(1).collect())
+}
+
+fn number(word: &str) -> u64 {
+    word.parse().unwrap_or_else(|_| {
+        eprintln!("{word} is no number");
+        exit(2);
+    })
+}
+
+struct Comparison<'a> {
+    program: Program,
+    /// The mistakes that could explain everything that the program has printed since the first difference.
+    suspects: Vec<&'a Mistake>,
     texts: usize,
     differences: usize,
     /// By verdict, in the order in which the total names them.
     pairs: [usize; 3],
-    /// By refusal number.
-    refused: [usize; 13],
+    cells: BTreeMap<Cell, usize>,
 }
 
-impl Comparison {
-    fn fixed_texts(&mut self) {
-        for case in cases::text_cases() {
-            self.text(&case.name, &case.text);
-        }
-        for (place, case) in cases::shown().iter().enumerate() {
-            self.text(&format!("shown case {}", place + 1), write(&case.scene).as_bytes());
-        }
+impl<'a> Comparison<'a> {
+    fn new(program: Program, mistakes: &'a [Mistake]) -> Comparison<'a> {
+        let cells = faults::cells().into_iter().map(|cell| (cell, 0)).collect();
+        Comparison { program, suspects: mistakes.iter().collect(), texts: 0, differences: 0, pairs: [0; 3], cells }
     }
 
-    fn kept_scenes(&mut self) {
-        let folder = Path::new(env!("CARGO_MANIFEST_DIR")).join("../scenes");
-        let entries = std::fs::read_dir(folder).expect("there is a folder of scenes");
-        let mut paths: Vec<PathBuf> = entries.map(|entry| entry.unwrap().path()).collect();
-        paths.retain(|path| path.extension().is_some_and(|ending| ending == "scene"));
-        paths.sort();
-        for path in paths {
-            self.text(&path.display().to_string(), &std::fs::read(&path).unwrap());
-        }
-    }
-
-    /// A scene, its image under an affine map, and the two as damaged texts.
-    fn seeded(&mut self, seed: u64) {
-        let mut random = Random::new(!seed);
-        let scene = generate::scene(seed);
-        let sent = Affine::draw(&mut random, &scene).send(&scene);
-        for (way, text) in [("as made", write(&scene)), ("sent on", write(&sent))] {
-            let name = format!("seed {seed}, {}, {way}", generate::kind_name(seed));
-            self.text(&name, text.as_bytes());
-            self.text(&format!("{name}, damaged"), &damaged(&mut random, &text));
-        }
-    }
-
-    fn text(&mut self, name: &str, text: &[u8]) {
-        let judged = judged(text, REPORT_ROOM);
-        match &judged {
-            Ok(listed) => listed.iter().for_each(|(_, verdict)| self.pairs[place_of(*verdict)] += 1),
-            Err(refusal) => self.refused[refusal.number as usize] += 1,
-        }
+    fn hold(&mut self, trial: &Trial) {
+        let judged = judged(&trial.text, REPORT_ROOM);
+        self.count(&judged, &trial.text);
         self.texts += 1;
-        let (wanted, got) = (written(&judged), self.run(text));
-        if got != Ok(wanted.clone().into_bytes()) {
-            self.differs(name, text, &wanted, got);
-        }
-    }
-
-    fn run(&self, text: &[u8]) -> Result<Vec<u8>, String> {
-        let mut command = Command::new(&self.command[0]);
-        let child = command.args(&self.command[1..]).stdin(Stdio::piped()).stdout(Stdio::piped()).spawn();
-        let mut child = child.unwrap_or_else(|error| {
-            eprintln!("{} cannot be run: {error}", self.command.join(" "));
-            exit(2);
-        });
-        let mut input = child.stdin.take().unwrap();
-        // standard input comes in several parts, as a pipe's may; a program that has seen enough may close it
-        let parts = text.chunks(1 + text.len() / (1 + self.texts % 3));
-        std::thread::scope(|scope| {
-            scope.spawn(move || parts.into_iter().try_for_each(|part| input.write_all(part)));
-            let ended = child.wait_with_output().map_err(|error| error.to_string())?;
-            if ended.status.success() {
-                Ok(ended.stdout)
-            } else {
-                Err(format!("the program ended with {}", ended.status))
+        let wanted = written(&judged);
+        match self.program.run(&trial.text, 1 + self.texts % 3) {
+            Ok(bytes) => self.compare(trial, &wanted, &String::from_utf8_lossy(&bytes)),
+            Err(Failed::ToStart(fault)) => {
+                eprintln!("it cannot be run: {fault}");
+                exit(2);
             }
-        })
-    }
-
-    fn differs(&mut self, name: &str, text: &[u8], wanted: &str, got: Result<Vec<u8>, String>) {
-        self.differences += 1;
-        let kept = std::env::temp_dir().join(format!("difference-{}.scene", self.differences));
-        let kept_as = match std::fs::write(&kept, text) {
-            Ok(()) => kept.display().to_string(),
-            Err(error) => error.to_string(),
-        };
-        println!("DIFFERENT: {name} (kept as {kept_as})");
-        match got {
-            Err(fault) => println!("  {fault}"),
-            Ok(bytes) => println!("  {}", first_difference(wanted, &String::from_utf8_lossy(&bytes))),
+            Err(Failed::ToEnd) => {
+                self.show(trial, &format!("it had not ended after {} s", self.program.limit.as_secs()));
+                println!("no further text is tried");
+                exit(1);
+            }
+            Err(Failed::Otherwise(fault)) => {
+                self.show(trial, &fault);
+                self.suspects.clear();
+            }
         }
-        if self.differences == MOST_SHOWN {
-            println!("no further text is tried");
+        if self.differences == MOST_FOUND {
+            println!("{MOST_FOUND} differences in {} texts, and no further text is tried", self.texts);
+            self.sum_up();
             exit(1);
         }
     }
 
-    fn close(&self, seeds: u64) {
-        let [hits, misses, degenerates] = self.pairs;
-        println!(
-            "compared {} reports, {seeds} seeds among them: {hits} hits, {misses} misses, {degenerates} degenerates",
-            self.texts
-        );
-        let refused = (0..self.refused.len()).filter(|&number| self.refused[number] > 0);
-        let refused: Vec<String> = refused.map(|number| format!("{number}: {}", self.refused[number])).collect();
-        println!("refused texts by number: {}", refused.join(", "));
-        println!("{} differences", self.differences);
-        exit((self.differences > 0) as i32);
+    fn count(&mut self, judged: &Judged, text: &[u8]) {
+        let listed = judged.as_deref().unwrap_or_default();
+        listed.iter().for_each(|(_, verdict)| self.pairs[place_of(*verdict)] += 1);
+        for cell in faults::reached(text) {
+            *self.cells.get_mut(&cell).expect("only cells that exist are reached") += 1;
+        }
     }
+
+    fn compare(&mut self, trial: &Trial, wanted: &str, got: &str) {
+        let parting = parting(wanted, got);
+        if parting.is_none() && self.differences == 0 {
+            return;
+        }
+        let right = Right::of(&trial.text, REPORT_ROOM);
+        if let Some(parting) = parting {
+            let line = format!("line {}: wanted {:?}, got {:?}", parting.line, parting.wanted, parting.got);
+            let like = like(&self.suspects, &right, got);
+            let looks = if like.is_empty() { in_words(&parting, wanted) } else { named(&like, "\n          or: ") };
+            self.show(trial, &format!("{line}\n  looks like: {looks}"));
+        }
+        self.suspects.retain(|mistake| mistake.report(&right) == got);
+    }
+
+    fn show(&mut self, trial: &Trial, what: &str) {
+        self.differences += 1;
+        if self.differences > MOST_SHOWN {
+            return;
+        }
+        let kept = std::env::temp_dir().join(format!("difference-{}.scene", self.differences));
+        let kept_as = match std::fs::write(&kept, &trial.text) {
+            Ok(()) => kept.display().to_string(),
+            Err(error) => error.to_string(),
+        };
+        println!("DIFFERENT: {} (kept as {kept_as})\n  {what}", trial.name);
+    }
+
+    fn sum_up(&self) {
+        match &self.suspects[..] {
+            [] => println!("no single mistake known here explains them all"),
+            like => println!("all explained by: {}", named(like, "\n              or: ")),
+        }
+    }
+
+    fn close(&self, seeds: u64, table: bool) {
+        if table {
+            self.table();
+        }
+        let [hits, misses, degenerates] = self.pairs;
+        let empty: Vec<&Cell> = self.cells.iter().filter(|(_, &count)| count == 0).map(|(cell, _)| cell).collect();
+        if self.differences > 0 {
+            self.sum_up();
+        }
+        println!(
+            "compared {} reports, {seeds} seeds among them: {hits} hits, {misses} misses, {degenerates} degenerates; {} of {} \
+             faults and pairs of faults tried, {} differences",
+            self.texts,
+            self.cells.len() - empty.len(),
+            self.cells.len(),
+            self.differences
+        );
+        if !empty.is_empty() {
+            println!("not tried: {empty:?}; more seeds try more");
+        }
+        exit((self.differences > 0 || !empty.is_empty()) as i32);
+    }
+
+    /// How often each number was given, and with which other fault in the same line, in a later one, in the whole.
+    fn table(&self) {
+        let all = [&[TEXT_TOO_LONG], &LINE_CHECKS[..], &[NO_ROOM]].concat();
+        let row = |cells: &dyn Fn(u64) -> Cell| {
+            let counts = all.iter().map(|&other| self.cells.get(&cells(other)).map_or("-".to_string(), usize::to_string));
+            counts.map(|count| format!("{count:>6}")).collect::<String>()
+        };
+        println!("given   with{}", all.iter().map(|number| format!("{number:>6}")).collect::<String>());
+        for &given in &all {
+            let alone = self.cells[&Cell::Given(given)];
+            println!("{given:>2}: {alone:>5} in all");
+            println!("   in one line{}", row(&|other| Cell::InOneLine(given, other)));
+            println!("  a later line{}", row(&|other| Cell::InTwoLines(given, other)));
+            println!("     the whole{}", row(&|other| Cell::InTheWhole(given, other)));
+        }
+    }
+}
+
+fn named(mistakes: &[&Mistake], between: &str) -> String {
+    let words: Vec<String> = mistakes.iter().take(MOST_NAMED).map(|m| format!("{} ({})", m.says, m.key)).collect();
+    words.join(between)
 }
 
 fn place_of(verdict: Verdict) -> usize {
@@ -151,11 +204,4 @@ fn place_of(verdict: Verdict) -> usize {
         Verdict::Miss => 1,
         Verdict::Degenerate => 2,
     }
-}
-
-fn first_difference(wanted: &str, got: &str) -> String {
-    let ends = |text: &str| text.split('\n').map(str::to_string).chain(["the end".to_string()]).collect::<Vec<String>>();
-    let (wanted, got) = (ends(wanted), ends(got));
-    let line = (0..wanted.len().min(got.len())).find(|&line| wanted[line] != got[line]).unwrap_or(0);
-    format!("line {}: wanted {:?}, got {:?}", line + 1, wanted[line], got[line])
 }

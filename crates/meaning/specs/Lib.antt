@@ -4,6 +4,7 @@ pub mod Scene
 pub mod Pieces
 pub mod Equations
 pub mod Verdicts
+pub mod Resting
 pub mod Refusals
 pub mod Boxes
 pub mod Motion

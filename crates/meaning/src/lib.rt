@@ -13,6 +13,14 @@ pub enum Verdict {
     Degenerate,
 }
 
+// The four words once a degenerate piece is decided too: touch if weights exist, else apart.
+pub enum Settled {
+    Hit,
+    Miss,
+    Touch,
+    Apart,
+}
+
 // The refusals of document 01, in the order of their numbers 1 to 12.
 pub enum Refusal {
     Shape,

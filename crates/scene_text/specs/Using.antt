@@ -4,7 +4,8 @@ use mathlib.Core.Bool.{Bool, true, false, cond}
 use mathlib.Core.List.{List, _++_}
 use mathlib.Core.Logic.{_⊎_, inl, inr, ⊎-elim}
 use mathlib.Core.Path.{_≡_, refl, sym, ap, _∙_, subst}
-use Prim.Native.Nat.{ℕ, _*_}
+use Prim.Native.Nat.{ℕ, _*_, _≤_}
+use Rattle.meaning.specs.Limits.{vertexLimit, edgeLimit, triangleLimit}
 use native.Mathlib.Omega.{arith}
 use lib.ListN.{length, take, drop}
 use lib.Seq.{take-append-seam}
@@ -113,3 +114,17 @@ unfolding textSays filled
 read-refusal-of {text} {lent} {left} {x} {line} a =
     let is : a .outcome ≡ refused (numberOf x) line = outcome-refused (a .outcome) (a .says) in
     (a .leaves ∙ ap (λ o. filled o lent) is, subst (Came text lent) is (came text lent (a .outcome) (a .right)))
+
+-- ---- how many there can be
+
+pub record FewOf (c : SceneCounts) : Type 0 where
+  pub vertices : c .vertices ≤ vertexLimit
+  pub edges : c .edges ≤ edgeLimit
+  pub triangles : c .triangles ≤ triangleLimit
+
+pub read-counts-few : {text : List ℕ} {lent left : Scene} {c : SceneCounts} → TextRead text lent left (Read c) → FewOf c
+unfolding textSays
+read-counts-few {text} {lent} {left} {c} a =
+    let (s, is, counts) = outcome-read (a .outcome) (a .says) in
+    let sized : Sized s = accepted-sized (text-accepted (given-holds s (came text lent (a .outcome) (a .right)) is)) in
+    rw counts (record { vertices = sized .fewVertices; edges = sized .fewEdges; triangles = sized .fewTriangles })

@@ -1,11 +1,12 @@
 -- From the check of a scene to an accepted scene and back, and the checks that come after the four.
-use mathlib.Core.List.{List, _∷_, [], _++_}
-use mathlib.Core.Path.{_≡_}
+use mathlib.Core.List.{List, _++_}
+use mathlib.Core.Path.{_≡_, subst}
 use Rattle.meaning.specs.Scene.{Scene, Accepted}
-use Rattle.meaning.specs.Refusals.{Outcome, refused, given, numberOf, Check, Answers, sceneSays, sceneChecks, SceneChecked}
+use Rattle.meaning.specs.Refusals.{Outcome, refused, numberOf, Check, Answers, sceneSays, sceneChecks, SceneChecked}
 use Rattle.meaning.specs.declared.Refusal.{Refusal}
 use Rattle.meaning.specs.declared.SceneAnswer as SceneAnswers
-use Rattle.scenes.specs.Answering.{is-given, refused-before, given-before}
+use Rattle.meaning.specs.declared.SceneAnswer.{SceneAnswer}
+use Rattle.scenes.specs.Answering.{is-given, refused-before, given-before, given-after}
 
 pub accepted-checked : (s : Scene) → Accepted s → SceneChecked s SceneAnswers.the-variants.Accepted
 unfolding Answers sceneSays
@@ -20,11 +21,20 @@ checked-accepted s a =
     let (h4, a4) = is-given (λ t. Unit {0}) _ _ tt a3 in
     record { shapely = h1; inRange = h2; known = h3; distinct = h4 }
 
+-- of an answer that turned out so
+pub accepted-by : (s : Scene) {r : SceneAnswer} → r ≡ SceneAnswers.the-variants.Accepted → SceneChecked s r → Accepted s
+accepted-by s e p = checked-accepted s (subst (SceneChecked s) e p)
+
 module _ {A : Type 0} (s : Scene) (more : List Check) (Right : A → Type 0) where
   pub after-accepted : (o : Outcome A) → Accepted s → Answers more Right o → Answers (sceneChecks s ++ more) Right o
   unfolding sceneSays
   after-accepted o a p = given-before (λ t. Unit {0}) Right (sceneChecks s) more tt o (accepted-checked s a) p
 
-  pub after-refused : (x : Refusal) → SceneChecked s (SceneAnswers.the-variants.Refused x) → Answers (sceneChecks s ++ more) Right (refused (numberOf x) 0)
+  pub past-accepted : (o : Outcome A) → Accepted s → Answers (sceneChecks s ++ more) Right o → Answers more Right o
   unfolding sceneSays
-  after-refused x p = refused-before (λ t. Unit {0}) Right (sceneChecks s) more (numberOf x) 0 p
+  past-accepted o a p = given-after (λ t. Unit {0}) Right (sceneChecks s) more tt o (accepted-checked s a) p
+
+  pub after-refused : {r : SceneAnswer} {x : Refusal} → r ≡ SceneAnswers.the-variants.Refused x → SceneChecked s r → Answers (sceneChecks s ++ more) Right (refused (numberOf x) 0)
+  unfolding sceneSays
+  after-refused {r} {x} e p =
+      refused-before (λ t. Unit {0}) Right (sceneChecks s) more (numberOf x) 0 (subst (SceneChecked s) e p)

@@ -1,6 +1,6 @@
 -- How an answer is shown right, check by check, and that only one is.
 use Prim.Native.Nat.{ℕ}
-use mathlib.Core.Bool.{Bool, true, false, cond}
+use mathlib.Core.Bool.{Bool, true, false}
 use mathlib.Core.List.{List, [], _∷_, _++_}
 use mathlib.Core.Path.{_≡_, refl, sym, _∙_, ap}
 use native.Mathlib.Omega.{arith}
@@ -12,9 +12,9 @@ module _ {A : Type 0} (Right : A → Type 0) (k : Check) (ks : List Check) (o : 
   unfolding Answers
   refuses h e = rw h e
 
-  pub lets-by : k .holds ≡ false → Answers ks Right o → Answers (k ∷ ks) Right o
+  pub lets-pass : k .holds ≡ false → Answers ks Right o → Answers (k ∷ ks) Right o
   unfolding Answers
-  lets-by h a = rw h a
+  lets-pass h a = rw h a
 
   pub is-refused : k .holds ≡ true → Answers (k ∷ ks) Right o → o ≡ refused (k .number) (k .carries)
   unfolding Answers
@@ -47,14 +47,31 @@ module _ {A B : Type 0} (R : A → Type 0) (S : B → Type 0) where
   refused-before (k ∷ ks) more n c a =
       is-either (k .holds)
       (λ h. refuses S k (ks ++ more) (refused n c) h (let e : _≡_ {A = Outcome A} (refused n c) (refused (k .number) (k .carries)) = is-refused R k ks (refused n c) h a in cc))
-      (λ h. lets-by S k (ks ++ more) (refused n c) h (refused-before ks more n c (is-past R k ks (refused n c) h a)))
+      (λ h. lets-pass S k (ks ++ more) (refused n c) h (refused-before ks more n c (is-past R k ks (refused n c) h a)))
 
   -- where the first checks give a value, those after them decide
   pub given-before : (ks more : List Check) (a : A) (o : Outcome B) → Answers ks R (given a) → Answers more S o → Answers (ks ++ more) S o
   given-before [] more a o p q = q
   given-before (k ∷ ks) more a o p q =
       let (h, rest) = is-given R k ks a p in
-      lets-by S k (ks ++ more) o h (given-before ks more a o rest q)
+      lets-pass S k (ks ++ more) o h (given-before ks more a o rest q)
+
+  -- and nothing else does
+  pub given-after : (ks more : List Check) (a : A) (o : Outcome B) → Answers ks R (given a) → Answers (ks ++ more) S o → Answers more S o
+  given-after [] more a o p q = q
+  given-after (k ∷ ks) more a o p q =
+      let (h, rest) = is-given R k ks a p in
+      given-after ks more a o rest (is-past S k (ks ++ more) o h q)
+
+-- what follows from a right value may stand in its place
+pub answers-also : {A : Type 0} (R S : A → Type 0) → ((a : A) → R a → S a) → (ks : List Check) (o : Outcome A) → Answers ks R o → Answers ks S o
+unfolding Answers
+answers-also R S f [] (given a) p = f a p
+answers-also R S f [] (refused n c) p = absurd p
+answers-also R S f (k ∷ ks) o p =
+    is-either (k .holds)
+    (λ h. refuses S k ks o h (is-refused R k ks o h p))
+    (λ h. lets-pass S k ks o h (answers-also R S f ks o (is-past R k ks o h p)))
 
 -- two right answers are one, where what is right determines its value
 pub one-answer : {A : Type 0} (Right : A → Type 0) → ((a b : A) → Right a → Right b → a ≡ b) → (ks : List Check) (o o′ : Outcome A) → Answers ks Right o → Answers ks Right o′ → o ≡ o′

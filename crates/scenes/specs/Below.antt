@@ -2,14 +2,14 @@
 use Prim.Native.Nat.{ℕ, zero, suc, _+_, _<_}
 use mathlib.Core.Bool.{Bool, true, false, _||_}
 use mathlib.Core.Logic.{⊎-elim}
-use mathlib.Core.Path.{_≡_, refl, sym, _∙_, subst}
+use mathlib.Core.Path.{_≡_, refl, sym, _∙_}
 use native.Mathlib.Nat.{not-suc-le-zero, le-of-suc-le-suc, eq-or-lt-of-le}
 use native.Mathlib.Numerals.{add-one}
 use native.Mathlib.Omega.{arith}
 use Rattle.meaning.specs.Scene.{someBelow}
 
 -- a number below n that passes
-pub record Passing (n : ℕ) (test : ℕ → Bool) : Type 0 where
+pub record Found (n : ℕ) (test : ℕ → Bool) : Type 0 where
   pub which : ℕ
   pub there : which < n
   pub passes : test which ≡ true
@@ -22,20 +22,16 @@ pub or-rest : (a b : Bool) → a || b ≡ false → b ≡ false
 or-rest true b e = cc
 or-rest false b e = e
 
-pub or-right : (a : Bool) {b : Bool} → b ≡ true → a || b ≡ true
-or-right true e = refl
-or-right false e = e
-
 pub some-more : (test : ℕ → Bool) (n : ℕ) → someBelow (n + 1) test ≡ someBelow n test || test n
 unfolding someBelow
 some-more test n = rw add-one
 
-pub passing : (test : ℕ → Bool) (n : ℕ) → someBelow n test ≡ true → Passing n test
+pub found-below : (test : ℕ → Bool) (n : ℕ) → someBelow n test ≡ true → Found n test
 unfolding someBelow
-passing test zero e = let z : _≡_ {A = ℕ} 0 1 = cc in absurd (omega arith)
-passing test (suc n) e = later (someBelow n test) (passing test n) e
+found-below test zero e = let z : _≡_ {A = ℕ} 0 1 = cc in absurd (omega arith)
+found-below test (suc n) e = later (someBelow n test) (found-below test n) e
   where
-    later : (b : Bool) → (b ≡ true → Passing n test) → b || test n ≡ true → Passing (suc n) test
+    later : (b : Bool) → (b ≡ true → Found n test) → b || test n ≡ true → Found (suc n) test
     later true p e = let q = p refl in record { which = q .which; there = omega arith; passes = q .passes }
     later false p e = record { which = n; there = omega arith; passes = e }
 

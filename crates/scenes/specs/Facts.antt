@@ -1,13 +1,13 @@
 -- What holds in a scene that none of the four checks refuses: its sizes, its coordinates, its vertex numbers.
 use Prim.Native.Nat.{ℕ, _+_, _*_, _%_, _≤_, _<_}
-use mathlib.Core.Bool.{Bool, false, not, _||_}
+use mathlib.Core.Bool.{false, not}
 use mathlib.Core.List.{List}
 use mathlib.Core.Path.{_≡_}
 use mathlib.Core.Logic.{_≢_}
 use native.Mathlib.Decide.{decLt}
 use native.Mathlib.Omega.{arith}
-use lib.Dec.{leb, ltb, eqb}
-use lib.IntN.{ℤ, pos, natAbs}
+use lib.Dec.{leb, eqb}
+use lib.IntN.{pos, natAbs}
 use lib.ListN.{length, getD, List·getD-eq-default}
 use borrow.Author.Tests.{ltb-false, leb-false, eqb-true, eqb-false, not-false}
 use Rattle.meaning.specs.Limits.{coordinateLimit, vertexLimit, edgeLimit, triangleLimit}
@@ -55,7 +55,7 @@ accepted-coordinate {s} a i = by-place (decLt i (length (s .positions)))
     by-place (yes h) = ltb-false _ _ (none-passes (λ k. outside (getD (s .positions) k (pos 0))) (length (s .positions)) (a .inRange) i h)
     by-place (no h) = rw (List·getD-eq-default (s .positions) (pos 0) {n = i} (omega arith)) (omega arith)
 
-known-inside : (n : ℕ) (l : List ℕ) → unknownIn n l ≡ false → (i : ℕ) → i < length l → getD l i 0 < n
+pub known-inside : (n : ℕ) (l : List ℕ) → unknownIn n l ≡ false → (i : ℕ) → i < length l → getD l i 0 < n
 known-inside n l e i h = leb-false _ _ (none-passes (λ k. leb n (getD l k 0)) (length l) e i h)
 
 pub accepted-end : {s : Scene} → Accepted s → (j k : ℕ) → j < edgeCount s → k < 2 → edgeEnd s j k < vertexCount s

@@ -1,8 +1,7 @@
 -- A loop that tries every number below n in turn and keeps whether one has passed.
 use Prim.Native.Nat.{ℕ, _+_, _≤_, _<_}
 use mathlib.Core.Bool.{Bool, false, _||_}
-use mathlib.Core.Path.{_≡_, refl, _∙_, ap}
-use native.Mathlib.Nat.{le-antisymm}
+use mathlib.Core.Path.{_≡_, refl}
 use native.Mathlib.Omega.{arith}
 use Rattle.meaning.specs.Scene.{someBelow}
 use Rattle.scenes.specs.Below.{some-more}

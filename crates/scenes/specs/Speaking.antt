@@ -1,11 +1,10 @@
 -- An answer is determined by what it says: a refusal by its number, so that one right answer is one result.
 use Prim.Native.Nat.{ℕ, pred}
-use mathlib.Core.List.{List, [], _∷_}
+use mathlib.Core.List.{[], _∷_}
 use mathlib.Core.Path.{_≡_, refl, sym, _∙_, ap}
 use lib.ListN.{getD}
 use Rattle.meaning.specs.Scene.{Scene}
-use Rattle.meaning.specs.Refusals.{given, refused, numberOf, sceneSays, pairSays, sceneChecks, SceneChecked}
-use Rattle.meaning.specs.declared.Verdict.{Verdict}
+use Rattle.meaning.specs.Refusals.{numberOf, sceneSays, pairSays, sceneChecks, SceneChecked}
 use Rattle.meaning.specs.declared.Refusal.{Refusal}
 use Rattle.meaning.specs.declared.Refusal.the-variants.{Shape, Coordinate, UnknownVertex, RepeatedVertex, NotThere, SharedVertex, NoRoom, LongText, BadLine, LateRecord, TooMany, ShortBuffer}
 use Rattle.meaning.specs.declared.SceneAnswer as SceneAnswers

@@ -1,6 +1,6 @@
 // The checks 1 to 4 of scene slices, and what an edge and a triangle of a scene are.
 
-mod written; // written.rt: ends and corners as the scene writes them, and in rising number
+pub mod written; // written.rt: ends and corners as the scene writes them, and in rising number
 mod faults; // faults.rt: what each of the four checks asks
 pub mod parts; // parts.rt: counts, the ends of an edge, the corners of a triangle, and what they share
 

@@ -1,10 +1,9 @@
 -- A pair that the list leaves out does not touch: in none of its pieces, singular or not, and nowhere in straight motion.
-use mathlib.Core.Path.{_≡_, refl, _∙_, subst₂}
+use mathlib.Core.Path.{_≡_, refl, _∙_}
 use mathlib.Core.Bool.{Bool, true, false, not, _&&_, false≢true, and-comm}
 use mathlib.Core.List.{List, [], _∷_, map}
-use Prim.Native.Nat.{ℕ, min, max, _/_, _%_, _≤_, _<_}
+use Prim.Native.Nat.{ℕ, _/_, _%_, _≤_, _<_}
 use native.Mathlib.Omega.{arith}
-use native.Mathlib.Decide.{decLe}
 use lib.IntN.{pos}
 use lib.Signed.{leZ}
 use Rattle.whole.specs.Order.{parts-lt}
@@ -20,15 +19,16 @@ use Rattle.meaning.specs.declared.Kind.the-variants.{PointTriangle, EdgeEdge}
 use Rattle.meaning.specs.declared.Verdict.the-variants.{Hit}
 use Rattle.theory.specs.Bounds.{Every, every-map, every-imp}
 use Rattle.theory.specs.Spans.{Holds, Boxed, boxed-apart, not-meeting, apart-stretched, stretched}
-use Rattle.theory.specs.Inside.{HoldsVertex, vertex-in-its-box, edge-in-its-box, triangle-in-its-box, rising-keeps, among-keeps, moving-point-in, moving-edge-in, moving-triangle-in, Linear, standing-in}
+use Rattle.theory.specs.InOrder.{rising-keeps, among-keeps, lower-first}
+use Rattle.theory.specs.Inside.{HoldsVertex, vertex-in-its-box, edge-in-its-box, triangle-in-its-box, moving-point-in, moving-edge-in, moving-triangle-in, Linear, standing-in}
 
 -- on some axis the boxes do not meet
-data SomeAxis (P : Axis → Type 0) : Type 0 where
+pub data SomeAxis (P : Axis → Type 0) : Type 0 where
   onX : P xAxis → SomeAxis P
   onY : P yAxis → SomeAxis P
   onZ : P zAxis → SomeAxis P
 
-culled-on : (s : Scene) (kind : Kind) (i j : ℕ) → culled s kind i j ≡ true → SomeAxis (λ a. meetOn s kind i j a ≡ false)
+pub culled-on : (s : Scene) (kind : Kind) (i j : ℕ) → culled s kind i j ≡ true → SomeAxis (λ a. meetOn s kind i j a ≡ false)
 culled-on s kind i j h = go (shares s kind i j) (meetOn s kind i j xAxis) (meetOn s kind i j yAxis) (meetOn s kind i j zAxis) refl refl refl h
   where
     go : (c x y z : Bool) → meetOn s kind i j xAxis ≡ x → meetOn s kind i j yAxis ≡ y → meetOn s kind i j zAxis ≡ z → (not c && not (x && y && z)) ≡ true → SomeAxis (λ a. meetOn s kind i j a ≡ false)
@@ -38,24 +38,17 @@ culled-on s kind i j h = go (shares s kind i j) (meetOn s kind i j xAxis) (meetO
     go false true true false p q r h = onZ r
     go false true true true p q r h = absurd (false≢true h)
 
-lower-first : (P : ℕ → ℕ → Type 0) (i j : ℕ) → P i j → P j i → P (min i j) (max i j)
-lower-first P i j h k = go (decLe i j)
-  where
-    go : Dec (i ≤ j) → P (min i j) (max i j)
-    go (yes o) = subst₂ P (omega arith) (omega arith) h
-    go (no o) = subst₂ P (omega arith) (omega arith) k
-
 module _ (s : Scene) (a : Axis) where
-  boxed : (p q : Span) (f g : List Event) → meet p q ≡ false → Every (λ e. Holds p (a (e .place))) f → Every (λ e. Holds q (a (e .place))) g → Boxed (λ e. a (e .place)) f g
+  pub boxed : (p q : Span) (f g : List Event) → meet p q ≡ false → Every (λ e. Holds p (a (e .place))) f → Every (λ e. Holds q (a (e .place))) g → Boxed (λ e. a (e .place)) f g
   boxed p q f g m h k = record { p = p; q = q; apart = not-meeting p q m; inFirst = h; inSecond = k }
 
-  edge-in : (j k : ℕ) → Every (λ e. Holds (edgeSpan s a j) (a (e .place))) (movingEdge s (endsOf s j) k)
+  pub edge-in : (j k : ℕ) → Every (λ e. Holds (edgeSpan s a j) (a (e .place))) (movingEdge s (endsOf s j) k)
   edge-in j k =
       let held = edge-in-its-box s a j in
       let both = rising-keeps s (HoldsVertex s a (edgeSpan s a j)) (edgeEnd s j 0) (edgeEnd s j 1) (held .0) (held .1 .0) in
       moving-edge-in s a (edgeSpan s a j) (endsOf s j) (both .0) (both .1) k
 
-  triangle-in : (j k : ℕ) → Every (λ e. Holds (triangleSpan s a j) (a (e .place))) (movingTriangle s (cornersOf s j) k)
+  pub triangle-in : (j k : ℕ) → Every (λ e. Holds (triangleSpan s a j) (a (e .place))) (movingTriangle s (cornersOf s j) k)
   triangle-in j k =
       let P : ℕ → Type 0 = HoldsVertex s a (triangleSpan s a j) in
       let held = triangle-in-its-box s a j in
@@ -63,7 +56,7 @@ module _ (s : Scene) (a : Axis) where
       let all = among-keeps s P (rising s (corner s j 0) (corner s j 1)) (corner s j 2) (both .0) (both .1) (held .1 .1 .0) in
       moving-triangle-in s a (triangleSpan s a j) (cornersOf s j) (all .0) (all .1) (all .2) k
 
-  piece-boxed : (kind : Kind) (i j k : ℕ) → meetOn s kind i j a ≡ false → Boxed (λ e. a (e .place)) (pieceOf s kind i j k .first) (pieceOf s kind i j k .second)
+  pub piece-boxed : (kind : Kind) (i j k : ℕ) → meetOn s kind i j a ≡ false → Boxed (λ e. a (e .place)) (pieceOf s kind i j k .first) (pieceOf s kind i j k .second)
   unfolding meetOn pieceOf
   piece-boxed PointTriangle i j k h =
       boxed (vertexSpan s a i) (triangleSpan s a j) _ _ h (moving-point-in s a (vertexSpan s a i) i (vertex-in-its-box s a i)) (triangle-in j k)
@@ -75,7 +68,7 @@ module _ (s : Scene) (a : Axis) where
       edges m n h = boxed (edgeSpan s a m) (edgeSpan s a n) _ _ h (edge-in m (k / 2)) (edge-in n (k % 2))
 
   module _ (lin : Linear a) (p q : ℕ) (within : p ≤ q) (positive : 0 < q) where
-    standing-boxed : (sp sq : Span) (l m : List ℕ) → meet sp sq ≡ false → Every (HoldsVertex s a sp) l → Every (HoldsVertex s a sq) m → Boxed a (map (standing s p q) l) (map (standing s p q) m)
+    pub standing-boxed : (sp sq : Span) (l m : List ℕ) → meet sp sq ≡ false → Every (HoldsVertex s a sp) l → Every (HoldsVertex s a sq) m → Boxed a (map (standing s p q) l) (map (standing s p q) m)
     standing-boxed sp sq l m h hl hm =
         record {
           p = stretched (pos q) sp;
@@ -90,7 +83,7 @@ module _ (s : Scene) (a : Axis) where
             every-map (λ v. Holds (stretched (pos q) sp) (a v)) (standing s p q) l
             (every-imp (HoldsVertex s a sp) (λ v. Holds (stretched (pos q) sp) (a (standing s p q v))) (λ v. standing-in s a lin sp p q v within) l h)
 
-    motion-boxed : (kind : Kind) (i j : ℕ) → meetOn s kind i j a ≡ false → Boxed a (map (standing s p q) (firstPart s kind i)) (map (standing s p q) (secondPart s kind j))
+    pub motion-boxed : (kind : Kind) (i j : ℕ) → meetOn s kind i j a ≡ false → Boxed a (map (standing s p q) (firstPart s kind i)) (map (standing s p q) (secondPart s kind j))
     unfolding meetOn firstPart secondPart
     motion-boxed PointTriangle i j h =
         standing-boxed (vertexSpan s a i) (triangleSpan s a j) (i ∷ []) (secondPart s PointTriangle j) h (vertex-in-its-box s a i, tt) (triangle-in-its-box s a j)

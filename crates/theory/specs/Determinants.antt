@@ -18,7 +18,7 @@ spread h a b c d e = ring (h ∷ a ∷ b ∷ c ∷ d ∷ e ∷ []) (search quote
 pub record Opposite (a b : ℤ) : Type 0 where
   pub is : a ≡ negℤ b
 
-opposite-by : {a b x y : ℤ} → x ≡ a → y ≡ b → Opposite a b → Opposite x y
+pub opposite-by : {a b x y : ℤ} → x ≡ a → y ≡ b → Opposite a b → Opposite x y
 opposite-by p q o = record { is = p ∙ o .is ∙ ap negℤ (sym q) }
 
 turn : (a : ℤ) {b c d e : ℤ} → Opposite b c → Opposite d e → Opposite (a *ℤ b -ℤ d) (a *ℤ c -ℤ e)
@@ -45,7 +45,7 @@ module _ {ℓ} {A : Type ℓ} where
   -- ---- expanding along a row
 
   -- a column that is passed may be put back by the minor
-  passed-first : (r : A → ℤ) (m : List A → ℤ) (c : A) (p q : List A) → expand r m (c ∷ p) q ≡ expand r (λ k. m (c ∷ k)) p q
+  pub passed-first : (r : A → ℤ) (m : List A → ℤ) (c : A) (p q : List A) → expand r m (c ∷ p) q ≡ expand r (λ k. m (c ∷ k)) p q
   unfolding expand
   passed-first r m c p [] = refl
   passed-first r m c p (d ∷ q) = ap (λ n. r d *ℤ m (c ∷ (p ++ q)) -ℤ n) (passed-first r m c (p ++ (d ∷ [])) q)
@@ -76,7 +76,7 @@ module _ {ℓ} {A : Type ℓ} where
 
   -- ---- two neighbouring columns
 
-  expand-exchanged : (r : A → ℤ) (m : List A → ℤ) (k l : List A) → Exchanged k l → ((x y : List A) → Exchanged x y → suc (length x) ≡ length k → Opposite (m x) (m y)) → Opposite (expand r m [] k) (expand r m [] l)
+  pub expand-exchanged : (r : A → ℤ) (m : List A → ℤ) (k l : List A) → Exchanged k l → ((x y : List A) → Exchanged x y → suc (length x) ≡ length k → Opposite (m x) (m y)) → Opposite (expand r m [] k) (expand r m [] l)
   expand-exchanged r m k l (front {a} {b} {l = q}) t =
       opposite-by (expand-second r m a b q) (expand-second r m b a q)
       (cross (r a) (r b) (m (b ∷ q)) (m (a ∷ q))
@@ -93,7 +93,7 @@ module _ {ℓ} {A : Type ℓ} where
 
   -- ---- the first two rows
 
-  pair-first : (r s : A → ℤ) (m : List A → ℤ) (c : A) (q : List A) → expand r (expand s m []) [] (c ∷ q) ≡ r c *ℤ expand s m [] q -ℤ (s c *ℤ expand r m [] q -ℤ expand r (expand s (λ k. m (c ∷ k)) []) [] q)
+  pub pair-first : (r s : A → ℤ) (m : List A → ℤ) (c : A) (q : List A) → expand r (expand s m []) [] (c ∷ q) ≡ r c *ℤ expand s m [] q -ℤ (s c *ℤ expand r m [] q -ℤ expand r (expand s (λ k. m (c ∷ k)) []) [] q)
   pair-first r s m c q =
       expand-first r (expand s m []) c q
       ∙ ap (λ (n : List A → ℤ). r c *ℤ expand s m [] q -ℤ expand r n [] q) (fun-ext (expand-first s m c))
@@ -132,7 +132,7 @@ abbrev pub through {ℓ κ} : {A : Type ℓ} {B : Type κ} → (A → B) → (B 
 through g r c = r (g c)
 
 module _ {ℓ κ} {A : Type ℓ} {B : Type κ} (g : A → B) where
-  expand-mapped : (r : B → ℤ) (m : List B → ℤ) (q : List A) → expand r m [] (map g q) ≡ expand (through g r) (λ k. m (map g k)) [] q
+  pub expand-mapped : (r : B → ℤ) (m : List B → ℤ) (q : List A) → expand r m [] (map g q) ≡ expand (through g r) (λ k. m (map g k)) [] q
   expand-mapped r m [] = unfold expand in refl
   expand-mapped r m (c ∷ q) =
       expand-first r m (g c) (map g q) ∙ ap (λ n. r (g c) *ℤ m (map g q) -ℤ n) (expand-mapped r (λ k. m (g c ∷ k)) q)

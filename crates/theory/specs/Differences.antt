@@ -2,12 +2,12 @@
 -- has a difference: its place less where the straight motion from p to q stands at the event's time. The time stays a number of the
 -- ring, so that nothing that follows goes by cases of start and end; at the start and at the end the difference is what code computes.
 use mathlib.Core.Path.{_≡_, refl}
-use mathlib.Core.List.{List, [], _∷_}
+use mathlib.Core.List.{[], _∷_}
 use lib.IntN.{ℤ, pos, _+ℤ_, _-ℤ_, _*ℤ_}
 use Rattle.whole.specs.Vector.{Vector, plus, minus, scale}
 use Rattle.whole.specs.VectorLaws.{vector-eq}
 use Rattle.whole.specs.Quote.{quotes, ring}
-use Rattle.whole.specs.Cramer.{Four, each, volumes, all}
+use Rattle.whole.specs.Cramer.{Four, each, all}
 use Rattle.meaning.specs.Pieces.{Event, Piece}
 
 abbrev pub baseAt : Vector → Vector → ℤ → Vector

@@ -1,6 +1,5 @@
 -- A part's box holds every point of every piece of it, and holds its vertices all the way of their straight motion.
 use mathlib.Core.Path.{_≡_, ap}
-use mathlib.Core.Bool.{Bool, true, false, cond}
 use mathlib.Core.List.{[], _∷_}
 use Prim.Native.Nat.{ℕ, zero, suc, _-_, _≤_}
 use native.Mathlib.Omega.{arith}
@@ -8,7 +7,7 @@ use lib.IntN.{ℤ, pos, _+ℤ_, _*ℤ_, +ℤ-idr}
 use lib.Signed.{_≤ℤ_, ≤ℤ-refl}
 use Rattle.whole.specs.Laws.{*ℤ-distr}
 use Rattle.whole.specs.Vector.{Vector, plus, scale}
-use Rattle.meaning.specs.Scene.{Scene, startOf, endOf, edgeEnd, corner, rising, among, before}
+use Rattle.meaning.specs.Scene.{Scene, startOf, endOf, edgeEnd, corner}
 use Rattle.meaning.specs.Pieces.{movingPoint, movingEdge, movingTriangle}
 use Rattle.meaning.specs.Boxes.{Span, Axis, vertexSpan, joint, edgeSpan, triangleSpan}
 use Rattle.meaning.specs.Motion.{standing}
@@ -23,10 +22,10 @@ pub record HoldsVertex (s : Scene) (a : Axis) (p : Span) (v : ℕ) : Type 0 wher
   pub ends : Holds p (a (endOf s v))
 
 module _ (s : Scene) (a : Axis) where
-  in-joint : (p q : Span) (v : ℕ) → HoldsVertex s a p v → HoldsVertex s a (joint p q) v
+  pub in-joint : (p q : Span) (v : ℕ) → HoldsVertex s a p v → HoldsVertex s a (joint p q) v
   in-joint p q v h = record { starts = joint-left p q _ (h .starts); ends = joint-left p q _ (h .ends) }
 
-  in-joint-too : (p q : Span) (v : ℕ) → HoldsVertex s a q v → HoldsVertex s a (joint p q) v
+  pub in-joint-too : (p q : Span) (v : ℕ) → HoldsVertex s a q v → HoldsVertex s a (joint p q) v
   in-joint-too p q v h = record { starts = joint-right p q _ (h .starts); ends = joint-right p q _ (h .ends) }
 
   pub vertex-in-its-box : (v : ℕ) → HoldsVertex s a (vertexSpan s a v) v
@@ -54,19 +53,6 @@ module _ (s : Scene) (a : Axis) where
 
 -- ---- pieces
 
-cond-keeps : {A : Type 0} (Q : A → Type 0) (c : Bool) (x y : A) → Q x → Q y → Q (cond c x y)
-cond-keeps Q true x y p q = p
-cond-keeps Q false x y p q = q
-
--- what holds of the vertices as they are written holds of them in rising number
-pub rising-keeps : (s : Scene) (P : ℕ → Type 0) (a b : ℕ) → P a → P b → P (rising s a b .low) × P (rising s a b .high)
-rising-keeps s P a b p q = cond-keeps (λ (e : Ends). P (e .low) × P (e .high)) (before s b a) _ _ (q, p) (p, q)
-
-pub among-keeps : (s : Scene) (P : ℕ → Type 0) (e : Ends) (c : ℕ) → P (e .low) → P (e .high) → P c → P (among s e c .low) × P (among s e c .middle) × P (among s e c .high)
-among-keeps s P e c l h p =
-    let Q : Corners → Type 0 = λ (k : Corners). P (k .low) × P (k .middle) × P (k .high) in
-    cond-keeps Q (before s c (e .low)) _ _ (p, l, h) (cond-keeps Q (before s c (e .high)) _ _ (l, p, h) (l, h, p))
-
 module _ (s : Scene) (a : Axis) (p : Span) where
   pub moving-point-in : (v : ℕ) → HoldsVertex s a p v → Every (λ e. Holds p (a (e .place))) (movingPoint s v)
   moving-point-in v h = (h .starts, (h .ends, tt))
@@ -88,7 +74,7 @@ module _ (s : Scene) (a : Axis) (p : Span) where
 abbrev pub Linear : Axis → Type 0
 Linear a = (h k : ℤ) (u v : Vector) → a (plus (scale h u) (scale k v)) ≡ h *ℤ a u +ℤ k *ℤ a v
 
-mix-rises : (h k x y x′ y′ : ℤ) → pos 0 ≤ℤ h → pos 0 ≤ℤ k → x ≤ℤ x′ → y ≤ℤ y′ → (h *ℤ x +ℤ k *ℤ y) ≤ℤ (h *ℤ x′ +ℤ k *ℤ y′)
+pub mix-rises : (h k x y x′ y′ : ℤ) → pos 0 ≤ℤ h → pos 0 ≤ℤ k → x ≤ℤ x′ → y ≤ℤ y′ → (h *ℤ x +ℤ k *ℤ y) ≤ℤ (h *ℤ x′ +ℤ k *ℤ y′)
 mix-rises h k x y x′ y′ hn kn p q =
     let r = weighted-rises k y y′ (pos 0) (pos 0) kn q (≤ℤ-refl (pos 0)) in
     weighted-rises h x x′ (k *ℤ y) (k *ℤ y′) hn p (simp +ℤ-idr at r)

@@ -7,6 +7,7 @@ use lib.ListN.{length}
 use Rattle.whole.specs.Laws.{swap-first}
 use Rattle.whole.specs.Signs.{natAbs-neg}
 use Rattle.meaning.specs.Equations.{total, determinant}
+use Rattle.theory.specs.Bounds.{Every}
 use Rattle.theory.specs.Determinants.{Exchanged, front, behind, columns-exchanged}
 
 -- neighbours change places, any number of times
@@ -36,7 +37,7 @@ module _ {ℓ} {A : Type ℓ} where
   rearranged-after (a ∷ p) r = rearranged-behind a (rearranged-after p r)
 
   -- one element goes through a list, and a list through a list
-  passes : (a : A) (p l : List A) → Rearranged (a ∷ (p ++ l)) (p ++ (a ∷ l))
+  pub passes : (a : A) (p l : List A) → Rearranged (a ∷ (p ++ l)) (p ++ (a ∷ l))
   passes a [] l = unmoved
   passes a (b ∷ p) l = moved front (rearranged-behind b (passes a p l))
 
@@ -52,9 +53,13 @@ module _ {ℓ} {A : Type ℓ} where
       before front = front
       before (behind e) = behind (before e)
 
-  exchanged-length : {k l : List A} → Exchanged k l → length k ≡ length l
+  pub exchanged-length : {k l : List A} → Exchanged k l → length k ≡ length l
   exchanged-length front = refl
   exchanged-length (behind e) = ap suc (exchanged-length e)
+
+  pub every-exchanged : (P : A → Type 0) {k l : List A} → Exchanged k l → Every P k → Every P l
+  every-exchanged P front h = (h .1 .0, (h .0, h .1 .1))
+  every-exchanged P (behind e) h = (h .0, every-exchanged P e (h .1))
 
   -- ---- the determinant
 

@@ -1,15 +1,20 @@
 -- The order of the points within a simplex, and which simplex comes first, is nothing to a piece: weights stay weights, the determinant
 -- changes its sign at most, and the verdict stays.
-use mathlib.Core.Path.{_≡_, refl, sym, _∙_, ap, fun-ext}
+use mathlib.Core.Path.{_≡_, refl, sym, _∙_, ap, ap₂, fun-ext}
 use mathlib.Core.Logic.{_↔_}
 use mathlib.Core.List.{List, [], _∷_, _++_, map}
-use Prim.Native.Nat.{ℕ, _+_}
+use Prim.Native.Nat.{ℕ, zero, suc, _+_, _/_, _%_, min, max}
 use native.Mathlib.Nat.{add-comm}
 use native.Mathlib.Omega.{arith}
 use lib.IntN.{ℤ, pos, negsuc, negℤ, natAbs, negℤ-negℤ}
 use lib.ListN.{length, length-append, length-map}
 use Rattle.whole.specs.Signs.{natAbs-neg}
-use Rattle.meaning.specs.Pieces.{Event, Piece}
+use Rattle.meaning.specs.Scene.{Scene, endsOf, cornersOf}
+use Rattle.meaning.specs.Pieces.{Event, Piece, movingEdge, movingTriangle, pieceOf}
+use Rattle.meaning.specs.declared.Ends.{Ends}
+use Rattle.meaning.specs.declared.Corners.{Corners}
+use Rattle.meaning.specs.declared.Kind.{Kind}
+use Rattle.meaning.specs.declared.Kind.the-variants.{PointTriangle, EdgeEdge}
 use Rattle.meaning.specs.Equations.{one, xOf, yOf, zOf, timeOf, Touch, Unknown, ofFirst, ofSecond, inFirst, inSecond, agrees, equations, determinant, determinantOf}
 use Rattle.theory.specs.Alike.{Alike}
 use Rattle.theory.specs.Determinants.{Exchanged, Opposite, rows-exchanged, rows-negated, rows-below, through, columns-mapped}
@@ -31,7 +36,7 @@ touch-turned t = record {
   some = rw (t .balanced .sums) at (t .some);
 }
 
-touch-first : {a a′ b : List Event} → Rearranged a a′ → Touch a b → Touch a′ b
+pub touch-first : {a a′ b : List Event} → Rearranged a a′ → Touch a b → Touch a′ b
 touch-first unmoved t = t
 touch-first {b = b} (moved e r) t = touch-first r (exchanged e t)
   where
@@ -61,7 +66,7 @@ columnsOf p = map ofFirst (p .first) ++ map ofSecond (p .second)
 abbrev pub pointsOf : Piece → ℕ
 pointsOf p = length (p .first) + length (p .second)
 
-columns-of-points : (p : Piece) → length (columnsOf p) ≡ pointsOf p
+pub columns-of-points : (p : Piece) → length (columnsOf p) ≡ pointsOf p
 columns-of-points p = simp (length-append, length-map)
 
 -- the same points in the same simplices
@@ -81,59 +86,69 @@ determinant-same-points p q r h =
 abbrev pub turned : Piece → Piece
 turned p = record { first = p .second; second = p .first }
 
-other : Unknown → Unknown
+pub other : Unknown → Unknown
 other (ofFirst e) = ofSecond e
 other (ofSecond e) = ofFirst e
 
-other-columns : (a b : List Event) → map other (map ofFirst a ++ map ofSecond b) ≡ map ofSecond a ++ map ofFirst b
+pub other-columns : (a b : List Event) → map other (map ofFirst a ++ map ofSecond b) ≡ map ofSecond a ++ map ofFirst b
 unfolding other
 other-columns [] [] = refl
 other-columns [] (e ∷ b) = ap (λ (l : List Unknown). ofFirst e ∷ l) (other-columns [] b)
 other-columns (e ∷ a) b = ap (λ (l : List Unknown). ofSecond e ∷ l) (other-columns a b)
 
-first-of-other : (c : Unknown) → inFirst (other c) ≡ inSecond c
+pub first-of-other : (c : Unknown) → inFirst (other c) ≡ inSecond c
 unfolding other inFirst inSecond
 first-of-other (ofFirst e) = refl
 first-of-other (ofSecond e) = refl
 
-second-of-other : (c : Unknown) → inSecond (other c) ≡ inFirst c
+pub second-of-other : (c : Unknown) → inSecond (other c) ≡ inFirst c
 unfolding other inFirst inSecond
 second-of-other (ofFirst e) = refl
 second-of-other (ofSecond e) = refl
 
-agrees-of-other : (f : Event → ℤ) (c : Unknown) → agrees f (other c) ≡ negℤ (agrees f c)
+pub agrees-of-other : (f : Event → ℤ) (c : Unknown) → agrees f (other c) ≡ negℤ (agrees f c)
 unfolding other agrees
 agrees-of-other f (ofFirst e) = refl
 agrees-of-other f (ofSecond e) = sym (negℤ-negℤ (f e))
 
-equations-of-other : (q : List Unknown) → Opposite (determinant equations (map other q)) (determinant equations q)
-equations-of-other q = record { is = columns-mapped other equations q ∙ ap (λ (rows : List (Unknown → ℤ)). determinant rows q) rows-are ∙ rows-below inSecond inFirst (minus xOf ∷ minus yOf ∷ minus zOf ∷ minus timeOf ∷ []) (agrees xOf ∷ agrees yOf ∷ agrees zOf ∷ agrees timeOf ∷ []) four q ∙ rows-exchanged inSecond inFirst (agrees xOf ∷ agrees yOf ∷ agrees zOf ∷ agrees timeOf ∷ []) q .is }
+pub equations-of-other : (q : List Unknown) → Opposite (determinant equations (map other q)) (determinant equations q)
+equations-of-other q = record {
+  is =
+      columns-mapped other equations q ∙ ap (λ (rows : List (Unknown → ℤ)). determinant rows q) rows-are
+      ∙ rows-below inSecond inFirst turnedRows agreeRows four q ∙ rows-exchanged inSecond inFirst agreeRows q .is;
+}
   where
     minus : (Event → ℤ) → Unknown → ℤ
     minus f c = negℤ (agrees f c)
 
+    agreeRows : List (Unknown → ℤ)
+    agreeRows = agrees xOf ∷ agrees yOf ∷ agrees zOf ∷ agrees timeOf ∷ []
+
+    turnedRows : List (Unknown → ℤ)
+    turnedRows = minus xOf ∷ minus yOf ∷ minus zOf ∷ minus timeOf ∷ []
+
     agreed : (f : Event → ℤ) → (λ (c : Unknown). agrees f (other c)) ≡ minus f
     agreed f = fun-ext (agrees-of-other f)
 
-    rows-are : map (through other) equations ≡ inSecond ∷ inFirst ∷ minus xOf ∷ minus yOf ∷ minus zOf ∷ minus timeOf ∷ []
+    rows-are : map (through other) equations ≡ inSecond ∷ inFirst ∷ turnedRows
     rows-are = λ i. fun-ext first-of-other i ∷ fun-ext second-of-other i ∷ agreed xOf i ∷ agreed yOf i ∷ agreed zOf i ∷ agreed timeOf i ∷ []
 
-    two : (q : List Unknown) → determinant (minus zOf ∷ minus timeOf ∷ []) q ≡ determinant (agrees zOf ∷ agrees timeOf ∷ []) q
-    two q = rows-negated (agrees zOf) (agrees timeOf) [] q
-
-    four : (q : List Unknown) → determinant (minus xOf ∷ minus yOf ∷ minus zOf ∷ minus timeOf ∷ []) q ≡ determinant (agrees xOf ∷ agrees yOf ∷ agrees zOf ∷ agrees timeOf ∷ []) q
-    four q = rows-negated (agrees xOf) (agrees yOf) (minus zOf ∷ minus timeOf ∷ []) q ∙ rows-below (agrees xOf) (agrees yOf) (minus zOf ∷ minus timeOf ∷ []) (agrees zOf ∷ agrees timeOf ∷ []) two q
+    four : (q : List Unknown) → determinant turnedRows q ≡ determinant agreeRows q
+    four q =
+        rows-negated (agrees xOf) (agrees yOf) (minus zOf ∷ minus timeOf ∷ []) q
+        ∙ rows-below (agrees xOf) (agrees yOf) (minus zOf ∷ minus timeOf ∷ []) (agrees zOf ∷ agrees timeOf ∷ []) (rows-negated (agrees zOf) (agrees timeOf) []) q
 
 pub determinant-turned : (p : Piece) → pointsOf p ≡ 6 → natAbs (determinantOf (turned p)) ≡ natAbs (determinantOf p)
 unfolding determinantOf
 determinant-turned p h =
-    determinant-rearranged equations (change-places (map ofFirst (p .second)) (map ofSecond (p .first))) (columns-of-points (turned p) ∙ add-comm (length (p .second)) (length (p .first)) ∙ h)
+    determinant-rearranged equations (change-places (map ofFirst (p .second)) (map ofSecond (p .first)))
+    (columns-of-points (turned p) ∙ add-comm (length (p .second)) (length (p .first)) ∙ h)
     ∙ ap (λ (l : List Unknown). natAbs (determinant equations l)) (sym (other-columns (p .first) (p .second)))
     ∙ ap natAbs (equations-of-other (columnsOf p) .is) ∙ natAbs-neg (determinant equations (columnsOf p))
 
 -- ---- the verdict
 
-vanish-together : (a b : ℤ) → natAbs a ≡ natAbs b → (a ≡ pos 0) ↔ (b ≡ pos 0)
+pub vanish-together : (a b : ℤ) → natAbs a ≡ natAbs b → (a ≡ pos 0) ↔ (b ≡ pos 0)
 vanish-together a b h = (λ e. none b (sym h ∙ ap natAbs e), λ e. none a (h ∙ ap natAbs e))
   where
     none : (z : ℤ) → natAbs z ≡ 0 → z ≡ pos 0
@@ -148,3 +163,18 @@ same-points-alike p q r h = record {
 
 pub turned-alike : (p : Piece) → pointsOf p ≡ 6 → Alike (turned p) p
 turned-alike p h = record { vanishes = vanish-together _ _ (determinant-turned p h); touches = (touch-turned, touch-turned) }
+
+-- every piece of a pair has six points
+pub six-points : (s : Scene) (kind : Kind) (i j k : ℕ) → pointsOf (pieceOf s kind i j k) ≡ 6
+unfolding pieceOf movingEdge movingTriangle
+six-points s PointTriangle i j k = ap (λ n. 2 + n) (four (cornersOf s j) k)
+  where
+    four : (c : Corners) (k : ℕ) → length (movingTriangle s c k) ≡ 4
+    four c zero = refl
+    four c (suc zero) = refl
+    four c (suc (suc k)) = refl
+six-points s EdgeEdge i j k = ap₂ _+_ (three (endsOf s (min i j)) (k / 2)) (three (endsOf s (max i j)) (k % 2))
+  where
+    three : (e : Ends) (k : ℕ) → length (movingEdge s e k) ≡ 3
+    three e zero = refl
+    three e (suc k) = refl

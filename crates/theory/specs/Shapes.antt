@@ -1,15 +1,14 @@
 -- Each of the three forms is solved by the signed volumes of its four differences: by Cramer's rule all four numbers that combine the
 -- differences to the origin are proportional to the volumes, and every weight is linear in the four.
-use Prim.Native.Nat.{ℕ, zero, suc, _<_}
+use Prim.Native.Nat.{ℕ, zero, suc}
 use mathlib.Core.Path.{_≡_, refl, sym, _∙_, ap}
 use mathlib.Core.List.{List, [], _∷_}
 use lib.IntN.{ℤ, pos, negsuc, negℤ, _+ℤ_, _-ℤ_, _*ℤ_}
-use lib.ListN.{length}
 use Rattle.whole.specs.Vector.{Vector, origin}
 use Rattle.whole.specs.Quote.{quotes, ring}
 use Rattle.whole.specs.Cramer.{Four, each, weigh, volumes, all, dot4, balance, proportional, Place, p0, p1, p2, p3, pick, at-place, reads}
 use Rattle.meaning.specs.Pieces.{Event}
-use Rattle.meaning.specs.Equations.{one, total, Balanced}
+use Rattle.meaning.specs.Equations.{one, total}
 use Rattle.theory.specs.Differences.{differences, Form, alone, behind, ahead, formed}
 use Rattle.theory.specs.Solved.{Solved, weights-there}
 use Rattle.theory.specs.Spread.{startShare, endShare, firstNumbers, secondNumbers, factor, weightsOf, spread, spread-sum}

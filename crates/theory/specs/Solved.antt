@@ -9,7 +9,7 @@ use mathlib.Core.List.{List, [], _∷_}
 use lib.IntN.{ℤ, pos, negsuc, natAbs, _+ℤ_, _*ℤ_, *ℤ-zero}
 use lib.ListN.{length}
 use lib.Dec.{le→leb, lt→ltb}
-use lib.Signed.{_≤ℤ_, _<ℤ_, leZ-yes, ltZ-yes}
+use lib.Signed.{_≤ℤ_, leZ-yes, ltZ-yes}
 use Rattle.whole.specs.Laws.{*ℤ-idl}
 use Rattle.whole.specs.Signs.{Sgn, positive, nought, negative, sgn, Agrees, none, alike, sign-transfer, natAbs-positive}
 use Rattle.meaning.specs.Pieces.{Event}
@@ -50,8 +50,10 @@ size-is d e (alike p) = go e ∙ ap (λ s. unitOf s *ℤ e) p
     go (pos (suc n)) = sym (*ℤ-idl (pos (suc n)))
     go (negsuc n) = ap pos (omega arith)
 
-nonneg : (k : ℕ) → pos 0 ≤ℤ pos k
+pub nonneg : (k : ℕ) → pos 0 ≤ℤ pos k
 nonneg k = leZ-yes (le→leb 0 k zero-le)
+
+-- ---- sizes as weights
 
 -- the sizes of numbers that agree with D are these numbers times one unit, so they balance if the numbers do
 sized : {D : ℤ} (f : Event → ℤ) (w : ℕ → ℤ) (l : List Event) → AllAgree D w l → total f (λ i. pos (natAbs (w i))) l ≡ unitOf (sgn D) *ℤ total f w l
@@ -72,6 +74,19 @@ module _ {a b : List Event} {D : ℤ} {du dv : ℕ → ℤ} (p : AllAgree D du a
       same : (f : Event → ℤ) → total f du a ≡ total f dv b → total f (λ i. pos (natAbs (du i))) a ≡ total f (λ i. pos (natAbs (dv i))) b
       same f e = sized f du a p ∙ ap (λ z. unitOf (sgn D) *ℤ z) e ∙ sym (sized f dv b q)
 
+  pub touch-of-sizes : D ≢ pos 0 → Balanced a b du dv → total one du a ≡ D → Touch a b
+  touch-of-sizes n h e = record {
+    u = λ i. natAbs (du i);
+    v = λ i. natAbs (dv i);
+    balanced = sizes-balance h;
+    some = rw whole (ltZ-yes (lt→ltb 0 (natAbs D) (natAbs-positive D n)));
+  }
+    where
+      whole : total one (λ i. pos (natAbs (du i))) a ≡ pos (natAbs D)
+      whole = sized one du a p ∙ ap (λ z. unitOf (sgn D) *ℤ z) e ∙ sym (size-is D D (alike refl))
+
+-- ---- the sign law
+
 module _ {a b : List Event} {D : ℤ} {du dv : ℕ → ℤ} (s : Solved a b D du dv) (n : D ≢ pos 0) where
   pub agree-of-touch : Touch a b → AllAgree D du a × AllAgree D dv b
   agree-of-touch t = (
@@ -79,16 +94,5 @@ module _ {a b : List Event} {D : ℤ} {du dv : ℕ → ℤ} (s : Solved a b D du
     record { each = λ i h. sign-transfer (pos (t .v i)) D _ (dv i) (s .second _ _ (t .balanced) i h) (t .some) n .0 (nonneg (t .v i)) },
   )
 
-  pub touch-of-agree : AllAgree D du a → AllAgree D dv b → Touch a b
-  touch-of-agree p q = record {
-    u = λ i. natAbs (du i);
-    v = λ i. natAbs (dv i);
-    balanced = sizes-balance p q (s .balanced);
-    some = rw whole (ltZ-yes (lt→ltb 0 (natAbs D) (natAbs-positive D n)));
-  }
-    where
-      whole : total one (λ i. pos (natAbs (du i))) a ≡ pos (natAbs D)
-      whole = sized one du a p ∙ ap (λ z. unitOf (sgn D) *ℤ z) (s .sum) ∙ sym (size-is D D (alike refl))
-
   pub touch-is : Touch a b ↔ (AllAgree D du a × AllAgree D dv b)
-  touch-is = (agree-of-touch, λ h. touch-of-agree (h .0) (h .1))
+  touch-is = (agree-of-touch, λ h. touch-of-sizes (h .0) (h .1) n (s .balanced) (s .sum))

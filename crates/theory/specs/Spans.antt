@@ -20,11 +20,11 @@ pub record Holds (p : Span) (z : ℤ) : Type 0 where
 
 -- ---- the smaller and the larger of two numbers
 
-data Compared (a b : ℤ) : Bool → Type 0 where
+pub data Compared (a b : ℤ) : Bool → Type 0 where
   ordered : a ≤ℤ b → Compared a b true
   reversed : b <ℤ a → Compared a b false
 
-compared : (a b : ℤ) → Compared a b (leZ a b)
+pub compared : (a b : ℤ) → Compared a b (leZ a b)
 compared a b = go (leZ a b) refl
   where
     above : (a b : ℤ) → T (not (leZ a b)) → b <ℤ a
@@ -56,6 +56,20 @@ around a b = go (leZ a b) (compared a b)
     go : (c : Bool) → Compared a b c → Around a b (cond c a b) (cond c b a)
     go true (ordered h) = omega (arith, ord)
     go false (reversed h) = omega (arith, ord)
+
+pub smaller-greatest : (c a b : ℤ) → c ≤ℤ a → c ≤ℤ b → c ≤ℤ smaller a b
+smaller-greatest c a b p q = go (leZ a b)
+  where
+    go : (d : Bool) → c ≤ℤ cond d a b
+    go true = p
+    go false = q
+
+pub larger-least : (c a b : ℤ) → a ≤ℤ c → b ≤ℤ c → larger a b ≤ℤ c
+larger-least c a b p q = go (leZ a b)
+  where
+    go : (d : Bool) → cond d b a ≤ℤ c
+    go true = q
+    go false = p
 
 pub joint-left : (p q : Span) (z : ℤ) → Holds p z → Holds (joint p q) z
 joint-left p q z h =

@@ -2,10 +2,9 @@
 -- by computing. Each definition here is worth, at an environment, the one of the same name over the whole numbers.
 use mathlib.Core.Path.{_≡_, refl, sym, _∙_, ap}
 use mathlib.Core.List.{List, [], _∷_, _++_, map}
-use Prim.Native.Nat.{ℕ, _+_}
-use lib.IntN.{ℤ, pos, negsuc, negℤ, _+ℤ_, _-ℤ_, _*ℤ_}
+use lib.IntN.{ℤ, pos, negℤ}
 use Rattle.whole.specs.Vector.{Vector, volume}
-use Rattle.whole.specs.Ring.{Expr, con, var, add, mul, neg, eval}
+use Rattle.whole.specs.Ring.{Expr, con, add, mul, neg, eval}
 use Rattle.whole.specs.Operations.{wholes, exprs, expandIn, determinantIn, Alike, none, more, det-hom}
 use Rattle.whole.specs.Cramer.{Four, each, volumes}
 use Rattle.meaning.specs.Pieces.{Event}
@@ -82,7 +81,7 @@ unfolding Meaning.expand expandIn
 expand-same row m m′ h passed [] = refl
 expand-same row m m′ h passed (c ∷ cs) = simp (h, expand-same row m m′ h (passed ++ (c ∷ [])) cs)
 
-determinant-same : {A : Type 0} (rows : List (A → ℤ)) (columns : List A) → Meaning.determinant rows columns ≡ determinantIn wholes rows columns
+pub determinant-same : {A : Type 0} (rows : List (A → ℤ)) (columns : List A) → Meaning.determinant rows columns ≡ determinantIn wholes rows columns
 unfolding Meaning.determinant determinantIn
 determinant-same [] columns = refl
 determinant-same (row ∷ rows) columns =

@@ -7,9 +7,9 @@ use Prim.Native.Nat.{ℕ, _+_, _*_, _^_}
 use lib.Dec.{T, ltb, leb, leb→le}
 use lib.IntN.{ℤ, _+ℤ_, _-ℤ_, _*ℤ_}
 use mir.Syntax.{Width}
-use mir.Val.{SFits, hbits, toZ, ofZ}
+use mir.Val.{SFits, hbits}
 use mir.Facts.{and-yes}
-use Rattle.whole.specs.Sizes.{Within, Is, is-exact, is-add, is-sub, is-mul, is-wider, fits, back}
+use Rattle.whole.specs.Sizes.{Within, Is, is-exact, is-add, is-sub, is-mul, is-wider, held, fits, back}
 
 pub record Sized (v : ℤ) : Type 0 where
   pub bound : ℕ
@@ -51,7 +51,7 @@ module _ (u v : ℤ) (p : Sized u) (q : Sized v) where
         is = λ t. let s = and-yes (p .safe) (q .safe) t in is-mul (p .is (s .0)) (q .is (s .1));
       }
 
-abbrev pub sized-back : (w : Width) (v : ℤ) → Sized v → Sized (toZ w (ofZ w v))
+abbrev pub sized-back : (w : Width) (v : ℤ) → Sized v → Sized (held w v)
 sized-back w v p =
     record {
       bound = p .bound;

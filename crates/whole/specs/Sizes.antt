@@ -2,11 +2,11 @@
 -- bound in one, so that a sum or product of such numbers is shown to fit by its bound alone.
 use mathlib.Core.Path.{_≡_, refl, _∙_}
 use mathlib.Core.Bool.{Bool, true, false, cond}
-use Prim.Native.Nat.{ℕ, zero, suc, _+_, _*_, _^_, _-_, _≤_, _<_}
+use Prim.Native.Nat.{ℕ, suc, _+_, _*_, _^_, _≤_, _<_}
 use native.Mathlib.Nat.{mul-le-mul, lt-of-le-of-lt, le-trans, le-refl}
 use native.Mathlib.Omega.{arith}
 use lib.Dec.{T, ltb, ltb→lt}
-use lib.IntN.{ℤ, pos, negsuc, negℤ, natAbs, subℕ, _+ℤ_, _-ℤ_, _*ℤ_}
+use lib.IntN.{ℤ, pos, negsuc, negℤ, natAbs, _+ℤ_, _-ℤ_, _*ℤ_}
 use lib.Signed.{mag}
 use mir.Syntax.{Width}
 use mir.Val.{SFits, hbits, toZ, ofZ}
@@ -69,10 +69,21 @@ module _ {a : ℕ} {u x : ℤ} (p : Is a u x) where
   pub is-wider : {b : ℕ} → a ≤ b → Is b u x
   is-wider h = record { same = p .same; within = within-wider h (p .within) }
 
+pub is-equal : {a : ℕ} {u x y : ℤ} → x ≡ y → Is a u x → Is a u y
+is-equal e p = rw e at p
+
+-- the machine's number is within the bound too
+pub is-self : {a : ℕ} {u x : ℤ} → Is a u x → Is a u u
+is-self p = record { same = refl; within = rw (p .same) (p .within) }
+
 pub is-exact : {a : ℕ} {x : ℤ} → Within a x → Is a x x
 is-exact h = record { same = refl; within = h }
 
 -- ---- and of a width's bits
+
+-- z written to a local of w's bits and read from there
+abbrev pub held : Width → ℤ → ℤ
+held w z = toZ w (ofZ w z)
 
 pub within-fits : (w : Width) {b : ℕ} {z : ℤ} → Within b z → T (ltb b (2 ^ hbits w)) → SFits w z
 within-fits w {b} {z} h t =
@@ -86,6 +97,5 @@ module _ (w : Width) {b : ℕ} {v z : ℤ} (p : Is b v z) (t : T (ltb b (2 ^ hbi
   pub fits : SFits w v
   fits = rw (p .same) (within-fits w (p .within) t)
 
-  -- written to a local of w's bits and read from there
-  pub back : Is b (toZ w (ofZ w v)) z
+  pub back : Is b (held w v) z
   back = record { same = toZ-ofZ fits ∙ p .same; within = p .within }

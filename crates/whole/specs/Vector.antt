@@ -1,4 +1,5 @@
 -- Vectors of three whole numbers, and the 3 by 3 determinant of three of them, here called their volume.
+use Prim.Native.Nat.{ℕ, zero, suc}
 use lib.IntN.{ℤ, pos, _+ℤ_, _-ℤ_, _*ℤ_}
 
 pub record Vector : Type 0 where
@@ -24,3 +25,10 @@ volume a b c =
     a .x *ℤ (b .y *ℤ c .z -ℤ b .z *ℤ c .y)
     -ℤ a .y *ℤ (b .x *ℤ c .z -ℤ b .z *ℤ c .x)
     +ℤ a .z *ℤ (b .x *ℤ c .y -ℤ b .y *ℤ c .x)
+
+-- the unit along x, y, z, and so round
+unfoldable pub axis : ℕ → Vector
+axis zero = record { x = pos 1; y = pos 0; z = pos 0 }
+axis (suc zero) = record { x = pos 0; y = pos 1; z = pos 0 }
+axis (suc (suc zero)) = record { x = pos 0; y = pos 0; z = pos 1 }
+axis (suc (suc (suc k))) = axis k

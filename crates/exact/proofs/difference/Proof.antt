@@ -8,18 +8,18 @@ use native.Mathlib.Omega.{arith}
 use lib.IntN.{ℤ, pos, _-ℤ_}
 use lib.ListN.{getD}
 use mir.Syntax.{w32, w64}
-use mir.Val.{toZ, ofZ}
-use Rattle.whole.specs.Sizes.{Is, is-exact, is-sub, fits, back}
-use Rattle.exact.specs.Limits.{coordinateLimit, differenceLimit}
+use Rattle.whole.specs.Sizes.{Is, is-exact, is-sub, held, fits, back}
+use Rattle.exact.specs.Limits.{differenceLimit}
+use Rattle.meaning.specs.Limits.{coordinateLimit}
 use Rattle.exact.specs.Places.{Bounded, apart, along}
 use Rattle.exact.proofs.difference.Statement.{statement}
 use Rattle.exact.proofs.difference.Tie as tie
 
 module _ {ps : List ℤ} (h : Bounded coordinateLimit ps) where
-  read : (i : ℕ) → Is coordinateLimit (toZ w32 (ofZ w32 (getD ps i (pos 0)))) (getD ps i (pos 0))
+  read : (i : ℕ) → Is coordinateLimit (held w32 (getD ps i (pos 0))) (getD ps i (pos 0))
   read i = back w32 (is-exact (h .at i)) tt
 
-  less : (i j : ℕ) → Is differenceLimit (toZ w64 (ofZ w64 (toZ w32 (ofZ w32 (getD ps i (pos 0))))) -ℤ toZ w64 (ofZ w64 (toZ w32 (ofZ w32 (getD ps j (pos 0)))))) (getD ps i (pos 0) -ℤ getD ps j (pos 0))
+  less : (i j : ℕ) → Is differenceLimit (held w64 (held w32 (getD ps i (pos 0))) -ℤ held w64 (held w32 (getD ps j (pos 0)))) (getD ps i (pos 0) -ℤ getD ps j (pos 0))
   less i j = is-sub (back w64 (read i) tt) (back w64 (read j) tt)
 
 along-is : (ps : List ℤ) (o b k : ℕ) → k < 3 → getD ps (o + k) (pos 0) -ℤ getD ps (b + k) (pos 0) ≡ along k (apart ps o b)

@@ -1,32 +1,8 @@
 -- A volume of places: the nine differences are those of the three vectors, so the determinant is theirs.
 use borrow.Author.Needs.{needs}
-use mathlib.Core.Path.{_≡_}
-use lib.IntN.{ℤ}
-use mir.Syntax.{w64}
-use mir.Val.{toZ, ofZ}
-use Rattle.whole.specs.Vector.{Vector, volume}
-use Rattle.whole.specs.Sizes.{Within, Is, back, is-wider}
-use Rattle.exact.specs.Limits.{differenceLimit, determinantLimit}
-use Rattle.exact.specs.Places.{vector, apart}
+use Rattle.exact.proofs.Held.{held-within, row, result}
 use Rattle.exact.proofs.volume_at.Statement.{statement}
 use Rattle.exact.proofs.volume_at.Tie as tie
-
--- a number as its local holds it
-abbrev held : ℤ → ℤ
-held z = toZ w64 (ofZ w64 z)
-
-held-is : {u z : ℤ} → Is differenceLimit u z → held u ≡ z
-held-is h = back w64 h tt .same
-
-held-within : {u z : ℤ} → Is differenceLimit u z → Within differenceLimit (held u)
-held-within h = rw (held-is h) (h .within)
-
-row : {u v w : ℤ} (a : Vector) → Is differenceLimit u (a .x) → Is differenceLimit v (a .y) → Is differenceLimit w (a .z) → vector (held u) (held v) (held w) ≡ a
-row a p q r = rw (held-is p, held-is q, held-is r)
-
--- what the determinant of the held numbers promises, said of the vectors
-result : {u : ℤ} {a b c a′ b′ c′ : Vector} → a ≡ a′ → b ≡ b′ → c ≡ c′ → Is determinantLimit u (volume a b c) → Is determinantLimit (held u) (volume a′ b′ c′)
-result p q r h = back w64 (rw (p, q, r) at h) tt
 
 pub volume-at-spec : {M : Type 1} → statement M
 volume-at-spec =

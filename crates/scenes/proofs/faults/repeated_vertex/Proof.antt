@@ -5,4 +5,4 @@ use Rattle.scenes.proofs.faults.repeated_vertex.Tie as tie
 
 pub repeated-vertex-spec : {M : Type 1} → statement M
 repeated-vertex-spec =
-    tie.close (tie.spec (λ c κs. search needs) (λ c κs. search needs) (λ c. cc))
+    tie.close (tie.spec (λ c κs. search needs) (λ c κs. search needs) (λ c. rw (c .before .repeated-in-edges .ensures, c .repeated-in-triangles .ensures)))

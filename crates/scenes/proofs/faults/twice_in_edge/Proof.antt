@@ -5,4 +5,4 @@ use Rattle.scenes.proofs.faults.twice_in_edge.Tie as tie
 
 pub twice-in-edge-spec : {M : Type 1} → statement M
 twice-in-edge-spec =
-    tie.close (tie.spec (λ c κs. search needs) (λ c κs. search needs) (λ c. cc))
+    tie.close (tie.spec (λ c κs. search needs) (λ c κs. search needs) (λ c. rw (c .before .edge-end .ensures, c .edge-end2 .ensures)))

@@ -5,4 +5,4 @@ use Rattle.scenes.proofs.faults.unknown.Tie as tie
 
 pub unknown-spec : {M : Type 1} → statement M
 unknown-spec =
-    tie.close (tie.spec (λ c. search needs) (λ c. search needs) (λ c κs. search needs) (λ c. cc))
+    tie.close (tie.spec (λ c. search needs) (λ c. search needs) (λ c κs. search needs) (λ c. rw (c .wide .ensures)))

@@ -12,4 +12,4 @@ corners-of-spec =
     (λ c κs. search needs)
     (λ c κs. search needs)
     (λ c κs. search needs)
-    (λ c. cc))
+    (λ c. rw (c .among .ensures, c .before .before .rising .ensures, c .before .before .before .before .corner .ensures, c .before .before .before .corner2 .ensures, c .before .corner3 .ensures)))

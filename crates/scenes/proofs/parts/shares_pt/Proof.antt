@@ -6,7 +6,7 @@ use Rattle.scenes.proofs.parts.shares_pt.Tie as tie
 
 returns : tie.Need-returns
 unfolding shares
-returns c p e = cc
+returns c p e = rw (c .before .before .corner .ensures, c .before .corner2 .ensures, c .corner3 .ensures)
 
 pub shares-pt-spec : {M : Type 1} → statement M
 shares-pt-spec = tie.close (tie.spec (λ c κs. search needs) (λ c κs. search needs) (λ c κs. search needs) returns)

@@ -1,0 +1,201 @@
+//! usage: bench [quick]
+//! Ratios side by side in one process, as tables. docs/BENCHMARK.md tells what is measured.
+
+mod errors;
+mod floor;
+mod plain;
+mod plain_report;
+mod product;
+mod scenes;
+mod slices;
+#[cfg(test)]
+mod tests;
+mod timing;
+mod wide;
+
+use compare::cubic;
+use compare::random::Random;
+use compare::scene::{Scene, REPORT_ROOM};
+use compare::text::write;
+use compare::verdict::Verdict;
+use product::Product;
+use slices::Slices;
+use timing::{shortest, Timed, Way};
+
+/// The tolerance of the cubic that is timed.
+const TOLERANCE: f64 = 1e-6;
+/// Longer than any report.
+const REPORT_BYTES: usize = 1 << 17;
+const OURS: &str = "the library";
+
+struct Bench {
+    rounds: usize,
+    /// Pairs for each row of the table of wrong answers.
+    pairs: u64,
+    product: Option<Product>,
+}
+
+fn main() {
+    let quick = std::env::args().nth(1).is_some_and(|word| word == "quick");
+    let (rounds, pairs) = if quick { (20, 20_000) } else { (300, 1_000_000) };
+    let bench = Bench { rounds, pairs, product: Product::find() };
+    bench.all_verdicts();
+    bench.lists();
+    bench.reports();
+    bench.wrong_answers();
+}
+
+/// Each way's time for one piece of work, and the library's time over it.
+fn table(title: &str, (unit, units): (&str, f64), times: &[Timed]) {
+    let ours = times.iter().find(|(name, _)| *name == OURS);
+    println!("\n{title}");
+    for (name, time) in times {
+        let ratio = ours.map_or("-".to_string(), |(_, ours)| format!("{:.2}", ours / time));
+        println!("  {name:<44} {:>10.2} {unit}   library over it: {ratio:>5}", time * units);
+    }
+}
+
+fn number_of(verdict: Verdict) -> u8 {
+    match verdict {
+        Verdict::Hit => product::HIT,
+        Verdict::Miss => product::MISS,
+        Verdict::Degenerate => product::DEGENERATE,
+    }
+}
+
+impl Bench {
+    fn all_verdicts(&self) {
+        let mut random = Random::new(1);
+        let kinds: [(&str, Scene); 4] = [
+            ("pt, cloth in layers", scenes::layers(&mut random, 7, 7, 1_000, false)),
+            ("pt, anywhere", scenes::scattered(&mut random, 70, 200_000, false)),
+            ("ee, cloth in layers", scenes::layers(&mut random, 5, 5, 1_000, true)),
+            ("ee, anywhere", scenes::scattered(&mut random, 90, 200_000, true)),
+        ];
+        for (name, scene) in kinds {
+            self.verdicts(name, &Slices::of(&scene));
+        }
+    }
+
+    fn verdicts(&self, name: &str, slices: &Slices) {
+        let mut list = vec![0; 3 * 20_000];
+        let count = plain::list(slices, &mut list);
+        let list = &list[..3 * count];
+        let right: Vec<u8> = list.chunks_exact(3).map(|entry| number_of(plain::judge(slices, entry))).collect();
+        let (mut made, mut verdicts, mut made_alone) = (vec![0; list.len()], vec![0; count], vec![0; list.len()]);
+        let mut ways = baselines(slices, list);
+        if let Some(product) = &self.product {
+            ways.push(Way::new(OURS, || product.judge_scene(slices, &mut made, &mut verdicts).expect("there is room") as u64));
+            ways.push(Way::new("its list", || product.list(slices, &mut made_alone).expect("there is room") as u64));
+        }
+        let mut times = shortest(ways, self.rounds);
+        if self.product.is_some() {
+            // the call that judges a whole scene makes its list too
+            let (_, listing) = times.pop().unwrap();
+            times.last_mut().unwrap().1 -= listing;
+            assert!(made == list && verdicts == right, "the library's verdicts are those of plain Rust");
+        }
+        let hits = right.iter().filter(|&&verdict| verdict == number_of(Verdict::Hit)).count();
+        let title = format!("{name}: a pair verdict, listing left out ({count} pairs, {hits} of them hits)");
+        table(&title, ("ns", 1e9 / count as f64), &times);
+    }
+
+    fn lists(&self) {
+        for fold in [32, 8, 2] {
+            let slices = Slices::of(&scenes::full_size(&mut Random::new(fold as u64), fold));
+            let count = plain::list(&slices, &mut []);
+            let (mut plain, mut ours) = (vec![0; 3 * count], vec![0; 3 * count]);
+            let mut ways = vec![Way::new("the same algorithm in plain safe Rust", || plain::list(&slices, &mut plain) as u64)];
+            if let Some(product) = &self.product {
+                ways.push(Way::new(OURS, || product.list(&slices, &mut ours).expect("there is room") as u64));
+            }
+            let times = shortest(ways, self.rounds);
+            assert!(self.product.is_none() || plain == ours, "the library's list is that of plain Rust");
+            table(&format!("the list of a full-size scene, folds of {fold} columns ({count} pairs)"), ("us", 1e6), &times);
+        }
+    }
+
+    fn reports(&self) {
+        let mut random = Random::new(3);
+        let scenes: [(&str, Scene); 3] = [
+            ("a full-size sheet", scenes::full_size(&mut random, 32)),
+            ("points and triangles in layers", scenes::layers(&mut random, 4, 4, 1_000, false)),
+            ("edges in layers", scenes::layers(&mut random, 3, 3, 1_000, true)),
+        ];
+        for (name, scene) in scenes {
+            self.report(name, write(&scene).as_bytes());
+        }
+    }
+
+    fn report(&self, name: &str, text: &[u8]) {
+        let mut list = [0; 3 * REPORT_ROOM];
+        let (mut plain, mut ours, mut length) = (Vec::new(), vec![0; REPORT_BYTES], 0);
+        let mut ways = vec![Way::new("plain Rust", || {
+            plain.clear();
+            plain_report::report(text, &mut list, &mut plain);
+            plain.len() as u64
+        })];
+        if let Some(product) = &self.product {
+            ways.push(Way::new(OURS, || {
+                length = product.report(text, &mut ours);
+                length as u64
+            }));
+        }
+        let times = shortest(ways, self.rounds);
+        assert!(self.product.is_none() || plain == ours[..length], "the library's report is that of plain Rust");
+        let lines = plain.iter().filter(|&&byte| byte == b'\n').count();
+        table(&format!("a whole report, {name} ({} bytes, {lines} lines)", text.len()), ("us", 1e6), &times);
+    }
+
+    fn wrong_answers(&self) {
+        println!("\nwrong answers per million pairs: contacts missed + contacts invented");
+        println!("  {:<62}{:>16}{:>16}{:>16}{:>16}{:>10}", "the cubic's tolerance:", "0", "1e-9", "1e-6", "1e-3", "library");
+        for (word, kind) in [("pt", errors::Kind::PointTriangle), ("ee", errors::Kind::EdgeEdge)] {
+            for source in errors::SOURCES {
+                let mut random = Random::new(source.reach as u64);
+                let count = errors::count(&mut random, kind, source, self.pairs, self.product.as_ref());
+                let per_million = |n: u64| (n * 1_000_000 + count.pairs / 2) / count.pairs;
+                let both = |wrong: errors::Wrong| format!("{} + {}", per_million(wrong.missed), per_million(wrong.invented));
+                let [a, b, c, d] = count.cubic.map(both);
+                let library = if self.product.is_some() { both(count.library) } else { "-".to_string() };
+                let row = format!("{word}, {} ({}% hits)", source.name, 100 * count.hits / count.pairs);
+                println!("  {row:<62}{a:>16}{b:>16}{c:>16}{d:>16}{library:>10}");
+            }
+        }
+    }
+}
+
+/// The ways beside the library, on the same pairs.
+fn baselines<'a>(slices: &'a Slices, list: &'a [u16]) -> Vec<Way<'a>> {
+    let pairs = move || list.chunks_exact(3);
+    vec![
+        Way::new("a cubic in doubles, tolerance 1e-6", move || pairs().map(|e| by_cubic(slices, e) as u64).sum()),
+        Way::new("128-bit whole numbers, straightforwardly", move || {
+            pairs().map(|entry| number_of(wide::judge(slices, entry)) as u64).sum()
+        }),
+        Way::new("54 (pt) or 60 (ee) 64-bit multiplications", move || {
+            pairs().for_each(|entry| floor_of(slices, entry));
+            0
+        }),
+        Way::new("the same way in plain Rust, 64 bits", move || {
+            pairs().map(|entry| number_of(plain::judge(slices, entry)) as u64).sum()
+        }),
+    ]
+}
+
+fn by_cubic(slices: &Slices, entry: &[u16]) -> bool {
+    let moving = |vertex: usize| &slices.moving[vertex];
+    let (first, second) = (entry[1] as usize, entry[2] as usize);
+    if entry[0] == 0 {
+        cubic::point_triangle(moving(first), slices.corners(second).map(moving), TOLERANCE)
+    } else {
+        cubic::edge_edge(slices.ends(first).map(moving), slices.ends(second).map(moving), TOLERANCE)
+    }
+}
+
+/// As many multiplications as a pair takes at the least, on numbers of the scene.
+fn floor_of(slices: &Slices, entry: &[u16]) {
+    let count = if entry[0] == 0 { floor::POINT_TRIANGLE } else { floor::EDGE_EDGE };
+    let at = (6 * entry[1] as usize).min(slices.wide.len() - count);
+    floor::multiplications(&slices.wide[at..at + count]);
+}

@@ -1,0 +1,164 @@
+//! The library's own way in plain safe Rust: what the proofs are held to cost nothing beside.
+
+use crate::slices::Slices;
+use compare::verdict::Verdict;
+
+type Vector = [i64; 3];
+
+/// 0 at the start, 3 at the end.
+type When = usize;
+const START: When = 0;
+const END: When = 3;
+
+#[inline]
+fn seen(positions: &[i32], vertex: usize, base: usize, when: When) -> Vector {
+    [0, 1, 2].map(|axis| positions[6 * vertex + when + axis] as i64 - positions[6 * base + when + axis] as i64)
+}
+
+#[inline]
+fn volume(a: Vector, b: Vector, c: Vector) -> i64 {
+    a[0] * (b[1] * c[2] - b[2] * c[1]) - a[1] * (b[0] * c[2] - b[2] * c[0]) + a[2] * (b[0] * c[1] - b[1] * c[0])
+}
+
+/// The four signed volumes of four vectors, each of the other three.
+#[inline]
+fn volumes(v: [Vector; 4]) -> [i64; 4] {
+    [volume(v[1], v[2], v[3]), -volume(v[0], v[2], v[3]), volume(v[0], v[1], v[3]), -volume(v[0], v[1], v[2])]
+}
+
+#[inline]
+fn by_signs(sum: i64, weights: &[i64]) -> Verdict {
+    let none_negative = weights.iter().fold(true, |all, &w| all & (w >= 0));
+    let none_positive = weights.iter().fold(true, |all, &w| all & (w <= 0));
+    if sum == 0 {
+        Verdict::Degenerate
+    } else if (sum > 0 && none_negative) || (sum < 0 && none_positive) {
+        Verdict::Hit
+    } else {
+        Verdict::Miss
+    }
+}
+
+#[inline]
+pub fn joined(verdicts: impl Iterator<Item = Verdict>) -> Verdict {
+    let mut out = Verdict::Miss;
+    for verdict in verdicts {
+        match verdict {
+            Verdict::Hit => return Verdict::Hit,
+            Verdict::Degenerate => out = Verdict::Degenerate,
+            Verdict::Miss => {}
+        }
+    }
+    out
+}
+
+pub fn point_triangle(positions: &[i32], point: usize, mut corners: [usize; 3]) -> Verdict {
+    corners.sort_unstable();
+    let [low, middle, high] = corners;
+    let piece = |points: [(usize, When); 4]| {
+        let volumes = volumes(points.map(|(vertex, when)| seen(positions, vertex, point, when)));
+        by_signs(volumes.iter().sum(), &volumes)
+    };
+    let pieces = [
+        [(low, START), (middle, START), (high, START), (high, END)],
+        [(low, START), (middle, START), (middle, END), (high, END)],
+        [(low, START), (low, END), (middle, END), (high, END)],
+    ];
+    joined(pieces.into_iter().map(piece))
+}
+
+/// The two triangles of a moving edge: the vertex that is there at both times, and the other point.
+#[inline]
+fn halves(mut ends: [usize; 2]) -> [(usize, (usize, When)); 2] {
+    ends.sort_unstable();
+    [(ends[1], (ends[0], START)), (ends[0], (ends[1], END))]
+}
+
+pub fn edge_edge(positions: &[i32], first: [usize; 2], second: [usize; 2]) -> Verdict {
+    let piece = |(base, other): (usize, (usize, When)), (both, third): (usize, (usize, When))| {
+        let points = [other, (both, START), (both, END), third];
+        let v = volumes(points.map(|(vertex, when)| seen(positions, vertex, base, when)));
+        let at = |when: When| (0..4).map(|i| if points[i].1 == when { v[i] } else { 0 }).sum::<i64>();
+        by_signs(v[1] + v[2] + v[3], &[-v[0], v[1], v[2], v[3], at(START), at(END)])
+    };
+    let [a, b] = halves(first);
+    let [c, d] = halves(second);
+    joined([(a, c), (a, d), (b, c), (b, d)].into_iter().map(|(one, other)| piece(one, other)))
+}
+
+/// The verdict of an entry of the list.
+#[inline]
+pub fn judge(slices: &Slices, entry: &[u16]) -> Verdict {
+    let (first, second) = (entry[1] as usize, entry[2] as usize);
+    if entry[0] == 0 {
+        point_triangle(&slices.positions, first, slices.corners(second))
+    } else {
+        edge_edge(&slices.positions, slices.ends(first), slices.ends(second))
+    }
+}
+
+type Box = [i32; 6];
+
+fn joint(a: &Box, b: &Box) -> Box {
+    [a[0].min(b[0]), a[1].min(b[1]), a[2].min(b[2]), a[3].max(b[3]), a[4].max(b[4]), a[5].max(b[5])]
+}
+
+#[inline]
+fn meet(a: &Box, b: &Box) -> bool {
+    (0..3).all(|axis| a[axis] <= b[axis + 3] && b[axis] <= a[axis + 3])
+}
+
+/// Boxes worked out once.
+pub struct Boxes {
+    vertices: Vec<Box>,
+    edges: Vec<Box>,
+    triangles: Vec<Box>,
+}
+
+impl Boxes {
+    fn of(slices: &Slices) -> Boxes {
+        let at = |v: &[i32]| [0, 1, 2, 3, 4, 5].map(|i| if i < 3 { v[i].min(v[i + 3]) } else { v[i - 3].max(v[i]) });
+        let vertices: Vec<Box> = slices.positions.chunks_exact(6).map(at).collect();
+        let of = |places: &[u16]| places.iter().map(|&v| vertices[v as usize]).reduce(|a, b| joint(&a, &b)).unwrap();
+        let edges = slices.edges.chunks_exact(2).map(of).collect();
+        let triangles = slices.triangles.chunks_exact(3).map(of).collect();
+        Boxes { vertices, edges, triangles }
+    }
+}
+
+/// Every listed pair in order.
+#[inline]
+fn each_listed(slices: &Slices, boxes: &Boxes, mut take: impl FnMut(u16, usize, usize)) {
+    for (vertex, one) in boxes.vertices.iter().enumerate() {
+        for (triangle, other) in boxes.triangles.iter().enumerate() {
+            if meet(one, other) && !slices.corners(triangle).contains(&vertex) {
+                take(0, vertex, triangle);
+            }
+        }
+    }
+    for (first, one) in boxes.edges.iter().enumerate() {
+        let [a, b] = slices.ends(first);
+        for (second, other) in boxes.edges.iter().enumerate().skip(first + 1) {
+            if meet(one, other) {
+                let [c, d] = slices.ends(second);
+                if a != c && a != d && b != c && b != d {
+                    take(1, first, second);
+                }
+            }
+        }
+    }
+}
+
+/// Counts, then writes. Nothing is written where there is no room; the count is handed back all the same.
+pub fn list(slices: &Slices, room: &mut [u16]) -> usize {
+    let boxes = Boxes::of(slices);
+    let mut count = 0;
+    each_listed(slices, &boxes, |_, _, _| count += 1);
+    if count <= room.len() / 3 {
+        let mut entries = room.chunks_exact_mut(3);
+        each_listed(slices, &boxes, |kind, first, second| {
+            entries.next().unwrap().copy_from_slice(&[kind, first as u16, second as u16]);
+        });
+    }
+    count
+}

@@ -1,0 +1,131 @@
+//! A whole report in plain safe Rust: read, list, judge, tally, write, with every check of document 01.
+
+use crate::plain;
+use crate::slices::Slices;
+use compare::refusal::*;
+use compare::scene::{COORDINATE_LIMIT, EDGE_LIMIT, REPORT_ROOM, TEXT_LIMIT, TRIANGLE_LIMIT, VERTEX_LIMIT};
+use compare::verdict::Verdict;
+
+/// The report, behind what `out` holds; `list` is the room that is lent for pairs.
+pub fn report(text: &[u8], list: &mut [u16; 3 * REPORT_ROOM], out: &mut Vec<u8>) {
+    let slices = match read(text) {
+        Ok(slices) => slices,
+        Err(refusal) => return refused(out, refusal),
+    };
+    let count = plain::list(&slices, list);
+    if count > REPORT_ROOM {
+        return refused(out, Refusal::new(NO_ROOM, count as u64));
+    }
+    let (mut hits, mut misses, mut degenerates) = (0, 0, 0);
+    for entry in list.chunks_exact(3).take(count) {
+        out.extend_from_slice(if entry[0] == 0 { b"pt\t" } else { b"ee\t" });
+        number(out, entry[1] as u64, b'\t');
+        number(out, entry[2] as u64, b'\t');
+        let (word, total): (&[u8], &mut u64) = match plain::judge(&slices, entry) {
+            Verdict::Hit => (b"hit\n", &mut hits),
+            Verdict::Miss => (b"miss\n", &mut misses),
+            Verdict::Degenerate => (b"degenerate\n", &mut degenerates),
+        };
+        out.extend_from_slice(word);
+        *total += 1;
+    }
+    out.extend_from_slice(b"total\t");
+    number(out, count as u64, b'\t');
+    number(out, hits, b'\t');
+    number(out, misses, b'\t');
+    number(out, degenerates, b'\n');
+}
+
+fn refused(out: &mut Vec<u8>, refusal: Refusal) {
+    out.extend_from_slice(b"refused\t");
+    number(out, refusal.number, b'\t');
+    number(out, refusal.third, b'\n');
+}
+
+fn number(out: &mut Vec<u8>, mut n: u64, after: u8) {
+    let mut digits = [0; 20];
+    let mut at = digits.len();
+    loop {
+        at -= 1;
+        digits[at] = b'0' + (n % 10) as u8;
+        n /= 10;
+        if n == 0 {
+            break;
+        }
+    }
+    out.extend_from_slice(&digits[at..]);
+    out.push(after);
+}
+
+fn read(text: &[u8]) -> Result<Slices, Refusal> {
+    if text.len() > TEXT_LIMIT {
+        return Err(Refusal::bare(TEXT_TOO_LONG));
+    }
+    let mut slices = Slices::default();
+    let (mut rest, mut line) = (text, 0);
+    while !rest.is_empty() {
+        line += 1;
+        let refuse = |number: u64| Refusal::new(number, line);
+        let end = rest.iter().position(|&byte| byte == b'\n').ok_or(refuse(BAD_LINE))?;
+        take(&rest[..end], &mut slices).map_err(refuse)?;
+        rest = &rest[end + 1..];
+    }
+    Ok(slices)
+}
+
+fn take(line: &[u8], slices: &mut Slices) -> Result<(), u64> {
+    match line.first() {
+        Some(b'v') => {
+            let vertex: [i32; 6] = numbers(&line[1..], true).ok_or(BAD_LINE)?;
+            unless(!slices.edges.is_empty() || !slices.triangles.is_empty(), OUT_OF_ORDER)?;
+            unless(slices.positions.len() == 6 * VERTEX_LIMIT, ONE_TOO_MANY)?;
+            unless(vertex.iter().any(|n| n.unsigned_abs() as i64 > COORDINATE_LIMIT), OUT_OF_RANGE)?;
+            slices.positions.extend_from_slice(&vertex);
+        }
+        Some(b'e') => {
+            let [a, b]: [i32; 2] = numbers(&line[1..], false).ok_or(BAD_LINE)?;
+            unless(!slices.triangles.is_empty(), OUT_OF_ORDER)?;
+            unless(slices.edges.len() == 2 * EDGE_LIMIT, ONE_TOO_MANY)?;
+            let vertices = slices.positions.len() as i32 / 6;
+            unless(a >= vertices || b >= vertices, NO_SUCH_VERTEX)?;
+            unless(a == b, VERTEX_TWICE)?;
+            slices.edges.extend_from_slice(&[a as u16, b as u16]);
+        }
+        Some(b't') => {
+            let [a, b, c]: [i32; 3] = numbers(&line[1..], false).ok_or(BAD_LINE)?;
+            unless(slices.triangles.len() == 3 * TRIANGLE_LIMIT, ONE_TOO_MANY)?;
+            let vertices = slices.positions.len() as i32 / 6;
+            unless(a >= vertices || b >= vertices || c >= vertices, NO_SUCH_VERTEX)?;
+            unless(a == b || b == c || a == c, VERTEX_TWICE)?;
+            slices.triangles.extend_from_slice(&[a as u16, b as u16, c as u16]);
+        }
+        _ => return Err(BAD_LINE),
+    }
+    Ok(())
+}
+
+fn unless(wrong: bool, number: u64) -> Result<(), u64> {
+    if wrong {
+        Err(number)
+    } else {
+        Ok(())
+    }
+}
+
+/// Exactly N fields, a tab before each.
+fn numbers<const N: usize>(mut rest: &[u8], signed: bool) -> Option<[i32; N]> {
+    let mut out = [0; N];
+    for place in &mut out {
+        rest = rest.strip_prefix(b"\t")?;
+        let minus = signed && rest.first() == Some(&b'-');
+        rest = if minus { &rest[1..] } else { rest };
+        let digits = rest.iter().take_while(|byte| byte.is_ascii_digit()).count();
+        if digits == 0 || digits > 9 || (rest[0] == b'0' && (digits > 1 || minus)) {
+            return None;
+        }
+        let value = rest[..digits].iter().fold(0, |value, byte| 10 * value + (byte - b'0') as i32);
+        *place = if minus { -value } else { value };
+        rest = &rest[digits..];
+    }
+    rest.is_empty().then_some(out)
+}

@@ -1,0 +1,138 @@
+//! The library, linked from target/staticlib/libmakhnodri.a. The one place that knows its functions; without the
+//! feature `product` there is none, and the tables leave it out.
+//!
+//! What it needs of the library (a slice is a pointer, not null, and a length):
+//!
+//! | function | takes | gives |
+//! |---|---|---|
+//! | makhnodri_judge_scene | positions i32, edges u16, triangles u16, list u16, verdicts u8 | an answer; the list's entries, and for each its verdict: 0 hit, 1 miss, 2 degenerate |
+//! | makhnodri_list | positions i32, edges u16, triangles u16, list u16 | an answer; the list's entries |
+//! | makhnodri_report | text u8, report u8 | the length of the report |
+//!
+//! An answer is the count in the lower 32 bits, or a refusal: its number above them and what it carries in them.
+
+/// The count, or the refusal's number.
+pub type Answer = Result<usize, u64>;
+
+/// The verdicts as bytes.
+pub const HIT: u8 = 0;
+pub const MISS: u8 = 1;
+pub const DEGENERATE: u8 = 2;
+
+#[cfg(feature = "product")]
+pub use linked::Product;
+#[cfg(not(feature = "product"))]
+pub use missing::Product;
+
+#[cfg(feature = "product")]
+mod linked {
+    use super::Answer;
+    use crate::slices::Slices;
+
+    extern "C" {
+        fn makhnodri_judge_scene(
+            positions: *const i32,
+            positions_len: usize,
+            edges: *const u16,
+            edges_len: usize,
+            triangles: *const u16,
+            triangles_len: usize,
+            list: *mut u16,
+            list_len: usize,
+            verdicts: *mut u8,
+            verdicts_len: usize,
+        ) -> u64;
+        fn makhnodri_list(
+            positions: *const i32,
+            positions_len: usize,
+            edges: *const u16,
+            edges_len: usize,
+            triangles: *const u16,
+            triangles_len: usize,
+            list: *mut u16,
+            list_len: usize,
+        ) -> u64;
+        fn makhnodri_report(text: *const u8, text_len: usize, report: *mut u8, report_len: usize) -> usize;
+    }
+
+    fn answer(said: u64) -> Answer {
+        match said >> 32 {
+            0 => Ok(said as usize),
+            number => Err(number),
+        }
+    }
+
+    pub struct Product;
+
+    impl Product {
+        pub fn find() -> Option<Product> {
+            Some(Product)
+        }
+
+        pub fn judge_scene(&self, s: &Slices, list: &mut [u16], verdicts: &mut [u8]) -> Answer {
+            // SAFETY: each pointer comes with the length of its own slice, and no two overlap
+            answer(unsafe {
+                makhnodri_judge_scene(
+                    s.positions.as_ptr(),
+                    s.positions.len(),
+                    s.edges.as_ptr(),
+                    s.edges.len(),
+                    s.triangles.as_ptr(),
+                    s.triangles.len(),
+                    list.as_mut_ptr(),
+                    list.len(),
+                    verdicts.as_mut_ptr(),
+                    verdicts.len(),
+                )
+            })
+        }
+
+        pub fn list(&self, s: &Slices, list: &mut [u16]) -> Answer {
+            // SAFETY: as above
+            answer(unsafe {
+                makhnodri_list(
+                    s.positions.as_ptr(),
+                    s.positions.len(),
+                    s.edges.as_ptr(),
+                    s.edges.len(),
+                    s.triangles.as_ptr(),
+                    s.triangles.len(),
+                    list.as_mut_ptr(),
+                    list.len(),
+                )
+            })
+        }
+
+        pub fn report(&self, text: &[u8], report: &mut [u8]) -> usize {
+            // SAFETY: as above
+            unsafe { makhnodri_report(text.as_ptr(), text.len(), report.as_mut_ptr(), report.len()) }
+        }
+    }
+}
+
+#[cfg(not(feature = "product"))]
+mod missing {
+    use super::Answer;
+    use crate::slices::Slices;
+
+    /// There is no library, so there is none of these.
+    pub enum Product {}
+
+    impl Product {
+        pub fn find() -> Option<Product> {
+            None
+        }
+
+        pub fn judge_scene(&self, _: &Slices, _: &mut [u16], _: &mut [u8]) -> Answer {
+            match *self {}
+        }
+
+        pub fn list(&self, _: &Slices, _: &mut [u16]) -> Answer {
+            match *self {}
+        }
+
+        pub fn report(&self, _: &[u8], _: &mut [u8]) -> usize {
+            match *self {}
+        }
+    }
+}

@@ -1,0 +1,69 @@
+//! The scenes that are timed.
+
+use compare::random::Random;
+use compare::scene::{Scene, EDGE_LIMIT, TRIANGLE_LIMIT, VERTEX_LIMIT};
+
+/// Two layers of cloth as deep in each other as layers get: a sheet falls through another, both creased. Vertices and
+/// triangles, or edges alone, so that only pairs of one kind are listed; small enough that most boxes meet.
+pub fn layers(random: &mut Random, columns: usize, rows: usize, step: i64, with_edges: bool) -> Scene {
+    let mut scene = Scene::default();
+    for (start, end) in [(0, 0), (2 * step, -2 * step)] {
+        let base = scene.vertices.len();
+        let at = |column: usize, row: usize| base + row * (columns + 1) + column;
+        for row in 0..=rows {
+            for column in 0..=columns {
+                let mut around = |n: i64| n + random.between(-2 * step, 2 * step);
+                let (x, y) = (column as i64 * step, row as i64 * step);
+                scene.vertices.push([around(x), around(y), around(start), around(x), around(y), around(end)]);
+                if !with_edges && column > 0 && row > 0 {
+                    let corner = [at(column - 1, row - 1), at(column, row - 1), at(column, row), at(column - 1, row)];
+                    scene.triangles.push([corner[0], corner[1], corner[2]]);
+                    scene.triangles.push([corner[2], corner[3], corner[0]]);
+                }
+                if with_edges && column > 0 {
+                    scene.edges.push([at(column - 1, row), at(column, row)]);
+                }
+                if with_edges && row > 0 {
+                    scene.edges.push([at(column, row - 1), at(column, row)]);
+                }
+            }
+        }
+    }
+    scene
+}
+
+/// Parts anywhere, moving anywhere: hardly two pairs alike.
+pub fn scattered(random: &mut Random, vertices: usize, reach: i64, with_edges: bool) -> Scene {
+    let places = (0..vertices).map(|_| [0; 6].map(|_| random.between(-reach, reach))).collect();
+    let mut scene = Scene { vertices: places, ..Scene::default() };
+    for _ in 0..vertices {
+        let first = random.below(vertices - 2);
+        if with_edges {
+            scene.edges.push([first, first + 1 + random.below(vertices - first - 1)]);
+        } else {
+            scene.triangles.push([first + 1, first, first + 2]);
+        }
+    }
+    scene
+}
+
+/// 512 vertices, 1,024 edges, 512 triangles: a wide sheet in folds, which come near each other.
+pub fn full_size(random: &mut Random, fold: usize) -> Scene {
+    let (columns, rows) = (32, VERTEX_LIMIT / 32);
+    let mut scene = Scene::default();
+    for i in 0..VERTEX_LIMIT {
+        let (column, row) = (i % columns, i / columns);
+        // every fold goes back over the one before, one layer higher
+        let (layer, along) = (column / fold, column % fold);
+        let x = if layer.is_multiple_of(2) { along } else { fold - 1 - along } as i64;
+        let place = [100 * x, 100 * row as i64, 60 * layer as i64].map(|n| n + random.between(-20, 20));
+        let moved = place.map(|n| n + random.between(-40, 40));
+        scene.vertices.push([place[0], place[1], place[2], moved[0], moved[1], moved[2]]);
+        let beside = if column + 1 < columns { i + 1 } else { i - 1 };
+        let above = if row + 1 < rows { i + columns } else { i - columns };
+        scene.edges.extend([[i, beside], [above, i]]);
+        scene.triangles.push([i, beside, above]);
+    }
+    assert_eq!((scene.edges.len(), scene.triangles.len()), (EDGE_LIMIT, TRIANGLE_LIMIT));
+    scene
+}

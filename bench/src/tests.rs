@@ -1,0 +1,67 @@
+//! Whether the ways that are timed do what they are said to do. Nothing here is timed.
+
+use crate::errors::{self, Kind, Set, Source};
+use crate::slices::Slices;
+use crate::{plain, plain_report, wide};
+use compare::generate;
+use compare::listing::listed;
+use compare::random::Random;
+use compare::report::report;
+use compare::scene::{Kind as PairKind, REPORT_ROOM};
+use compare::signs::determinant;
+use compare::trials;
+use compare::verdict::of_pair;
+
+#[test]
+fn plain_and_wide_verdicts_and_lists_are_the_exact_ones() {
+    for seed in 0..130 {
+        let scene = generate::scene(seed);
+        let (slices, right) = (Slices::of(&scene), listed(&scene));
+        let mut list = vec![0; 3 * right.len() + 2];
+        assert_eq!(plain::list(&slices, &mut list), right.len());
+        for (entry, pair) in list.chunks_exact(3).zip(right).take(300) {
+            let kind = (pair.kind == PairKind::EdgeEdge) as u16;
+            assert_eq!(entry, [kind, pair.first as u16, pair.second as u16]);
+            let verdict = of_pair(&scene, pair);
+            assert_eq!((plain::judge(&slices, entry), wide::judge(&slices, entry)), (verdict, verdict), "seed {seed}");
+        }
+    }
+}
+
+#[test]
+fn the_plain_report_is_the_exact_one() {
+    let seeded = (0..140).flat_map(trials::seeded);
+    for trial in trials::fixed().into_iter().chain(seeded) {
+        let mut out = Vec::new();
+        plain_report::report(&trial.text, &mut [0; 3 * REPORT_ROOM], &mut out);
+        assert_eq!(String::from_utf8(out).unwrap(), report(&trial.text, REPORT_ROOM), "{}", trial.name);
+    }
+}
+
+/// With a tolerance that is about right for numbers up to 100, the cubic is right, near a border too.
+#[test]
+fn the_cubic_is_right_where_it_is_easy() {
+    for kind in [Kind::PointTriangle, Kind::EdgeEdge] {
+        for set in [Set::Anywhere, Set::OnABorder] {
+            let source = Source { name: "easy", reach: 100, set };
+            let count = errors::count(&mut Random::new(1), kind, source, 2_000, None);
+            let wrong = count.cubic[2];
+            assert!(wrong.missed + wrong.invented < 10, "{} + {}", wrong.missed, wrong.invented);
+            assert!(count.hits > 20);
+        }
+    }
+}
+
+/// Few units of volume from one plane, though the parts are large.
+#[test]
+fn a_hair_is_a_hair() {
+    let source = Source { name: "a hair", reach: 250_000, set: Set::AHairApart };
+    for kind in [Kind::PointTriangle, Kind::EdgeEdge] {
+        let mut random = Random::new(1);
+        let fours: Vec<errors::Four> = (0..1_000).filter_map(|_| errors::shifting(&mut random, kind, source)).collect();
+        let seen = |four: &errors::Four, v: usize| [0, 1, 2].map(|axis| (four[v][axis] - four[0][axis]) as i128);
+        let volume = |four: &errors::Four| determinant(seen(four, 1), seen(four, 2), seen(four, 3)).abs();
+        let near = fours.iter().filter(|four| (1..100).contains(&volume(four))).count();
+        assert!(fours.len() > 100 && near * 10 > fours.len() * 9, "{near} of {}", fours.len());
+    }
+}

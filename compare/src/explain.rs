@@ -1,0 +1,90 @@
+//! A verdict with its reasons: the pieces of each listed pair with their weights, and what doubles make of a volume.
+
+use crate::listing;
+use crate::pieces::{pieces, Piece};
+use crate::scene::{Kind, Pair, Scene};
+use crate::signs::{determinant, weights, Number};
+use crate::verdict::{of_pair, of_piece, Verdict};
+
+pub fn explained(scene: &Scene) -> String {
+    listing::listed(scene).into_iter().map(|pair| of_listed(scene, pair)).collect()
+}
+
+fn of_listed(scene: &Scene, pair: Pair) -> String {
+    let kind = match pair.kind {
+        Kind::PointTriangle => "pt",
+        Kind::EdgeEdge => "ee",
+    };
+    let mut out = format!("{kind} {} {}: {}\n", pair.first, pair.second, of_pair(scene, pair).word());
+    for (number, piece) in pieces(scene, pair).iter().enumerate() {
+        out += &format!("  piece {number}: {}\n", of_one(piece));
+    }
+    if pair.kind == Kind::PointTriangle {
+        let [a, b, c] = scene.triangles[pair.second];
+        for (when, offset) in [("start", 0), ("end", 3)] {
+            let place = |v: usize| [0, 1, 2].map(|axis| scene.vertices[v][offset + axis]);
+            out += &volume(when, [place(a), place(b), place(c), place(pair.first)]);
+        }
+    }
+    out
+}
+
+/// The weights as whole numbers without a common divisor, so signed that the sum is above 0.
+fn of_one(piece: &Piece) -> String {
+    let (weights, sum) = weights::<i128>(piece);
+    let verdict = of_piece(piece);
+    if verdict == Verdict::Degenerate {
+        return "degenerate, the determinant is 0".to_string();
+    }
+    let divisor = weights.iter().fold(sum, |a, &b| divisor(a, b)).abs() * sum.signum();
+    let words: Vec<String> = weights.iter().map(|weight| (weight / divisor).to_string()).collect();
+    let (first, second) = words.split_at(piece.first.len());
+    format!("{}, weights {} against {}", verdict.word(), first.join(", "), second.join(", "))
+}
+
+fn divisor(a: i128, b: i128) -> i128 {
+    if b == 0 {
+        a
+    } else {
+        divisor(b, a % b)
+    }
+}
+
+/// The volume of three points as seen from the fourth, and the same in doubles for each order of the four. Nothing is
+/// said where every order is right.
+fn volume(when: &str, points: [[i64; 3]; 4]) -> String {
+    let exact = volume_of::<i128>(points, [0, 1, 2, 3]);
+    let mut found: Vec<f64> = orders().into_iter().map(|(order, sign)| sign * volume_of::<f64>(points, order)).collect();
+    found.sort_by(f64::total_cmp);
+    // a volume of 0 is one volume
+    found.iter_mut().for_each(|volume| *volume += 0.0);
+    let mut different = found.clone();
+    different.dedup();
+    if different == [exact as f64] {
+        return String::new();
+    }
+    let times = |volume: &f64| found.iter().filter(|other| *other == volume).count();
+    let words: Vec<String> = different.iter().map(|volume| format!("{volume} ({} times)", times(volume))).collect();
+    format!("  volume at the {when}: exactly {exact}; in doubles, over the 24 orders of the points: {}\n", words.join(", "))
+}
+
+fn volume_of<N: Number>(points: [[i64; 3]; 4], order: [usize; 4]) -> N {
+    let [a, b, c, base] = order.map(|place| points[place]);
+    let from_base = |p: [i64; 3]| [0, 1, 2].map(|axis| N::from_whole(p[axis] - base[axis]));
+    determinant(from_base(a), from_base(b), from_base(c))
+}
+
+/// The orders of four, each with the sign that it gives a volume.
+fn orders() -> Vec<([usize; 4], f64)> {
+    let mut out = Vec::new();
+    for code in 0..256 {
+        let order = [code & 3, code >> 2 & 3, code >> 4 & 3, code >> 6];
+        let falls = |i: usize, j: usize| i < j && order[i] > order[j];
+        let all = (0..4).flat_map(|i| (0..4).map(move |j| (i, j)));
+        if (0..4).all(|place| order.contains(&place)) {
+            let turned = all.filter(|&(i, j)| falls(i, j)).count() % 2 == 1;
+            out.push((order, if turned { -1.0 } else { 1.0 }));
+        }
+    }
+    out
+}

@@ -1,0 +1,120 @@
+//! Report programs that are wrong in one respect each: what trainees write, and every wrong order of checks. A
+//! comparison that cannot tell one of these from document 01 is not worth running; and what a trainee's own program
+//! prints can be held against them, to say which mistake it looks like.
+
+mod judging;
+mod listing;
+mod reading;
+
+use crate::refusal::{Refusal, NO_ROOM};
+use crate::report::written;
+use crate::scene::{Pair, Scene};
+use crate::verdict::{self, Verdict};
+use crate::{listing as right_listing, text};
+use std::collections::HashMap;
+
+type Read = Box<dyn Fn(&[u8]) -> Result<Scene, Refusal>>;
+type List = Box<dyn Fn(&Scene) -> Vec<Pair>>;
+type Judge = Box<dyn Fn(&Scene, Pair) -> Verdict>;
+type Print = Box<dyn Fn(&[Pair], usize, &dyn Fn(Pair) -> Verdict) -> String>;
+
+/// The four steps of a report program, of which a mistake has one; the others go right.
+#[derive(Default)]
+struct Steps {
+    read: Option<Read>,
+    list: Option<List>,
+    judge: Option<Judge>,
+    print: Option<Print>,
+}
+
+/// What the steps come to when they go right, found once for all the mistakes that are tried on a text.
+pub struct Right {
+    text: Vec<u8>,
+    scene: Result<Scene, Refusal>,
+    listed: Vec<Pair>,
+    verdicts: HashMap<Pair, Verdict>,
+    room: usize,
+}
+
+impl Right {
+    pub fn of(text: &[u8], room: usize) -> Right {
+        let scene = text::read(text);
+        let listed = scene.as_ref().map(right_listing::listed).unwrap_or_default();
+        let judged = if listed.len() > room { &[][..] } else { &listed[..] };
+        let verdicts = judged.iter().map(|&pair| (pair, verdict::of_pair(scene.as_ref().unwrap(), pair))).collect();
+        Right { text: text.to_vec(), scene, listed, verdicts, room }
+    }
+
+    pub fn report(&self) -> String {
+        self.report_after(&Steps::default())
+    }
+
+    fn report_after(&self, steps: &Steps) -> String {
+        let scene = steps.read.as_ref().map_or_else(|| self.scene.clone(), |read| read(&self.text));
+        let scene = match scene {
+            Err(refusal) => return written(&Err(refusal)),
+            Ok(scene) => scene,
+        };
+        let same = self.scene.as_ref() == Ok(&scene);
+        let listed = match &steps.list {
+            Some(list) => list(&scene),
+            None if same => self.listed.clone(),
+            None => right_listing::listed(&scene),
+        };
+        let found = |pair| if same { self.verdicts.get(&pair).copied() } else { None };
+        let judge = |pair| match &steps.judge {
+            Some(judge) => judge(&scene, pair),
+            None => found(pair).unwrap_or_else(|| verdict::of_pair(&scene, pair)),
+        };
+        match &steps.print {
+            Some(print) => print(&listed, self.room, &judge),
+            None => print_right(&listed, self.room, &judge),
+        }
+    }
+}
+
+fn print_right(listed: &[Pair], room: usize, judge: &dyn Fn(Pair) -> Verdict) -> String {
+    written(&fitting(listed, room).map(|listed| with_verdicts(listed, judge)))
+}
+
+fn fitting(listed: &[Pair], room: usize) -> Result<&[Pair], Refusal> {
+    if listed.len() > room {
+        return Err(Refusal::new(NO_ROOM, listed.len() as u64));
+    }
+    Ok(listed)
+}
+
+fn with_verdicts(listed: &[Pair], judge: &dyn Fn(Pair) -> Verdict) -> Vec<(Pair, Verdict)> {
+    listed.iter().map(|&pair| (pair, judge(pair))).collect()
+}
+
+pub struct Mistake {
+    /// A word to call it by.
+    pub key: String,
+    /// What is done wrong.
+    pub says: String,
+    steps: Steps,
+}
+
+impl Mistake {
+    fn new(key: impl Into<String>, says: impl Into<String>, steps: Steps) -> Mistake {
+        Mistake { key: key.into(), says: says.into(), steps }
+    }
+
+    /// Its report of the text that the right steps were found for.
+    pub fn report(&self, right: &Right) -> String {
+        right.report_after(&self.steps)
+    }
+}
+
+/// Every one of them, those of the training page first.
+pub fn all() -> Vec<Mistake> {
+    let mut out = judging::mistakes();
+    out.extend(listing::mistakes());
+    out.extend(reading::mistakes());
+    out
+}
+
+pub fn find(key: &str) -> Option<Mistake> {
+    all().into_iter().find(|mistake| mistake.key == key)
+}

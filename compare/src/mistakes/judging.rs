@@ -1,0 +1,123 @@
+//! Listed pairs judged wrongly.
+
+use super::{Mistake, Steps};
+use crate::cubic;
+use crate::equations::Solutions;
+use crate::pieces::{pieces, Piece};
+use crate::scene::{Kind, Pair, Scene};
+use crate::signs::{none_opposed, weights};
+use crate::verdict::{joined, of_pair, of_piece, of_pieces, Verdict};
+
+pub fn mistakes() -> Vec<Mistake> {
+    let mut out: Vec<Mistake> = ["0", "1e-9", "1e-6", "1e-3"].map(by_cubic).into();
+    out.extend([
+        by_piece("doubles", "determinants in doubles", in_doubles),
+        by_piece("zero-weight-degenerate", "a zero weight taken as degenerate", |piece| {
+            of_zero_weight(piece, Verdict::Degenerate)
+        }),
+        by_piece("zero-weight-miss", "a zero weight taken as a miss", |piece| of_zero_weight(piece, Verdict::Miss)),
+        by_piece("singular-hit", "a singular piece taken as a hit", |piece| of_singular(piece, Verdict::Hit)),
+        by_piece("singular-miss", "a singular piece taken as a miss", |piece| of_singular(piece, Verdict::Miss)),
+        by_piece(
+            "signs-only",
+            "signs without the determinant: a singular piece is a hit where no sign is negative, else a miss",
+            by_signs_only,
+        ),
+        by_pair("written-order", "corners in the order the scene writes them", in_written_order),
+        by_pair("first-piece", "the first piece's verdict given for the pair", |scene, pair| of_pieces(scene, pair)[0]),
+        by_pair("last-piece", "the last piece's verdict given for the pair", |scene, pair| {
+            *of_pieces(scene, pair).last().unwrap()
+        }),
+        by_pair("every-piece", "a hit only where every piece is a hit", |scene, pair| {
+            let verdicts = of_pieces(scene, pair);
+            if verdicts.iter().all(|&verdict| verdict == Verdict::Hit) {
+                return Verdict::Hit;
+            }
+            joined(&verdicts.into_iter().filter(|&verdict| verdict != Verdict::Hit).collect::<Vec<Verdict>>())
+        }),
+        by_pair("degenerate-first", "a degenerate piece counted before a hit", |scene, pair| {
+            let verdicts = of_pieces(scene, pair);
+            if verdicts.contains(&Verdict::Degenerate) {
+                Verdict::Degenerate
+            } else {
+                joined(&verdicts)
+            }
+        }),
+    ]);
+    out
+}
+
+fn by_pair(key: &str, says: &str, judge: fn(&Scene, Pair) -> Verdict) -> Mistake {
+    Mistake::new(key, says, Steps { judge: Some(Box::new(judge)), ..Steps::default() })
+}
+
+fn by_piece(key: &str, says: &str, judge: fn(&Piece) -> Verdict) -> Mistake {
+    let joined_pieces = move |scene: &Scene, pair: Pair| joined(&pieces(scene, pair).iter().map(judge).collect::<Vec<Verdict>>());
+    Mistake::new(key, says, Steps { judge: Some(Box::new(joined_pieces)), ..Steps::default() })
+}
+
+fn of_zero_weight(piece: &Piece, wrong: Verdict) -> Verdict {
+    let solutions = Solutions::of(&piece.first, &piece.second);
+    let zero_weight = !solutions.singular() && solutions.only().iter().any(|(numerator, _)| numerator.sign() == 0);
+    match of_piece(piece) {
+        Verdict::Hit if zero_weight => wrong,
+        right => right,
+    }
+}
+
+fn of_singular(piece: &Piece, wrong: Verdict) -> Verdict {
+    match of_piece(piece) {
+        Verdict::Degenerate => wrong,
+        right => right,
+    }
+}
+
+fn by_signs_only(piece: &Piece) -> Verdict {
+    if none_opposed(&weights::<i128>(piece).0) {
+        Verdict::Hit
+    } else {
+        Verdict::Miss
+    }
+}
+
+fn in_doubles(piece: &Piece) -> Verdict {
+    let (weights, sum) = weights::<f64>(piece);
+    match (sum == 0.0, none_opposed(&weights)) {
+        (true, _) => Verdict::Degenerate,
+        (false, true) => Verdict::Hit,
+        (false, false) => Verdict::Miss,
+    }
+}
+
+/// The pair alone, its vertices numbered as the scene writes them.
+fn in_written_order(scene: &Scene, pair: Pair) -> Verdict {
+    let (first, second) = pair.parts(scene);
+    let vertices = first.iter().chain(second).map(|&v| scene.vertices[v]).collect();
+    match pair.kind {
+        Kind::PointTriangle => of_pair(&Scene { vertices, edges: vec![], triangles: vec![[1, 2, 3]] }, Pair::pt(0, 0)),
+        Kind::EdgeEdge => of_pair(&Scene { vertices, edges: vec![[0, 1], [2, 3]], triangles: vec![] }, Pair::ee(0, 1)),
+    }
+}
+
+fn by_cubic(tolerance: &str) -> Mistake {
+    let says = format!("a cubic in doubles, compared with {tolerance}; nothing is degenerate");
+    let tolerance_number: f64 = tolerance.parse().unwrap();
+    let judge = move |scene: &Scene, pair: Pair| {
+        let moving = |v: usize| {
+            let v = scene.vertices[v].map(|n| n as f64);
+            [[v[0], v[1], v[2]], [v[3], v[4], v[5]]]
+        };
+        let (first, second) = pair.parts(scene);
+        let all: Vec<cubic::Moving> = first.iter().chain(second).map(|&v| moving(v)).collect();
+        let hit = match pair.kind {
+            Kind::PointTriangle => cubic::point_triangle(&all[0], [&all[1], &all[2], &all[3]], tolerance_number),
+            Kind::EdgeEdge => cubic::edge_edge([&all[0], &all[1]], [&all[2], &all[3]], tolerance_number),
+        };
+        if hit {
+            Verdict::Hit
+        } else {
+            Verdict::Miss
+        }
+    };
+    Mistake::new(format!("cubic-{tolerance}"), says, Steps { judge: Some(Box::new(judge)), ..Steps::default() })
+}

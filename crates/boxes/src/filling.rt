@@ -1,0 +1,100 @@
+// The boxes of a scene, each worked out once: an edge's and a triangle's from those of its vertices, which stand in the list already.
+
+ghost use Prim.Native.Nat.{_*_, _≤_, _<_};
+ghost use mathlib.Core.List.{[]};
+ghost use mathlib.Core.Bool.{false};
+ghost use mathlib.Core.Path.{_≡_};
+ghost use lib.ListN.{length};
+ghost use Rattle.meaning.specs.Scene.{sceneOf, Accepted, vertexCount, edgeCount, triangleCount, unknownIn};
+ghost use Rattle.scenes.specs.Alone.{onlyPositions, onlyEdges, onlyTriangles};
+ghost use Rattle.boxes.specs.Kept.{edgePlace, trianglePlace, edgeBox, triangleBox, VerticesIn, EdgesIn, boxNumbers};
+ghost use Rattle.boxes.specs.Storing.{BoxStored};
+ghost use Rattle.boxes.specs.Parts.{Ready};
+ghost use Rattle.boxes.specs.Filling.{KeptBehind, Filled};
+use super::kept::store_joint_box;
+use super::kept::store_vertex;
+use scenes::parts::edge_count;
+use scenes::parts::triangle_count;
+use scenes::parts::vertex_count;
+use scenes::written::corner;
+use scenes::written::edge_end;
+
+// Six numbers for each part that a scene can have.
+pub const BOX_NUMBERS: usize = 12288;
+
+fn fill_vertices(positions: &[i32], boxes: &mut [i32])
+    requires { ⌜ 6 * vertexCount (onlyPositions (now positions)) ≤ length (now boxes) ⌝ }
+    ensures { λ _. ⌜ VerticesIn (onlyPositions (now (positions .entry))) (now (boxes .exit)) × KeptBehind (now (boxes .entry)) (now (boxes .exit)) (vertexCount (onlyPositions (now (positions .entry)))) ⌝ }
+{
+    let count = vertex_count(positions);
+    let mut v = 0;
+    while v < count {
+        store_vertex(positions, v, boxes);
+        v += 1;
+    }
+}
+
+// The box of edge j, in its place behind those of the vertices.
+fn store_edge(positions: &[i32], edges: &[u16], j: usize, boxes: &mut [i32])
+    requires { ⌜ j < edgeCount (sceneOf (now positions) (now edges) []) ⌝ }
+    requires { ⌜ Ready (sceneOf (now positions) (now edges) []) (now edges) (now boxes) (edgePlace (sceneOf (now positions) (now edges) []) j) ⌝ }
+    ensures { λ _. ⌜ BoxStored (now (boxes .entry)) (edgePlace (sceneOf (now (positions .entry)) (now (edges .entry)) []) j) (edgeBox (sceneOf (now (positions .entry)) (now (edges .entry)) []) j) (now (boxes .exit)) ⌝ }
+{
+    let place = vertex_count(positions) + j;
+    store_joint_box(boxes, edge_end(edges, j, 0), edge_end(edges, j, 1), place);
+}
+
+// The box of triangle j, in its place behind those of the edges: first the joint box of two corners.
+fn store_triangle(positions: &[i32], edges: &[u16], triangles: &[u16], j: usize, boxes: &mut [i32])
+    requires { ⌜ j < triangleCount (sceneOf (now positions) (now edges) (now triangles)) ⌝ }
+    requires { ⌜ Ready (sceneOf (now positions) (now edges) (now triangles)) (now triangles) (now boxes) (trianglePlace (sceneOf (now positions) (now edges) (now triangles)) j) ⌝ }
+    ensures { λ _. ⌜ BoxStored (now (boxes .entry)) (trianglePlace (sceneOf (now (positions .entry)) (now (edges .entry)) (now (triangles .entry))) j) (triangleBox (sceneOf (now (positions .entry)) (now (edges .entry)) (now (triangles .entry))) j) (now (boxes .exit)) ⌝ }
+{
+    let place = vertex_count(positions) + edge_count(edges) + j;
+    let third = corner(triangles, j, 2);
+    store_joint_box(
+        boxes,
+        corner(triangles, j, 0),
+        corner(triangles, j, 1),
+        place,
+    );
+    store_joint_box(boxes, place, third, place);
+}
+
+fn fill_edges(positions: &[i32], edges: &[u16], boxes: &mut [i32])
+    requires { ⌜ unknownIn (vertexCount (onlyPositions (now positions))) (now edges) ≡ false ⌝ }
+    requires { ⌜ 6 * edgePlace (onlyPositions (now positions)) (edgeCount (onlyEdges (now edges))) ≤ length (now boxes) ⌝ }
+    requires { ⌜ VerticesIn (onlyPositions (now positions)) (now boxes) ⌝ }
+    ensures { λ _. ⌜ VerticesIn (onlyPositions (now (positions .entry))) (now (boxes .exit)) × EdgesIn (sceneOf (now (positions .entry)) (now (edges .entry)) []) (now (boxes .exit)) × KeptBehind (now (boxes .entry)) (now (boxes .exit)) (edgePlace (onlyPositions (now (positions .entry))) (edgeCount (onlyEdges (now (edges .entry))))) ⌝ }
+{
+    let count = edge_count(edges);
+    let mut j = 0;
+    while j < count {
+        store_edge(positions, edges, j, boxes);
+        j += 1;
+    }
+}
+
+fn fill_triangles(positions: &[i32], edges: &[u16], triangles: &[u16], boxes: &mut [i32])
+    requires { ⌜ unknownIn (vertexCount (onlyPositions (now positions))) (now triangles) ≡ false ⌝ }
+    requires { ⌜ 6 * trianglePlace (sceneOf (now positions) (now edges) []) (triangleCount (onlyTriangles (now triangles))) ≤ length (now boxes) ⌝ }
+    requires { ⌜ VerticesIn (onlyPositions (now positions)) (now boxes) × EdgesIn (sceneOf (now positions) (now edges) []) (now boxes) ⌝ }
+    ensures { λ _. ⌜ Filled (sceneOf (now (positions .entry)) (now (edges .entry)) (now (triangles .entry))) (now (boxes .entry)) (now (boxes .exit)) ⌝ }
+{
+    let count = triangle_count(triangles);
+    let mut j = 0;
+    while j < count {
+        store_triangle(positions, edges, triangles, j, boxes);
+        j += 1;
+    }
+}
+
+// The boxes of all vertices, then of all edges, then of all triangles of an accepted scene.
+pub fn fill(positions: &[i32], edges: &[u16], triangles: &[u16], boxes: &mut [i32])
+    requires { ⌜ Accepted (sceneOf (now positions) (now edges) (now triangles)) × (boxNumbers ≤ length (now boxes)) ⌝ }
+    ensures { λ _. ⌜ Filled (sceneOf (now (positions .entry)) (now (edges .entry)) (now (triangles .entry))) (now (boxes .entry)) (now (boxes .exit)) ⌝ }
+{
+    fill_vertices(positions, boxes);
+    fill_edges(positions, edges, boxes);
+    fill_triangles(positions, edges, triangles, boxes);
+}

@@ -1,0 +1,120 @@
+-- 'Prove the twelve cases as one table under a single statement': one test computes that no row has a fault, and one law says what a row
+-- without a fault is.
+use Prim.Native.Nat.{ℕ}
+use mathlib.Core.Bool.{Bool, true, false, not, cond, _||_, true≢false}
+use mathlib.Core.List.{List, [], _∷_}
+use mathlib.Core.Path.{_≡_, refl, sym, _∙_}
+use lib.Dec.{eqb}
+use lib.IntN.{ℤ, pos}
+use lib.ListN.{length, getD}
+use lib.Signed.{_<ℤ_, ltZ-yes}
+use borrow.Author.Tests.{eqb-true, not-false}
+use Rattle.whole.specs.Vector.{volume}
+use Rattle.meaning.specs.Scene.{Scene, wrongShape, outOfRange, unknownVertex, repeatedVertex, someBelow}
+use Rattle.meaning.specs.Pieces.{Piece, movingTriangle, pieceOf, pieceCount}
+use Rattle.meaning.specs.Equations.{one, total, Balanced}
+use Rattle.meaning.specs.Refusals.{notThere, shares}
+use Rattle.meaning.specs.Boxes.{meetOn, listed}
+use Rattle.meaning.specs.Judging.{byteOf}
+use Rattle.meaning.specs.declared.Kind.{Kind}
+use Rattle.meaning.specs.declared.Kind.the-variants.{PointTriangle}
+use Rattle.meaning.specs.declared.Verdict.{Verdict}
+use Rattle.meaning.specs.declared.Verdict.the-variants.{Hit, Miss, Degenerate}
+use Rattle.theory.specs.Bounds.{Every}
+use Rattle.theory.specs.Reading.{verdictOf, agreeing}
+use Rattle.theory.specs.Computed.{pieceVerdict, pointDifferences, edgeDifferences, startSum, endSum}
+use Rattle.theory.specs.OneVerdict.{piece-is}
+use Rattle.scenes.specs.Below.{or-left, or-rest, none-passes}
+use Rattle.demands.specs.Standing.{stands-is}
+use Rattle.demands.specs.Table.{Case, cases, numbered, StandsIf, IsRight}
+
+-- ---- the test
+
+unlike : Verdict → Verdict → Bool
+unlike v w = not (eqb (byteOf v) (byteOf w))
+
+abbrev differs : Case → ℕ → Bool
+differs c k = unlike (getD (c .pieces) k Miss) (pieceVerdict (c .scene) (c .kind) (c .first) (c .second) k)
+
+fault : Case → Bool
+fault c =
+    wrongShape (c .scene) || outOfRange (c .scene) || unknownVertex (c .scene) || repeatedVertex (c .scene)
+    || notThere (c .scene) (c .kind) (c .first) (c .second)
+    || shares (c .scene) (c .kind) (c .first) (c .second)
+    || not (eqb (length (c .pieces)) (pieceCount (c .kind)))
+    || someBelow (pieceCount (c .kind)) (differs c)
+    || cond (c .inList) (not (listed (c .scene) (c .kind) (c .first) (c .second))) (listed (c .scene) (c .kind) (c .first) (c .second))
+
+faults : List Case → Bool
+faults [] = false
+faults (c ∷ l) = fault c || faults l
+
+no-faults : faults cases ≡ false
+unfolding faults fault unlike someBelow notThere pieceCount byteOf pieceVerdict pointDifferences edgeDifferences startSum endSum volume verdictOf agreeing shares meetOn
+no-faults = refl
+
+-- ---- the law
+
+like : (v w : Verdict) → unlike v w ≡ false → v ≡ w
+unfolding unlike byteOf
+like Hit Hit e = refl
+like Hit Miss e = absurd (true≢false e)
+like Hit Degenerate e = absurd (true≢false e)
+like Miss Hit e = absurd (true≢false e)
+like Miss Miss e = refl
+like Miss Degenerate e = absurd (true≢false e)
+like Degenerate Hit e = absurd (true≢false e)
+like Degenerate Miss e = absurd (true≢false e)
+like Degenerate Degenerate e = refl
+
+stands-if : (b : Bool) (s : Scene) (kind : Kind) (i j : ℕ) → notThere s kind i j ≡ false → cond b (not (listed s kind i j)) (listed s kind i j) ≡ false → StandsIf b s kind i j
+unfolding StandsIf
+stands-if true s kind i j there e = stands-is s kind i j there .1 (not-false (listed s kind i j) e)
+stands-if false s kind i j there e = λ m. true≢false (sym (stands-is s kind i j there .0 m) ∙ e)
+
+faultless : (c : Case) → fault c ≡ false → IsRight c
+unfolding fault
+faultless c e =
+    let there : notThere (c .scene) (c .kind) (c .first) (c .second) ≡ false = search (or-left, or-rest) depth 12 in
+    let same : someBelow (pieceCount (c .kind)) (differs c) ≡ false = search (or-left, or-rest) depth 12 in
+    record {
+      accepted = record {
+        shapely = search (or-left, or-rest) depth 12;
+        inRange = search (or-left, or-rest) depth 12;
+        known = search (or-left, or-rest) depth 12;
+        distinct = search (or-left, or-rest) depth 12;
+      };
+      there = there;
+      apart = search (or-left, or-rest) depth 12;
+      asMany = eqb-true _ _ (not-false _ (search (or-left, or-rest) depth 12));
+      each = λ k h.
+          piece-is (c .scene) (c .kind) (c .first) (c .second) k (getD (c .pieces) k Miss) .1
+          (like (getD (c .pieces) k Miss) (pieceVerdict (c .scene) (c .kind) (c .first) (c .second) k) (none-passes (differs c) (pieceCount (c .kind)) same k h));
+      list = stands-if (c .inList) (c .scene) (c .kind) (c .first) (c .second) there (search (or-left, or-rest) depth 12);
+    }
+
+all-right : (l : List Case) → faults l ≡ false → Every IsRight l
+unfolding faults
+all-right [] e = tt
+all-right (c ∷ l) e = (faultless c (or-left (fault c) (faults l) e), all-right l (or-rest (fault c) (faults l) e))
+
+-- ---- the theorem
+
+pub twelve-cases : Every IsRight cases
+twelve-cases = all-right cases no-faults
+
+-- ---- 'Case 1, piece 1: weights 2, 2 against 2, 0, 1, 1'
+
+abbrev pub weights : List ℕ → ℕ → ℤ
+weights l i = pos (getD l i 0)
+
+pub record AreWeights (u v : List ℕ) (p : Piece) : Type 0 where
+  pub balanced : Balanced (p .first) (p .second) (weights u) (weights v)
+  pub some : pos 0 <ℤ total one (weights u) (p .first)
+
+pub weights-shown : AreWeights (2 ∷ 2 ∷ []) (2 ∷ 0 ∷ 1 ∷ 1 ∷ []) (pieceOf (numbered 1 .scene) PointTriangle 3 0 1)
+unfolding total pieceOf movingTriangle
+weights-shown = record {
+  balanced = record { sums = refl; xs = refl; ys = refl; zs = refl; times = refl };
+  some = ltZ-yes tt;
+}

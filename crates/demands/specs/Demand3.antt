@@ -1,0 +1,55 @@
+-- Demand 3: 'Send a scene through a whole-number 3 by 3 matrix of nonzero determinant, then add one shift to all start positions and another
+-- to all end positions. If both scenes are accepted, every pair without a shared vertex, and each of its pieces, keeps its verdict. A pair
+-- culled in either scene is hit in neither.' The verdicts are those of demand 2.
+use Prim.Native.Nat.{ℕ}
+use mathlib.Core.Bool.{true, false}
+use mathlib.Core.Logic.{_↔_, _⊎_}
+use mathlib.Core.Path.{_≡_}
+use native.Mathlib.Omega.{arith}
+use Rattle.whole.specs.Vector.{Vector}
+use Rattle.whole.specs.VectorLaws.{Matrix}
+use Rattle.meaning.specs.Scene.{Scene, Accepted, vertexCount, edgeCount, triangleCount}
+use Rattle.meaning.specs.Pieces.{pieceOf}
+use Rattle.meaning.specs.Verdicts.{PieceIs, PairIs}
+use Rattle.meaning.specs.Refusals.{notThere, shares}
+use Rattle.meaning.specs.Boxes.{culled}
+use Rattle.meaning.specs.Motion.{firstPart, secondPart}
+use Rattle.meaning.specs.declared.Kind.{Kind}
+use Rattle.meaning.specs.declared.Kind.the-variants.{PointTriangle, EdgeEdge}
+use Rattle.meaning.specs.declared.Verdict.{Verdict}
+use Rattle.meaning.specs.declared.Verdict.the-variants.{Hit}
+use Rattle.theory.specs.Moved.{Moves, Known, moved-keeps-pieces, moved-keeps-pairs, culled-in-either-hit-in-neither}
+use Rattle.scenes.specs.Facts.{accepted-end, accepted-corner}
+use Rattle.listing.specs.InOrder.{are-there}
+
+-- in an accepted scene the vertices of a pair that is there are there
+vertices-there : {s : Scene} → Accepted s → (kind : Kind) (i j : ℕ) → notThere s kind i j ≡ false → Known s kind i j
+unfolding notThere firstPart secondPart
+vertices-there {s} a PointTriangle i j there =
+    let (h, k) = are-there (vertexCount s) (triangleCount s) i j there in
+    record {
+      first = (h, tt);
+      second = (accepted-corner a j 0 k (omega arith), (accepted-corner a j 1 k (omega arith), (accepted-corner a j 2 k (omega arith), tt)));
+    }
+vertices-there {s} a EdgeEdge i j there =
+    let (h, k) = are-there (edgeCount s) (edgeCount s) i j there in
+    record {
+      first = (accepted-end a i 0 h (omega arith), (accepted-end a i 1 h (omega arith), tt));
+      second = (accepted-end a j 0 k (omega arith), (accepted-end a j 1 k (omega arith), tt));
+    }
+
+-- in both scenes the pair and each of its pieces have the same verdict; culled in either, it is hit in neither
+pub record KeepsVerdicts (s t : Scene) (kind : Kind) (i j : ℕ) : Type 0 where
+  pub pieces : (k : ℕ) (v : Verdict) → PieceIs (pieceOf s kind i j k) v ↔ PieceIs (pieceOf t kind i j k) v
+  pub pair : (v : Verdict) → PairIs s kind i j v ↔ PairIs t kind i j v
+  pub culledInEither : (culled s kind i j ≡ true) ⊎ (culled t kind i j ≡ true) → ¬ PairIs s kind i j Hit × ¬ PairIs t kind i j Hit
+
+pub demand3 : {m : Matrix} {a b : Vector} {s t : Scene} → Moves m a b s t → Accepted s → Accepted t
+    → (kind : Kind) (i j : ℕ) → notThere s kind i j ≡ false → shares s kind i j ≡ false → KeepsVerdicts s t kind i j
+demand3 moves accepted also kind i j there apart =
+    let known = vertices-there accepted kind i j there in
+    record {
+      pieces = moved-keeps-pieces moves kind i j known;
+      pair = moved-keeps-pairs moves kind i j known;
+      culledInEither = culled-in-either-hit-in-neither moves kind i j known;
+    }

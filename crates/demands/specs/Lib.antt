@@ -1,0 +1,24 @@
+-- The demands, clause by clause, as theorems about the meaning.
+pub mod Deciding
+pub mod Demand1
+pub mod LineTable
+pub mod TextTable
+pub mod Unchanged
+pub mod Demand2
+pub mod Standing
+pub mod Demand3
+pub mod Table
+pub mod Sending
+pub mod Cases
+pub mod SmallScenes
+pub mod OneAnswer
+pub mod OneText
+pub mod SameAnswer
+pub mod StillAccepted
+pub mod AnyWriting
+pub mod NoCracks
+pub mod Columns
+pub mod FivePoints
+pub mod Printed
+pub mod Barred
+pub mod BarredLists

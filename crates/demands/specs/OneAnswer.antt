@@ -1,0 +1,83 @@
+-- 'Show that two results meeting it are equal': each promise fixes the answer and every lent buffer, refused calls too. One scheme: the
+-- checks decide alike (`one-answer`), what is right is one value, and an answer is known by what it says.
+use Prim.Native.Nat.{ℕ, min}
+use mathlib.Core.List.{List, [], _∷_, map}
+use mathlib.Core.Path.{_≡_, refl, sym, _∙_, ap}
+use lib.ListN.{length}
+use Rattle.meaning.specs.Scene.{Scene}
+use Rattle.meaning.specs.Pieces.{pieceOf}
+use Rattle.meaning.specs.Verdicts.{PieceIs, PairIs}
+use Rattle.meaning.specs.Refusals.{Check, Answers, pairSays, sceneChecks, pairChecks, pieceChecks, SceneChecked, PairJudged, PieceJudged}
+use Rattle.meaning.specs.List.{Pair, pairs, entries, roomOf, listSays, listChecks, leaves, Counted, Listing}
+use Rattle.meaning.specs.Judging.{byteOf, AllJudged, JudgedScene}
+use Rattle.meaning.specs.declared.Kind.{Kind}
+use Rattle.meaning.specs.declared.Verdict.{Verdict}
+use Rattle.meaning.specs.declared.SceneAnswer.{SceneAnswer}
+use Rattle.meaning.specs.declared.PairAnswer.{PairAnswer}
+use Rattle.meaning.specs.declared.ListAnswer as ListAnswers
+use Rattle.meaning.specs.declared.ListAnswer.{ListAnswer}
+use Rattle.theory.specs.OneVerdict.{one-piece-verdict, one-pair-verdict}
+use Rattle.scenes.specs.Answering.{one-answer}
+use Rattle.scenes.specs.Speaking.{one-number, pair-says-one, one-scene-answer}
+
+pub list-says-one : (r r′ : ListAnswer) → listSays r ≡ listSays r′ → r ≡ r′
+unfolding listSays
+list-says-one (ListAnswers.the-variants.Listed l) (ListAnswers.the-variants.Listed m) e =
+    let n : l .count ≡ m .count = cc in
+    λ i. ListAnswers.the-variants.Listed (record { count = n i })
+list-says-one (ListAnswers.the-variants.Listed l) (ListAnswers.the-variants.Refused y d) e = cc
+list-says-one (ListAnswers.the-variants.Refused x c) (ListAnswers.the-variants.Listed m) e = cc
+list-says-one (ListAnswers.the-variants.Refused x c) (ListAnswers.the-variants.Refused y d) e =
+    let k : x ≡ y = one-number x y (cc) in
+    let n : c ≡ d = cc in
+    λ i. ListAnswers.the-variants.Refused (k i) (n i)
+
+-- ---- a scene, a pair, a piece
+
+pub one-scene : (s : Scene) (r r′ : SceneAnswer) → SceneChecked s r → SceneChecked s r′ → r ≡ r′
+one-scene = one-scene-answer
+
+pub one-pair : (s : Scene) (kind : Kind) (i j : ℕ) (r r′ : PairAnswer) → PairJudged s kind i j r → PairJudged s kind i j r′ → r ≡ r′
+one-pair s kind i j r r′ p q =
+    pair-says-one r r′ (one-answer (PairIs s kind i j) (one-pair-verdict s kind i j) (pairChecks s kind i j) (pairSays r) (pairSays r′) p q)
+
+pub one-piece : (s : Scene) (kind : Kind) (i j k : ℕ) (r r′ : PairAnswer) → PieceJudged s kind i j k r → PieceJudged s kind i j k r′ → r ≡ r′
+one-piece s kind i j k r r′ p q =
+    let piece = pieceOf s kind i j k in
+    pair-says-one r r′ (one-answer (PieceIs piece) (one-piece-verdict piece) (pieceChecks s kind i j k) (pairSays r) (pairSays r′) p q)
+
+-- ---- the list, counted, made, and judged
+
+one-count : (s : Scene) (checks : List Check) (r r′ : ListAnswer)
+    → Answers checks (λ n. n ≡ length (pairs s)) (listSays r) → Answers checks (λ n. n ≡ length (pairs s)) (listSays r′) → r ≡ r′
+one-count s checks r r′ p q =
+    list-says-one r r′ (one-answer (λ n. n ≡ length (pairs s)) (λ a b h k. h ∙ sym k) checks (listSays r) (listSays r′) p q)
+
+pub one-counted : (s : Scene) (r r′ : ListAnswer) → Counted s r → Counted s r′ → r ≡ r′
+one-counted s = one-count s (sceneChecks s)
+
+pub one-listing : (s : Scene) (o o′ o″ : List ℕ) (r r′ : ListAnswer) → Listing s o o′ r → Listing s o o″ r′ → (r ≡ r′) × (o′ ≡ o″)
+one-listing s o o′ o″ r r′ p q =
+    let same : r ≡ r′ = one-count s (listChecks s (roomOf o)) r r′ (p .answer) (q .answer) in
+    (same, p .buffer ∙ ap (λ (a : ListAnswer). leaves (listSays a) (entries (pairs s)) o) same ∙ sym (q .buffer))
+
+pub all-judged-one : (s : Scene) (ps : List Pair) (vs ws : List Verdict) → AllJudged s ps vs → AllJudged s ps ws → vs ≡ ws
+unfolding AllJudged
+all-judged-one s [] [] [] h k = refl
+all-judged-one s [] [] (w ∷ ws) h k = absurd k
+all-judged-one s [] (v ∷ vs) ws h k = absurd h
+all-judged-one s (p ∷ ps) [] ws h k = absurd h
+all-judged-one s (p ∷ ps) (v ∷ vs) [] h k = absurd k
+all-judged-one s (p ∷ ps) (v ∷ vs) (w ∷ ws) h k =
+    let e = one-pair-verdict s (p .kind) (p .first) (p .second) v w (h .0) (k .0) in
+    let f = all-judged-one s ps vs ws (h .1) (k .1) in
+    λ i. e i ∷ f i
+
+pub one-judging : (s : Scene) (o o′ o″ b b′ b″ : List ℕ) (r r′ : ListAnswer) → JudgedScene s o o′ b b′ r → JudgedScene s o o″ b b″ r′ → (r ≡ r′) × (o′ ≡ o″) × (b′ ≡ b″)
+one-judging s o o′ o″ b b′ b″ r r′ p q =
+    let same : r ≡ r′ = one-count s (listChecks s (min (roomOf o) (length b))) r r′ (p .answer) (q .answer) in
+    let verdicts : p .verdicts ≡ q .verdicts = all-judged-one s (pairs s) (p .verdicts) (q .verdicts) (p .right) (q .right) in (
+      same,
+      p .list ∙ (λ i. leaves (listSays (same i)) (entries (pairs s)) o) ∙ sym (q .list),
+      p .bytes ∙ (λ i. leaves (listSays (same i)) (map byteOf (verdicts i)) b) ∙ sym (q .bytes),
+    )

@@ -1,0 +1,81 @@
+-- 'Given this on standard input, the report program prints exactly': the scene and the report that document 01 shows, byte by byte. No
+-- other report of this text meets the promise.
+use Prim.Native.Nat.{ℕ}
+use Prim.Native.Char.{code}
+use Prim.Native.String as Strings
+use Prim.Native.String.{String}
+use mathlib.Core.List.{List, [], _∷_, _++_, flatMap}
+use mathlib.Core.Path.{_≡_, refl, subst}
+use native.Mathlib.Omega.{arith}
+use lib.IntN.{pos}
+use Rattle.sequences.specs.Range.{times, over}
+use Rattle.sequences.specs.Gather.{gather}
+use Rattle.decimals.specs.Digits.{digits, digitsWithin}
+use Rattle.whole.specs.Vector.{volume}
+use Rattle.meaning.specs.Scene.{Scene, Accepted}
+use Rattle.meaning.specs.Pieces.{pieceCount}
+use Rattle.meaning.specs.Refusals.{Answers, shares}
+use Rattle.meaning.specs.Boxes.{meetOn}
+use Rattle.meaning.specs.List.{pair, pairs}
+use Rattle.meaning.specs.Text.{Entry, vertex, edge, triangle, letterOf, numbersOf, numeral, further, lineOf, Short, late, excess, far, unknown, twice, counted, Sound, coordinatesIn, endsIn, cornersIn, sceneFrom, Holds}
+use Rattle.meaning.specs.Judging.{AllJudged}
+use Rattle.meaning.specs.Report.{kindWord, verdictWord, pairLines, isOne, howMany, totalLine, ReportOf, judged}
+use Rattle.meaning.specs.declared.Kind.the-variants.{PointTriangle, EdgeEdge}
+use Rattle.meaning.specs.declared.Verdict.the-variants.{Hit}
+use Rattle.theory.specs.Reading.{verdictOf, agreeing}
+use Rattle.theory.specs.Computed.{pieceVerdict, pointDifferences, edgeDifferences, startSum, endSum, joined, joinedBelow}
+use Rattle.theory.specs.OneVerdict.{pair-is}
+use Rattle.scene_text.specs.Accepted.{text-accepted}
+use Rattle.demands.specs.OneText.{one-report}
+use Rattle.demands.specs.Table.{at, neg}
+
+unfoldable pub bytesOf : String → List ℕ
+bytesOf Strings.[] = []
+bytesOf (Strings._∷_ c s) = code c ∷ bytesOf s
+
+abbrev pub printedText : List ℕ
+printedText =
+    bytesOf "v\t0\t0\t0\t0\t0\t0\n" ++ bytesOf "v\t4\t0\t0\t4\t0\t0\n" ++ bytesOf "v\t0\t4\t0\t0\t4\t0\n" ++ bytesOf "v\t1\t1\t1\t1\t1\t-1\n"
+    ++ bytesOf "v\t1\t-1\t1\t1\t-1\t-1\n" ++ bytesOf "e\t0\t1\n" ++ bytesOf "e\t3\t4\n" ++ bytesOf "t\t0\t1\t2\n"
+
+abbrev pub printedReport : List ℕ
+printedReport = bytesOf "pt\t3\t0\thit\n" ++ bytesOf "ee\t0\t1\thit\n" ++ bytesOf "total\t2\t2\t0\t0\n"
+
+-- ---- the scene
+
+unfoldable pub records : List Entry
+records =
+    vertex (at (pos 0) (pos 0) (pos 0)) (at (pos 0) (pos 0) (pos 0)) ∷ vertex (at (pos 4) (pos 0) (pos 0)) (at (pos 4) (pos 0) (pos 0))
+    ∷ vertex (at (pos 0) (pos 4) (pos 0)) (at (pos 0) (pos 4) (pos 0)) ∷ vertex (at (pos 1) (pos 1) (pos 1)) (at (pos 1) (pos 1) (neg 1))
+    ∷ vertex (at (pos 1) (neg 1) (pos 1)) (at (pos 1) (neg 1) (neg 1)) ∷ edge 0 1 ∷ edge 3 4 ∷ triangle 0 1 2 ∷ []
+
+unfoldable pub printedScene : Scene
+unfolding records
+printedScene = sceneFrom records
+
+pub printed-holds : Holds printedText printedScene
+unfolding bytesOf records printedScene Sound Short numbersOf Answers late excess far unknown twice counted flatMap lineOf letterOf further numeral digits digitsWithin
+printed-holds = record { entries = records; sound = (omega arith, tt, (omega arith, tt, (omega arith, tt, (omega arith, tt, (omega arith, tt, (omega arith, tt, (omega arith, tt, (omega arith, tt, tt)))))))); lines = refl; scene = refl }
+
+pub printed-accepted : Accepted printedScene
+printed-accepted = text-accepted printed-holds
+
+pub printed-pairs : pairs printedScene ≡ pair PointTriangle 3 0 ∷ pair EdgeEdge 0 1 ∷ []
+unfolding records printedScene flatMap coordinatesIn endsIn cornersIn pairs gather over times shares meetOn
+printed-pairs = refl
+
+-- ---- the report
+
+both-hit : AllJudged printedScene (pairs printedScene) (Hit ∷ Hit ∷ [])
+unfolding AllJudged records printedScene flatMap coordinatesIn endsIn cornersIn pieceCount pieceVerdict joinedBelow joined pointDifferences edgeDifferences startSum endSum volume verdictOf agreeing
+both-hit =
+    rw printed-pairs (pair-is printedScene PointTriangle 3 0 Hit .1 refl, (pair-is printedScene EdgeEdge 0 1 Hit .1 refl, tt))
+
+pub printed-report : ReportOf printedText printedReport
+unfolding bytesOf pairLines kindWord verdictWord further digits digitsWithin howMany isOne
+printed-report =
+    let lines : pairLines (pairs printedScene) (Hit ∷ Hit ∷ []) ++ totalLine (Hit ∷ Hit ∷ []) ≡ printedReport = rw printed-pairs in
+    subst (ReportOf printedText) lines (judged printedScene (Hit ∷ Hit ∷ []) (omega arith) printed-holds (rw printed-pairs (omega arith)) both-hit)
+
+pub prints-exactly : {report : List ℕ} → ReportOf printedText report → report ≡ printedReport
+prints-exactly r = one-report r printed-report

@@ -1,0 +1,60 @@
+-- Sentences of document 01 that are about single scenes and texts: 'zero of each is a scene'; 'an empty text is the empty scene; an empty line
+-- is bad'; 'repeated edges or triangles each make their own pairs'.
+use Prim.Native.Nat.{ℕ}
+use mathlib.Core.List.{List, [], _∷_, flatMap, head-eq-of-cons-eq, nil≢cons}
+use mathlib.Core.Path.{_≡_, refl, sym, _∙_}
+use native.Mathlib.Omega.{arith}
+use Rattle.sequences.specs.Range.{times, over}
+use Rattle.sequences.specs.Gather.{gather}
+use Rattle.meaning.specs.Scene.{sceneOf, Accepted, someBelow}
+use Rattle.meaning.specs.Refusals.{shares}
+use Rattle.meaning.specs.Boxes.{meetOn}
+use Rattle.meaning.specs.List.{pair, pairs}
+use Rattle.meaning.specs.Text.{Entry, vertex, edge, triangle, letterOf, Sound, Holds, FaultyAt, lineFeed}
+use Rattle.meaning.specs.declared.Kind.the-variants.{PointTriangle}
+use Rattle.scene_text.specs.Lines.{line-is}
+use Rattle.demands.specs.LineTable.{NoLine, no9}
+use Rattle.demands.specs.Table.{numbered}
+
+-- ---- nothing at all
+
+pub nothing-accepted : Accepted (sceneOf [] [] [])
+unfolding someBelow
+nothing-accepted = record { shapely = refl; inRange = refl; known = refl; distinct = refl }
+
+pub nothing-listed : pairs (sceneOf [] [] []) ≡ []
+unfolding pairs gather over times
+nothing-listed = refl
+
+pub empty-text : Holds [] (sceneOf [] [] [])
+unfolding Sound flatMap
+empty-text = record { entries = []; sound = tt; lines = refl; scene = refl }
+
+-- ---- an empty line
+
+no-letter : (r : Entry) → lineFeed ≡ letterOf r → ⊥
+unfolding letterOf
+no-letter (vertex p q) e = omega arith
+no-letter (edge a b) e = omega arith
+no-letter (triangle a b c) e = omega arith
+
+empty-line-bad : (rest : List ℕ) → NoLine (lineFeed ∷ rest)
+empty-line-bad rest r below short e = no-letter r (head-eq-of-cons-eq (e ∙ line-is r below))
+
+-- as the first line it is refused 9, at line 1, whatever follows
+pub empty-line : (rest : List ℕ) → FaultyAt (lineFeed ∷ rest) 9 1
+unfolding Sound flatMap
+empty-line rest = record {
+  above = [];
+  below = lineFeed ∷ rest;
+  sound = tt;
+  lines = refl;
+  place = refl;
+  fault = no9 _ (lineFeed ∷ rest) .1 (λ e. nil≢cons (sym e), empty-line-bad rest);
+}
+
+-- ---- the triangle of case 1 twice: two pairs
+
+pub repeated-triangle : pairs (sceneOf (numbered 1 .scene .positions) [] (0 ∷ 1 ∷ 2 ∷ 2 ∷ 0 ∷ 1 ∷ [])) ≡ pair PointTriangle 3 0 ∷ pair PointTriangle 3 1 ∷ []
+unfolding pairs gather over times shares meetOn
+repeated-triangle = refl

@@ -1,0 +1,68 @@
+-- 'A pair is culled when it shares no vertex number and isn't listed': whether a pair that is asked for stands in the list.
+use Prim.Native.Nat.{ℕ, min, max, _<_}
+use mathlib.Core.Bool.{Bool, true, false, not, true≢false}
+use mathlib.Core.List.{List·Memᴰ}
+use mathlib.Core.Logic.{_↔_}
+use mathlib.Core.Path.{_≡_, refl, sym, _∙_}
+use native.Mathlib.Omega.{arith}
+use native.Mathlib.Decide.{decLt}
+use borrow.Author.Tests.{eq-eqb, not-true}
+use Rattle.sequences.specs.Pick.{both}
+use Rattle.meaning.specs.Scene.{Scene, edgeEnd}
+use Rattle.meaning.specs.Refusals.{notThere, shares}
+use Rattle.meaning.specs.Boxes.{boxesMeet, listed, culled}
+use Rattle.meaning.specs.List.{Pair, pair, pairs}
+use Rattle.meaning.specs.declared.Kind.{Kind}
+use Rattle.meaning.specs.declared.Kind.the-variants.{PointTriangle, EdgeEdge}
+use Rattle.theory.specs.EitherOrder.{listed-either-order, notThere-either-order}
+use Rattle.listing.specs.InOrder.{FirstBelow, tests, list-is}
+
+-- the pair as the list writes it: of two edges the lower place first
+unfoldable pub asListed : Kind → ℕ → ℕ → Pair
+asListed PointTriangle i j = pair PointTriangle i j
+asListed EdgeEdge i j = pair EdgeEdge (min i j) (max i j)
+
+abbrev pub Stands : Scene → Kind → ℕ → ℕ → Type 0
+Stands s kind i j = List·Memᴰ (asListed kind i j) (pairs s)
+
+module _ (s : Scene) where
+  in-order : (kind : Kind) (i j : ℕ) → notThere s kind i j ≡ false → FirstBelow kind i j → List·Memᴰ (pair kind i j) (pairs s) ↔ (listed s kind i j ≡ true)
+  in-order kind i j there ordered = (
+    λ m. let p = list-is s .stands (pair kind i j) .0 m in rw (p .apart, p .meet),
+    λ h. let (a, b) = tests s kind i j h in list-is s .stands (pair kind i j) .1 (record { there = there; ordered = ordered; apart = a; meet = b }),
+  )
+
+  edge-shares-itself : (i : ℕ) → shares s EdgeEdge i i ≡ true
+  unfolding shares
+  edge-shares-itself i = rw (eq-eqb (edgeEnd s i 0) (edgeEnd s i 0) refl)
+
+  -- a pair that is there stands in the list exactly when it shares no vertex and its boxes meet, in whichever order it is asked for
+  pub stands-is : (kind : Kind) (i j : ℕ) → notThere s kind i j ≡ false → Stands s kind i j ↔ (listed s kind i j ≡ true)
+  unfolding asListed FirstBelow
+  stands-is PointTriangle i j there = in-order PointTriangle i j there tt
+  stands-is EdgeEdge i j there = go (decLt i j) (decLt j i)
+    where
+      go : Dec (i < j) → Dec (j < i) → List·Memᴰ (pair EdgeEdge (min i j) (max i j)) (pairs s) ↔ (listed s EdgeEdge i j ≡ true)
+      go (yes h) d = let a : min i j ≡ i = omega arith in let b : max i j ≡ j = omega arith in rw (a, b) (in-order EdgeEdge i j there h)
+      go (no h) (yes k) =
+          let a : min i j ≡ j = omega arith in
+          let b : max i j ≡ i = omega arith in
+          rw (a, b, listed-either-order s i j) (in-order EdgeEdge j i (sym (notThere-either-order s i j) ∙ there) k)
+      go (no h) (no k) =
+          let e : i ≡ j = omega arith in (
+            λ m. absurd (let p = list-is s .stands (pair EdgeEdge (min i j) (max i j)) .0 m in omega (arith, p .ordered)),
+            λ t. absurd (true≢false (sym (rw e (edge-shares-itself j)) ∙ tests s EdgeEdge i j t .0)),
+          )
+
+  -- culled: it shares no vertex, and it isn't listed
+  pub culled-is : (kind : Kind) (i j : ℕ) → notThere s kind i j ≡ false → (culled s kind i j ≡ true) ↔ ((shares s kind i j ≡ false) × ¬ Stands s kind i j)
+  culled-is kind i j there = (
+    λ c.
+        let (a, b) = both (not (shares s kind i j)) (not (boxesMeet s kind i j)) c in
+        (not-true (shares s kind i j) a, λ m. true≢false (sym (tests s kind i j (stands-is kind i j there .0 m) .1) ∙ not-true (boxesMeet s kind i j) b)),
+    λ h. go (boxesMeet s kind i j) refl (h .0) (h .1),
+  )
+    where
+      go : (b : Bool) → boxesMeet s kind i j ≡ b → shares s kind i j ≡ false → ¬ Stands s kind i j → culled s kind i j ≡ true
+      go true e a n = absurd (n (stands-is kind i j there .1 (rw (a, e))))
+      go false e a n = rw (a, e)

@@ -1,0 +1,57 @@
+-- The verdict by signs: the code's comparisons with 0, joined, are the agreement of the signs.
+use mathlib.Core.Path.{_≡_, refl}
+use mathlib.Core.Bool.{Bool, true, not, cond, _&&_, _||_, and-assoc, and-true, or-false}
+use mathlib.Core.List.{[], _∷_}
+use lib.IntN.{pos}
+use lib.Signed.{leZ}
+use mir.Syntax.{w64}
+use mir.Facts.{toZ-ofZ}
+use Rattle.whole.specs.Signs.{Sgn, negative, nought, positive, sgn, isNought, isNegative, isPositive, agree, le-nought, nought-le}
+use Rattle.whole.specs.Sizes.{held}
+use Rattle.meaning.specs.declared.Verdict.{Verdict}
+use Rattle.meaning.specs.declared.Verdict.the-variants.{Hit, Miss, Degenerate}
+use Rattle.exact.specs.BySigns.{bySigns}
+use Rattle.exact.proofs.by_signs.Statement.{statement}
+use Rattle.exact.proofs.by_signs.Tie as tie
+
+agree-positive : (s : Sgn) → agree positive s ≡ not (isNegative s)
+agree-positive negative = refl
+agree-positive nought = refl
+agree-positive positive = refl
+
+agree-negative : (s : Sgn) → agree negative s ≡ not (isPositive s)
+agree-negative negative = refl
+agree-negative nought = refl
+agree-negative positive = refl
+
+-- the code's choice, from a test for 'not below 0' and one for 'not above 0'
+abbrev chosen : {A : Type 0} → (A → Bool) → (A → Bool) → A → A → A → A → A → A → A → Verdict
+chosen up down d a b c e f g =
+    cond (down d && up d) Degenerate
+    (cond
+    ((up d && (up a && up b && up c && up e && up f && up g)) || (down d && (down a && down b && down c && down e && down f && down g)))
+    Hit
+    Miss)
+
+by-sign : (d a b c e f g : Sgn) → cond (isNought d) Degenerate (cond (agree d a && (agree d b && (agree d c && (agree d e && (agree d f && (agree d g && true)))))) Hit Miss) ≡ chosen (λ s. not (isNegative s)) (λ s. not (isPositive s)) d a b c e f g
+by-sign positive a b c e f g = simp (agree-positive, and-assoc, and-true, or-false)
+by-sign negative a b c e f g = simp (agree-negative, and-assoc, and-true)
+by-sign nought a b c e f g = refl
+
+-- the code's choice is made of the numbers as their locals hold them
+by-test : (s : tie.Start) → let x = s .args in bySigns (x .d) (x .a ∷ x .b ∷ x .c ∷ x .e ∷ x .f ∷ x .g ∷ []) ≡ chosen (λ z. leZ (pos 0) z) (λ z. leZ z (pos 0)) (held w64 (x .d)) (held w64 (x .a)) (held w64 (x .b)) (held w64 (x .c)) (held w64 (x .e)) (held w64 (x .f)) (held w64 (x .g))
+unfolding bySigns
+by-test s =
+    let x = s .args in
+    let h = s .fits in
+    simp
+    (toZ-ofZ (h .d), toZ-ofZ (h .a), toZ-ofZ (h .b), toZ-ofZ (h .c), toZ-ofZ (h .e), toZ-ofZ (h .f), toZ-ofZ (h .g), le-nought, nought-le)
+    (by-sign (sgn (x .d)) (sgn (x .a)) (sgn (x .b)) (sgn (x .c)) (sgn (x .e)) (sgn (x .f)) (sgn (x .g)))
+
+pub by-signs-spec : {M : Type 1} → statement M
+by-signs-spec =
+    tie.close
+    (tie.spec
+    (λ c. rw (by-test (c .before)) (simp (c .if1 .taken)))
+    (λ c. rw (by-test (c .before .before)) (simp (c .before .if1 .left, c .if2 .taken)))
+    (λ c. rw (by-test (c .before .before)) (simp (c .before .if1 .left, c .if2 .left))))

@@ -1,0 +1,90 @@
+-- The verdicts of listed pairs, as code finds them one by one.
+use Prim.Native.Nat.{ℕ, zero, suc, _≤_, _<_}
+use mathlib.Core.Bool.{cond, false}
+use mathlib.Core.List.{List, [], _∷_, map}
+use mathlib.Core.Path.{_≡_, refl, sym, ap, _∙_, subst}
+use native.Mathlib.Nat.{not-suc-le-zero, le-of-suc-le-suc}
+use native.Mathlib.Omega.{arith}
+use lib.Dec.{eqb}
+use lib.ListN.{length, getD, length-map}
+use Rattle.sequences.specs.Rising.{at-place}
+use Rattle.meaning.specs.Scene.{Scene}
+use Rattle.meaning.specs.Refusals.{notThere}
+use Rattle.meaning.specs.Verdicts.{PairIs}
+use Rattle.meaning.specs.List.{Pair, pair, pairs, entries, roomOf}
+use Rattle.meaning.specs.Judging.{byteOf, AllJudged}
+use Rattle.meaning.specs.declared.Kind.the-variants.{PointTriangle}
+use Rattle.meaning.specs.declared.Verdict.{Verdict}
+use Rattle.meaning.specs.declared.Verdict.the-variants.{Hit, Miss, Degenerate}
+use Rattle.theory.specs.Computed.{pairVerdict}
+use Rattle.theory.specs.OneVerdict.{pair-is, judged-pair}
+use Rattle.listing.specs.InOrder.{ToList, list-is}
+use Rattle.listing.specs.Entries.{pairAt}
+
+abbrev pub verdictOfPair : Scene → Pair → Verdict
+verdictOfPair s p = pairVerdict s (p .kind) (p .first) (p .second)
+
+abbrev pub verdictsOf : Scene → List Pair → List Verdict
+verdictsOf s ps = map (verdictOfPair s) ps
+
+abbrev pub bytesOf : Scene → List Pair → List ℕ
+bytesOf s ps = map byteOf (verdictsOf s ps)
+
+pub all-judged : (s : Scene) (ps : List Pair) → AllJudged s ps (verdictsOf s ps)
+unfolding AllJudged
+all-judged s [] = tt
+all-judged s (p ∷ ps) = (judged-pair s (p .kind) (p .first) (p .second), all-judged s ps)
+
+pub bytes-length : (s : Scene) (ps : List Pair) → length (bytesOf s ps) ≡ length ps
+bytes-length s ps = length-map (verdictsOf s ps) byteOf ∙ length-map ps (verdictOfPair s)
+
+-- the pair that is read where none stands
+abbrev pub noPair : Pair
+noPair = pair PointTriangle 0 0
+
+pub bytes-at : (s : Scene) (ps : List Pair) (k : ℕ) → k < length ps → getD (bytesOf s ps) k 0 ≡ byteOf (verdictOfPair s (getD ps k noPair))
+bytes-at s [] k h = absurd (not-suc-le-zero h)
+bytes-at s (p ∷ ps) zero h = refl
+bytes-at s (p ∷ ps) (suc k) h = bytes-at s ps k (le-of-suc-le-suc h)
+
+-- a buffer in whose front the list of a scene stands
+pub record ListStands (s : Scene) (l : List ℕ) : Type 0 where
+  pub room : length (pairs s) ≤ roomOf l
+  pub at : (k : ℕ) → k < length (pairs s) → pairAt l k ≡ getD (pairs s) k noPair
+
+-- a listed pair is there
+pub listed-there : (s : Scene) (k : ℕ) → k < length (pairs s)
+    → notThere s (getD (pairs s) k noPair .kind) (getD (pairs s) k noPair .first) (getD (pairs s) k noPair .second) ≡ false
+listed-there s k h = list-is s .stands (getD (pairs s) k noPair) .0 (at-place (pairs s) k noPair h) .there
+
+-- an entry that was read is the pair in that place of the list
+module _ {s : Scene} {l : List ℕ} (stands : ListStands s l) (k : ℕ) (h : k < length (pairs s)) (p : Pair)
+    (kind : p .kind ≡ pairAt l k .kind) (first : p .first ≡ pairAt l k .first) (second : p .second ≡ pairAt l k .second) where
+  same-pair : p ≡ getD (pairs s) k noPair
+  same-pair = (λ t. record { kind = kind t; first = first t; second = second t }) ∙ stands .at k h
+
+  pub entry-there : notThere s (p .kind) (p .first) (p .second) ≡ false
+  entry-there =
+      subst (λ (q : Pair). notThere s (q .kind) (q .first) (q .second) ≡ false) (sym same-pair) (listed-there s k h)
+
+  pub entry-byte : (v : Verdict) → PairIs s (p .kind) (p .first) (p .second) v → byteOf v ≡ getD (bytesOf s (pairs s)) k 0
+  entry-byte v is =
+      ap byteOf (pair-is s (p .kind) (p .first) (p .second) v .0 is ∙ ap (verdictOfPair s) same-pair)
+      ∙ sym (bytes-at s (pairs s) k h)
+
+-- ---- bytes and verdicts
+
+unfoldable pub verdictOfByte : ℕ → Verdict
+verdictOfByte b = cond (eqb b 0) Hit (cond (eqb b 1) Miss Degenerate)
+
+pub byte-back : (v : Verdict) → verdictOfByte (byteOf v) ≡ v
+unfolding verdictOfByte byteOf
+byte-back Hit = refl
+byte-back Miss = refl
+byte-back Degenerate = refl
+
+pub byte-small : (v : Verdict) → byteOf v ≤ 2
+unfolding byteOf
+byte-small Hit = omega arith
+byte-small Miss = omega arith
+byte-small Degenerate = omega arith

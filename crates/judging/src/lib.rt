@@ -1,0 +1,110 @@
+// List a scene and judge each listed pair, in one call that checks the scene once.
+
+ghost use Prim.Native.Nat.{_≤_, _<_, min};
+ghost use mathlib.Core.Path.{_≡_};
+ghost use lib.ListN.{length, getD};
+ghost use Rattle.sequences.specs.Wrote.{written};
+ghost use Rattle.meaning.specs.Scene.{sceneOf, Accepted};
+ghost use Rattle.meaning.specs.List.{pairs, roomOf};
+ghost use Rattle.meaning.specs.Judging.{byteOf, JudgedScene};
+ghost use Rattle.judging.specs.Listed.{bytesOf, ListStands, verdictOfByte};
+ghost use Rattle.judging.specs.Answering.{JudgedIn};
+use meaning::ListAnswer;
+use meaning::SceneAnswer;
+use meaning::Verdict;
+
+// A verdict as the byte that stands for it in a lent buffer, and back.
+pub fn byte_of(v: Verdict) -> u8
+    ensures { λ r. ⌜ r ≡ byteOf v ⌝ }
+{
+    match v {
+        Verdict::Hit => 0,
+        Verdict::Miss => 1,
+        Verdict::Degenerate => 2,
+    }
+}
+
+pub fn verdict_of(byte: u8) -> Verdict
+    ensures { λ r. ⌜ r ≡ verdictOfByte byte ⌝ }
+{
+    if byte == 0 {
+        return Verdict::Hit;
+    }
+    if byte == 1 {
+        return Verdict::Miss;
+    }
+    Verdict::Degenerate
+}
+
+// The k-th entry of the list, judged.
+fn judge_entry(positions: &[i32], edges: &[u16], triangles: &[u16], list: &[u16], k: usize) -> u8
+    requires { ⌜ Accepted (sceneOf (now positions) (now edges) (now triangles)) × ListStands (sceneOf (now positions) (now edges) (now triangles)) (now list) × (k < length (pairs (sceneOf (now positions) (now edges) (now triangles)))) ⌝ }
+    ensures { λ r. ⌜ r ≡ getD (bytesOf (sceneOf (now (positions .entry)) (now (edges .entry)) (now (triangles .entry))) (pairs (sceneOf (now (positions .entry)) (now (edges .entry)) (now (triangles .entry))))) k 0 ⌝ }
+{
+    let kind = listing::entries::entry_kind(list, k);
+    let first = listing::entries::entry_first(list, k);
+    let second = listing::entries::entry_second(list, k);
+    byte_of(verdicts::accepted::pair(positions, edges, triangles, kind, first, second))
+}
+
+// Each entry in turn.
+fn judge_entries(
+    positions: &[i32],
+    edges: &[u16],
+    triangles: &[u16],
+    list: &[u16],
+    out: &mut [u8],
+    count: usize,
+)
+    requires { ⌜ Accepted (sceneOf (now positions) (now edges) (now triangles)) × ListStands (sceneOf (now positions) (now edges) (now triangles)) (now list) × (count ≡ length (pairs (sceneOf (now positions) (now edges) (now triangles)))) × (count ≤ length (now out)) ⌝ }
+    ensures { λ _. ⌜ now (out .exit) ≡ written (bytesOf (sceneOf (now (positions .entry)) (now (edges .entry)) (now (triangles .entry))) (pairs (sceneOf (now (positions .entry)) (now (edges .entry)) (now (triangles .entry))))) (now (out .entry)) ⌝ }
+{
+    let mut k = 0;
+    while k < count {
+        out[k] = judge_entry(positions, edges, triangles, list, k);
+        k += 1;
+    }
+}
+
+fn smaller(a: usize, b: usize) -> usize
+    ensures { λ r. ⌜ r ≡ min a b ⌝ }
+{
+    if a < b { a } else { b }
+}
+
+// For a scene that was checked already.
+pub fn judge_accepted(
+    positions: &[i32],
+    edges: &[u16],
+    triangles: &[u16],
+    list: &mut [u16],
+    out: &mut [u8],
+) -> ListAnswer
+    requires { ⌜ Accepted (sceneOf (now positions) (now edges) (now triangles)) ⌝ }
+    ensures { λ r. ⌜ JudgedIn (sceneOf (now (positions .entry)) (now (edges .entry)) (now (triangles .entry))) (min (roomOf (now (list .entry))) (length (now (out .entry)))) (now (list .entry)) (now (list .exit)) (now (out .entry)) (now (out .exit)) r ⌝ }
+{
+    let room = smaller(listing::entries::room(list), out.len());
+    match listing::accepted::list_accepted(positions, edges, triangles, list, room) {
+        ListAnswer::Listed(made) => {
+            judge_entries(positions, edges, triangles, list, out, made.count);
+            ListAnswer::Listed(made)
+        }
+        ListAnswer::Refused(refusal, needed) => ListAnswer::Refused(refusal, needed),
+    }
+}
+
+// For a scene that may be anything.
+pub fn judge_scene(
+    positions: &[i32],
+    edges: &[u16],
+    triangles: &[u16],
+    list: &mut [u16],
+    out: &mut [u8],
+) -> ListAnswer
+    ensures { λ r. ⌜ JudgedScene (sceneOf (now (positions .entry)) (now (edges .entry)) (now (triangles .entry))) (now (list .entry)) (now (list .exit)) (now (out .entry)) (now (out .exit)) r ⌝ }
+{
+    if let SceneAnswer::Refused(refusal) = scenes::check_scene(positions, edges, triangles) {
+        return ListAnswer::Refused(refusal, 0);
+    }
+    judge_accepted(positions, edges, triangles, list, out)
+}

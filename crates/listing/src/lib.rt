@@ -1,0 +1,47 @@
+// The list: the point-triangle and edge-edge pairs of a scene whose swept boxes meet, in order.
+
+mod candidates; // candidates.rt: which pairs there are, and whether one is listed
+mod counting; // counting.rt: how many are listed
+pub mod entries; // entries.rt: an entry in a buffer, and room for entries
+mod writing; // writing.rt: the listed pairs, entered
+pub mod accepted; // accepted.rt: the list of a scene that is accepted
+
+ghost use Rattle.meaning.specs.Scene.{sceneOf};
+ghost use Rattle.meaning.specs.List.{Counted, Listing};
+use accepted::count_accepted;
+use accepted::list_accepted;
+use entries::room;
+use meaning::ListAnswer;
+use meaning::Made;
+use meaning::SceneAnswer;
+use scenes::check_scene;
+
+// How many pairs are listed.
+pub fn count_pairs(positions: &[i32], edges: &[u16], triangles: &[u16]) -> ListAnswer
+    ensures { λ r. ⌜ Counted (sceneOf (now (positions .entry)) (now (edges .entry)) (now (triangles .entry))) r ⌝ }
+{
+    match check_scene(positions, edges, triangles) {
+        SceneAnswer::Refused(why) => ListAnswer::Refused(why, 0),
+        SceneAnswer::Accepted => ListAnswer::Listed(Made {
+            count: count_accepted(positions, edges, triangles),
+        }),
+    }
+}
+
+// The list, in front of a lent buffer.
+pub fn list_pairs(
+    positions: &[i32],
+    edges: &[u16],
+    triangles: &[u16],
+    list: &mut [u16],
+) -> ListAnswer
+    ensures { λ r. ⌜ Listing (sceneOf (now (positions .entry)) (now (edges .entry)) (now (triangles .entry))) (now (list .entry)) (now (list .exit)) r ⌝ }
+{
+    match check_scene(positions, edges, triangles) {
+        SceneAnswer::Refused(why) => ListAnswer::Refused(why, 0),
+        SceneAnswer::Accepted => {
+            let most = room(list);
+            list_accepted(positions, edges, triangles, list, most)
+        }
+    }
+}

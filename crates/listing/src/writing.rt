@@ -1,0 +1,111 @@
+// The listed pairs, entered one behind the other from a number of the list on. Each function answers the number behind its last entry.
+
+ghost use Prim.Native.Nat.{_+_, _*_, _≤_, _<_};
+ghost use mathlib.Core.Path.{_≡_};
+ghost use lib.ListN.{length};
+ghost use Rattle.sequences.specs.Wrote.{written};
+ghost use Rattle.meaning.specs.Scene.{sceneOf};
+ghost use Rattle.meaning.specs.List.{pairs, entries};
+ghost use Rattle.listing.specs.Rows.{firstCount, secondCount, candidate, rowOf, rowsOf};
+ghost use Rattle.listing.specs.Meeting.{Prepared};
+ghost use Rattle.listing.specs.Entering.{RoomFor, Entered};
+use super::candidates::first_count;
+use super::candidates::is_listed;
+use super::candidates::second_count;
+use super::candidates::second_from;
+use super::entries::put;
+use meaning::Kind;
+
+fn write_one(
+    positions: &[i32],
+    edges: &[u16],
+    triangles: &[u16],
+    boxes: &[i32],
+    kind: Kind,
+    i: usize,
+    j: usize,
+    list: &mut [u16],
+    from: usize,
+) -> usize
+    requires { ⌜ Prepared (sceneOf (now positions) (now edges) (now triangles)) (now boxes) × (i < firstCount (sceneOf (now positions) (now edges) (now triangles)) kind) × (j < secondCount (sceneOf (now positions) (now edges) (now triangles)) kind) ⌝ }
+    requires { ⌜ RoomFor (now list) from (candidate (sceneOf (now positions) (now edges) (now triangles)) kind i j) ⌝ }
+    ensures { λ r. ⌜ Entered (now (list .entry)) from (candidate (sceneOf (now (positions .entry)) (now (edges .entry)) (now (triangles .entry))) kind i j) (now (list .exit)) r ⌝ }
+{
+    if is_listed(positions, edges, triangles, boxes, kind, i, j) {
+        put(list, from, kind, i, j);
+        from + 1
+    } else {
+        from
+    }
+}
+
+fn write_row(
+    positions: &[i32],
+    edges: &[u16],
+    triangles: &[u16],
+    boxes: &[i32],
+    kind: Kind,
+    i: usize,
+    list: &mut [u16],
+    from: usize,
+) -> usize
+    requires { ⌜ Prepared (sceneOf (now positions) (now edges) (now triangles)) (now boxes) × (i < firstCount (sceneOf (now positions) (now edges) (now triangles)) kind) ⌝ }
+    requires { ⌜ RoomFor (now list) from (rowOf (sceneOf (now positions) (now edges) (now triangles)) kind i) ⌝ }
+    ensures { λ r. ⌜ Entered (now (list .entry)) from (rowOf (sceneOf (now (positions .entry)) (now (edges .entry)) (now (triangles .entry))) kind i) (now (list .exit)) r ⌝ }
+{
+    let end = second_count(positions, edges, triangles, kind);
+    let mut k = from;
+    let mut j = second_from(kind, i);
+    while j < end {
+        k = write_one(positions, edges, triangles, boxes, kind, i, j, list, k);
+        j += 1;
+    }
+    k
+}
+
+fn write_rows(
+    positions: &[i32],
+    edges: &[u16],
+    triangles: &[u16],
+    boxes: &[i32],
+    kind: Kind,
+    list: &mut [u16],
+    from: usize,
+) -> usize
+    requires { ⌜ Prepared (sceneOf (now positions) (now edges) (now triangles)) (now boxes) ⌝ }
+    requires { ⌜ RoomFor (now list) from (rowsOf (sceneOf (now positions) (now edges) (now triangles)) kind) ⌝ }
+    ensures { λ r. ⌜ Entered (now (list .entry)) from (rowsOf (sceneOf (now (positions .entry)) (now (edges .entry)) (now (triangles .entry))) kind) (now (list .exit)) r ⌝ }
+{
+    let end = first_count(positions, edges, triangles, kind);
+    let mut k = from;
+    let mut i = 0;
+    while i < end {
+        k = write_row(positions, edges, triangles, boxes, kind, i, list, k);
+        i += 1;
+    }
+    k
+}
+
+// The whole list, in front of the buffer.
+pub fn write_all(
+    positions: &[i32],
+    edges: &[u16],
+    triangles: &[u16],
+    boxes: &[i32],
+    list: &mut [u16],
+)
+    requires { ⌜ Prepared (sceneOf (now positions) (now edges) (now triangles)) (now boxes) ⌝ }
+    requires { ⌜ RoomFor (now list) 0 (pairs (sceneOf (now positions) (now edges) (now triangles))) ⌝ }
+    ensures { λ _. ⌜ now (list .exit) ≡ written (entries (pairs (sceneOf (now (positions .entry)) (now (edges .entry)) (now (triangles .entry))))) (now (list .entry)) ⌝ }
+{
+    let k = write_rows(
+        positions,
+        edges,
+        triangles,
+        boxes,
+        Kind::PointTriangle,
+        list,
+        0,
+    );
+    write_rows(positions, edges, triangles, boxes, Kind::EdgeEdge, list, k);
+}

@@ -1,0 +1,106 @@
+-- From a number back to what the answer says, as a caller goes: the upper half is the refusal's number, 0 for none; the lower half is the
+-- value, or the line or the needed count. So two answers that have one number are one answer.
+use Prim.Native.Nat.{ℕ, _+_, _*_, _/_, _%_, _<_}
+use mathlib.Core.Bool.{cond}
+use mathlib.Core.List.{List}
+use mathlib.Core.Path.{_≡_, refl, sym, ap, _∙_}
+use native.Mathlib.Omega.{arith}
+use lib.Dec.{ltb}
+use lib.ListN.{getD}
+use borrow.Author.Tests.{lt-ltb, le-ltb}
+use Rattle.meaning.specs.Refusals.{Outcome, given, refused, sceneSays, pairSays}
+use Rattle.meaning.specs.List.{listSays}
+use Rattle.meaning.specs.Judging.{byteOf}
+use Rattle.meaning.specs.Text.{textSays}
+use Rattle.meaning.specs.declared.SceneCounts.{SceneCounts}
+use Rattle.meaning.specs.declared.SceneAnswer as SceneAnswers
+use Rattle.meaning.specs.declared.SceneAnswer.{SceneAnswer}
+use Rattle.meaning.specs.declared.PairAnswer as PairAnswers
+use Rattle.meaning.specs.declared.PairAnswer.{PairAnswer}
+use Rattle.meaning.specs.declared.ListAnswer as ListAnswers
+use Rattle.meaning.specs.declared.ListAnswer.{ListAnswer}
+use Rattle.meaning.specs.declared.TextAnswer as TextAnswers
+use Rattle.meaning.specs.declared.TextAnswer.{TextAnswer}
+use Rattle.scenes.specs.Speaking.{scene-says-one, pair-says-one}
+use Rattle.judging.specs.Listed.{verdictOfByte, byte-back, byte-small}
+use Rattle.demands.specs.OneAnswer.{list-says-one}
+use Rattle.demands.specs.OneText.{text-says-one}
+use Rattle.makhnodri.specs.Numbers.{upper, numberFor, sceneNumber, pairNumber, listNumber, textNumber, countsLeft}
+use Rattle.makhnodri.specs.Small.{toldIn, lineIn, number-in-table}
+
+-- what is heard in a number, where a value is known by its own number
+unfoldable pub heard : {A : Type 0} → (ℕ → A) → ℕ → Outcome A
+heard back r = cond (ltb r upper) (given (back r)) (refused (r / upper) (r % upper))
+
+-- small enough to be heard again
+unfoldable Clear : {A : Type 0} → (A → ℕ) → (ℕ → A) → Outcome A → Type 0
+Clear value back (given a) = (value a < upper) × (back (value a) ≡ a)
+Clear value back (refused n c) = (0 < n) × (c < upper)
+
+heard-number : {A : Type 0} (value : A → ℕ) (back : ℕ → A) (o : Outcome A) → Clear value back o → heard back (numberFor value o) ≡ o
+unfolding heard Clear numberFor
+heard-number value back (given a) h = rw (lt-ltb (value a) upper (h .0), h .1)
+heard-number value back (refused n c) h =
+    let number : (n * upper + c) / upper ≡ n = omega arith in
+    let carried : (n * upper + c) % upper ≡ c = omega arith in
+    rw (le-ltb (n * upper + c) upper (omega arith), number, carried)
+
+-- ---- each answer is heard as it was said
+
+abbrev pub noMore : ℕ → Unit {0}
+noMore k = tt
+
+pub scene-heard : (a : SceneAnswer) → heard noMore (sceneNumber a) ≡ sceneSays a
+unfolding sceneNumber Clear sceneSays
+scene-heard a = heard-number (λ t. 0) noMore (sceneSays a) (clear a)
+  where
+    clear : (a : SceneAnswer) → Clear (λ t. 0) noMore (sceneSays a)
+    clear SceneAnswers.the-variants.Accepted = (omega arith, refl)
+    clear (SceneAnswers.the-variants.Refused x) = (number-in-table x .some, omega arith)
+
+pub pair-heard : (a : PairAnswer) → heard verdictOfByte (pairNumber a) ≡ pairSays a
+unfolding pairNumber Clear pairSays
+pair-heard a = heard-number byteOf verdictOfByte (pairSays a) (clear a)
+  where
+    clear : (a : PairAnswer) → Clear byteOf verdictOfByte (pairSays a)
+    clear (PairAnswers.the-variants.Judged v) = (omega (arith, byte-small v), byte-back v)
+    clear (PairAnswers.the-variants.Refused x) = (number-in-table x .some, omega arith)
+
+abbrev pub count : ℕ → ℕ
+count n = n
+
+pub list-heard : (a : ListAnswer) → toldIn (listSays a) < upper → heard count (listNumber a) ≡ listSays a
+unfolding listNumber Clear listSays toldIn
+list-heard a h = heard-number (λ n. n) count (listSays a) (clear a h)
+  where
+    clear : (a : ListAnswer) → toldIn (listSays a) < upper → Clear (λ n. n) count (listSays a)
+    clear (ListAnswers.the-variants.Listed m) h = (h, refl)
+    clear (ListAnswers.the-variants.Refused x c) h = (number-in-table x .some, h)
+
+-- the counts stand in the lent array
+abbrev pub countsIn : List ℕ → ℕ → SceneCounts
+countsIn l k = record { vertices = getD l 0 0; edges = getD l 1 0; triangles = getD l 2 0 }
+
+pub text-heard : (a : TextAnswer) (l : List ℕ) → lineIn (textSays a) < upper → heard (countsIn (countsLeft a l)) (textNumber a) ≡ textSays a
+unfolding textNumber Clear textSays lineIn countsLeft
+text-heard a l h = heard-number (λ c. 0) (countsIn (countsLeft a l)) (textSays a) (clear a h)
+  where
+    clear : (a : TextAnswer) → lineIn (textSays a) < upper → Clear (λ c. 0) (countsIn (countsLeft a l)) (textSays a)
+    clear (TextAnswers.the-variants.Read c) h = (omega arith, refl)
+    clear (TextAnswers.the-variants.Refused x line) h = (number-in-table x .some, h)
+
+-- ---- so a number is one answer's
+
+pub one-scene-number : (a b : SceneAnswer) → sceneNumber a ≡ sceneNumber b → a ≡ b
+one-scene-number a b e = scene-says-one a b (sym (scene-heard a) ∙ ap (heard noMore) e ∙ scene-heard b)
+
+pub one-pair-number : (a b : PairAnswer) → pairNumber a ≡ pairNumber b → a ≡ b
+one-pair-number a b e = pair-says-one a b (sym (pair-heard a) ∙ ap (heard verdictOfByte) e ∙ pair-heard b)
+
+pub one-list-number : (a b : ListAnswer) → toldIn (listSays a) < upper → toldIn (listSays b) < upper → listNumber a ≡ listNumber b → a ≡ b
+one-list-number a b h k e = list-says-one a b (sym (list-heard a h) ∙ ap (heard count) e ∙ list-heard b k)
+
+pub one-text-number : (a b : TextAnswer) (l : List ℕ) → lineIn (textSays a) < upper → lineIn (textSays b) < upper
+    → textNumber a ≡ textNumber b → countsLeft a l ≡ countsLeft b l → a ≡ b
+one-text-number a b l h k e f =
+    text-says-one a b (sym (text-heard a l h) ∙ (λ i. heard (countsIn (f i)) (e i)) ∙ text-heard b l k)

@@ -1,0 +1,50 @@
+-- An answer as one number, since an enum cannot cross to C: the value, or the refusal's number times 2^32 with what the refusal carries.
+use Prim.Native.Nat.{ℕ, _+_, _*_}
+use mathlib.Core.List.{List, [], _∷_}
+use mathlib.Core.Path.{_≡_}
+use Rattle.meaning.specs.Scene.{Scene}
+use Rattle.meaning.specs.Refusals.{Outcome, given, refused, sceneSays, pairSays}
+use Rattle.meaning.specs.List.{listSays}
+use Rattle.meaning.specs.Judging.{byteOf}
+use Rattle.meaning.specs.Text.{textSays, TextRead}
+use Rattle.meaning.specs.declared.SceneAnswer.{SceneAnswer}
+use Rattle.meaning.specs.declared.PairAnswer.{PairAnswer}
+use Rattle.meaning.specs.declared.ListAnswer.{ListAnswer}
+use Rattle.meaning.specs.declared.TextAnswer.{TextAnswer}
+use Rattle.meaning.specs.declared.TextAnswer.the-variants.{Read, Refused}
+
+-- 2^32: a value, a line and a needed count stay below it
+abbrev pub upper : ℕ
+upper = 4_294_967_296
+
+unfoldable pub numberFor : {A : Type 0} → (A → ℕ) → Outcome A → ℕ
+numberFor value (given a) = value a
+numberFor value (refused n c) = n * upper + c
+
+-- 0 for an accepted scene; 0, 1, 2 for hit, miss, degenerate; the count of listed pairs; 0 for a text that was read
+unfoldable pub sceneNumber : SceneAnswer → ℕ
+sceneNumber r = numberFor (λ t. 0) (sceneSays r)
+
+unfoldable pub pairNumber : PairAnswer → ℕ
+pairNumber r = numberFor byteOf (pairSays r)
+
+unfoldable pub listNumber : ListAnswer → ℕ
+listNumber r = numberFor (λ n. n) (listSays r)
+
+unfoldable pub textNumber : TextAnswer → ℕ
+textNumber r = numberFor (λ c. 0) (textSays r)
+
+-- the three counts of a text that was read, in a lent array; a refusal leaves what stood there
+unfoldable pub countsLeft : TextAnswer → List ℕ → List ℕ
+countsLeft (Read c) l = c .vertices ∷ c .edges ∷ c .triangles ∷ []
+countsLeft (Refused x line) l = l
+
+pub record ReadInto (text : List ℕ) (lent left : Scene) (l l′ : List ℕ) (r : TextAnswer) : Type 0 where
+  pub scene : TextRead text lent left r
+  pub counts : l′ ≡ countsLeft r l
+
+-- r is the number of an answer that is right
+pub record Told {A : Type 0} (number : A → ℕ) (Right : A → Type 0) (r : ℕ) : Type 0 where
+  pub answer : A
+  pub right : Right answer
+  pub is : r ≡ number answer

@@ -1,0 +1,86 @@
+-- Each promise determines the number and every lent buffer, refused calls too; and what a caller hears in the number is right.
+use Prim.Native.Nat.{ℕ, min}
+use mathlib.Core.List.{List, map}
+use mathlib.Core.Path.{_≡_, refl, sym, ap, _∙_, subst}
+use lib.ListN.{length}
+use Rattle.meaning.specs.Scene.{Scene}
+use Rattle.meaning.specs.Pieces.{pieceOf}
+use Rattle.meaning.specs.Verdicts.{PieceIs, PairIs}
+use Rattle.meaning.specs.Refusals.{Outcome, Answers, sceneChecks, pairChecks, pieceChecks, SceneChecked, PairJudged, PieceJudged}
+use Rattle.meaning.specs.List.{pairs, entries, roomOf, listSays, listChecks, leaves, Counted, Listing}
+use Rattle.meaning.specs.Judging.{byteOf, JudgedScene}
+use Rattle.meaning.specs.Text.{textSays, TextRead}
+use Rattle.meaning.specs.declared.Kind.{Kind}
+use Rattle.meaning.specs.declared.TextAnswer.{TextAnswer}
+use Rattle.judging.specs.Listed.{verdictOfByte}
+use Rattle.demands.specs.OneAnswer.{one-scene, one-pair, one-piece, one-counted, one-listing, one-judging}
+use Rattle.demands.specs.OneText.{one-reading}
+use Rattle.demands.specs.TextTable.{TextRows, demand1-text}
+use Rattle.makhnodri.specs.Numbers.{sceneNumber, pairNumber, listNumber, textNumber, countsLeft, ReadInto, Told}
+use Rattle.makhnodri.specs.Small.{counted-small, listing-small, judging-small, line-small}
+use Rattle.makhnodri.specs.Back.{heard, noMore, count, countsIn, scene-heard, pair-heard, list-heard, text-heard}
+
+-- one right answer, one number
+one-number : {A : Type 0} {number : A → ℕ} {R S : A → Type 0} {r r′ : ℕ} (p : Told number R r) (q : Told number S r′) → p .answer ≡ q .answer → r ≡ r′
+one-number {A} {number} p q e = p .is ∙ ap number e ∙ sym (q .is)
+
+pub one-check : (s : Scene) (r r′ : ℕ) → Told sceneNumber (SceneChecked s) r → Told sceneNumber (SceneChecked s) r′ → r ≡ r′
+one-check s r r′ p q = one-number p q (one-scene s (p .answer) (q .answer) (p .right) (q .right))
+
+pub one-pair-told : (s : Scene) (kind : Kind) (i j r r′ : ℕ) → Told pairNumber (PairJudged s kind i j) r → Told pairNumber (PairJudged s kind i j) r′ → r ≡ r′
+one-pair-told s kind i j r r′ p q = one-number p q (one-pair s kind i j (p .answer) (q .answer) (p .right) (q .right))
+
+pub one-piece-told : (s : Scene) (kind : Kind) (i j k r r′ : ℕ) → Told pairNumber (PieceJudged s kind i j k) r → Told pairNumber (PieceJudged s kind i j k) r′ → r ≡ r′
+one-piece-told s kind i j k r r′ p q = one-number p q (one-piece s kind i j k (p .answer) (q .answer) (p .right) (q .right))
+
+pub one-count-told : (s : Scene) (r r′ : ℕ) → Told listNumber (Counted s) r → Told listNumber (Counted s) r′ → r ≡ r′
+one-count-told s r r′ p q = one-number p q (one-counted s (p .answer) (q .answer) (p .right) (q .right))
+
+pub one-list-told : (s : Scene) (o o′ o″ : List ℕ) (r r′ : ℕ) → Told listNumber (Listing s o o′) r → Told listNumber (Listing s o o″) r′ → (r ≡ r′) × (o′ ≡ o″)
+one-list-told s o o′ o″ r r′ p q =
+    let (same, list) = one-listing s o o′ o″ (p .answer) (q .answer) (p .right) (q .right) in
+    (one-number p q same, list)
+
+pub one-judging-told : (s : Scene) (o o′ o″ b b′ b″ : List ℕ) (r r′ : ℕ) → Told listNumber (JudgedScene s o o′ b b′) r
+    → Told listNumber (JudgedScene s o o″ b b″) r′ → (r ≡ r′) × (o′ ≡ o″) × (b′ ≡ b″)
+one-judging-told s o o′ o″ b b′ b″ r r′ p q =
+    let (same, list, bytes) = one-judging s o o′ o″ b b′ b″ (p .answer) (q .answer) (p .right) (q .right) in
+    (one-number p q same, list, bytes)
+
+pub one-reading-told : (text : List ℕ) (lent left left′ : Scene) (l l′ l″ : List ℕ) (r r′ : ℕ) → Told textNumber (ReadInto text lent left l l′) r
+    → Told textNumber (ReadInto text lent left′ l l″) r′ → (r ≡ r′) × (left ≡ left′) × (l′ ≡ l″)
+one-reading-told text lent left left′ l l′ l″ r r′ p q =
+    let (same, scene) = one-reading text lent left left′ (p .answer) (q .answer) (p .right .scene) (q .right .scene) in
+    (one-number p q same, scene, p .right .counts ∙ ap (λ (a : TextAnswer). countsLeft a l) same ∙ sym (q .right .counts))
+
+-- ---- what is heard in the number is right
+
+pub check-heard : (s : Scene) (r : ℕ) → Told sceneNumber (SceneChecked s) r → Answers (sceneChecks s) (λ t. Unit {0}) (heard noMore r)
+check-heard s r p = rw (p .is, scene-heard (p .answer)) (p .right)
+
+pub pair-told-heard : (s : Scene) (kind : Kind) (i j r : ℕ) → Told pairNumber (PairJudged s kind i j) r
+    → Answers (pairChecks s kind i j) (PairIs s kind i j) (heard verdictOfByte r)
+pair-told-heard s kind i j r p = rw (p .is, pair-heard (p .answer)) (p .right)
+
+pub piece-told-heard : (s : Scene) (kind : Kind) (i j k r : ℕ) → Told pairNumber (PieceJudged s kind i j k) r
+    → Answers (pieceChecks s kind i j k) (PieceIs (pieceOf s kind i j k)) (heard verdictOfByte r)
+piece-told-heard s kind i j k r p = rw (p .is, pair-heard (p .answer)) (p .right)
+
+pub count-heard : (s : Scene) (r : ℕ) → Told listNumber (Counted s) r → Answers (sceneChecks s) (λ n. n ≡ length (pairs s)) (heard count r)
+count-heard s r p = rw (p .is, list-heard (p .answer) (counted-small s (p .answer) (p .right))) (p .right)
+
+pub list-told-heard : (s : Scene) (o o′ : List ℕ) (r : ℕ) → Told listNumber (Listing s o o′) r
+    → Answers (listChecks s (roomOf o)) (λ n. n ≡ length (pairs s)) (heard count r) × (o′ ≡ leaves (heard count r) (entries (pairs s)) o)
+list-told-heard s o o′ r p = rw (p .is, list-heard (p .answer) (listing-small (p .right))) (p .right .answer, p .right .buffer)
+
+pub judging-told-heard : (s : Scene) (o o′ b b′ : List ℕ) (r : ℕ) → (p : Told listNumber (JudgedScene s o o′ b b′) r)
+    → Answers (listChecks s (min (roomOf o) (length b))) (λ n. n ≡ length (pairs s)) (heard count r)
+    × (o′ ≡ leaves (heard count r) (entries (pairs s)) o)
+    × (b′ ≡ leaves (heard count r) (map byteOf (p .right .verdicts)) b)
+judging-told-heard s o o′ b b′ r p =
+    rw (p .is, list-heard (p .answer) (judging-small (p .right))) (p .right .answer, p .right .list, p .right .bytes)
+
+pub reading-told-heard : (text : List ℕ) (lent left : Scene) (l l′ : List ℕ) (r : ℕ) → Told textNumber (ReadInto text lent left l l′) r
+    → TextRows text lent (heard (countsIn l′) r)
+reading-told-heard text lent left l l′ r p =
+    rw (p .is, p .right .counts, text-heard (p .answer) l (line-small (p .right .scene))) (demand1-text text lent left (p .answer) (p .right .scene))

@@ -1,0 +1,228 @@
+// The library for C and for Rust: numbers and slices only, thin over the crates that do the work. include/makhnodri.h tells the same in C.
+
+ghost use Prim.Native.Nat.{_+_, _*_, _<_};
+ghost use mathlib.Core.List.{[], _∷_};
+ghost use mathlib.Core.Path.{_≡_};
+ghost use Rattle.meaning.specs.Scene.{sceneOf};
+ghost use Rattle.meaning.specs.Refusals.{numberOf, SceneChecked, PairJudged, PieceJudged};
+ghost use Rattle.meaning.specs.List.{listSays, Counted, Listing};
+ghost use Rattle.meaning.specs.Judging.{JudgedScene};
+ghost use Rattle.meaning.specs.declared.Kind.the-variants.{PointTriangle, EdgeEdge};
+ghost use Rattle.makhnodri.specs.Numbers.{upper, sceneNumber, pairNumber, listNumber, textNumber, ReadInto, Told};
+ghost use Rattle.makhnodri.specs.Small.{toldIn};
+use meaning::Kind;
+use meaning::ListAnswer;
+use meaning::PairAnswer;
+use meaning::Refusal;
+use meaning::SceneAnswer;
+use meaning::SceneCounts;
+use meaning::TextAnswer;
+
+// ---- an answer as one number
+
+fn refusal_number(why: Refusal) -> u64
+    ensures { λ r. ⌜ r ≡ numberOf why ⌝ }
+{
+    match why {
+        Refusal::Shape => 1,
+        Refusal::Coordinate => 2,
+        Refusal::UnknownVertex => 3,
+        Refusal::RepeatedVertex => 4,
+        Refusal::NotThere => 5,
+        Refusal::SharedVertex => 6,
+        Refusal::NoRoom => 7,
+        Refusal::LongText => 8,
+        Refusal::BadLine => 9,
+        Refusal::LateRecord => 10,
+        Refusal::TooMany => 11,
+        Refusal::ShortBuffer => 12,
+    }
+}
+
+// A refusal with the line or the count that it carries.
+fn refused(why: Refusal, carries: usize) -> u64
+    requires { ⌜ carries < upper ⌝ }
+    ensures { λ r. ⌜ r ≡ numberOf why * upper + carries ⌝ }
+{
+    refusal_number(why) * 4294967296 + (carries as u64)
+}
+
+fn scene_number(answer: SceneAnswer) -> u64
+    ensures { λ r. ⌜ r ≡ sceneNumber answer ⌝ }
+{
+    match answer {
+        SceneAnswer::Accepted => 0,
+        SceneAnswer::Refused(why) => refused(why, 0),
+    }
+}
+
+fn pair_number(answer: PairAnswer) -> u64
+    ensures { λ r. ⌜ r ≡ pairNumber answer ⌝ }
+{
+    match answer {
+        PairAnswer::Judged(verdict) => judging::byte_of(verdict) as u64,
+        PairAnswer::Refused(why) => refused(why, 0),
+    }
+}
+
+fn list_number(answer: ListAnswer) -> u64
+    requires { ⌜ toldIn (listSays answer) < upper ⌝ }
+    ensures { λ r. ⌜ r ≡ listNumber answer ⌝ }
+{
+    match answer {
+        ListAnswer::Listed(made) => made.count as u64,
+        ListAnswer::Refused(why, needed) => refused(why, needed),
+    }
+}
+
+fn put_counts(counts: &mut [usize; 3], c: SceneCounts)
+    ensures { λ _. ⌜ now (counts .exit) ≡ c .vertices ∷ c .edges ∷ c .triangles ∷ [] ⌝ }
+{
+    *counts = [c.vertices, c.edges, c.triangles];
+}
+
+// ---- a scene
+
+// May this scene be used?
+#[no_mangle]
+pub extern "C" fn makhnodri_check_scene(positions: &[i32], edges: &[u16], triangles: &[u16]) -> u64
+    ensures { λ r. ⌜ Told sceneNumber (SceneChecked (sceneOf (now (positions .entry)) (now (edges .entry)) (now (triangles .entry)))) r ⌝ }
+{
+    scene_number(scenes::check_scene(positions, edges, triangles))
+}
+
+// How many pairs are listed.
+#[no_mangle]
+pub extern "C" fn makhnodri_count_pairs(positions: &[i32], edges: &[u16], triangles: &[u16]) -> u64
+    ensures { λ r. ⌜ Told listNumber (Counted (sceneOf (now (positions .entry)) (now (edges .entry)) (now (triangles .entry)))) r ⌝ }
+{
+    list_number(listing::count_pairs(positions, edges, triangles))
+}
+
+// The list, in front of a lent buffer.
+#[no_mangle]
+pub extern "C" fn makhnodri_list_pairs(
+    positions: &[i32],
+    edges: &[u16],
+    triangles: &[u16],
+    list: &mut [u16],
+) -> u64
+    ensures { λ r. ⌜ Told listNumber (Listing (sceneOf (now (positions .entry)) (now (edges .entry)) (now (triangles .entry))) (now (list .entry)) (now (list .exit))) r ⌝ }
+{
+    list_number(listing::list_pairs(positions, edges, triangles, list))
+}
+
+// The list, and the verdict of each listed pair as a byte.
+#[no_mangle]
+pub extern "C" fn makhnodri_judge_scene(
+    positions: &[i32],
+    edges: &[u16],
+    triangles: &[u16],
+    list: &mut [u16],
+    verdicts: &mut [u8],
+) -> u64
+    ensures { λ r. ⌜ Told listNumber (JudgedScene (sceneOf (now (positions .entry)) (now (edges .entry)) (now (triangles .entry))) (now (list .entry)) (now (list .exit)) (now (verdicts .entry)) (now (verdicts .exit))) r ⌝ }
+{
+    list_number(judging::judge_scene(positions, edges, triangles, list, verdicts))
+}
+
+// ---- a pair and a piece; a kind has functions of its own, so that no bad kind can be asked for
+
+#[no_mangle]
+pub extern "C" fn makhnodri_judge_pt(
+    positions: &[i32],
+    edges: &[u16],
+    triangles: &[u16],
+    vertex: usize,
+    triangle: usize,
+) -> u64
+    ensures { λ r. ⌜ Told pairNumber (PairJudged (sceneOf (now (positions .entry)) (now (edges .entry)) (now (triangles .entry))) PointTriangle vertex triangle) r ⌝ }
+{
+    pair_number(verdicts::judge_pair(
+        positions,
+        edges,
+        triangles,
+        Kind::PointTriangle,
+        vertex,
+        triangle,
+    ))
+}
+
+#[no_mangle]
+pub extern "C" fn makhnodri_judge_ee(
+    positions: &[i32],
+    edges: &[u16],
+    triangles: &[u16],
+    first: usize,
+    second: usize,
+) -> u64
+    ensures { λ r. ⌜ Told pairNumber (PairJudged (sceneOf (now (positions .entry)) (now (edges .entry)) (now (triangles .entry))) EdgeEdge first second) r ⌝ }
+{
+    pair_number(verdicts::judge_pair(positions, edges, triangles, Kind::EdgeEdge, first, second))
+}
+
+#[no_mangle]
+pub extern "C" fn makhnodri_judge_pt_piece(
+    positions: &[i32],
+    edges: &[u16],
+    triangles: &[u16],
+    vertex: usize,
+    triangle: usize,
+    piece: usize,
+) -> u64
+    ensures { λ r. ⌜ Told pairNumber (PieceJudged (sceneOf (now (positions .entry)) (now (edges .entry)) (now (triangles .entry))) PointTriangle vertex triangle piece) r ⌝ }
+{
+    pair_number(verdicts::judge_piece(
+        positions,
+        edges,
+        triangles,
+        Kind::PointTriangle,
+        vertex,
+        triangle,
+        piece,
+    ))
+}
+
+#[no_mangle]
+pub extern "C" fn makhnodri_judge_ee_piece(
+    positions: &[i32],
+    edges: &[u16],
+    triangles: &[u16],
+    first: usize,
+    second: usize,
+    piece: usize,
+) -> u64
+    ensures { λ r. ⌜ Told pairNumber (PieceJudged (sceneOf (now (positions .entry)) (now (edges .entry)) (now (triangles .entry))) EdgeEdge first second piece) r ⌝ }
+{
+    pair_number(verdicts::judge_piece(
+        positions,
+        edges,
+        triangles,
+        Kind::EdgeEdge,
+        first,
+        second,
+        piece,
+    ))
+}
+
+// ---- a text
+
+// Reads a scene text into the lent buffers, and its three counts into the lent array.
+#[no_mangle]
+pub extern "C" fn makhnodri_read_scene(
+    text: &[u8],
+    positions: &mut [i32],
+    edges: &mut [u16],
+    triangles: &mut [u16],
+    counts: &mut [usize; 3],
+) -> u64
+    ensures { λ r. ⌜ Told textNumber (ReadInto (now (text .entry)) (sceneOf (now (positions .entry)) (now (edges .entry)) (now (triangles .entry))) (sceneOf (now (positions .exit)) (now (edges .exit)) (now (triangles .exit))) (now (counts .entry)) (now (counts .exit))) r ⌝ }
+{
+    match scene_text::read_scene(text, positions, edges, triangles) {
+        TextAnswer::Read(c) => {
+            put_counts(counts, c);
+            0
+        }
+        TextAnswer::Refused(why, line) => refused(why, line),
+    }
+}

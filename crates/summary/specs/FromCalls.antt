@@ -1,0 +1,127 @@
+-- What the answers of the calls below say to the report: of the list that was judged, and of the text that was read.
+use Prim.Native.Nat.{ℕ, _≤_, _<_, _/_, min}
+use mathlib.Core.Bool.{Bool, true, false, true≢false}
+use mathlib.Core.Logic.{_⊎_, inl, inr}
+use mathlib.Core.List.{List, [], _∷_, _++_}
+use mathlib.Core.Path.{_≡_, refl, sym, ap, _∙_, subst}
+use native.Mathlib.Nat.{le-trans}
+use native.Mathlib.Omega.{arith}
+use lib.Dec.{ltb}
+use lib.ListN.{length, replicate, length-replicate, length-append}
+use borrow.Author.Tests.{ltb-true, ltb-false}
+use Rattle.sequences.specs.Pick.{either}
+use Rattle.sequences.specs.Wrote.{written}
+use Rattle.meaning.specs.Limits.{reportRoom, textLimit}
+use Rattle.meaning.specs.Scene.{Scene, sceneOf, Accepted}
+use Rattle.meaning.specs.Refusals.{Outcome, given, refused, numberOf, Answers}
+use Rattle.meaning.specs.List.{pairs, roomOf, listSays, leaves}
+use Rattle.meaning.specs.Text.{TextRead, TextIs, Holds, shortBuffer, longText, textSays, countsTold}
+use Rattle.meaning.specs.declared.SceneCounts.{SceneCounts}
+use Rattle.meaning.specs.declared.TextAnswer.{TextAnswer}
+use Rattle.meaning.specs.Report.{ReportOf, refusedLine}
+use Rattle.meaning.specs.declared.Made.{Made}
+use Rattle.meaning.specs.declared.Refusal.{Refusal}
+use Rattle.meaning.specs.declared.ListAnswer as ListAnswers
+use Rattle.meaning.specs.declared.ListAnswer.{ListAnswer}
+use Rattle.meaning.specs.declared.TextAnswer as TextAnswers
+use Rattle.scenes.specs.Answering.{is-refused, is-past}
+use Rattle.listing.specs.Answering.{roomChecks, IsCount, ListedIn}
+use Rattle.judging.specs.Listed.{ListStands, bytesOf, bytes-length}
+use Rattle.judging.specs.Answering.{JudgedIn, MadeList, made-list, made-stands}
+use Rattle.scene_text.specs.Using.{Came, byBuffers, byLength, byLines, came, read-refusal-of, FewOf, read-counts-few, frontOf, read-scene-of}
+use Rattle.summary.specs.Sizes.{Held}
+
+-- the program's own buffers have room for 2,048 pairs
+pub own-room : min (roomOf (replicate 6144 0)) (length (replicate {A = ℕ} 2048 0)) ≡ reportRoom
+own-room = refl
+
+-- a list that was made and judged
+pub record JudgedList (s : Scene) (o′ b b′ : List ℕ) (n : ℕ) : Type 0 where
+  pub counts : n ≡ length (pairs s)
+  pub few : length (pairs s) ≤ reportRoom
+  pub stands : ListStands s o′
+  pub bytes : b′ ≡ written (bytesOf s (pairs s)) b
+  pub held : Held o′ b′ n
+
+pub judged-list : {s : Scene} {room : ℕ} {o o′ b b′ : List ℕ} {r : ListAnswer} {m : Made} → room ≤ roomOf o → room ≤ reportRoom
+    → JudgedIn s room o o′ b b′ r → r ≡ ListAnswers.the-variants.Listed m → JudgedList s o′ b b′ (m .count)
+unfolding listSays leaves
+judged-list {s} {room} {o} {o′} {b} {b′} {r} {m} h k j e =
+    let l : MadeList s room o o′ (m .count) = made-list (j .list) e in
+    let stands : ListStands s o′ = made-stands h l in
+    let bytes : b′ ≡ written (bytesOf s (pairs s)) b = rw e at (j .bytes) in
+    let long : length b′ ≡ length (written (bytesOf s (pairs s)) b) = ap length bytes in
+    record {
+      counts = l .counts;
+      few = le-trans (l .fits) k;
+      stands = stands;
+      bytes = bytes;
+      held = record {
+        few = omega (arith, l .counts, l .fits);
+        entries = omega (arith, l .counts, stands .room);
+        judged = omega (arith, l .counts, simp length-append at long, bytes-length s (pairs s));
+      };
+    }
+
+-- a list that had no room
+pub no-room : {s : Scene} {room : ℕ} {o o′ b b′ : List ℕ} {r : ListAnswer} {x : Refusal} {n : ℕ} → JudgedIn s room o o′ b b′ r
+    → r ≡ ListAnswers.the-variants.Refused x n → (n ≡ length (pairs s)) × (room < length (pairs s))
+unfolding listSays Answers
+no-room {s} {room} {x} {n} j e = by-test (either (ltb room (length (pairs s))))
+  where
+    a : Answers (roomChecks s room) (IsCount s) (refused (numberOf x) n)
+    a = rw e at (j .list .answer)
+
+    by-test : (ltb room (length (pairs s)) ≡ true) ⊎ (ltb room (length (pairs s)) ≡ false) → (n ≡ length (pairs s)) × (room < length (pairs s))
+    by-test (inl h) =
+        let same : _≡_ {A = Outcome ℕ} (refused (numberOf x) n) (refused 7 (length (pairs s))) = is-refused (IsCount s) _ [] (refused (numberOf x) n) h a in
+        (cc, ltb-true room (length (pairs s)) h)
+    by-test (inr h) = absurd (is-past (IsCount s) _ [] (refused (numberOf x) n) h a)
+
+-- a text that was refused
+pub report-of-refusal : {text : List ℕ} {lent left : Scene} {x : Refusal} {line : ℕ} → shortBuffer lent ≡ false
+    → TextRead text lent left (TextAnswers.the-variants.Refused x line) → ReportOf text (refusedLine (numberOf x) line)
+unfolding TextIs
+report-of-refusal {text} {lent} {left} {x} {line} fits a = by-way (read-refusal-of a .1)
+  where
+    by-way : Came text lent (refused (numberOf x) line) → ReportOf text (refusedLine (numberOf x) line)
+    by-way (byBuffers e p) = let z : _≡_ {A = Bool} true false = sym e ∙ fits in absurd (true≢false z)
+    by-way (byLength e d p) =
+        let number : numberOf x ≡ 8 = cc in
+        let none : line ≡ 0 = cc in
+        rw (number, none) (ReportOf.tooLong (ltb-true textLimit (length text) d))
+    by-way (byLines e d f) = ReportOf.faulty (numberOf x) line (ltb-false textLimit (length text) d) f
+
+-- a text that was read
+module _ {text : List ℕ} {lent left : Scene} {r : TextAnswer} {c : SceneCounts} (a : TextRead text lent left r) (e : r ≡ TextAnswers.the-variants.Read c) where
+  pub few-read : FewOf c
+  few-read = read-counts-few (subst (TextRead text lent left) e a)
+
+  pub holds-read : Holds text (frontOf c left)
+  holds-read = read-scene-of (subst (TextRead text lent left) e a) .0
+
+  pub accepted-read : Accepted (frontOf c left)
+  accepted-read = read-scene-of (subst (TextRead text lent left) e a) .1
+
+  -- such a text is not over its limit
+  pub short-read : length text ≤ textLimit
+  unfolding textSays countsTold
+  short-read = by-way (came text lent (a .outcome) (a .right))
+    where
+      says : given c ≡ countsTold (a .outcome)
+      says = subst (λ (q : TextAnswer). textSays q ≡ countsTold (a .outcome)) e (a .says)
+
+      not-refused : {n line : ℕ} → a .outcome ≡ refused n line → ⊥
+      not-refused p =
+          let q : _≡_ {A = Outcome SceneCounts} (given c) (countsTold (a .outcome)) = says in
+          let z : _≡_ {A = ℕ} 0 1 = cc (ap countsTold p) in
+          omega arith
+
+      by-way : Came text lent (a .outcome) → length text ≤ textLimit
+      by-way (byBuffers x p) = absurd (not-refused p)
+      by-way (byLength x y p) = absurd (not-refused p)
+      by-way (byLines x y t) = ltb-false textLimit (length text) y
+
+pub refused-read : {text : List ℕ} {lent left : Scene} {r : TextAnswer} {x : Refusal} {line : ℕ} → shortBuffer lent ≡ false
+    → TextRead text lent left r → r ≡ TextAnswers.the-variants.Refused x line → ReportOf text (refusedLine (numberOf x) line)
+refused-read {text} {lent} {left} fits a e = report-of-refusal fits (subst (TextRead text lent left) e a)

@@ -1,0 +1,70 @@
+// The report as bytes: a line for each listed pair, then the totals; or the one line of a refusal.
+
+mod words; // words.rt: words and numbers, written into a lent buffer
+mod lines; // lines.rt: the lines of the report
+pub mod tally; // tally.rt: how many pairs have each verdict
+mod pairs; // pairs.rt: the lines of a list and its totals
+
+ghost use mathlib.Core.Path.{_≡_};
+ghost use lib.ListN.{length};
+ghost use Rattle.meaning.specs.Scene.{sceneOf, Accepted};
+ghost use Rattle.meaning.specs.Refusals.{numberOf};
+ghost use Rattle.meaning.specs.Report.{Reported};
+ghost use Rattle.summary.specs.Sizes.{reportLength};
+ghost use Rattle.summary.specs.Whole.{SceneReported};
+use lines::refused_line;
+use meaning::ListAnswer;
+use meaning::Refusal;
+use meaning::TextAnswer;
+use pairs::pairs_report;
+
+// Document 01's number of a refusal.
+pub fn number_of(refusal: Refusal) -> u64
+    ensures { λ r. ⌜ r ≡ numberOf refusal ⌝ }
+{
+    match refusal {
+        Refusal::Shape => 1,
+        Refusal::Coordinate => 2,
+        Refusal::UnknownVertex => 3,
+        Refusal::RepeatedVertex => 4,
+        Refusal::NotThere => 5,
+        Refusal::SharedVertex => 6,
+        Refusal::NoRoom => 7,
+        Refusal::LongText => 8,
+        Refusal::BadLine => 9,
+        Refusal::LateRecord => 10,
+        Refusal::TooMany => 11,
+        Refusal::ShortBuffer => 12,
+    }
+}
+
+// The report of a scene that is accepted: 7 is found before anything is written.
+fn scene_report(positions: &[i32], edges: &[u16], triangles: &[u16], out: &mut [u8]) -> usize
+    requires { ⌜ Accepted (sceneOf (now positions) (now edges) (now triangles)) × (length (now out) ≡ reportLength) ⌝ }
+    ensures { λ r. ⌜ SceneReported (sceneOf (now (positions .entry)) (now (edges .entry)) (now (triangles .entry))) (now (out .entry)) (now (out .exit)) r ⌝ }
+{
+    let mut list = [0u16; 6144];
+    let mut verdicts = [0u8; 2048];
+    match judging::judge_accepted(positions, edges, triangles, &mut list, &mut verdicts) {
+        ListAnswer::Listed(made) => pairs_report(&list, &verdicts, made.count, out),
+        ListAnswer::Refused(_, needed) => refused_line(out, 0, 7, needed as u64),
+    }
+}
+
+// The whole report of a text.
+pub fn write_report(text: &[u8], out: &mut [u8; 65536]) -> usize
+    ensures { λ r. ⌜ Reported (now (text .entry)) (now (out .entry)) (now (out .exit)) r ⌝ }
+{
+    let mut positions = [0i32; 3072];
+    let mut edges = [0u16; 2048];
+    let mut triangles = [0u16; 1536];
+    match scene_text::read_scene(text, &mut positions, &mut edges, &mut triangles) {
+        TextAnswer::Read(counts) => {
+            let p = 6 * counts.vertices;
+            let e = 2 * counts.edges;
+            let t = 3 * counts.triangles;
+            scene_report(&positions[..p], &edges[..e], &triangles[..t], out)
+        }
+        TextAnswer::Refused(refusal, line) => refused_line(out, 0, number_of(refusal), line as u64),
+    }
+}

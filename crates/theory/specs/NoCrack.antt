@@ -1,0 +1,100 @@
+-- No cracks: the two pieces of a moving edge are faces of pieces of every moving triangle that has the edge. So two triangles that share an edge
+-- cut it alike, and what touches the edge touches both.
+use mathlib.Core.Path.{_≡_, refl, _∙_, ap, subst}
+use mathlib.Core.List.{List, [], _∷_}
+use Prim.Native.Nat.{ℕ, zero, suc, _<_}
+use native.Mathlib.Omega.{arith}
+use lib.IntN.{ℤ, pos, _+ℤ_, _*ℤ_, +ℤ-idl, zero-*ℤ}
+use Rattle.meaning.specs.Scene.{Scene, edgeEnd, before, among, endsOf, cornersOf}
+use Rattle.meaning.specs.Pieces.{Event, movingEdge, movingTriangle}
+use Rattle.meaning.specs.Equations.{total, one, xOf, yOf, zOf, timeOf, Touch}
+use Rattle.meaning.specs.declared.Ends.{Ends}
+use Rattle.meaning.specs.declared.Corners.{Corners}
+use Rattle.theory.specs.InOrder.{cond-keeps}
+use Rattle.theory.specs.Rearranged.{Rearranged, rearranged-back}
+use Rattle.theory.specs.Written.{cornersWritten, Different, different-rearranged, corners-any-order}
+
+-- the list without its i-th element
+unfoldable pub without {ℓ} : {A : Type ℓ} → ℕ → List A → List A
+without i [] = []
+without zero (a ∷ l) = l
+without (suc i) (a ∷ l) = a ∷ without i l
+
+-- the three edges of a triangle with corners in rising number
+pub data EdgeOf (c : Corners) : Ends → Type 0 where
+  lowMiddle : EdgeOf c (record { low = c .low; high = c .middle })
+  lowHigh : EdgeOf c (record { low = c .low; high = c .high })
+  middleHigh : EdgeOf c (record { low = c .middle; high = c .high })
+
+-- one point left out of one of the triangle's three pieces gives the list
+pub record FaceOf (s : Scene) (c : Corners) (f : List Event) : Type 0 where
+  pub piece : ℕ
+  pub there : piece < 3
+  pub leftOut : ℕ
+  pub oneOfFour : leftOut < 4
+  pub is : without leftOut (movingTriangle s c piece) ≡ f
+
+pub edge-pieces-are-faces : (s : Scene) (c : Corners) (e : Ends) → EdgeOf c e → (m : ℕ) → FaceOf s c (movingEdge s e m)
+unfolding without movingEdge movingTriangle
+edge-pieces-are-faces s c e lowMiddle zero = record { piece = 1; there = omega arith; leftOut = 3; oneOfFour = omega arith; is = refl }
+edge-pieces-are-faces s c e lowMiddle (suc m) = record { piece = 2; there = omega arith; leftOut = 3; oneOfFour = omega arith; is = refl }
+edge-pieces-are-faces s c e lowHigh zero = record { piece = 0; there = omega arith; leftOut = 1; oneOfFour = omega arith; is = refl }
+edge-pieces-are-faces s c e lowHigh (suc m) = record { piece = 2; there = omega arith; leftOut = 2; oneOfFour = omega arith; is = refl }
+edge-pieces-are-faces s c e middleHigh zero = record { piece = 0; there = omega arith; leftOut = 0; oneOfFour = omega arith; is = refl }
+edge-pieces-are-faces s c e middleHigh (suc m) = record { piece = 1; there = omega arith; leftOut = 0; oneOfFour = omega arith; is = refl }
+
+-- ---- in a scene
+
+pub among-has-edge : (s : Scene) (e : Ends) (c : ℕ) → EdgeOf (among s e c) e
+among-has-edge s e c =
+    let Q : Corners → Type 0 = λ (k : Corners). EdgeOf k e in
+    cond-keeps Q (before s c (e .low)) _ _ middleHigh (cond-keeps Q (before s c (e .high)) _ _ lowHigh lowMiddle)
+
+-- triangle t has edge j: its corners are the edge's ends and one more vertex, in any order
+pub record HasEdge (s : Scene) (t j : ℕ) : Type 0 where
+  pub opposite : ℕ
+  pub corners : Rearranged (edgeEnd s j 0 ∷ edgeEnd s j 1 ∷ opposite ∷ []) (cornersWritten s t)
+
+pub has-edge : (s : Scene) (t j : ℕ) → Different s (cornersWritten s t) → HasEdge s t j → EdgeOf (cornersOf s t) (endsOf s j)
+has-edge s t j d h =
+    subst (λ (c : Corners). EdgeOf c (endsOf s j)) (corners-any-order s (h .corners) (different-rearranged s (rearranged-back (h .corners)) d)) (among-has-edge s (endsOf s j) (h .opposite))
+
+-- the very same cut of the edge in both triangles
+pub no-crack : (s : Scene) (t t′ j : ℕ) → Different s (cornersWritten s t) → Different s (cornersWritten s t′) → HasEdge s t j → HasEdge s t′ j → (m : ℕ) → FaceOf s (cornersOf s t) (movingEdge s (endsOf s j) m) × FaceOf s (cornersOf s t′) (movingEdge s (endsOf s j) m)
+no-crack s t t′ j d d′ h h′ m = (
+  edge-pieces-are-faces s (cornersOf s t) (endsOf s j) (has-edge s t j d h) m,
+  edge-pieces-are-faces s (cornersOf s t′) (endsOf s j) (has-edge s t′ j d′ h′) m,
+)
+
+-- ---- what touches a face touches the piece, with weight 0 for the point left out
+
+pub put-in : ℕ → (ℕ → ℕ) → ℕ → ℕ
+put-in zero w zero = 0
+put-in zero w (suc n) = w n
+put-in (suc i) w zero = w 0
+put-in (suc i) w (suc n) = put-in i (λ n. w (suc n)) n
+
+pub put-in-total : {A : Type 0} (f : A → ℤ) (i : ℕ) (w : ℕ → ℕ) (l : List A) → total f (λ n. pos (put-in i w n)) l ≡ total f (λ n. pos (w n)) (without i l)
+unfolding total without put-in
+put-in-total f zero w [] = refl
+put-in-total f (suc i) w [] = refl
+put-in-total f zero w (a ∷ l) = ap (λ n. n +ℤ total f (λ n. pos (w n)) l) (zero-*ℤ (f a)) ∙ +ℤ-idl (total f (λ n. pos (w n)) l)
+put-in-total f (suc i) w (a ∷ l) = ap (λ n. pos (w 0) *ℤ f a +ℤ n) (put-in-total f i (λ n. w (suc n)) l)
+
+pub touch-of-face : (i : ℕ) (l b : List Event) → Touch (without i l) b → Touch l b
+touch-of-face i l b t = record {
+  u = put-in i (t .u);
+  v = t .v;
+  balanced = record {
+    sums = put-in-total one i (t .u) l ∙ t .balanced .sums;
+    xs = put-in-total xOf i (t .u) l ∙ t .balanced .xs;
+    ys = put-in-total yOf i (t .u) l ∙ t .balanced .ys;
+    zs = put-in-total zOf i (t .u) l ∙ t .balanced .zs;
+    times = put-in-total timeOf i (t .u) l ∙ t .balanced .times;
+  };
+  some = rw (put-in-total one i (t .u) l) (t .some);
+}
+
+-- so what touches a piece of the edge touches a piece of each triangle that has it
+pub touch-through : (s : Scene) (c : Corners) (f b : List Event) → FaceOf s c f → Touch f b → (k : ℕ) × (k < 3) × Touch (movingTriangle s c k) b
+touch-through s c f b h t = (h .piece, h .there, touch-of-face (h .leftOut) (movingTriangle s c (h .piece)) b (rw (h .is) t))
