@@ -1,4 +1,4 @@
--- `scene_text::put_point` meets its contract: three stores side by side, each of a coordinate.
+-- `scene_text::place::put_point` meets its contract: three stores side by side, each of a coordinate.
 use native.Mathlib.Omega.{arith}
 use lib.ListN.{length, set, length-set}
 use mathlib.Core.List.{List, [], _∷_}
@@ -11,8 +11,8 @@ use mir.Val.{hbits, toZ, ofZ}
 use mir.Facts.{toZ-ofZ}
 use Rattle.sequences.specs.Wrote.{Wrote, wrote-three}
 use borrow.Author.Needs.{needs, sfits-of}
-use Rattle.scene_text.proofs.put_point.Statement.{statement}
-use Rattle.scene_text.proofs.put_point.Tie as tie
+use Rattle.scene_text.proofs.place.put_point.Statement.{statement}
+use Rattle.scene_text.proofs.place.put_point.Tie as tie
 
 -- a signed number is held in bits, and reading them gives it back
 stored : {r z : ℤ} → r ≡ z → mag r < 2 ^ hbits w32 → toZ w32 (ofZ w32 r) ≡ z

@@ -1,10 +1,10 @@
--- `scene_text::put_triangle` meets its contract: three stores side by side.
+-- `scene_text::place::put_triangle` meets its contract: three stores side by side.
 use native.Mathlib.Omega.{arith}
 use lib.ListN.{length-set}
 use Rattle.sequences.specs.Wrote.{wrote-three}
 use borrow.Author.Needs.{needs}
-use Rattle.scene_text.proofs.put_triangle.Statement.{statement}
-use Rattle.scene_text.proofs.put_triangle.Tie as tie
+use Rattle.scene_text.proofs.place.put_triangle.Statement.{statement}
+use Rattle.scene_text.proofs.place.put_triangle.Tie as tie
 
 slice-write-out-2 : tie.Need-slice-write-out-2
 slice-write-out-2 c = simp length-set (omega arith)

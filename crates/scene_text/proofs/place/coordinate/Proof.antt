@@ -1,4 +1,4 @@
--- `scene_text::coordinate` meets its contract: a size within the limit fits, and so does its negative.
+-- `scene_text::place::coordinate` meets its contract: a size within the limit fits, and so does its negative.
 use mathlib.Core.Path.{_≡_, refl, ap, _∙_}
 use Prim.Native.Nat.{ℕ, zero, suc, _≤_, _<_, _^_}
 use native.Mathlib.Omega.{arith}
@@ -8,8 +8,8 @@ use mir.Val.{SFits, toZ, hbits}
 use mir.Facts.{toZ-pos, toZ-ofZ, sfits-lit}
 use borrow.Author.Needs.{needs}
 use Rattle.meaning.specs.Limits.{coordinateLimit}
-use Rattle.scene_text.proofs.coordinate.Statement.{statement}
-use Rattle.scene_text.proofs.coordinate.Tie as tie
+use Rattle.scene_text.proofs.place.coordinate.Statement.{statement}
+use Rattle.scene_text.proofs.place.coordinate.Tie as tie
 
 held : (n : ℕ) → n ≤ coordinateLimit → toZ w32 n ≡ pos n
 held n h = toZ-pos w32 {n = n} (omega arith)

@@ -1,10 +1,10 @@
--- `scene_text::put` meets its contract: each arm writes the numbers of its kind of record behind those that stand there.
+-- `scene_text::place::put` meets its contract: each arm writes the numbers of its kind of record behind those that stand there.
 use native.Mathlib.Omega.{arith}
 use denote.Ref.{now}
 use borrow.Author.Needs.{needs}
 use Rattle.scene_text.specs.Putting.{VertexReady, EdgeReady, TriangleReady, ready-vertex, ready-edge, ready-triangle, puts-vertex, puts-edge, puts-triangle}
-use Rattle.scene_text.proofs.put.Statement.{statement}
-use Rattle.scene_text.proofs.put.Tie as tie
+use Rattle.scene_text.proofs.place.put.Statement.{statement}
+use Rattle.scene_text.proofs.place.put.Tie as tie
 
 vertex : (c : tie.After-enum-told) → VertexReady (c .before .before .before .before .before .before .args .c) (now (c .before .before .before .before .before .before .args .sizes))
 vertex c = ready-vertex (c .before .before .before .before .before .before .pre .0) (c .enum-told .given .1)

@@ -1,9 +1,9 @@
--- `scene_text::put_vertex` meets its contract: one point behind the other.
+-- `scene_text::place::put_vertex` meets its contract: one point behind the other.
 use native.Mathlib.Nat.{add-assoc}
 use Rattle.sequences.specs.Wrote.{wrote-then}
 use borrow.Author.Needs.{needs}
-use Rattle.scene_text.proofs.put_vertex.Statement.{statement}
-use Rattle.scene_text.proofs.put_vertex.Tie as tie
+use Rattle.scene_text.proofs.place.put_vertex.Statement.{statement}
+use Rattle.scene_text.proofs.place.put_vertex.Tie as tie
 
 returns : tie.Need-returns
 returns c =
