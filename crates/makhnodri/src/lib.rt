@@ -8,6 +8,7 @@ ghost use Rattle.meaning.specs.Refusals.{numberOf, SceneChecked, PairJudged, Pi
 ghost use Rattle.meaning.specs.List.{listSays, Counted, Listing};
 ghost use Rattle.meaning.specs.Judging.{JudgedScene};
 ghost use Rattle.meaning.specs.declared.Kind.the-variants.{PointTriangle, EdgeEdge};
+ghost use Rattle.meaning.specs.Report.{Reported};
 ghost use Rattle.makhnodri.specs.Numbers.{upper, sceneNumber, pairNumber, listNumber, textNumber, ReadInto, Told};
 ghost use Rattle.makhnodri.specs.Small.{toldIn};
 use meaning::Kind;
@@ -20,31 +21,12 @@ use meaning::TextAnswer;
 
 // ---- an answer as one number
 
-fn refusal_number(why: Refusal) -> u64
-    ensures { λ r. ⌜ r ≡ numberOf why ⌝ }
-{
-    match why {
-        Refusal::Shape => 1,
-        Refusal::Coordinate => 2,
-        Refusal::UnknownVertex => 3,
-        Refusal::RepeatedVertex => 4,
-        Refusal::NotThere => 5,
-        Refusal::SharedVertex => 6,
-        Refusal::NoRoom => 7,
-        Refusal::LongText => 8,
-        Refusal::BadLine => 9,
-        Refusal::LateRecord => 10,
-        Refusal::TooMany => 11,
-        Refusal::ShortBuffer => 12,
-    }
-}
-
 // A refusal with the line or the count that it carries.
 fn refused(why: Refusal, carries: usize) -> u64
     requires { ⌜ carries < upper ⌝ }
     ensures { λ r. ⌜ r ≡ numberOf why * upper + carries ⌝ }
 {
-    refusal_number(why) * 4294967296 + (carries as u64)
+    summary::number_of(why) * 4294967296 + (carries as u64)
 }
 
 fn scene_number(answer: SceneAnswer) -> u64
@@ -225,4 +207,12 @@ pub extern "C" fn makhnodri_read_scene(
         }
         TextAnswer::Refused(why, line) => refused(why, line),
     }
+}
+
+// The whole report of a text, in front of the lent array; its length is returned.
+#[no_mangle]
+pub extern "C" fn makhnodri_write_report(text: &[u8], out: &mut [u8; 65536]) -> usize
+    ensures { λ r. ⌜ Reported (now (text .entry)) (now (out .entry)) (now (out .exit)) r ⌝ }
+{
+    summary::write_report(text, out)
 }

@@ -1,0 +1,160 @@
+//! Answers under names. The library answers by one number: a value below 2^32, or a refusal's number times 2^32 with the line or
+//! the needed count that it carries.
+
+use std::error::Error;
+use std::fmt::{self, Display, Formatter};
+
+/// A pair is asked for by kind: a point and a triangle, or two edges.
+#[derive(Clone, Copy, Debug, PartialEq, Eq, Hash)]
+pub enum Kind {
+    PointTriangle,
+    EdgeEdge,
+}
+
+#[derive(Clone, Copy, Debug, PartialEq, Eq, Hash)]
+pub enum Verdict {
+    Hit,
+    Miss,
+    Degenerate,
+}
+
+/// A vertex and a triangle, or two edges, by their places in the scene.
+#[derive(Clone, Copy, Debug, PartialEq, Eq, Hash)]
+pub struct Pair {
+    pub kind: Kind,
+    pub first: usize,
+    pub second: usize,
+}
+
+/// Why a call was refused, in the order of the numbers 1 to 12.
+#[derive(Clone, Copy, Debug, PartialEq, Eq, Hash)]
+pub enum Refusal {
+    Shape = 1,
+    Coordinate,
+    UnknownVertex,
+    RepeatedVertex,
+    NotThere,
+    SharedVertex,
+    NoRoom,
+    LongText,
+    BadLine,
+    LateRecord,
+    TooMany,
+    ShortBuffer,
+}
+
+/// Why no list was made.
+#[derive(Clone, Copy, Debug, PartialEq, Eq, Hash)]
+pub enum ListRefusal {
+    /// 1, 2, 3 or 4.
+    Scene(Refusal),
+    /// 7, with the count of pairs that need room.
+    NoRoom { needed: usize },
+}
+
+/// Why no scene was read from a text.
+#[derive(Clone, Copy, Debug, PartialEq, Eq, Hash)]
+pub enum TextRefusal {
+    /// 12: a lent buffer is too short.
+    ShortBuffer,
+    /// 8: the text is too long.
+    LongText,
+    /// 9, 10, 11, 2, 3 or 4 in a line, counted from 1.
+    Line { refusal: Refusal, line: usize },
+}
+
+const REFUSALS: [(Refusal, &str); 12] = [
+    (Refusal::Shape, "positions not a multiple of 6 long, edges of 2, triangles of 3, or a count over its size"),
+    (Refusal::Coordinate, "a coordinate outside its range"),
+    (Refusal::UnknownVertex, "a vertex number not below the vertex count"),
+    (Refusal::RepeatedVertex, "a vertex twice in one edge or triangle"),
+    (Refusal::NotThere, "a vertex, edge, triangle or piece asked for that isn't there"),
+    (Refusal::SharedVertex, "the pair asked for shares a vertex"),
+    (Refusal::NoRoom, "more listed pairs than room"),
+    (Refusal::LongText, "text over 32,768 bytes"),
+    (Refusal::BadLine, "a line not of the form, or a last line without LF"),
+    (Refusal::LateRecord, "a record after one of a later kind"),
+    (Refusal::TooMany, "one record more than its size"),
+    (Refusal::ShortBuffer, "a lent scene buffer that is too short"),
+];
+
+impl Refusal {
+    pub fn number(self) -> u32 {
+        self as u32
+    }
+
+    pub fn words(self) -> &'static str {
+        REFUSALS[self as usize - 1].1
+    }
+
+    fn numbered(number: u64) -> Refusal {
+        REFUSALS[number as usize - 1].0
+    }
+}
+
+impl ListRefusal {
+    pub fn refusal(self) -> Refusal {
+        match self {
+            ListRefusal::Scene(refusal) => refusal,
+            ListRefusal::NoRoom { .. } => Refusal::NoRoom,
+        }
+    }
+}
+
+impl TextRefusal {
+    pub fn refusal(self) -> Refusal {
+        match self {
+            TextRefusal::ShortBuffer => Refusal::ShortBuffer,
+            TextRefusal::LongText => Refusal::LongText,
+            TextRefusal::Line { refusal, .. } => refusal,
+        }
+    }
+}
+
+impl Display for Refusal {
+    fn fmt(&self, f: &mut Formatter) -> fmt::Result {
+        write!(f, "refused {}: {}", self.number(), self.words())
+    }
+}
+
+impl Display for ListRefusal {
+    fn fmt(&self, f: &mut Formatter) -> fmt::Result {
+        match self {
+            ListRefusal::Scene(refusal) => refusal.fmt(f),
+            ListRefusal::NoRoom { needed } => write!(f, "{}, {needed} needed", Refusal::NoRoom),
+        }
+    }
+}
+
+impl Display for TextRefusal {
+    fn fmt(&self, f: &mut Formatter) -> fmt::Result {
+        match self {
+            TextRefusal::Line { refusal, line } => write!(f, "line {line}: {refusal}"),
+            other => other.refusal().fmt(f),
+        }
+    }
+}
+
+impl Error for Refusal {}
+impl Error for ListRefusal {}
+impl Error for TextRefusal {}
+
+/// A value, or a refusal with what it carries.
+pub(crate) fn heard(answer: u64) -> Result<usize, (Refusal, usize)> {
+    let (number, value) = (answer >> 32, answer as u32 as usize);
+    if number == 0 {
+        Ok(value)
+    } else {
+        Err((Refusal::numbered(number), value))
+    }
+}
+
+pub(crate) fn verdict(number: usize) -> Verdict {
+    [Verdict::Hit, Verdict::Miss, Verdict::Degenerate][number]
+}
+
+/// An entry of the list as its three numbers.
+pub(crate) fn pair(entry: &[u16]) -> Pair {
+    let kind = [Kind::PointTriangle, Kind::EdgeEdge][entry[0] as usize];
+    Pair { kind, first: entry[1] as usize, second: entry[2] as usize }
+}

@@ -1,0 +1,55 @@
+//! Exact contact verdicts for a mesh that moves from a start to an end, over a library whose every answer is proved.
+//!
+//! ```
+//! use makhnodri::{Kind, Refusal, Scene, Verdict};
+//!
+//! // a resting triangle, and a point that goes through it
+//! let scene = Scene {
+//!     positions: &[0, 0, 0, 0, 0, 0, 4, 0, 0, 4, 0, 0, 0, 4, 0, 0, 4, 0, 1, 1, 1, 1, 1, -1],
+//!     edges: &[],
+//!     triangles: &[0, 1, 2],
+//! };
+//! assert_eq!(scene.judge_pair(Kind::PointTriangle, 3, 0), Ok(Verdict::Hit));
+//! assert_eq!(scene.judge_piece(Kind::PointTriangle, 3, 0, 0), Ok(Verdict::Miss));
+//! assert_eq!(scene.judge_pair(Kind::PointTriangle, 0, 0), Err(Refusal::SharedVertex));
+//! for (pair, verdict) in scene.judged().unwrap() {
+//!     println!("{pair:?}: {verdict:?}");
+//! }
+//! ```
+//!
+//! A verdict speaks for the space-time pieces of a pair. A miss says nothing of straight motion; only the list does: a pair
+//! that is not listed, and shares no vertex, meets neither in its pieces nor under straight motion.
+//!
+//! Nothing is kept between calls, so any number of threads may call at the same time. A call takes at most
+//! [`STACK`] bytes of stack.
+
+mod answers;
+mod raw;
+mod scenes;
+mod texts;
+
+pub use answers::{Kind, ListRefusal, Pair, Refusal, TextRefusal, Verdict};
+pub use scenes::Scene;
+pub use texts::{read_scene, report, write_report, Counts, OwnedScene};
+
+/// Coordinates run from minus this to this.
+pub const COORDINATE_LIMIT: i32 = 262_143;
+pub const VERTEX_LIMIT: usize = 512;
+pub const EDGE_LIMIT: usize = 1_024;
+pub const TRIANGLE_LIMIT: usize = 512;
+/// Bytes of a scene text.
+pub const TEXT_LIMIT: usize = 32_768;
+/// Pairs that a report has room for.
+pub const REPORT_ROOM: usize = 2_048;
+/// No scene lists more.
+pub const PAIR_LIMIT: usize = 785_920;
+
+/// How long the buffers are that a text is read into, in numbers.
+pub const POSITIONS_LENGTH: usize = 6 * VERTEX_LIMIT;
+pub const EDGES_LENGTH: usize = 2 * EDGE_LIMIT;
+pub const TRIANGLES_LENGTH: usize = 3 * TRIANGLE_LIMIT;
+/// How long the array is that a report is written into, in bytes; every report fits.
+pub const REPORT_LENGTH: usize = 65_536;
+
+/// Enough stack for any call, in bytes.
+pub const STACK: usize = 131_072;

@@ -1,0 +1,72 @@
+/*
+ * From a scene text on standard input to the verdict of each listed pair and of each of its pieces; then calls that are
+ * refused, and the report.
+ *
+ *     examples/c/run scene < scenes/printed.scene
+ */
+#include "makhnodri.h"
+
+#include <inttypes.h>
+#include <stdio.h>
+#include <stdlib.h>
+
+/* What the library lends nobody: the buffers are the caller's. */
+static uint8_t text[MAKHNODRI_TEXT_LIMIT + 1]; /* one byte more, so that a text that is too long is seen */
+static int32_t positions[MAKHNODRI_POSITIONS_LENGTH];
+static uint16_t edges[MAKHNODRI_EDGES_LENGTH];
+static uint16_t triangles[MAKHNODRI_TRIANGLES_LENGTH];
+static uint8_t report[MAKHNODRI_REPORT_LENGTH];
+
+static const char *const verdict_words[] = {"hit", "miss", "degenerate"};
+
+/* An answer that may be a refusal, and one that is a verdict. */
+static void show(const char *asked, makhnodri_answer answer) {
+    if (makhnodri_refusal(answer))
+        printf("%s: refused %" PRIu32 " %" PRIu32 "\n", asked, makhnodri_refusal(answer), makhnodri_value(answer));
+    else
+        printf("%s: %" PRIu32 "\n", asked, makhnodri_value(answer));
+}
+
+static const char *word(makhnodri_answer answer) { return makhnodri_refusal(answer) ? "refused" : verdict_words[answer]; }
+
+int main(void) {
+    size_t text_length = fread(text, 1, sizeof text, stdin), counts[3];
+    makhnodri_answer read = makhnodri_read_scene(text, text_length, positions, MAKHNODRI_POSITIONS_LENGTH, edges,
+                                                 MAKHNODRI_EDGES_LENGTH, triangles, MAKHNODRI_TRIANGLES_LENGTH, counts);
+    show("read", read);
+    if (makhnodri_refusal(read)) return 1;
+    size_t p = 6 * counts[0], e = 2 * counts[1], t = 3 * counts[2];
+    printf("%zu vertices, %zu edges, %zu triangles\n", counts[0], counts[1], counts[2]);
+
+    makhnodri_answer room = makhnodri_count_pairs(positions, p, edges, e, triangles, t);
+    show("listed pairs", room);
+    /* one entry more than needed, so that no pointer is null where nothing is listed */
+    uint16_t *list = malloc((room + 1) * 3 * sizeof *list);
+    uint8_t *verdicts = malloc(room + 1);
+    if (!list || !verdicts) return 1;
+
+    makhnodri_answer count = makhnodri_judge_scene(positions, p, edges, e, triangles, t, list, 3 * room, verdicts, room);
+    for (size_t i = 0; i < count; i++) {
+        const uint16_t *entry = list + 3 * i;
+        int pt = entry[0] == MAKHNODRI_PT;
+        printf("%s %u %u %s, pieces", pt ? "pt" : "ee", entry[1], entry[2], verdict_words[verdicts[i]]);
+        for (size_t piece = 0; piece < (pt ? 3 : 4); piece++) {
+            makhnodri_answer answer =
+                pt ? makhnodri_judge_pt_piece(positions, p, edges, e, triangles, t, entry[1], entry[2], piece)
+                   : makhnodri_judge_ee_piece(positions, p, edges, e, triangles, t, entry[1], entry[2], piece);
+            printf(" %s", word(answer));
+        }
+        printf("\n");
+    }
+
+    /* refused: nothing that was lent has changed */
+    show("room for one pair", makhnodri_list_pairs(positions, p, edges, e, triangles, t, list, 3));
+    show("no such vertex", makhnodri_judge_pt(positions, p, edges, e, triangles, t, counts[0], 0));
+    show("an edge with itself", makhnodri_judge_ee(positions, p, edges, e, triangles, t, 0, 0));
+    show("half a vertex", makhnodri_check_scene(positions, 3, edges, 0, triangles, 0));
+
+    fwrite(report, 1, makhnodri_write_report(text, text_length, report), stdout);
+    free(list);
+    free(verdicts);
+    return 0;
+}

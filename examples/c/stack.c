@@ -1,0 +1,124 @@
+/*
+ * How much stack each function takes. Each call runs on a stack of its own that was painted before; what is no longer
+ * painted afterwards was used. It is the most over scenes and texts of full size, good and refused, and the few bytes that
+ * the switch of stacks takes are counted too.
+ *
+ *     examples/c/run stack
+ */
+#define _GNU_SOURCE
+#include "makhnodri.h"
+
+#include <stdio.h>
+#include <stdlib.h>
+#include <string.h>
+#include <ucontext.h>
+
+enum { STACK = 1 << 20, PAINT = 0xa5 };
+
+/* a scene in which every kind of pair is listed: vertices on a small grid, some at rest */
+static int32_t positions[MAKHNODRI_POSITIONS_LENGTH];
+static uint16_t edges[MAKHNODRI_EDGES_LENGTH];
+static uint16_t triangles[MAKHNODRI_TRIANGLES_LENGTH];
+static uint16_t list[3 * MAKHNODRI_PAIR_LIMIT];
+static uint8_t verdicts[MAKHNODRI_PAIR_LIMIT];
+static char text[MAKHNODRI_TEXT_LIMIT + 1];
+static uint8_t report[MAKHNODRI_REPORT_LENGTH];
+static size_t text_length, counts[3], place;
+
+static int32_t read_positions[MAKHNODRI_POSITIONS_LENGTH];
+static uint16_t read_edges[MAKHNODRI_EDGES_LENGTH], read_triangles[MAKHNODRI_TRIANGLES_LENGTH];
+
+#define SCENE positions, MAKHNODRI_POSITIONS_LENGTH, edges, MAKHNODRI_EDGES_LENGTH, triangles, MAKHNODRI_TRIANGLES_LENGTH
+
+static void nothing(void) {}
+static void check(void) { makhnodri_check_scene(SCENE); }
+static void count(void) { makhnodri_count_pairs(SCENE); }
+static void make_list(void) { makhnodri_list_pairs(SCENE, list, sizeof list / sizeof list[0]); }
+static void judge_scene(void) { makhnodri_judge_scene(SCENE, list, sizeof list / sizeof list[0], verdicts, sizeof verdicts); }
+static void judge_pt(void) { makhnodri_judge_pt(SCENE, place, place / 3); }
+static void judge_ee(void) { makhnodri_judge_ee(SCENE, place, place / 3); }
+static void judge_pt_piece(void) { makhnodri_judge_pt_piece(SCENE, place, place / 3, place % 3); }
+static void judge_ee_piece(void) { makhnodri_judge_ee_piece(SCENE, place, place / 3, place % 4); }
+static void read_text(void) {
+    makhnodri_read_scene((const uint8_t *)text, text_length, read_positions, MAKHNODRI_POSITIONS_LENGTH, read_edges,
+                         MAKHNODRI_EDGES_LENGTH, read_triangles, MAKHNODRI_TRIANGLES_LENGTH, counts);
+}
+static void write_report(void) { makhnodri_write_report((const uint8_t *)text, text_length, report); }
+
+static uint8_t stack[STACK];
+
+static size_t used_by(void (*call)(void)) {
+    static ucontext_t here, there;
+    memset(stack, PAINT, STACK);
+    getcontext(&there);
+    there.uc_stack.ss_sp = stack;
+    there.uc_stack.ss_size = STACK;
+    there.uc_link = &here;
+    makecontext(&there, call, 0);
+    swapcontext(&here, &there);
+    size_t untouched = 0;
+    while (untouched < STACK && stack[untouched] == PAINT) untouched++;
+    return STACK - untouched;
+}
+
+/* a scene whose triangles and edges are packed so close that everything is near everything */
+static void fill(unsigned seed) {
+    srand(seed);
+    for (size_t i = 0; i < MAKHNODRI_POSITIONS_LENGTH; i++) positions[i] = rand() % 7 - 3;
+    for (size_t i = 0; i < MAKHNODRI_EDGES_LENGTH; i += 2) {
+        edges[i] = (uint16_t)(rand() % 512);
+        edges[i + 1] = (uint16_t)((edges[i] + 1 + rand() % 511) % 512);
+    }
+    for (size_t i = 0; i < MAKHNODRI_TRIANGLES_LENGTH; i += 3) {
+        triangles[i] = (uint16_t)(rand() % 512);
+        triangles[i + 1] = (uint16_t)((triangles[i] + 1 + rand() % 255) % 512);
+        triangles[i + 2] = (uint16_t)((triangles[i] + 256 + rand() % 256) % 512);
+    }
+}
+
+/* a text with about 2,000 listed pairs; a seed that is 1 below a multiple of 4 has a fault in its last line */
+static void write_text(unsigned seed) {
+    srand(seed);
+    int at = 0;
+    for (int i = 0; i < 45; i++) {
+        at += sprintf(text + at, "v");
+        for (int k = 0; k < 6; k++) at += sprintf(text + at, "\t%d", rand() % 7 - 3);
+        at += sprintf(text + at, "\n");
+    }
+    for (int i = 0; i < 40; i++) at += sprintf(text + at, "e\t%d\t%d\n", rand() % 22, 22 + rand() % 22);
+    for (int i = 0; i < 30; i++) at += sprintf(text + at, "t\t%d\t%d\t%d\n", rand() % 15, 15 + rand() % 15, 30 + rand() % 15);
+    if (seed % 4 == 3) at += sprintf(text + at, "t\t%d\t%d\t%d\n", 1, 1, 2);
+    text_length = (size_t)at;
+}
+
+int main(void) {
+    static const struct {
+        const char *name;
+        void (*call)(void);
+        int runs;
+    } calls[] = {
+        {"(nothing)", nothing, 1},
+        {"check_scene", check, 2},
+        {"count_pairs", count, 2},
+        {"list_pairs", make_list, 2},
+        {"judge_scene", judge_scene, 2},
+        {"judge_pt", judge_pt, 400},
+        {"judge_ee", judge_ee, 400},
+        {"judge_pt_piece", judge_pt_piece, 400},
+        {"judge_ee_piece", judge_ee_piece, 400},
+        {"read_scene", read_text, 40},
+        {"write_report", write_report, 40},
+    };
+    for (size_t i = 0; i < sizeof calls / sizeof calls[0]; i++) {
+        size_t most = 0;
+        for (int run = 0; run < calls[i].runs; run++) {
+            fill((unsigned)run % 5);
+            write_text((unsigned)run);
+            place = (size_t)run;
+            size_t used = used_by(calls[i].call);
+            if (most < used) most = used;
+        }
+        printf("%-16s %6zu bytes\n", calls[i].name, most);
+    }
+    return 0;
+}

@@ -1,0 +1,179 @@
+/*
+ * makhnodri.h: exact contact verdicts for a mesh that moves from a start to an end.
+ *
+ * Link target/staticlib/libmakhnodri.a, which `rt staticlib makhnodri` proves and writes. What each function answers and
+ * leaves behind is proved; the promises stand beside the functions in crates/makhnodri/src/lib.rt.
+ *
+ * A verdict speaks for the space-time pieces of a pair. A miss says nothing of straight motion; only the list does: a pair
+ * that is not listed, and shares no vertex, meets neither in its pieces nor under straight motion.
+ */
+#ifndef MAKHNODRI_H
+#define MAKHNODRI_H
+
+#include <stddef.h>
+#include <stdint.h>
+
+#ifdef __cplusplus
+extern "C" {
+#endif
+
+/* ---- Sizes ---- */
+
+#define MAKHNODRI_COORDINATE_LIMIT 262143 /* coordinates run from -262143 to 262143 */
+#define MAKHNODRI_VERTEX_LIMIT 512
+#define MAKHNODRI_EDGE_LIMIT 1024
+#define MAKHNODRI_TRIANGLE_LIMIT 512
+#define MAKHNODRI_TEXT_LIMIT 32768 /* bytes of a scene text */
+#define MAKHNODRI_REPORT_ROOM 2048 /* pairs that a report has room for */
+#define MAKHNODRI_PAIR_LIMIT 785920 /* no scene lists more: 512 x 512 of points and triangles, 1024 x 1023 / 2 of edges */
+
+/* the lengths of the buffers that a text is read into, in numbers */
+#define MAKHNODRI_POSITIONS_LENGTH 3072 /* 512 x 6 */
+#define MAKHNODRI_EDGES_LENGTH 2048     /* 1024 x 2 */
+#define MAKHNODRI_TRIANGLES_LENGTH 1536 /* 512 x 3 */
+
+/* the length of the buffer that a report is written into, in bytes; every report fits */
+#define MAKHNODRI_REPORT_LENGTH 65536
+
+/*
+ * ---- A scene ----
+ *
+ * positions: six numbers a vertex: start x, y, z, then end x, y, z.
+ * edges:     two vertex numbers an edge, from 0, in any order.
+ * triangles: three vertex numbers a triangle, from 0, in any order.
+ * Zero of each is a scene.
+ *
+ * ---- Pointers ----
+ *
+ * A slice goes as a pointer and a length, counted in numbers and not in bytes. A pointer is never null, not even where the
+ * length is 0, and it is aligned for its type. A buffer that is written overlaps no other argument of the same call; one that
+ * is only read (const) may overlap another such. No pointer is kept after the call.
+ *
+ * ---- Threads and stack ----
+ *
+ * No function keeps, reads or writes anything but its arguments and its own stack: no global state, no heap, no input or
+ * output. Calls may run at the same time in as many threads as one likes, as long as no thread writes what another has lent.
+ * None calls itself, and none calls back. The stack that a call takes, measured by examples/c/stack (see there):
+STACK_TABLE
+ *
+ * ---- An answer ----
+ *
+ * One 64-bit number. Below 2^32 it is the value itself. From 2^32 on it is a refusal: the upper 32 bits are its number, the
+ * lower 32 bits the line or the needed count that it carries, else 0. No two answers have the same number.
+ * After a refusal no lent byte or number has changed.
+ */
+typedef uint64_t makhnodri_answer;
+
+/* the refusal's number, 1 to 12, or 0 where the answer is a value */
+static inline uint32_t makhnodri_refusal(makhnodri_answer answer) { return (uint32_t)(answer >> 32); }
+
+/* the value; of a refusal, the line or the needed count. Look at makhnodri_refusal first: both may be 0 */
+static inline uint32_t makhnodri_value(makhnodri_answer answer) { return (uint32_t)answer; }
+
+/* Verdicts: the answer of a question about a pair or a piece, and the bytes that makhnodri_judge_scene writes. */
+enum {
+    MAKHNODRI_HIT = 0,        /* of a piece: weights exist, zero ones included, and are the only ones */
+    MAKHNODRI_MISS = 1,       /* none exist */
+    MAKHNODRI_DEGENERATE = 2  /* the six equations are singular, and nothing more is said */
+};
+/* A pair is a hit if any of its pieces is; else degenerate if any is; else a miss. */
+
+/* The first number of a list's entry. */
+enum {
+    MAKHNODRI_PT = 0, /* a point and a triangle */
+    MAKHNODRI_EE = 1  /* two edges */
+};
+
+/*
+ * Refusals. Each is given exactly when its condition holds and no check before it refuses.
+ * Of scene slices: 1, 2, 3, 4, each over the whole scene before the next; then 5, 6; 7 last.
+ * Of a text: 12, 8, then the first faulty line, and in it 9, 10, 11, 2, 3, 4.
+ */
+enum {
+    MAKHNODRI_SHAPE = 1,           /* positions not a multiple of 6 long, edges of 2, triangles of 3, or a count over its size */
+    MAKHNODRI_COORDINATE = 2,      /* a coordinate outside its range; of a text, with the line */
+    MAKHNODRI_UNKNOWN_VERTEX = 3,  /* a vertex number not below the vertex count (of a text, the count of v lines above); with the line */
+    MAKHNODRI_REPEATED_VERTEX = 4, /* a vertex twice in one edge or triangle; of a text, with the line */
+    MAKHNODRI_NOT_THERE = 5,       /* a vertex, edge, triangle or piece asked for that is not there */
+    MAKHNODRI_SHARED_VERTEX = 6,   /* the pair asked for shares a vertex (an edge with itself too) */
+    MAKHNODRI_NO_ROOM = 7,         /* more listed pairs than room; with the count needed */
+    MAKHNODRI_LONG_TEXT = 8,       /* a text over 32,768 bytes */
+    MAKHNODRI_BAD_LINE = 9,        /* a line not of the form, or a last line without LF; with the line */
+    MAKHNODRI_LATE_RECORD = 10,    /* a record after one of a later kind; with the line */
+    MAKHNODRI_TOO_MANY = 11,       /* one record more than its size; with the line */
+    MAKHNODRI_SHORT_BUFFER = 12    /* a lent scene buffer shorter than 3,072 positions, 2,048 edge or 1,536 triangle numbers */
+};
+/* A line is counted from 1. */
+
+/* ---- Scenes: each of these may refuse with 1, 2, 3, 4 ---- */
+
+/* May this scene be used? 0, or a refusal. */
+makhnodri_answer makhnodri_check_scene(const int32_t *positions, size_t positions_length, const uint16_t *edges,
+                                       size_t edges_length, const uint16_t *triangles, size_t triangles_length);
+
+/* How many pairs are listed: those whose swept boxes meet, equal ends included, and that share no vertex. */
+makhnodri_answer makhnodri_count_pairs(const int32_t *positions, size_t positions_length, const uint16_t *edges,
+                                       size_t edges_length, const uint16_t *triangles, size_t triangles_length);
+
+/*
+ * Makes the list. An entry is three numbers: MAKHNODRI_PT or MAKHNODRI_EE, then the two places. Room is list_length / 3.
+ * Order: pt by vertex then triangle, then ee by first then second edge, first below second.
+ * The answer is the count of entries, which stand in front of the list; the rest of it is unchanged. Or 7, with the count needed.
+ */
+makhnodri_answer makhnodri_list_pairs(const int32_t *positions, size_t positions_length, const uint16_t *edges,
+                                      size_t edges_length, const uint16_t *triangles, size_t triangles_length,
+                                      uint16_t *list, size_t list_length);
+
+/*
+ * Makes the list and judges each pair of it: verdicts[i] is the verdict of entry i. Room is the smaller of list_length / 3 and
+ * verdicts_length. The answer is the count, and the rest of both buffers is unchanged; or 7, with the count needed.
+ */
+makhnodri_answer makhnodri_judge_scene(const int32_t *positions, size_t positions_length, const uint16_t *edges,
+                                       size_t edges_length, const uint16_t *triangles, size_t triangles_length,
+                                       uint16_t *list, size_t list_length, uint8_t *verdicts, size_t verdicts_length);
+
+/* ---- Pairs and pieces, listed or not: these may also refuse with 5 and 6; else the answer is a verdict ---- */
+
+makhnodri_answer makhnodri_judge_pt(const int32_t *positions, size_t positions_length, const uint16_t *edges,
+                                    size_t edges_length, const uint16_t *triangles, size_t triangles_length,
+                                    size_t vertex, size_t triangle);
+
+/* The two edges may be asked for in either order, with the same answer. */
+makhnodri_answer makhnodri_judge_ee(const int32_t *positions, size_t positions_length, const uint16_t *edges,
+                                    size_t edges_length, const uint16_t *triangles, size_t triangles_length, size_t first,
+                                    size_t second);
+
+/* Pieces 0, 1, 2: the moving point against each of the moving triangle's three tetrahedra. */
+makhnodri_answer makhnodri_judge_pt_piece(const int32_t *positions, size_t positions_length, const uint16_t *edges,
+                                          size_t edges_length, const uint16_t *triangles, size_t triangles_length,
+                                          size_t vertex, size_t triangle, size_t piece);
+
+/* Pieces 0 to 3: AA, AB, BA, BB, the edge with the lower place first, in whichever order the two are asked for. */
+makhnodri_answer makhnodri_judge_ee_piece(const int32_t *positions, size_t positions_length, const uint16_t *edges,
+                                          size_t edges_length, const uint16_t *triangles, size_t triangles_length,
+                                          size_t first, size_t second, size_t piece);
+
+/* ---- Texts ---- */
+
+/*
+ * Reads a scene text (docs/FORMAT.md) into the three buffers, which are at least MAKHNODRI_POSITIONS_LENGTH,
+ * MAKHNODRI_EDGES_LENGTH and MAKHNODRI_TRIANGLES_LENGTH long, and the counts of vertices, edges and triangles into the three
+ * numbers of counts. The answer is 0, and the scene stands in front of the buffers: 6 x counts[0] positions, 2 x counts[1]
+ * edge numbers, 3 x counts[2] triangle numbers; what lies behind is unchanged. Or a refusal, 12, 8, 9, 10, 11, 2, 3 or 4.
+ * A scene that was read is accepted by the functions above.
+ */
+makhnodri_answer makhnodri_read_scene(const uint8_t *text, size_t text_length, int32_t *positions, size_t positions_length,
+                                      uint16_t *edges, size_t edges_length, uint16_t *triangles, size_t triangles_length,
+                                      size_t *counts);
+
+/*
+ * Writes the whole report of a text, as the program prints it, into the MAKHNODRI_REPORT_LENGTH bytes of out: the lines of the
+ * listed pairs and the totals, or the one line of a refusal. Returns its length; what lies behind is unchanged.
+ */
+size_t makhnodri_write_report(const uint8_t *text, size_t text_length, uint8_t *out);
+
+#ifdef __cplusplus
+}
+#endif
+
+#endif
