@@ -54,7 +54,12 @@ extern "C" {
  * No function keeps, reads or writes anything but its arguments and its own stack: no global state, no heap, no input or
  * output. Calls may run at the same time in as many threads as one likes, as long as no thread writes what another has lent.
  * None calls itself, and none calls back. The stack that a call takes, measured by examples/c/stack (see there):
-STACK_TABLE
+ *
+ *     check_scene         120 bytes      judge_pt, judge_pt_piece     504 bytes
+ *     count_pairs      49,400 bytes      judge_ee, judge_ee_piece     584 bytes
+ *     list_pairs       49,512 bytes      read_scene                   680 bytes
+ *     judge_scene      49,640 bytes      write_report              83,368 bytes
+ *
  *
  * ---- An answer ----
  *
