@@ -1,0 +1,40 @@
+//! What is only lent to be read is never written, calls at the same time do not disturb each other, and a small stack is enough.
+
+mod common;
+
+use common::*;
+use compare::generate;
+use makhnodri::{report, STACK};
+
+#[test]
+fn what_is_read_is_not_written() {
+    for seed in 0..130 {
+        let flat = Flat::of(&generate::scene(seed));
+        let before = flat.clone();
+        every_answer(&flat);
+        assert_eq!(flat, before);
+        let text = compare::text::write(&generate::scene(seed)).into_bytes();
+        let kept = text.clone();
+        report(&text);
+        assert_eq!(text, kept);
+    }
+}
+
+/// Threads with little more stack than a call may take, each over its own scene, all at once.
+#[test]
+fn threads_at_once_on_small_stacks() {
+    let work = |seed: u64| {
+        let scene = generate::scene(seed);
+        let (flat, text) = (Flat::of(&scene), compare::text::write(&scene).into_bytes());
+        (flat.scene().judged(), report(&text))
+    };
+    let alone: Vec<_> = (0..26).map(work).collect();
+    let thread = |seed: u64| {
+        let small = std::thread::Builder::new().stack_size(STACK + 65_536);
+        small.spawn(move || work(seed)).unwrap()
+    };
+    let threads: Vec<_> = (0..26).map(thread).collect();
+    for (thread, alone) in threads.into_iter().zip(alone) {
+        assert_eq!(thread.join().unwrap(), alone);
+    }
+}
