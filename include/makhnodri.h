@@ -58,7 +58,11 @@ extern "C" {
  * output. Calls may run at the same time in as many threads as one likes, as long as no thread writes what another has lent.
  * None calls itself, and none calls back. MAKHNODRI_STACK bytes of stack are enough for any call. As measured by
  * `examples/c/run stack`, in bytes:
-STACK_TABLE
+ *
+ *     check_scene         120      judge_pt, judge_pt_piece     504
+ *     count_pairs      49,400      judge_ee, judge_ee_piece     584
+ *     list_pairs       49,512      read_scene                   680
+ *     judge_scene      49,640      write_report              83,368
  *
  * ---- An answer ----
  *

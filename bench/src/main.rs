@@ -24,8 +24,6 @@ use timing::{shortest, Timed, Way};
 
 /// The tolerance of the cubic that is timed.
 const TOLERANCE: f64 = 1e-6;
-/// Longer than any report.
-const REPORT_BYTES: usize = 1 << 17;
 const OURS: &str = "the library";
 
 struct Bench {
@@ -129,7 +127,7 @@ impl Bench {
 
     fn report(&self, name: &str, text: &[u8]) {
         let mut list = [0; 3 * REPORT_ROOM];
-        let (mut plain, mut ours, mut length) = (Vec::new(), vec![0; REPORT_BYTES], 0);
+        let (mut plain, mut ours, mut length) = (Vec::new(), [0; product::REPORT_BYTES], 0);
         let mut ways = vec![Way::new("plain Rust", || {
             plain.clear();
             plain_report::report(text, &mut list, &mut plain);

@@ -1,18 +1,21 @@
 //! The library, linked from target/staticlib/libmakhnodri.a. The one place that knows its functions; without the
 //! feature `product` there is none, and the tables leave it out.
 //!
-//! What it needs of the library (a slice is a pointer, not null, and a length):
+//! What it needs of the library; include/makhnodri.h tells the same (a slice is a pointer, not null, and a length):
 //!
 //! | function | takes | gives |
 //! |---|---|---|
 //! | makhnodri_judge_scene | positions i32, edges u16, triangles u16, list u16, verdicts u8 | an answer; the list's entries, and for each its verdict: 0 hit, 1 miss, 2 degenerate |
-//! | makhnodri_list | positions i32, edges u16, triangles u16, list u16 | an answer; the list's entries |
-//! | makhnodri_report | text u8, report u8 | the length of the report |
+//! | makhnodri_list_pairs | positions i32, edges u16, triangles u16, list u16 | an answer; the list's entries |
+//! | makhnodri_write_report | text u8, 65,536 bytes for the report | the length of the report |
 //!
 //! An answer is the count in the lower 32 bits, or a refusal: its number above them and what it carries in them.
 
 /// The count, or the refusal's number.
 pub type Answer = Result<usize, u64>;
+
+/// Every report fits.
+pub const REPORT_BYTES: usize = 65_536;
 
 /// The verdicts as bytes.
 pub const HIT: u8 = 0;
@@ -26,7 +29,7 @@ pub use missing::Product;
 
 #[cfg(feature = "product")]
 mod linked {
-    use super::Answer;
+    use super::{Answer, REPORT_BYTES};
     use crate::slices::Slices;
 
     extern "C" {
@@ -42,7 +45,7 @@ mod linked {
             verdicts: *mut u8,
             verdicts_len: usize,
         ) -> u64;
-        fn makhnodri_list(
+        fn makhnodri_list_pairs(
             positions: *const i32,
             positions_len: usize,
             edges: *const u16,
@@ -52,7 +55,7 @@ mod linked {
             list: *mut u16,
             list_len: usize,
         ) -> u64;
-        fn makhnodri_report(text: *const u8, text_len: usize, report: *mut u8, report_len: usize) -> usize;
+        fn makhnodri_write_report(text: *const u8, text_len: usize, report: *mut u8) -> usize;
     }
 
     fn answer(said: u64) -> Answer {
@@ -90,7 +93,7 @@ mod linked {
         pub fn list(&self, s: &Slices, list: &mut [u16]) -> Answer {
             // SAFETY: as above
             answer(unsafe {
-                makhnodri_list(
+                makhnodri_list_pairs(
                     s.positions.as_ptr(),
                     s.positions.len(),
                     s.edges.as_ptr(),
@@ -103,16 +106,16 @@ mod linked {
             })
         }
 
-        pub fn report(&self, text: &[u8], report: &mut [u8]) -> usize {
-            // SAFETY: as above
-            unsafe { makhnodri_report(text.as_ptr(), text.len(), report.as_mut_ptr(), report.len()) }
+        pub fn report(&self, text: &[u8], report: &mut [u8; REPORT_BYTES]) -> usize {
+            // SAFETY: as above, and the report's array has its length
+            unsafe { makhnodri_write_report(text.as_ptr(), text.len(), report.as_mut_ptr()) }
         }
     }
 }
 
 #[cfg(not(feature = "product"))]
 mod missing {
-    use super::Answer;
+    use super::{Answer, REPORT_BYTES};
     use crate::slices::Slices;
 
     /// There is no library, so there is none of these.
@@ -131,7 +134,7 @@ mod missing {
             match *self {}
         }
 
-        pub fn report(&self, _: &[u8], _: &mut [u8]) -> usize {
+        pub fn report(&self, _: &[u8], _: &mut [u8; REPORT_BYTES]) -> usize {
             match *self {}
         }
     }

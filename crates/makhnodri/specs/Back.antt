@@ -24,7 +24,7 @@ use Rattle.meaning.specs.declared.TextAnswer.{TextAnswer}
 use Rattle.scenes.specs.Speaking.{scene-says-one, pair-says-one}
 use Rattle.judging.specs.Listed.{verdictOfByte, byte-back, byte-small}
 use Rattle.demands.specs.OneAnswer.{list-says-one}
-use Rattle.demands.specs.OneText.{text-says-one}
+use Rattle.scene_text.specs.Using.{text-says-one}
 use Rattle.makhnodri.specs.Numbers.{upper, numberFor, sceneNumber, pairNumber, listNumber, textNumber, countsLeft}
 use Rattle.makhnodri.specs.Small.{toldIn, lineIn, number-in-table}
 

@@ -20,9 +20,9 @@ use Rattle.scene_text.specs.Unique.{fault-stuck}
 use Rattle.scene_text.specs.Stepping.{Bounded, bounded-more, Stepped, Took}
 use Rattle.scene_text.specs.Inspecting.{Lengths, lengths, line-some}
 use Rattle.scene_text.specs.Putting.{Roomy, Ready, Put, PutEntry, put-entry, ready-entry}
-use Rattle.scene_text.specs.declared.Sort.{Sort}
-use Rattle.scene_text.specs.declared.Step.{Step}
-use Rattle.scene_text.specs.declared.Step.the-variants.{Fault, Taken}
+use Rattle.scene_text.specs.declared.line.Sort.{Sort}
+use Rattle.scene_text.specs.declared.line.Step.{Step}
+use Rattle.scene_text.specs.declared.line.Step.the-variants.{Fault, Taken}
 
 -- the text is the lines of a scene
 pub record HoldsOne (text : List ℕ) : Type 0 where

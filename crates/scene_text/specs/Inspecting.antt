@@ -20,9 +20,9 @@ use Rattle.meaning.specs.declared.TextAnswer.the-variants.{Read, Refused}
 use Rattle.scene_text.specs.Lines.{line-is}
 use Rattle.scene_text.specs.Unique.{Ran}
 use Rattle.scene_text.specs.Stepping.{Bounded, Stepped, Took, bounded-more}
-use Rattle.scene_text.specs.declared.Step.{Step}
-use Rattle.scene_text.specs.declared.Sort.{Sort}
-use Rattle.scene_text.specs.declared.Step.the-variants.{Fault, Taken}
+use Rattle.scene_text.specs.declared.line.Step.{Step}
+use Rattle.scene_text.specs.declared.line.Sort.{Sort}
+use Rattle.scene_text.specs.declared.line.Step.the-variants.{Fault, Taken}
 
 pub record Inspected (text : List ℕ) (r : TextAnswer) : Type 0 where
   pub outcome : Outcome Scene

@@ -22,8 +22,8 @@ use Rattle.meaning.specs.declared.SceneCounts.{SceneCounts}
 use Rattle.scene_text.specs.Reading.{sortOf}
 use Rattle.scene_text.specs.Judging.{sized-at}
 use Rattle.scene_text.specs.Stepping.{Bounded, Faultless, faultless}
-use Rattle.scene_text.specs.declared.Sort.{Sort}
-use Rattle.scene_text.specs.declared.Sort.the-variants.{Vertex, Edge, Triangle}
+use Rattle.scene_text.specs.declared.line.Sort.{Sort}
+use Rattle.scene_text.specs.declared.line.Sort.the-variants.{Vertex, Edge, Triangle}
 
 -- ---- numbers from the two buffers
 

@@ -19,14 +19,14 @@ use Rattle.meaning.specs.declared.Refusal.the-variants.{BadLine}
 use Rattle.meaning.specs.declared.SceneCounts.{SceneCounts}
 use Rattle.scene_text.specs.Reading.{sortOf, LineGot, LineRead}
 use Rattle.scene_text.specs.Judging.{Judging, judgedSays, entry-judged}
-use Rattle.scene_text.specs.declared.Sort.{Sort}
-use Rattle.scene_text.specs.declared.Sort.the-variants.{Vertex, Edge, Triangle}
-use Rattle.scene_text.specs.declared.Line as Lines
-use Rattle.scene_text.specs.declared.Line.{Line}
-use Rattle.scene_text.specs.declared.Judged as Judgements
-use Rattle.scene_text.specs.declared.Judged.{Judged}
-use Rattle.scene_text.specs.declared.Step.{Step}
-use Rattle.scene_text.specs.declared.Step.the-variants.{Fault, Taken}
+use Rattle.scene_text.specs.declared.line.Sort.{Sort}
+use Rattle.scene_text.specs.declared.line.Sort.the-variants.{Vertex, Edge, Triangle}
+use Rattle.scene_text.specs.declared.line.Line as Lines
+use Rattle.scene_text.specs.declared.line.Line.{Line}
+use Rattle.scene_text.specs.declared.line.Judged as Judgements
+use Rattle.scene_text.specs.declared.line.Judged.{Judged}
+use Rattle.scene_text.specs.declared.line.Step.{Step}
+use Rattle.scene_text.specs.declared.line.Step.the-variants.{Fault, Taken}
 
 -- no more records than their sizes
 pub record Bounded (c : SceneCounts) : Type 0 where

@@ -24,12 +24,12 @@ use Rattle.scene_text.specs.Accepted.{text-accepted}
 
 -- ---- one answer
 
-says-one : (r r′ : TextAnswer) → textSays r ≡ textSays r′ → r ≡ r′
+pub text-says-one : (r r′ : TextAnswer) → textSays r ≡ textSays r′ → r ≡ r′
 unfolding textSays
-says-one (Read c) (Read d) e = ap Read (cc)
-says-one (Read c) (Refused y k) e = cc
-says-one (Refused x l) (Read d) e = cc
-says-one (Refused x l) (Refused y k) e =
+text-says-one (Read c) (Read d) e = ap Read (cc)
+text-says-one (Read c) (Refused y k) e = cc
+text-says-one (Refused x l) (Read d) e = cc
+text-says-one (Refused x l) (Refused y k) e =
     let same : x ≡ y = one-number x y (cc) in
     let line : l ≡ k = cc in
     cc
@@ -58,7 +58,7 @@ pub one-text-answer : {text : List ℕ} {lent left left′ : Scene} {r r′ : Te
     → (r ≡ r′) × (left ≡ left′)
 one-text-answer {text} {lent} {left} {left′} {r} {r′} a b =
     let same : a .outcome ≡ b .outcome = one-outcome text lent (a .outcome) (b .outcome) (a .right) (b .right) in
-    (says-one r r′ (a .says ∙ ap countsTold same ∙ sym (b .says)), a .leaves ∙ ap (λ o. filled o lent) same ∙ sym (b .leaves))
+    (text-says-one r r′ (a .says ∙ ap countsTold same ∙ sym (b .says)), a .leaves ∙ ap (λ o. filled o lent) same ∙ sym (b .leaves))
 
 -- ---- after success
 
