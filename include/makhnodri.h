@@ -32,6 +32,9 @@ extern "C" {
 #define MAKHNODRI_EDGES_LENGTH 2048     /* 1024 x 2 */
 #define MAKHNODRI_TRIANGLES_LENGTH 1536 /* 512 x 3 */
 
+/* enough stack for any call, in bytes */
+#define MAKHNODRI_STACK 131072
+
 /* the length of the buffer that a report is written into, in bytes; every report fits */
 #define MAKHNODRI_REPORT_LENGTH 65536
 
@@ -53,13 +56,13 @@ extern "C" {
  *
  * No function keeps, reads or writes anything but its arguments and its own stack: no global state, no heap, no input or
  * output. Calls may run at the same time in as many threads as one likes, as long as no thread writes what another has lent.
- * None calls itself, and none calls back. The stack that a call takes, measured by examples/c/stack (see there):
+ * None calls itself, and none calls back. MAKHNODRI_STACK bytes of stack are enough for any call. As measured by
+ * `examples/c/run stack`, in bytes:
  *
- *     check_scene         120 bytes      judge_pt, judge_pt_piece     504 bytes
- *     count_pairs      49,400 bytes      judge_ee, judge_ee_piece     584 bytes
- *     list_pairs       49,512 bytes      read_scene                   680 bytes
- *     judge_scene      49,640 bytes      write_report              83,368 bytes
- *
+ *     check_scene         120      judge_pt, judge_pt_piece     504
+ *     count_pairs      49,400      judge_ee, judge_ee_piece     584
+ *     list_pairs       49,512      read_scene                   680
+ *     judge_scene      49,640      write_report              83,368
  *
  * ---- An answer ----
  *
@@ -77,9 +80,9 @@ static inline uint32_t makhnodri_value(makhnodri_answer answer) { return (uint32
 
 /* Verdicts: the answer of a question about a pair or a piece, and the bytes that makhnodri_judge_scene writes. */
 enum {
-    MAKHNODRI_HIT = 0,        /* of a piece: weights exist, zero ones included, and are the only ones */
-    MAKHNODRI_MISS = 1,       /* none exist */
-    MAKHNODRI_DEGENERATE = 2  /* the six equations are singular, and nothing more is said */
+    MAKHNODRI_HIT = 0,       /* a piece: six weights exist, none negative; touching a border, a corner, the start or the end counts */
+    MAKHNODRI_MISS = 1,      /* a piece: none exist */
+    MAKHNODRI_DEGENERATE = 2 /* a piece: its six equations are singular, and nothing more is said of it */
 };
 /* A pair is a hit if any of its pieces is; else degenerate if any is; else a miss. */
 

@@ -16,10 +16,9 @@ use Rattle.meaning.specs.Text.{Entry, lineOf, textOf, FaultyAt, TextIs, shortBu
 use Rattle.meaning.specs.declared.Refusal.{Refusal}
 use Rattle.meaning.specs.declared.Refusal.the-variants.{Shape, Coordinate, UnknownVertex, RepeatedVertex, NotThere, SharedVertex, NoRoom, LongText, BadLine, LateRecord, TooMany, ShortBuffer}
 use Rattle.meaning.specs.declared.ListAnswer.{ListAnswer}
-use Rattle.meaning.specs.declared.Kind.the-variants.{PointTriangle, EdgeEdge}
 use Rattle.meaning.specs.declared.TextAnswer.{TextAnswer}
 use Rattle.scenes.specs.Answering.{is-refused, is-past}
-use Rattle.listing.specs.Rows.{pairs-length, rows-short}
+use Rattle.listing.specs.Sizes.{few-pairs}
 use Rattle.scene_text.specs.Inspecting.{line-some}
 use Rattle.demands.specs.Deciding.{holds-or-not}
 use Rattle.makhnodri.specs.Numbers.{upper}
@@ -54,7 +53,7 @@ number-in-table ShortBuffer = record { some = omega arith; few = omega arith }
 -- ---- the list
 
 pub pairs-few : {s : Scene} → Accepted s → length (pairs s) < upper
-pairs-few {s} a = omega (arith, pairs-length s, rows-short s PointTriangle a, rows-short s EdgeEdge a)
+pairs-few {s} a = omega (arith, few-pairs s a)
 
 module _ (s : Scene) where
   IsCount : ℕ → Type 0
