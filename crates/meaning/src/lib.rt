@@ -49,6 +49,12 @@ pub enum PairAnswer {
     Refused(Refusal),
 }
 
+// The same, in the four words.
+pub enum SettledAnswer {
+    Decided(Settled),
+    Refused(Refusal),
+}
+
 // An edge's ends, the lower vertex number first.
 pub struct Ends {
     pub low: usize,

@@ -16,7 +16,7 @@ use exact::arrows::arrow_volumes;
 use exact::arrows::one_way;
 use exact::arrows::zero_but;
 
-pub enum Leaf {
+pub(crate) enum Leaf {
     Yes,
     No,
     Open,
@@ -149,7 +149,7 @@ fn turn(positions: &[i32], six: SixPoints, left: [bool; 6], s: usize, e: usize, 
 }
 
 // Weights, no weights, or nothing yet: the first of three turns that says more than nothing.
-pub fn ask(positions: &[i32], six: SixPoints, left: [bool; 6]) -> Leaf
+pub(crate) fn ask(positions: &[i32], six: SixPoints, left: [bool; 6]) -> Leaf
     requires { ⌜ SixIn (now positions) six ⌝ }
     ensures { λ r. ⌜ r ≡ leafOf (now (positions .entry)) six left ⌝ }
 {

@@ -1,7 +1,7 @@
 // Cloth at rest: a degenerate piece is decided by leaving corners out.
 
-pub mod leaf; // leaf.rt: what the corners left say where they allow at most one solution
-pub mod search; // search.rt: two steps that leave corners out and hand over to each other
+mod leaf; // leaf.rt: what the corners left say where they allow at most one solution
+mod search; // search.rt: two steps that leave corners out and hand over to each other
 
 ghost use mathlib.Core.Path.{_≡_};
 ghost use Rattle.meaning.specs.Verdicts.{PieceIs};

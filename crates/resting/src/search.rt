@@ -44,7 +44,7 @@ fn without(left: [bool; 6], i: usize) -> [bool; 6]
 }
 
 // Are there weights for the points left? Tries the corners of the first simplex.
-pub fn first(positions: &[i32], six: SixPoints, left: [bool; 6], tried: bool) -> bool
+pub(crate) fn first(positions: &[i32], six: SixPoints, left: [bool; 6], tried: bool) -> bool
     requires { ⌜ SixIn (now positions) six ⌝ }
     ensures { λ r. ⌜ Says (now (positions .entry)) six left 0 (six .first) tried r ⌝ }
 {
@@ -69,7 +69,7 @@ pub fn first(positions: &[i32], six: SixPoints, left: [bool; 6], tried: bool) ->
 }
 
 // The same, trying the corners of the second simplex.
-pub fn second(positions: &[i32], six: SixPoints, left: [bool; 6], tried: bool) -> bool
+pub(crate) fn second(positions: &[i32], six: SixPoints, left: [bool; 6], tried: bool) -> bool
     requires { ⌜ SixIn (now positions) six ⌝ }
     ensures { λ r. ⌜ Says (now (positions .entry)) six left (six .first) 6 tried r ⌝ }
 {

@@ -16,7 +16,7 @@ use meaning::SceneCounts;
 const COORDINATE_LIMIT: u64 = 262143;
 
 // The three kinds of record.
-pub enum Sort {
+pub(crate) enum Sort {
     Vertex,
     Edge,
     Triangle,
@@ -152,7 +152,7 @@ fn judge(sort: Sort, c: SceneCounts, sizes: &[u64]) -> Judged
 }
 
 // What looking at a line gives: its fault; or its kind, the counts with it, and the place of the next line.
-pub enum Step {
+pub(crate) enum Step {
     Fault(Refusal),
     Taken(Sort, SceneCounts, usize),
 }
@@ -181,7 +181,7 @@ fn counted(c: SceneCounts, sort: Sort) -> SceneCounts
 }
 
 // One line, below so many records. Both passes go by it.
-pub fn next_line(
+pub(crate) fn next_line(
     text: &[u8],
     at: usize,
     c: SceneCounts,

@@ -65,7 +65,7 @@ fn put_triangle(out: &mut [u16], at: usize, a: u16, b: u16, d: u16)
 }
 
 // A record goes into its buffer, behind those that stand there.
-pub fn put(
+pub(crate) fn put(
     sort: Sort,
     c: SceneCounts,
     sizes: &[u64],
