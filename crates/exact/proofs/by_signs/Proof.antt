@@ -1,6 +1,6 @@
 -- The verdict by signs: the code's comparisons with 0, joined, are the agreement of the signs.
-use mathlib.Core.Path.{_≡_, refl}
-use mathlib.Core.Bool.{Bool, true, not, cond, _&&_, _||_, and-assoc, and-true, or-false}
+use mathlib.Core.Path.{_≡_, refl, sym, _∙_, ap}
+use mathlib.Core.Bool.{Bool, true, false, not, cond, _&&_, _||_, and-assoc, and-true, or-false}
 use mathlib.Core.List.{[], _∷_}
 use lib.IntN.{pos}
 use lib.Signed.{leZ}
@@ -48,10 +48,16 @@ by-test s =
     (toZ-ofZ (h .d), toZ-ofZ (h .a), toZ-ofZ (h .b), toZ-ofZ (h .c), toZ-ofZ (h .e), toZ-ofZ (h .f), toZ-ofZ (h .g), le-nought, nought-le)
     (by-sign (sgn (x .d)) (sgn (x .a)) (sgn (x .b)) (sgn (x .c)) (sgn (x .e)) (sgn (x .f)) (sgn (x .g)))
 
+if-so : {A : Type 0} {b : Bool} (x y : A) → b ≡ true → cond b x y ≡ x
+if-so x y e = ap (λ c. cond c x y) e
+
+if-not : {A : Type 0} {b : Bool} (x y : A) → b ≡ false → cond b x y ≡ y
+if-not x y e = ap (λ c. cond c x y) e
+
 pub by-signs-spec : {M : Type 1} → statement M
 by-signs-spec =
     tie.close
     (tie.spec
-    (λ c. rw (by-test (c .before)) (simp (c .if1 .taken)))
-    (λ c. rw (by-test (c .before .before)) (simp (c .before .if1 .left, c .if2 .taken)))
-    (λ c. rw (by-test (c .before .before)) (simp (c .before .if1 .left, c .if2 .left))))
+    (λ c. sym (by-test (c .before) ∙ if-so _ _ (c .if1 .taken)))
+    (λ c. sym (by-test (c .before .before) ∙ if-not _ _ (c .before .if1 .left) ∙ if-so _ _ (c .if2 .taken)))
+    (λ c. sym (by-test (c .before .before) ∙ if-not _ _ (c .before .if1 .left) ∙ if-not _ _ (c .if2 .left))))
