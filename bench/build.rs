@@ -1,10 +1,14 @@
-//! Where the library lies, if it is to be linked.
+//! Where the library lies, if it is to be linked; MAKHNODRI_LIBRARY names its folder where it is elsewhere.
+
+use std::path::PathBuf;
 
 fn main() {
-    println!("cargo:rerun-if-changed=../target/staticlib/libmakhnodri.a");
+    let beside = || PathBuf::from(env!("CARGO_MANIFEST_DIR")).join("../target/staticlib");
+    let folder = std::env::var_os("MAKHNODRI_LIBRARY").map_or_else(beside, PathBuf::from);
+    println!("cargo:rerun-if-changed={}", folder.join("libmakhnodri.a").display());
+    println!("cargo:rerun-if-env-changed=MAKHNODRI_LIBRARY");
     if std::env::var_os("CARGO_FEATURE_PRODUCT").is_some() {
-        let top = std::path::Path::new(env!("CARGO_MANIFEST_DIR")).parent().unwrap();
-        println!("cargo:rustc-link-search=native={}", top.join("target/staticlib").display());
+        println!("cargo:rustc-link-search=native={}", folder.display());
         println!("cargo:rustc-link-lib=static=makhnodri");
     }
 }

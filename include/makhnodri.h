@@ -4,8 +4,8 @@
  * Link target/staticlib/libmakhnodri.a, which `rt staticlib makhnodri` proves and writes. What each function answers and
  * leaves behind is proved; the promises stand beside the functions in crates/makhnodri/src/lib.rt.
  *
- * A verdict speaks for the space-time pieces of a pair. A miss says nothing of straight motion; only the list does: a pair
- * that is not listed, and shares no vertex, meets neither in its pieces nor under straight motion.
+ * A verdict speaks for the space-time pieces of a pair. A miss, and apart too, says nothing of straight motion; only the list
+ * does: a pair that is not listed, and shares no vertex, meets neither in its pieces nor under straight motion.
  */
 #ifndef MAKHNODRI_H
 #define MAKHNODRI_H
@@ -56,18 +56,21 @@ extern "C" {
  *
  * No function keeps, reads or writes anything but its arguments and its own stack: no global state, no heap, no input or
  * output. Calls may run at the same time in as many threads as one likes, as long as no thread writes what another has lent.
- * None calls itself, and none calls back. MAKHNODRI_STACK bytes of stack are enough for any call. As measured by
- * `examples/c/run stack`, in bytes:
+ * None of these calls itself, and none calls back. Inside, one search does: where a piece is degenerate, two steps leave out a
+ * corner, in turn of the one simplex and of the other, and call each other on the rest. A piece has six corners to leave out, and
+ * with the same corners left each step is asked once at most, so that the calls are never more than 14 deep.
+ * MAKHNODRI_STACK bytes of stack are enough for any call. As measured by `examples/c/run stack`, in bytes:
  *
- *     check_scene         120      judge_pt, judge_pt_piece     504
- *     count_pairs      49,400      judge_ee, judge_ee_piece     584
- *     list_pairs       49,512      read_scene                   680
- *     judge_scene      49,640      write_report              83,368
+ *     check_scene         120      judge_pt, judge_pt_piece       504
+ *     count_pairs      49,400      judge_ee, judge_ee_piece       584
+ *     list_pairs       49,512      settle_pt, settle_pt_piece   2,528
+ *     judge_scene      50,024      settle_ee, settle_ee_piece   2,352
+ *     read_scene          680      write_report                83,864
  *
  * ---- An answer ----
  *
  * One 64-bit number. Below 2^32 it is the value itself. From 2^32 on it is a refusal: the upper 32 bits are its number, the
- * lower 32 bits the line or the needed count that it carries, else 0. No two answers have the same number.
+ * lower 32 bits the line or the needed count that it carries, else 0. No two answers of a function have the same number.
  * After a refusal no lent byte or number has changed.
  */
 typedef uint64_t makhnodri_answer;
@@ -78,13 +81,24 @@ static inline uint32_t makhnodri_refusal(makhnodri_answer answer) { return (uint
 /* the value; of a refusal, the line or the needed count. Look at makhnodri_refusal first: both may be 0 */
 static inline uint32_t makhnodri_value(makhnodri_answer answer) { return (uint32_t)answer; }
 
-/* Verdicts: the answer of a question about a pair or a piece, and the bytes that makhnodri_judge_scene writes. */
+/*
+ * Words: the answer of a question about a pair or a piece. No number stands for two of them.
+ *
+ * Three words, HIT, MISS and DEGENERATE, are the answers of makhnodri_judge_pt, _judge_ee, _judge_pt_piece and _judge_ee_piece.
+ * Four words, HIT, MISS, TOUCH and APART, are the answers of makhnodri_settle_pt, _settle_ee, _settle_pt_piece and
+ * _settle_ee_piece, the bytes that makhnodri_judge_scene writes, and the words of the report.
+ */
 enum {
-    MAKHNODRI_HIT = 0,       /* a piece: six weights exist, none negative; touching a border, a corner, the start or the end counts */
-    MAKHNODRI_MISS = 1,      /* a piece: none exist */
-    MAKHNODRI_DEGENERATE = 2 /* a piece: its six equations are singular, and nothing more is said of it */
+    MAKHNODRI_HIT = 0,        /* a piece: six weights exist, none negative; touching a border, a corner, the start or the end counts */
+    MAKHNODRI_MISS = 1,       /* a piece: none exist */
+    MAKHNODRI_DEGENERATE = 2, /* a piece: its six equations are singular, and nothing more is said of it; in three words only */
+    MAKHNODRI_TOUCH = 3,      /* a piece: its six equations are singular, and such weights exist */
+    MAKHNODRI_APART = 4       /* a piece: its six equations are singular, and none exist */
 };
-/* A pair is a hit if any of its pieces is; else degenerate if any is; else a miss. */
+/*
+ * A pair in three words: a hit if any of its pieces is; else degenerate if any is; else a miss.
+ * In four words: a hit if any of its pieces is; else touch if any is; else apart if any is; else a miss.
+ */
 
 /* The first number of a list's entry. */
 enum {
@@ -133,14 +147,15 @@ makhnodri_answer makhnodri_list_pairs(const int32_t *positions, size_t positions
                                       uint16_t *list, size_t list_length);
 
 /*
- * Makes the list and judges each pair of it: verdicts[i] is the verdict of entry i. Room is the smaller of list_length / 3 and
- * verdicts_length. The answer is the count, and the rest of both buffers is unchanged; or 7, with the count needed.
+ * Makes the list and judges each pair of it in four words: verdicts[i] is the word of entry i. Room is the smaller of
+ * list_length / 3 and verdicts_length. The answer is the count, and the rest of both buffers is unchanged; or 7, with the count
+ * needed.
  */
 makhnodri_answer makhnodri_judge_scene(const int32_t *positions, size_t positions_length, const uint16_t *edges,
                                        size_t edges_length, const uint16_t *triangles, size_t triangles_length,
                                        uint16_t *list, size_t list_length, uint8_t *verdicts, size_t verdicts_length);
 
-/* ---- Pairs and pieces, listed or not: these may also refuse with 5 and 6; else the answer is a verdict ---- */
+/* ---- Pairs and pieces, listed or not: these may also refuse with 5 and 6; else the answer is one of three words ---- */
 
 makhnodri_answer makhnodri_judge_pt(const int32_t *positions, size_t positions_length, const uint16_t *edges,
                                     size_t edges_length, const uint16_t *triangles, size_t triangles_length,
@@ -160,6 +175,24 @@ makhnodri_answer makhnodri_judge_pt_piece(const int32_t *positions, size_t posit
 makhnodri_answer makhnodri_judge_ee_piece(const int32_t *positions, size_t positions_length, const uint16_t *edges,
                                           size_t edges_length, const uint16_t *triangles, size_t triangles_length,
                                           size_t first, size_t second, size_t piece);
+
+/* ---- The same in four words: the same refusals; what is degenerate is decided too ---- */
+
+makhnodri_answer makhnodri_settle_pt(const int32_t *positions, size_t positions_length, const uint16_t *edges,
+                                     size_t edges_length, const uint16_t *triangles, size_t triangles_length,
+                                     size_t vertex, size_t triangle);
+
+makhnodri_answer makhnodri_settle_ee(const int32_t *positions, size_t positions_length, const uint16_t *edges,
+                                     size_t edges_length, const uint16_t *triangles, size_t triangles_length, size_t first,
+                                     size_t second);
+
+makhnodri_answer makhnodri_settle_pt_piece(const int32_t *positions, size_t positions_length, const uint16_t *edges,
+                                           size_t edges_length, const uint16_t *triangles, size_t triangles_length,
+                                           size_t vertex, size_t triangle, size_t piece);
+
+makhnodri_answer makhnodri_settle_ee_piece(const int32_t *positions, size_t positions_length, const uint16_t *edges,
+                                           size_t edges_length, const uint16_t *triangles, size_t triangles_length,
+                                           size_t first, size_t second, size_t piece);
 
 /* ---- Texts ---- */
 

@@ -5,7 +5,9 @@ mod errors;
 mod floor;
 mod plain;
 mod plain_report;
+mod plain_rest;
 mod product;
+mod resting;
 mod scenes;
 mod slices;
 #[cfg(test)]
@@ -17,7 +19,6 @@ use compare::cubic;
 use compare::random::Random;
 use compare::scene::{Scene, REPORT_ROOM};
 use compare::text::write;
-use compare::verdict::Verdict;
 use product::Product;
 use slices::Slices;
 use timing::{shortest, Timed, Way};
@@ -39,6 +40,7 @@ fn main() {
     let bench = Bench { rounds, pairs, product: Product::find() };
     bench.all_verdicts();
     bench.lists();
+    bench.resting();
     bench.reports();
     bench.wrong_answers();
 }
@@ -50,14 +52,6 @@ fn table(title: &str, (unit, units): (&str, f64), times: &[Timed]) {
     for (name, time) in times {
         let ratio = ours.map_or("-".to_string(), |(_, ours)| format!("{:.2}", ours / time));
         println!("  {name:<44} {:>10.2} {unit}   library over it: {ratio:>5}", time * units);
-    }
-}
-
-fn number_of(verdict: Verdict) -> u8 {
-    match verdict {
-        Verdict::Hit => product::HIT,
-        Verdict::Miss => product::MISS,
-        Verdict::Degenerate => product::DEGENERATE,
     }
 }
 
@@ -79,11 +73,11 @@ impl Bench {
         let mut list = vec![0; 3 * 20_000];
         let count = plain::list(slices, &mut list);
         let list = &list[..3 * count];
-        let right: Vec<u8> = list.chunks_exact(3).map(|entry| number_of(plain::judge(slices, entry))).collect();
-        let (mut made, mut verdicts, mut made_alone) = (vec![0; list.len()], vec![0; count], vec![0; list.len()]);
+        let right: Vec<u8> = list.chunks_exact(3).map(|entry| plain_rest::settle(slices, entry).byte()).collect();
+        let (mut made, mut words, mut made_alone) = (vec![0; list.len()], vec![0; count], vec![0; list.len()]);
         let mut ways = baselines(slices, list);
         if let Some(product) = &self.product {
-            ways.push(Way::new(OURS, || product.judge_scene(slices, &mut made, &mut verdicts).expect("there is room") as u64));
+            ways.push(Way::new(OURS, || product.judge_scene(slices, &mut made, &mut words).expect("there is room") as u64));
             ways.push(Way::new("its list", || product.list(slices, &mut made_alone).expect("there is room") as u64));
         }
         let mut times = shortest(ways, self.rounds);
@@ -91,10 +85,10 @@ impl Bench {
             // the call that judges a whole scene makes its list too
             let (_, listing) = times.pop().unwrap();
             times.last_mut().unwrap().1 -= listing;
-            assert!(made == list && verdicts == right, "the library's verdicts are those of plain Rust");
+            assert!(made == list && words == right, "the library's words are those of plain Rust");
         }
-        let hits = right.iter().filter(|&&verdict| verdict == number_of(Verdict::Hit)).count();
-        let title = format!("{name}: a pair verdict, listing left out ({count} pairs, {hits} of them hits)");
+        let hits = right.iter().filter(|&&word| word == product::HIT).count();
+        let title = format!("{name}: a pair decided, listing left out ({count} pairs, {hits} of them hits)");
         table(&title, ("ns", 1e9 / count as f64), &times);
     }
 
@@ -169,14 +163,14 @@ fn baselines<'a>(slices: &'a Slices, list: &'a [u16]) -> Vec<Way<'a>> {
     vec![
         Way::new("a cubic in doubles, tolerance 1e-6", move || pairs().map(|e| by_cubic(slices, e) as u64).sum()),
         Way::new("128-bit whole numbers, straightforwardly", move || {
-            pairs().map(|entry| number_of(wide::judge(slices, entry)) as u64).sum()
+            pairs().map(|entry| wide::judge(slices, entry) as u64).sum()
         }),
         Way::new("54 (pt) or 60 (ee) 64-bit multiplications", move || {
             pairs().for_each(|entry| floor_of(slices, entry));
             0
         }),
         Way::new("the same way in plain Rust, 64 bits", move || {
-            pairs().map(|entry| number_of(plain::judge(slices, entry)) as u64).sum()
+            pairs().map(|entry| plain_rest::settle(slices, entry).byte() as u64).sum()
         }),
     ]
 }

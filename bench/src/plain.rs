@@ -3,12 +3,15 @@
 use crate::slices::Slices;
 use compare::verdict::Verdict;
 
-type Vector = [i64; 3];
+pub type Vector = [i64; 3];
 
 /// 0 at the start, 3 at the end.
 type When = usize;
-const START: When = 0;
-const END: When = 3;
+pub const START: When = 0;
+pub const END: When = 3;
+
+/// A vertex at one of the two times.
+pub type Corner = (usize, When);
 
 #[inline]
 fn seen(positions: &[i32], vertex: usize, base: usize, when: When) -> Vector {
@@ -22,7 +25,7 @@ fn volume(a: Vector, b: Vector, c: Vector) -> i64 {
 
 /// The four signed volumes of four vectors, each of the other three.
 #[inline]
-fn volumes(v: [Vector; 4]) -> [i64; 4] {
+pub fn volumes(v: [Vector; 4]) -> [i64; 4] {
     [volume(v[1], v[2], v[3]), -volume(v[0], v[2], v[3]), volume(v[0], v[1], v[3]), -volume(v[0], v[1], v[2])]
 }
 
@@ -52,10 +55,12 @@ pub fn joined(verdicts: impl Iterator<Item = Verdict>) -> Verdict {
     out
 }
 
-pub fn point_triangle(positions: &[i32], point: usize, mut corners: [usize; 3]) -> Verdict {
+/// The verdicts of the pieces, each found when it is asked for.
+#[inline]
+pub fn point_verdicts(positions: &[i32], point: usize, mut corners: [usize; 3]) -> impl Iterator<Item = Verdict> + '_ {
     corners.sort_unstable();
     let [low, middle, high] = corners;
-    let piece = |points: [(usize, When); 4]| {
+    let piece = move |points: [Corner; 4]| {
         let volumes = volumes(points.map(|(vertex, when)| seen(positions, vertex, point, when)));
         by_signs(volumes.iter().sum(), &volumes)
     };
@@ -64,18 +69,19 @@ pub fn point_triangle(positions: &[i32], point: usize, mut corners: [usize; 3]) 
         [(low, START), (middle, START), (middle, END), (high, END)],
         [(low, START), (low, END), (middle, END), (high, END)],
     ];
-    joined(pieces.into_iter().map(piece))
+    pieces.into_iter().map(piece)
 }
 
 /// The two triangles of a moving edge: the vertex that is there at both times, and the other point.
 #[inline]
-fn halves(mut ends: [usize; 2]) -> [(usize, (usize, When)); 2] {
+fn halves(mut ends: [usize; 2]) -> [(usize, Corner); 2] {
     ends.sort_unstable();
     [(ends[1], (ends[0], START)), (ends[0], (ends[1], END))]
 }
 
-pub fn edge_edge(positions: &[i32], first: [usize; 2], second: [usize; 2]) -> Verdict {
-    let piece = |(base, other): (usize, (usize, When)), (both, third): (usize, (usize, When))| {
+#[inline]
+pub fn edge_verdicts(positions: &[i32], first: [usize; 2], second: [usize; 2]) -> impl Iterator<Item = Verdict> + '_ {
+    let piece = move |(base, other): (usize, Corner), (both, third): (usize, Corner)| {
         let points = [other, (both, START), (both, END), third];
         let v = volumes(points.map(|(vertex, when)| seen(positions, vertex, base, when)));
         let at = |when: When| (0..4).map(|i| if points[i].1 == when { v[i] } else { 0 }).sum::<i64>();
@@ -83,7 +89,7 @@ pub fn edge_edge(positions: &[i32], first: [usize; 2], second: [usize; 2]) -> Ve
     };
     let [a, b] = halves(first);
     let [c, d] = halves(second);
-    joined([(a, c), (a, d), (b, c), (b, d)].into_iter().map(|(one, other)| piece(one, other)))
+    [(a, c), (a, d), (b, c), (b, d)].into_iter().map(move |(one, other)| piece(one, other))
 }
 
 /// The verdict of an entry of the list.
@@ -91,9 +97,9 @@ pub fn edge_edge(positions: &[i32], first: [usize; 2], second: [usize; 2]) -> Ve
 pub fn judge(slices: &Slices, entry: &[u16]) -> Verdict {
     let (first, second) = (entry[1] as usize, entry[2] as usize);
     if entry[0] == 0 {
-        point_triangle(&slices.positions, first, slices.corners(second))
+        joined(point_verdicts(&slices.positions, first, slices.corners(second)))
     } else {
-        edge_edge(&slices.positions, slices.ends(first), slices.ends(second))
+        joined(edge_verdicts(&slices.positions, slices.ends(first), slices.ends(second)))
     }
 }
 

@@ -1,10 +1,11 @@
-//! A whole report in plain safe Rust: read, list, judge, tally, write, with every check of document 01.
+//! A whole report in plain safe Rust: read, list, judge, tally, write, with every check of document 01, in the four words of document 02.
 
 use crate::plain;
+use crate::plain_rest::settle;
 use crate::slices::Slices;
 use compare::refusal::*;
 use compare::scene::{COORDINATE_LIMIT, EDGE_LIMIT, REPORT_ROOM, TEXT_LIMIT, TRIANGLE_LIMIT, VERTEX_LIMIT};
-use compare::verdict::Verdict;
+use compare::settled::Settled;
 
 /// The report, behind what `out` holds; `list` is the room that is lent for pairs.
 pub fn report(text: &[u8], list: &mut [u16; 3 * REPORT_ROOM], out: &mut Vec<u8>) {
@@ -16,15 +17,16 @@ pub fn report(text: &[u8], list: &mut [u16; 3 * REPORT_ROOM], out: &mut Vec<u8>)
     if count > REPORT_ROOM {
         return refused(out, Refusal::new(NO_ROOM, count as u64));
     }
-    let (mut hits, mut misses, mut degenerates) = (0, 0, 0);
+    let (mut hits, mut misses, mut touch, mut apart) = (0, 0, 0, 0);
     for entry in list.chunks_exact(3).take(count) {
         out.extend_from_slice(if entry[0] == 0 { b"pt\t" } else { b"ee\t" });
         number(out, entry[1] as u64, b'\t');
         number(out, entry[2] as u64, b'\t');
-        let (word, total): (&[u8], &mut u64) = match plain::judge(&slices, entry) {
-            Verdict::Hit => (b"hit\n", &mut hits),
-            Verdict::Miss => (b"miss\n", &mut misses),
-            Verdict::Degenerate => (b"degenerate\n", &mut degenerates),
+        let (word, total): (&[u8], &mut u64) = match settle(&slices, entry) {
+            Settled::Hit => (b"hit\n", &mut hits),
+            Settled::Miss => (b"miss\n", &mut misses),
+            Settled::Touch => (b"touch\n", &mut touch),
+            Settled::Apart => (b"apart\n", &mut apart),
         };
         out.extend_from_slice(word);
         *total += 1;
@@ -33,7 +35,8 @@ pub fn report(text: &[u8], list: &mut [u16; 3 * REPORT_ROOM], out: &mut Vec<u8>)
     number(out, count as u64, b'\t');
     number(out, hits, b'\t');
     number(out, misses, b'\t');
-    number(out, degenerates, b'\n');
+    number(out, touch, b'\t');
+    number(out, apart, b'\n');
 }
 
 fn refused(out: &mut Vec<u8>, refusal: Refusal) {

@@ -5,22 +5,22 @@
 //!
 //! | function | takes | gives |
 //! |---|---|---|
-//! | makhnodri_judge_scene | positions i32, edges u16, triangles u16, list u16, verdicts u8 | an answer; the list's entries, and for each its verdict: 0 hit, 1 miss, 2 degenerate |
+//! | makhnodri_judge_scene | positions i32, edges u16, triangles u16, list u16, words u8 | an answer; the list's entries, and for each its word: 0 hit, 1 miss, 3 touch, 4 apart |
 //! | makhnodri_list_pairs | positions i32, edges u16, triangles u16, list u16 | an answer; the list's entries |
+//! | makhnodri_settle_pt, makhnodri_settle_ee | positions i32, edges u16, triangles u16, two places | an answer: the pair's word |
+//! | makhnodri_settle_pt_piece, makhnodri_settle_ee_piece | positions i32, edges u16, triangles u16, two places, a piece | an answer: the piece's word |
 //! | makhnodri_write_report | text u8, 65,536 bytes for the report | the length of the report |
 //!
-//! An answer is the count in the lower 32 bits, or a refusal: its number above them and what it carries in them.
+//! An answer is the count or the word in the lower 32 bits, or a refusal: its number above them and what it carries in them.
 
-/// The count, or the refusal's number.
+/// The count or the word, or the refusal's number.
 pub type Answer = Result<usize, u64>;
 
 /// Every report fits.
 pub const REPORT_BYTES: usize = 65_536;
 
-/// The verdicts as bytes.
+/// A hit as a byte.
 pub const HIT: u8 = 0;
-pub const MISS: u8 = 1;
-pub const DEGENERATE: u8 = 2;
 
 #[cfg(feature = "product")]
 pub use linked::Product;
@@ -42,8 +42,50 @@ mod linked {
             triangles_len: usize,
             list: *mut u16,
             list_len: usize,
-            verdicts: *mut u8,
-            verdicts_len: usize,
+            words: *mut u8,
+            words_len: usize,
+        ) -> u64;
+        fn makhnodri_settle_pt(
+            positions: *const i32,
+            positions_len: usize,
+            edges: *const u16,
+            edges_len: usize,
+            triangles: *const u16,
+            triangles_len: usize,
+            vertex: usize,
+            triangle: usize,
+        ) -> u64;
+        fn makhnodri_settle_ee(
+            positions: *const i32,
+            positions_len: usize,
+            edges: *const u16,
+            edges_len: usize,
+            triangles: *const u16,
+            triangles_len: usize,
+            first: usize,
+            second: usize,
+        ) -> u64;
+        fn makhnodri_settle_pt_piece(
+            positions: *const i32,
+            positions_len: usize,
+            edges: *const u16,
+            edges_len: usize,
+            triangles: *const u16,
+            triangles_len: usize,
+            vertex: usize,
+            triangle: usize,
+            piece: usize,
+        ) -> u64;
+        fn makhnodri_settle_ee_piece(
+            positions: *const i32,
+            positions_len: usize,
+            edges: *const u16,
+            edges_len: usize,
+            triangles: *const u16,
+            triangles_len: usize,
+            first: usize,
+            second: usize,
+            piece: usize,
         ) -> u64;
         fn makhnodri_list_pairs(
             positions: *const i32,
@@ -72,7 +114,7 @@ mod linked {
             Some(Product)
         }
 
-        pub fn judge_scene(&self, s: &Slices, list: &mut [u16], verdicts: &mut [u8]) -> Answer {
+        pub fn judge_scene(&self, s: &Slices, list: &mut [u16], words: &mut [u8]) -> Answer {
             // SAFETY: each pointer comes with the length of its own slice, and no two overlap
             answer(unsafe {
                 makhnodri_judge_scene(
@@ -84,8 +126,45 @@ mod linked {
                     s.triangles.len(),
                     list.as_mut_ptr(),
                     list.len(),
-                    verdicts.as_mut_ptr(),
-                    verdicts.len(),
+                    words.as_mut_ptr(),
+                    words.len(),
+                )
+            })
+        }
+
+        /// The word of an entry of the list, asked for by itself.
+        pub fn settle(&self, s: &Slices, entry: &[u16]) -> Answer {
+            let ask = if entry[0] == 0 { makhnodri_settle_pt } else { makhnodri_settle_ee };
+            // SAFETY: as above
+            answer(unsafe {
+                ask(
+                    s.positions.as_ptr(),
+                    s.positions.len(),
+                    s.edges.as_ptr(),
+                    s.edges.len(),
+                    s.triangles.as_ptr(),
+                    s.triangles.len(),
+                    entry[1].into(),
+                    entry[2].into(),
+                )
+            })
+        }
+
+        /// The word of a piece of an entry.
+        pub fn settle_piece(&self, s: &Slices, entry: &[u16], piece: usize) -> Answer {
+            let ask = if entry[0] == 0 { makhnodri_settle_pt_piece } else { makhnodri_settle_ee_piece };
+            // SAFETY: as above
+            answer(unsafe {
+                ask(
+                    s.positions.as_ptr(),
+                    s.positions.len(),
+                    s.edges.as_ptr(),
+                    s.edges.len(),
+                    s.triangles.as_ptr(),
+                    s.triangles.len(),
+                    entry[1].into(),
+                    entry[2].into(),
+                    piece,
                 )
             })
         }
@@ -127,6 +206,14 @@ mod missing {
         }
 
         pub fn judge_scene(&self, _: &Slices, _: &mut [u16], _: &mut [u8]) -> Answer {
+            match *self {}
+        }
+
+        pub fn settle(&self, _: &Slices, _: &[u16]) -> Answer {
+            match *self {}
+        }
+
+        pub fn settle_piece(&self, _: &Slices, _: &[u16], _: usize) -> Answer {
             match *self {}
         }
 

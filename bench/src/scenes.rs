@@ -49,14 +49,18 @@ pub fn scattered(random: &mut Random, vertices: usize, reach: i64, with_edges: b
 
 /// 512 vertices, 1,024 edges, 512 triangles: a wide sheet in folds, which come near each other.
 pub fn full_size(random: &mut Random, fold: usize) -> Scene {
+    folds(random, fold, 60, 20)
+}
+
+/// Every fold goes back over the one before, `thick` higher; no place is off by more than `creased`.
+fn folds(random: &mut Random, fold: usize, thick: i64, creased: i64) -> Scene {
     let (columns, rows) = (32, VERTEX_LIMIT / 32);
     let mut scene = Scene::default();
     for i in 0..VERTEX_LIMIT {
         let (column, row) = (i % columns, i / columns);
-        // every fold goes back over the one before, one layer higher
         let (layer, along) = (column / fold, column % fold);
         let x = if layer.is_multiple_of(2) { along } else { fold - 1 - along } as i64;
-        let place = [100 * x, 100 * row as i64, 60 * layer as i64].map(|n| n + random.between(-20, 20));
+        let place = [100 * x, 100 * row as i64, thick * layer as i64].map(|n| n + random.between(-creased, creased));
         let moved = place.map(|n| n + random.between(-40, 40));
         scene.vertices.push([place[0], place[1], place[2], moved[0], moved[1], moved[2]]);
         let beside = if column + 1 < columns { i + 1 } else { i - 1 };
@@ -65,5 +69,29 @@ pub fn full_size(random: &mut Random, fold: usize) -> Scene {
         scene.triangles.push([i, beside, above]);
     }
     assert_eq!((scene.edges.len(), scene.triangles.len()), (EDGE_LIMIT, TRIANGLE_LIMIT));
+    scene
+}
+
+/// A scene that moves, and the same at rest: each end is its start.
+fn and_at_rest(scene: Scene) -> [Scene; 2] {
+    let mut rest = scene.clone();
+    rest.vertices.iter_mut().for_each(|vertex| vertex.copy_within(..3, 3));
+    [scene, rest]
+}
+
+type Maker = fn(&mut Random) -> [Scene; 2];
+
+/// Full-size scenes, each moving and at rest. In the flat ones all that is listed at rest lies in one plane.
+pub const RESTING: [(&str, Maker); 5] = [
+    ("a creased sheet", |random| and_at_rest(folds(random, 32, 60, 20))),
+    ("creased folds of 8 columns", |random| and_at_rest(folds(random, 8, 60, 20))),
+    ("a flat sheet", |random| and_at_rest(folds(random, 32, 0, 0))),
+    ("flat folds of 8 columns, one on the other", |random| and_at_rest(folds(random, 8, 0, 0))),
+    ("folds of 8 columns creased in one plane", |random| and_at_rest(flattened(folds(random, 8, 0, 20)))),
+];
+
+/// The same with every start in one plane.
+fn flattened(mut scene: Scene) -> Scene {
+    scene.vertices.iter_mut().for_each(|vertex| vertex[2] = 0);
     scene
 }

@@ -3,7 +3,7 @@
 use compare::cubic::Moving;
 use compare::scene::Scene;
 
-#[derive(Default)]
+#[derive(Clone, Default)]
 pub struct Slices {
     pub positions: Vec<i32>,
     pub edges: Vec<u16>,

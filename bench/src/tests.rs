@@ -1,20 +1,22 @@
 //! Whether the ways that are timed do what they are said to do. Nothing here is timed.
 
 use crate::errors::{self, Kind, Set, Source};
+use crate::scenes;
 use crate::slices::Slices;
-use crate::{plain, plain_report, wide};
+use crate::{plain, plain_report, plain_rest, wide};
 use compare::generate;
 use compare::listing::listed;
 use compare::random::Random;
 use compare::report::report;
 use compare::scene::{Kind as PairKind, REPORT_ROOM};
+use compare::settled;
 use compare::signs::determinant;
 use compare::trials;
 use compare::verdict::of_pair;
 
 #[test]
 fn plain_and_wide_verdicts_and_lists_are_the_exact_ones() {
-    for seed in 0..130 {
+    for seed in 0..190 {
         let scene = generate::scene(seed);
         let (slices, right) = (Slices::of(&scene), listed(&scene));
         let mut list = vec![0; 3 * right.len() + 2];
@@ -24,13 +26,31 @@ fn plain_and_wide_verdicts_and_lists_are_the_exact_ones() {
             assert_eq!(entry, [kind, pair.first as u16, pair.second as u16]);
             let verdict = of_pair(&scene, pair);
             assert_eq!((plain::judge(&slices, entry), wide::judge(&slices, entry)), (verdict, verdict), "seed {seed}");
+            assert_eq!(plain_rest::settle(&slices, entry), settled::of_pair(&scene, pair), "seed {seed}");
+        }
+    }
+}
+
+/// Nothing moves: every listed pair is singular, and the words are the exact ones.
+#[test]
+fn a_full_size_scene_at_rest_is_at_rest() {
+    for (name, make) in scenes::RESTING {
+        let [moving, rest] = make(&mut Random::new(5));
+        assert!(moving.vertices.iter().zip(&rest.vertices).all(|(m, r)| m[..3] == r[..3] && r[..3] == r[3..]));
+        let slices = Slices::of(&rest);
+        let right = listed(&rest);
+        let (mut list, mut words) = (vec![0; 3 * right.len()], vec![0; right.len()]);
+        assert_eq!(plain_rest::judge_scene(&slices, &mut list, &mut words), right.len());
+        for (&pair, &word) in right.iter().zip(&words).step_by(1 + right.len() / 2_000) {
+            assert_eq!(word, settled::of_pair(&rest, pair).byte(), "{name}, {pair:?}");
+            assert!(word >= settled::Settled::Touch.byte());
         }
     }
 }
 
 #[test]
 fn the_plain_report_is_the_exact_one() {
-    let seeded = (0..140).flat_map(trials::seeded);
+    let seeded = (0..200).flat_map(trials::seeded);
     for trial in trials::fixed().into_iter().chain(seeded) {
         let mut out = Vec::new();
         plain_report::report(&trial.text, &mut [0; 3 * REPORT_ROOM], &mut out);

@@ -1,5 +1,5 @@
 //! The piece verdicts as document 01 tells them, straightforwardly, in 128-bit whole numbers: each of the six weights
-//! is a signed determinant of the other five points.
+//! is a signed determinant of the other five points. Three words: what is degenerate it leaves undecided.
 
 use crate::plain::joined;
 use crate::slices::Slices;

@@ -1,35 +1,46 @@
-//! What document 01 shows with numbers, and a text at each edge of its rules with the report it must get.
+//! What document 01 shows with numbers, as document 02 leaves it, and a text at each edge of its rules with the report it must get.
 
 use crate::scene::*;
-use crate::verdict::Verdict::{self, Degenerate as D, Hit as H, Miss as M};
+use crate::settled::Settled::{self, Apart as A, Hit as H, Miss as M, Touch as T};
+use crate::verdict::Verdict;
 
 pub const PRINTED_SCENE: &str = "\
 v\t0\t0\t0\t0\t0\t0\nv\t4\t0\t0\t4\t0\t0\nv\t0\t4\t0\t0\t4\t0\nv\t1\t1\t1\t1\t1\t-1\nv\t1\t-1\t1\t1\t-1\t-1\n\
 e\t0\t1\ne\t3\t4\nt\t0\t1\t2\n";
 
-pub const PRINTED_REPORT: &str = "pt\t3\t0\thit\nee\t0\t1\thit\ntotal\t2\t2\t0\t0\n";
+pub const PRINTED_REPORT: &str = "pt\t3\t0\thit\nee\t0\t1\thit\ntotal\t2\t2\t0\t0\t0\n";
 
 pub struct Shown {
     pub scene: Scene,
     pub pair: Pair,
-    pub pieces: &'static [Verdict],
+    /// The four-word answers of its pieces.
+    pub settled: &'static [Settled],
+    /// And the three-word ones.
+    pub pieces: Vec<Verdict>,
     pub listed: bool,
 }
 
-/// The twelve shown cases, in their order.
+impl Shown {
+    fn new(scene: Scene, pair: Pair, settled: &'static [Settled], listed: bool) -> Shown {
+        let pieces = settled.iter().map(|word| word.verdict()).collect();
+        Shown { scene, pair, settled, pieces, listed }
+    }
+}
+
+/// The twelve shown cases, in their order; of the degenerate ones document 02 makes case 6 apart and case 7 touch.
 pub fn shown() -> Vec<Shown> {
-    let point = |start: [i64; 3], end: [i64; 3], pieces: &'static [Verdict], listed: bool| {
+    let point = |start: [i64; 3], end: [i64; 3], settled: &'static [Settled], listed: bool| {
         let rest = |x: i64, y: i64| [x, y, 0, x, y, 0];
         let moving = [start[0], start[1], start[2], end[0], end[1], end[2]];
         let scene =
             Scene { vertices: vec![rest(0, 0), rest(4, 0), rest(0, 4), moving], edges: vec![], triangles: vec![[0, 1, 2]] };
-        Shown { scene, pair: Pair::pt(3, 0), pieces, listed }
+        Shown::new(scene, Pair::pt(3, 0), settled, listed)
     };
-    let edge = |c: [i64; 2], d: [i64; 2], pieces: &'static [Verdict], listed: bool| {
+    let edge = |c: [i64; 2], d: [i64; 2], settled: &'static [Settled], listed: bool| {
         let (rest, falling) = (|x: i64| [x, 0, 0, x, 0, 0], |at: [i64; 2]| [at[0], at[1], 1, at[0], at[1], -1]);
         let scene =
             Scene { vertices: vec![rest(-2), rest(2), falling(c), falling(d)], edges: vec![[0, 1], [2, 3]], triangles: vec![] };
-        Shown { scene, pair: Pair::ee(0, 1), pieces, listed }
+        Shown::new(scene, Pair::ee(0, 1), settled, listed)
     };
     vec![
         point([1, 1, 1], [1, 1, -1], &[M, H, H], true),
@@ -37,8 +48,8 @@ pub fn shown() -> Vec<Shown> {
         point([1, 1, 1], [1, 1, 0], &[M, M, H], true),
         point([1, 1, 0], [1, 1, 1], &[H, M, M], true),
         point([5, 5, 1], [5, 5, -1], &[M, M, M], false),
-        point([1, 1, 1], [1, 1, 1], &[D, D, D], false),
-        point([1, 1, 0], [2, 1, 0], &[D, D, D], true),
+        point([1, 1, 1], [1, 1, 1], &[A, A, A], false),
+        point([1, 1, 0], [2, 1, 0], &[T, T, T], true),
         point([4, 0, 1], [4, 0, -1], &[M, H, M], true),
         edge([0, -2], [0, 2], &[H, H, H, H], true),
         edge([0, 3], [3, 0], &[M, M, M, M], true),
@@ -57,7 +68,7 @@ pub struct TextCase {
 const V: &str = "v\t0\t0\t0\t0\t0\t0\n";
 
 pub fn text_cases() -> Vec<TextCase> {
-    let mut out = vec![case(PRINTED_SCENE, "total 2 2 0 0")];
+    let mut out = vec![case(PRINTED_SCENE, "total 2 2 0 0 0")];
     out.extend(bad_lines());
     out.extend(faulty_lines());
     out.extend(ties());
@@ -99,12 +110,12 @@ fn bad_lines() -> Vec<TextCase> {
 /// Lines of the form, refused for what they say or just not, two vertices above them.
 fn faulty_lines() -> Vec<TextCase> {
     let lines = [
-        ("v\t262143\t-262143\t0\t0\t-262143\t262143", "total 0 0 0 0"),
+        ("v\t262143\t-262143\t0\t0\t-262143\t262143", "total 0 0 0 0 0"),
         ("v\t0\t0\t0\t0\t0\t262144", "refused 2 3"),
         ("v\t-262144\t0\t0\t0\t0\t0", "refused 2 3"),
         ("v\t0\t0\t999999999\t0\t0\t0", "refused 2 3"),
         ("v\t0\t0\t0\t-999999999\t0\t0", "refused 2 3"),
-        ("e\t0\t1", "total 0 0 0 0"),
+        ("e\t0\t1", "total 0 0 0 0 0"),
         ("e\t0\t2", "refused 3 3"),
         ("e\t2\t0", "refused 3 3"),
         ("e\t0\t999999999", "refused 3 3"),
@@ -125,7 +136,7 @@ fn ties() -> Vec<TextCase> {
         case("e\t0\t1\n", "refused 3 1"),
         case("t\t0\t1\t2\n", "refused 3 1"),
         case("e\t0\t0\n", "refused 3 1"),
-        case(format!("{three}t\t0\t1\t2\n"), "total 0 0 0 0"),
+        case(format!("{three}t\t0\t1\t2\n"), "total 0 0 0 0 0"),
         case(format!("{three}t\t0\t1\t2\ne\t0\t1\n"), "refused 10 5"),
         case(format!("{three}t\t0\t1\t2\n{V}"), "refused 10 5"),
         case(format!("{three}e\t0\t1\n{V}"), "refused 10 5"),
@@ -155,20 +166,20 @@ fn sizes() -> Vec<TextCase> {
     let edges = format!("{V}{V}{V}{}", "e\t0\t1\n".repeat(EDGE_LIMIT));
     let triangles = format!("{V}{V}{V}{}", "t\t0\t1\t2\n".repeat(TRIANGLE_LIMIT));
     vec![
-        case(full.clone(), "total 0 0 0 0"),
+        case(full.clone(), "total 0 0 0 0 0"),
         case(format!("{full}{V}"), "refused 11 513"),
         case(format!("{full}v\t0\t0\t0\t0\t0\t262144\n"), "refused 11 513"),
         case(format!("{full}v\t0\t0\t0\t0\t0\t-0\n"), "refused 9 513"),
         case(format!("{full}e\t0\t1\n{V}"), "refused 10 514"),
         case(format!("{full}e\t511\t512\n"), "refused 3 513"),
-        case(format!("{full}e\t511\t0\n"), "total 0 0 0 0"),
-        case(edges.clone(), "total 0 0 0 0"),
+        case(format!("{full}e\t511\t0\n"), "total 0 0 0 0 0"),
+        case(edges.clone(), "total 0 0 0 0 0"),
         case(format!("{edges}e\t0\t1\n"), "refused 11 1028"),
         case(format!("{edges}e\t0\t3\n"), "refused 11 1028"),
         case(format!("{edges}e\t0\t0\n"), "refused 11 1028"),
         case(format!("{edges}e\t0\t01\n"), "refused 9 1028"),
         case(format!("{edges}t\t0\t1\t2\ne\t0\t1\n"), "refused 10 1029"),
-        case(triangles.clone(), "total 0 0 0 0"),
+        case(triangles.clone(), "total 0 0 0 0 0"),
         case(format!("{triangles}t\t0\t1\t2\n"), "refused 11 516"),
         case(format!("{triangles}t\t0\t1\t3\n"), "refused 11 516"),
         case(format!("{triangles}t\t0\t1\t1\n"), "refused 11 516"),
@@ -183,13 +194,13 @@ fn whole_texts() -> Vec<TextCase> {
     let too_long = longest.replacen("100000", "-100000", 1);
     let crowd = |points: usize, triangles: usize| format!("{}{}", V.repeat(points + 3), "t\t0\t1\t2\n".repeat(triangles));
     vec![
-        case("", "total 0 0 0 0"),
+        case("", "total 0 0 0 0 0"),
         case("\n", "refused 9 1"),
         case("v", "refused 9 1"),
         case(format!("\u{feff}{V}"), "refused 9 1"),
         case(format!("\0{V}"), "refused 9 1"),
         case(V.trim_end(), "refused 9 1"),
-        case(longest.clone(), "total 0 0 0 0"),
+        case(longest.clone(), "total 0 0 0 0 0"),
         case(&longest[..TEXT_LIMIT - 1], "refused 9 1536"),
         case(too_long.clone(), "refused 8 0"),
         case(format!("\n{longest}"), "refused 8 0"),
@@ -198,10 +209,10 @@ fn whole_texts() -> Vec<TextCase> {
         case("\n".repeat(TEXT_LIMIT), "refused 9 1"),
         case("\n".repeat(TEXT_LIMIT + 1), "refused 8 0"),
         case("v".repeat(TEXT_LIMIT), "refused 9 1"),
-        case(crowd(32, 64), "total 2048 0 0 2048"),
+        case(crowd(32, 64), "total 2048 0 0 2048 0"),
         case(crowd(32, 64) + "x", "refused 9 100"),
         case(crowd(32, 64).replacen("t", "e\t0\t1\ne\t2\t3\nt", 1), "refused 7 2049"),
-        case(crowd(32, 64).replacen("t", "e\t0\t1\ne\t1\t3\nt", 1), "total 2048 0 0 2048"),
+        case(crowd(32, 64).replacen("t", "e\t0\t1\ne\t1\t3\nt", 1), "total 2048 0 0 2048 0"),
         case(crowd(3, 683), "refused 11 519"),
         case(crowd(509, 512), "refused 7 260608"),
     ]

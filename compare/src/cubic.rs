@@ -225,7 +225,7 @@ mod tests {
                 Kind::PointTriangle => point_triangle(&m[3], [&m[0], &m[1], &m[2]], 0.0),
                 Kind::EdgeEdge => edge_edge([&m[0], &m[1]], [&m[2], &m[3]], 0.0),
             };
-            assert_eq!(hit, joined(case.pieces) == Verdict::Hit);
+            assert_eq!(hit, joined(&case.pieces) == Verdict::Hit);
         }
     }
 }

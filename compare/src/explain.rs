@@ -1,10 +1,11 @@
-//! A verdict with its reasons: the pieces of each listed pair with their weights, and what doubles make of a volume.
+//! A pair's word with its reasons: the pieces of each listed pair with their weights, and what doubles make of a volume.
 
 use crate::listing;
 use crate::pieces::{pieces, Piece};
 use crate::scene::{Kind, Pair, Scene};
+use crate::search::{searched, Way};
+use crate::settled::{of_pair, of_piece, Settled};
 use crate::signs::{determinant, weights, Number};
-use crate::verdict::{of_pair, of_piece, Verdict};
 
 pub fn explained(scene: &Scene) -> String {
     listing::listed(scene).into_iter().map(|pair| of_listed(scene, pair)).collect()
@@ -31,15 +32,20 @@ fn of_listed(scene: &Scene, pair: Pair) -> String {
 
 /// The weights as whole numbers without a common divisor, so signed that the sum is above 0.
 fn of_one(piece: &Piece) -> String {
-    let (weights, sum) = weights::<i128>(piece);
-    let verdict = of_piece(piece);
-    if verdict == Verdict::Degenerate {
-        return "degenerate, the determinant is 0".to_string();
-    }
+    let word = of_piece(piece);
+    let (weights, sum) = match word {
+        Settled::Apart => return "apart, the determinant is 0, no weights".to_string(),
+        Settled::Touch => {
+            let weights = searched(piece, Way::Library).0.expect("a piece that touches has weights");
+            (weights, weights[..piece.first.len()].iter().sum())
+        }
+        Settled::Hit | Settled::Miss => weights::<i128>(piece),
+    };
     let divisor = weights.iter().fold(sum, |a, &b| divisor(a, b)).abs() * sum.signum();
     let words: Vec<String> = weights.iter().map(|weight| (weight / divisor).to_string()).collect();
     let (first, second) = words.split_at(piece.first.len());
-    format!("{}, weights {} against {}", verdict.word(), first.join(", "), second.join(", "))
+    let singular = if word == Settled::Touch { "the determinant is 0, " } else { "" };
+    format!("{}, {singular}weights {} against {}", word.word(), first.join(", "), second.join(", "))
 }
 
 fn divisor(a: i128, b: i128) -> i128 {

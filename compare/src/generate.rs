@@ -3,10 +3,11 @@
 use crate::extremes::{flat, just_the_length, just_the_room, touching_boxes};
 use crate::random::Random;
 use crate::scene::*;
+use crate::still::{at_rest, coinciding, in_one_place, on_a_line, out_of_turn, sliding};
 
 type Maker = fn(&mut Random) -> Scene;
 
-pub const KINDS: [(&str, Maker); 13] = [
+pub const KINDS: [(&str, Maker); 19] = [
     ("tiny", tiny),
     ("limit", limit),
     ("touching", touching),
@@ -19,6 +20,12 @@ pub const KINDS: [(&str, Maker); 13] = [
     ("fan", fan),
     ("flat", flat),
     ("touching boxes", touching_boxes),
+    ("at rest", at_rest),
+    ("sliding", sliding),
+    ("on a line", on_a_line),
+    ("in one place", in_one_place),
+    ("coinciding", coinciding),
+    ("out of turn", out_of_turn),
     ("crowd or sizes", crowd_or_sizes),
 ];
 
@@ -42,7 +49,7 @@ fn some<const N: usize>(random: &mut Random, vertices: usize) -> [usize; N] {
     [0; N].map(|_| all.swap_remove(random.below(all.len())))
 }
 
-fn with_parts(random: &mut Random, vertices: Vec<[i64; 6]>, edges: usize, triangles: usize) -> Scene {
+pub(crate) fn with_parts(random: &mut Random, vertices: Vec<[i64; 6]>, edges: usize, triangles: usize) -> Scene {
     let count = vertices.len();
     let (edges, triangles) = (if count < 2 { 0 } else { edges }, if count < 3 { 0 } else { triangles });
     Scene {

@@ -1,9 +1,11 @@
-//! Document 01 a second time, written from its text alone, so that the proved program has something to be held
+//! Document 01, and §1 of document 02, a second time, written from their text alone, so that the proved program has something to be held
 //! against. Where the proved program takes signs of 3 by 3 determinants of differences, this one sets up the six
-//! equations as they are written and solves them. Nothing here is meant to be fast.
+//! equations as they are written and solves them; where those are singular, it eliminates bounds, and leaves no corner
+//! out. Nothing here is meant to be fast.
 
 pub mod affine;
 pub mod cases;
+pub mod cost;
 pub mod crossed;
 pub mod cubic;
 pub mod damage;
@@ -22,8 +24,11 @@ pub mod refusal;
 pub mod report;
 pub mod running;
 pub mod scene;
+pub mod search;
+pub mod settled;
 pub mod signs;
 pub mod slices;
+pub mod still;
 pub mod text;
 pub mod trials;
 pub mod verdict;

@@ -61,7 +61,7 @@ pub fn in_words(parting: &Parting, wanted_report: &str) -> String {
         ("total", "total") => "a total",
         (_, "total") => "listed pairs left out",
         ("total", _) => "a pair that is not listed",
-        _ if wanted.get(..3) == got.get(..3) => "a verdict",
+        _ if wanted.get(..3) == got.get(..3) => "a word",
         _ if wanted_report.contains(&format!("{}\t", got.get(..3).unwrap_or(&[]).join("\t"))) => "a listed pair left out",
         _ => "a line that does not belong there",
     };

@@ -5,18 +5,19 @@
 mod judging;
 mod listing;
 mod reading;
+mod settling;
 
 use crate::refusal::{Refusal, NO_ROOM};
 use crate::report::written;
 use crate::scene::{Pair, Scene};
-use crate::verdict::{self, Verdict};
+use crate::settled::{self, Settled};
 use crate::{listing as right_listing, text};
 use std::collections::HashMap;
 
 type Read = Box<dyn Fn(&[u8]) -> Result<Scene, Refusal>>;
 type List = Box<dyn Fn(&Scene) -> Vec<Pair>>;
-type Judge = Box<dyn Fn(&Scene, Pair) -> Verdict>;
-type Print = Box<dyn Fn(&[Pair], usize, &dyn Fn(Pair) -> Verdict) -> String>;
+type Judge = Box<dyn Fn(&Scene, Pair) -> Settled>;
+type Print = Box<dyn Fn(&[Pair], usize, &dyn Fn(Pair) -> Settled) -> String>;
 
 /// The four steps of a report program, of which a mistake has one; the others go right.
 #[derive(Default)]
@@ -32,7 +33,7 @@ pub struct Right {
     text: Vec<u8>,
     scene: Result<Scene, Refusal>,
     listed: Vec<Pair>,
-    verdicts: HashMap<Pair, Verdict>,
+    words: HashMap<Pair, Settled>,
     room: usize,
 }
 
@@ -41,8 +42,8 @@ impl Right {
         let scene = text::read(text);
         let listed = scene.as_ref().map(right_listing::listed).unwrap_or_default();
         let judged = if listed.len() > room { &[][..] } else { &listed[..] };
-        let verdicts = judged.iter().map(|&pair| (pair, verdict::of_pair(scene.as_ref().unwrap(), pair))).collect();
-        Right { text: text.to_vec(), scene, listed, verdicts, room }
+        let words = judged.iter().map(|&pair| (pair, settled::of_pair(scene.as_ref().unwrap(), pair))).collect();
+        Right { text: text.to_vec(), scene, listed, words, room }
     }
 
     pub fn report(&self) -> String {
@@ -61,10 +62,10 @@ impl Right {
             None if same => self.listed.clone(),
             None => right_listing::listed(&scene),
         };
-        let found = |pair| if same { self.verdicts.get(&pair).copied() } else { None };
+        let found = |pair| if same { self.words.get(&pair).copied() } else { None };
         let judge = |pair| match &steps.judge {
             Some(judge) => judge(&scene, pair),
-            None => found(pair).unwrap_or_else(|| verdict::of_pair(&scene, pair)),
+            None => found(pair).unwrap_or_else(|| settled::of_pair(&scene, pair)),
         };
         match &steps.print {
             Some(print) => print(&listed, self.room, &judge),
@@ -73,8 +74,8 @@ impl Right {
     }
 }
 
-fn print_right(listed: &[Pair], room: usize, judge: &dyn Fn(Pair) -> Verdict) -> String {
-    written(&fitting(listed, room).map(|listed| with_verdicts(listed, judge)))
+fn print_right(listed: &[Pair], room: usize, judge: &dyn Fn(Pair) -> Settled) -> String {
+    written(&fitting(listed, room).map(|listed| with_words(listed, judge)))
 }
 
 fn fitting(listed: &[Pair], room: usize) -> Result<&[Pair], Refusal> {
@@ -84,7 +85,7 @@ fn fitting(listed: &[Pair], room: usize) -> Result<&[Pair], Refusal> {
     Ok(listed)
 }
 
-fn with_verdicts(listed: &[Pair], judge: &dyn Fn(Pair) -> Verdict) -> Vec<(Pair, Verdict)> {
+fn with_words(listed: &[Pair], judge: &dyn Fn(Pair) -> Settled) -> Vec<(Pair, Settled)> {
     listed.iter().map(|&pair| (pair, judge(pair))).collect()
 }
 
@@ -110,6 +111,7 @@ impl Mistake {
 /// Every one of them, those of the training page first.
 pub fn all() -> Vec<Mistake> {
     let mut out = judging::mistakes();
+    out.extend(settling::mistakes());
     out.extend(listing::mistakes());
     out.extend(reading::mistakes());
     out

@@ -3,11 +3,11 @@
 use crate::listing;
 use crate::refusal::Refusal;
 use crate::scene::{Kind, Pair, Scene};
+use crate::settled::{self, Settled, WORDS};
 use crate::text;
-use crate::verdict::{self, Verdict};
 
-/// What a text comes to: each listed pair with its verdict, or the refusal.
-pub type Judged = Result<Vec<(Pair, Verdict)>, Refusal>;
+/// What a text comes to: each listed pair with its word, or the refusal.
+pub type Judged = Result<Vec<(Pair, Settled)>, Refusal>;
 
 pub fn judged(text: &[u8], room: usize) -> Judged {
     let scene = text::read(text)?;
@@ -16,7 +16,7 @@ pub fn judged(text: &[u8], room: usize) -> Judged {
 
 pub fn judged_scene(scene: &Scene, room: usize) -> Judged {
     let listed = listing::list(scene, room)?;
-    Ok(listed.into_iter().map(|pair| (pair, verdict::of_pair(scene, pair))).collect())
+    Ok(listed.into_iter().map(|pair| (pair, settled::of_pair(scene, pair))).collect())
 }
 
 pub fn report(text: &[u8], room: usize) -> String {
@@ -29,15 +29,15 @@ pub fn written(judged: &Judged) -> String {
         Ok(listed) => listed,
     };
     let mut out = String::new();
-    for (pair, verdict) in listed {
+    for (pair, word) in listed {
         let kind = match pair.kind {
             Kind::PointTriangle => "pt",
             Kind::EdgeEdge => "ee",
         };
-        out.push_str(&format!("{kind}\t{}\t{}\t{}\n", pair.first, pair.second, verdict.word()));
+        out.push_str(&format!("{kind}\t{}\t{}\t{}\n", pair.first, pair.second, word.word()));
     }
-    let count = |wanted: Verdict| listed.iter().filter(|(_, verdict)| *verdict == wanted).count();
-    let (hits, misses, degenerates) = (count(Verdict::Hit), count(Verdict::Miss), count(Verdict::Degenerate));
-    out.push_str(&format!("total\t{}\t{hits}\t{misses}\t{degenerates}\n", listed.len()));
+    let count = |wanted: Settled| listed.iter().filter(|(_, word)| *word == wanted).count();
+    let [hits, misses, touch, apart] = WORDS.map(count);
+    out.push_str(&format!("total\t{}\t{hits}\t{misses}\t{touch}\t{apart}\n", listed.len()));
     out
 }

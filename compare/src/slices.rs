@@ -4,6 +4,7 @@
 use crate::listing;
 use crate::refusal::*;
 use crate::scene::*;
+use crate::settled::{self, Settled};
 use crate::text::any_twice;
 use crate::verdict::{self, Verdict};
 
@@ -54,21 +55,23 @@ fn asked(scene: &Scene, kind: Kind, first: u64, second: u64) -> Result<Pair, Ref
     Ok(Pair { kind, first: first as usize, second: second as usize })
 }
 
-fn apart(scene: &Scene, pair: Pair) -> Result<(), Refusal> {
+fn unshared(scene: &Scene, pair: Pair) -> Result<(), Refusal> {
     if pair.shares_a_vertex(scene) {
         return Err(Refusal::bare(SHARES_A_VERTEX));
     }
     Ok(())
 }
 
-pub fn pair_verdict(slices: Slices, kind: Kind, first: u64, second: u64) -> Result<Verdict, Refusal> {
+/// The scene and a pair of it that may be asked for.
+fn a_pair(slices: Slices, kind: Kind, first: u64, second: u64) -> Result<(Scene, Pair), Refusal> {
     let scene = scene(slices)?;
     let pair = asked(&scene, kind, first, second)?;
-    apart(&scene, pair)?;
-    Ok(verdict::of_pair(&scene, pair))
+    unshared(&scene, pair)?;
+    Ok((scene, pair))
 }
 
-pub fn piece_verdict(slices: Slices, kind: Kind, first: u64, second: u64, piece: u64) -> Result<Verdict, Refusal> {
+/// The scene, a pair of it and a piece of that, which may be asked for.
+fn a_piece(slices: Slices, kind: Kind, first: u64, second: u64, piece: u64) -> Result<(Scene, Pair, usize), Refusal> {
     let scene = scene(slices)?;
     let pair = asked(&scene, kind, first, second)?;
     let pieces = match kind {
@@ -78,8 +81,24 @@ pub fn piece_verdict(slices: Slices, kind: Kind, first: u64, second: u64, piece:
     if piece >= pieces {
         return Err(Refusal::bare(NOT_THERE));
     }
-    apart(&scene, pair)?;
-    Ok(verdict::of_pieces(&scene, pair)[piece as usize])
+    unshared(&scene, pair)?;
+    Ok((scene, pair, piece as usize))
+}
+
+pub fn pair_verdict(slices: Slices, kind: Kind, first: u64, second: u64) -> Result<Verdict, Refusal> {
+    a_pair(slices, kind, first, second).map(|(scene, pair)| verdict::of_pair(&scene, pair))
+}
+
+pub fn piece_verdict(slices: Slices, kind: Kind, first: u64, second: u64, piece: u64) -> Result<Verdict, Refusal> {
+    a_piece(slices, kind, first, second, piece).map(|(scene, pair, piece)| verdict::of_pieces(&scene, pair)[piece])
+}
+
+pub fn pair_settled(slices: Slices, kind: Kind, first: u64, second: u64) -> Result<Settled, Refusal> {
+    a_pair(slices, kind, first, second).map(|(scene, pair)| settled::of_pair(&scene, pair))
+}
+
+pub fn piece_settled(slices: Slices, kind: Kind, first: u64, second: u64, piece: u64) -> Result<Settled, Refusal> {
+    a_piece(slices, kind, first, second, piece).map(|(scene, pair, piece)| settled::of_pieces(&scene, pair)[piece])
 }
 
 /// The list as its entries: 0 for pt or 1 for ee, then the two places.

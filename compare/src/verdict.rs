@@ -1,4 +1,4 @@
-//! The verdict of a piece and of a pair.
+//! The three-word verdict of a piece and of a pair, by document 01. (settled.rs has the four words.)
 
 use crate::equations::{meet, Solutions};
 use crate::pieces::{pieces, Piece};
@@ -22,7 +22,10 @@ impl Verdict {
 }
 
 pub fn of_piece(piece: &Piece) -> Verdict {
-    let solutions = Solutions::of(&piece.first, &piece.second);
+    of_solutions(&Solutions::of(&piece.first, &piece.second))
+}
+
+pub fn of_solutions(solutions: &Solutions) -> Verdict {
     if solutions.singular() {
         Verdict::Degenerate
     } else if solutions.only().iter().all(|(numerator, _)| numerator.sign() >= 0) {
@@ -51,7 +54,7 @@ pub fn of_pair(scene: &Scene, pair: Pair) -> Verdict {
 }
 
 /// Document 01's 'it touches in a piece': whole weights exist, singular or not. For a singular piece this is the
-/// difference between touch and apart, which no report speaks of yet.
+/// difference between touch and apart.
 pub fn touches(piece: &Piece) -> bool {
     meet(&piece.first, &piece.second)
 }

@@ -1,4 +1,4 @@
-//! What document 01 says with numbers: the printed scene, the twelve shown cases, the facts that are only run, and
+//! What document 01 says with numbers, as document 02 leaves it: the printed scene, the twelve shown cases, the facts that are only run, and
 //! each refusal with each tie in the order of the checks.
 
 use compare::cases::{shown, text_cases, PRINTED_REPORT, PRINTED_SCENE};
@@ -8,7 +8,8 @@ use compare::pieces::pieces;
 use compare::refusal::*;
 use compare::report::report;
 use compare::scene::*;
-use compare::slices::{flat, list, pair_verdict, piece_verdict, Slices};
+use compare::settled::{self, joined, Settled};
+use compare::slices::{flat, list, pair_settled, pair_verdict, piece_settled, piece_verdict, Slices};
 use compare::text::{read, read_lent, write};
 use compare::verdict::{of_pieces, Verdict};
 use compare::whole::Whole;
@@ -22,8 +23,52 @@ fn the_printed_scene() {
 fn the_twelve_shown_cases() {
     for (place, case) in shown().iter().enumerate() {
         assert_eq!(of_pieces(&case.scene, case.pair), case.pieces, "case {}", place + 1);
+        assert_eq!(settled::of_pieces(&case.scene, case.pair), case.settled, "case {}", place + 1);
         assert_eq!(is_listed(&case.scene, case.pair), case.listed, "case {}", place + 1);
     }
+}
+
+#[test]
+fn case_6_is_apart_and_case_7_touch() {
+    let words: Vec<Settled> = shown().iter().map(|case| settled::of_pair(&case.scene, case.pair)).collect();
+    assert_eq!((words[5], words[6]), (Settled::Apart, Settled::Touch));
+    assert!(words.iter().enumerate().all(|(place, word)| [5, 6].contains(&place) || word.verdict() != Verdict::Degenerate));
+}
+
+/// Hit, else touch, else apart, else miss, for every set of words that the pieces may have.
+#[test]
+fn the_word_of_a_pair() {
+    use Settled::{Apart as A, Hit as H, Miss as M, Touch as T};
+    let wanted = [
+        (vec![M], M),
+        (vec![A], A),
+        (vec![T], T),
+        (vec![H], H),
+        (vec![M, A], A),
+        (vec![M, T], T),
+        (vec![M, H], H),
+        (vec![A, T], T),
+        (vec![A, H], H),
+        (vec![T, H], H),
+        (vec![M, A, T], T),
+        (vec![M, A, H], H),
+        (vec![M, T, H], H),
+        (vec![A, T, H], H),
+        (vec![M, A, T, H], H),
+    ];
+    for (mut words, word) in wanted {
+        for _ in 0..words.len() {
+            assert_eq!(joined(&words), word, "{words:?}");
+            words.rotate_left(1);
+        }
+    }
+}
+
+/// No number stands for two words, nor for the third of the three-word verdicts.
+#[test]
+fn bytes_of_words() {
+    let bytes = settled::WORDS.map(|word| (word.word(), word.byte()));
+    assert_eq!(bytes, [("hit", 0), ("miss", 1), ("touch", 3), ("apart", 4)]);
 }
 
 #[test]
@@ -40,8 +85,8 @@ fn the_weights_of_case_1() {
 #[test]
 fn run_only_facts() {
     let vertex = |x: &str| report(format!("v\t{x}\t0\t0\t0\t0\t0\n").as_bytes(), REPORT_ROOM);
-    assert_eq!(vertex("262143"), "total\t0\t0\t0\t0\n");
-    assert_eq!(vertex("-262143"), "total\t0\t0\t0\t0\n");
+    assert_eq!(vertex("262143"), "total\t0\t0\t0\t0\t0\n");
+    assert_eq!(vertex("-262143"), "total\t0\t0\t0\t0\t0\n");
     assert_eq!(vertex("262144"), "refused\t2\t1\n");
     assert_eq!(vertex("-0"), "refused\t9\t1\n");
     assert_eq!(report(PRINTED_SCENE.as_bytes(), 1), "refused\t7\t2\n");
@@ -113,6 +158,15 @@ fn a_pair_or_a_piece_asked_for() {
     let (pt, ee) = (Kind::PointTriangle, Kind::EdgeEdge);
     let pair = |kind, first, second| pair_verdict(slices, kind, first, second).map_err(|refusal| refusal.number);
     let piece = |kind, first, second, piece| piece_verdict(slices, kind, first, second, piece).map_err(|refusal| refusal.number);
+    let word = |kind, first, second| pair_settled(slices, kind, first, second).map_err(|refusal| refusal.number);
+    let piece_word = |kind, first, second, piece| piece_settled(slices, kind, first, second, piece).map_err(|r| r.number);
+    for (kind, first, second) in [(pt, 3, 0), (ee, 0, 1), (pt, 5, 0), (pt, 0, 0), (ee, 1, 1), (ee, 2, 2)] {
+        assert_eq!(word(kind, first, second).map(Settled::verdict), pair(kind, first, second));
+        for number in 0..5 {
+            let wanted = piece(kind, first, second, number);
+            assert_eq!(piece_word(kind, first, second, number).map(Settled::verdict), wanted);
+        }
+    }
     assert_eq!(pair(pt, 3, 0), Ok(Verdict::Hit));
     assert_eq!(pair(ee, 0, 1), Ok(Verdict::Hit));
     assert_eq!(pair(ee, 1, 0), Ok(Verdict::Hit));

@@ -9,6 +9,8 @@ use compare::pieces::{pieces, Piece};
 use compare::random::Random;
 use compare::report::{judged_scene, written};
 use compare::scene::*;
+use compare::search::{searched, Way};
+use compare::settled::{self, Settled};
 use compare::text::{read, write};
 use compare::verdict::{of_pair, of_piece, of_pieces, touches, Verdict};
 use compare::whole::Whole;
@@ -23,10 +25,13 @@ fn unshared_pairs(scene: &Scene) -> Vec<Pair> {
     all_pairs(scene).into_iter().filter(|pair| !pair.shares_a_vertex(scene)).collect()
 }
 
+/// Some of each kind from each scene.
 fn small_pieces(rounds: u64) -> impl Iterator<Item = Piece> {
     small_scenes(rounds).flat_map(|(_, scene)| {
-        let pairs = unshared_pairs(&scene);
-        pairs.into_iter().flat_map(|pair| pieces(&scene, pair)).take(60).collect::<Vec<Piece>>()
+        let (points, edges): (Vec<Pair>, Vec<Pair>) =
+            unshared_pairs(&scene).into_iter().partition(|pair| pair.kind == Kind::PointTriangle);
+        let some = |pairs: Vec<Pair>| pairs.into_iter().flat_map(|pair| pieces(&scene, pair)).take(40).collect::<Vec<Piece>>();
+        [some(points), some(edges)].concat()
     })
 }
 
@@ -100,21 +105,61 @@ fn touching_is_found_alike_by_bounds_and_by_choices() {
     for piece in small_pieces(3) {
         let touching = touches(&piece);
         assert_eq!(touching, meets_by_choices(&piece), "{piece:?}");
-        match of_piece(&piece) {
-            Verdict::Hit => assert!(touching),
-            Verdict::Miss => assert!(!touching),
-            Verdict::Degenerate => *(if touching { &mut touch } else { &mut apart }) += 1,
+        match settled::of_piece(&piece) {
+            Settled::Hit => assert!(touching),
+            Settled::Miss => assert!(!touching),
+            Settled::Touch => touch += touching as u32,
+            Settled::Apart => apart += !touching as u32,
         }
     }
-    assert!(touch > 50 && apart > 50, "of the singular pieces {touch} touch, {apart} do not");
+    assert!(touch > 500 && apart > 500, "of the singular pieces {touch} touch, {apart} do not");
 }
 
+/// Whether these weights are what document 01 asks for, put back into its equations.
+fn solve(piece: &Piece, weights: &[i128]) -> bool {
+    let (first, second) = weights.split_at(piece.first.len());
+    let weighted = |points: &[Point], weights: &[i128], axis: usize| -> i128 {
+        points.iter().zip(weights).map(|(p, w)| w * p[axis] as i128).sum()
+    };
+    let sum: i128 = first.iter().sum();
+    weights.iter().all(|&weight| weight >= 0)
+        && sum > 0
+        && sum == second.iter().sum()
+        && (0..4).all(|axis| weighted(&piece.first, first, axis) == weighted(&piece.second, second, axis))
+}
+
+/// The sketch of the library's search finds weights exactly where there are some, and those that it finds are weights.
 #[test]
-fn cases_6_and_7_are_apart_and_touch() {
-    let shown = compare::cases::shown();
-    let touching = |place: usize| pieces(&shown[place].scene, shown[place].pair).iter().any(touches);
-    assert!(!touching(5));
-    assert!(touching(6));
+fn the_search_finds_weights_where_there_are_some() {
+    let (mut touch, mut apart) = (0, 0);
+    for piece in small_pieces(12).filter(|piece| of_piece(piece) == Verdict::Degenerate) {
+        match searched(&piece, Way::Library).0 {
+            Some(weights) => {
+                touch += 1;
+                assert!(solve(&piece, &weights), "{piece:?} {weights:?}");
+            }
+            None => {
+                apart += 1;
+                assert!(!touches(&piece), "{piece:?}");
+            }
+        }
+    }
+    assert!(touch > 2_000 && apart > 2_000, "{touch} touch, {apart} apart");
+}
+
+/// A singular piece has weights exactly when it has some with one corner left out.
+#[test]
+fn one_corner_may_be_left_out() {
+    let mut tried = [0; 2];
+    for piece in small_pieces(8).filter(|piece| of_piece(piece) == Verdict::Degenerate) {
+        let without = |points: &[Point], i: usize| -> Vec<Point> { [&points[..i], &points[i + 1..]].concat() };
+        let first = (0..piece.first.len()).any(|i| meet(&without(&piece.first, i), &piece.second));
+        let second = (0..piece.second.len()).any(|i| meet(&piece.first, &without(&piece.second, i)));
+        assert_eq!(touches(&piece), first || second, "{piece:?}");
+        tried[0] += (first && !second) as u32;
+        tried[1] += (second && !first) as u32;
+    }
+    assert!(tried.iter().all(|&times| times > 5), "only in the first simplex, only in the second: {tried:?}");
 }
 
 #[test]
@@ -124,6 +169,7 @@ fn a_culled_pair_touches_in_no_piece_and_at_no_time() {
         for pair in unshared_pairs(&scene).into_iter().filter(|&pair| is_culled(&scene, pair)).take(20) {
             culled += 1;
             assert!(!pieces(&scene, pair).iter().any(touches));
+            assert!(![Settled::Hit, Settled::Touch].contains(&settled::of_pair(&scene, pair)));
             for (p, q) in [(0, 1), (1, 1), (1, 2), (1, 3), (5, 7), (999, 1000)] {
                 let at = |vertex: &usize| {
                     let v = scene.vertices[*vertex];
@@ -151,8 +197,10 @@ fn demand_3_every_unshared_pair_and_piece_keeps_its_verdict() {
         for pair in unshared_pairs(&scene).into_iter().take(60) {
             pairs += 1;
             assert_eq!(of_pieces(&scene, pair), of_pieces(&sent, pair), "seed {seed}, {pair:?}, {affine:?}");
+            assert_eq!(settled::of_pieces(&scene, pair), settled::of_pieces(&sent, pair), "seed {seed}, {pair:?}, {affine:?}");
             let culled = is_culled(&scene, pair) as u32 + is_culled(&sent, pair) as u32;
             assert!(culled == 0 || of_pair(&scene, pair) != Verdict::Hit);
+            assert!(culled == 0 || settled::of_pair(&scene, pair) != Settled::Touch);
             both_listed += (culled == 0) as u32;
             one_listed += (culled == 1) as u32;
         }
@@ -176,7 +224,9 @@ fn the_order_of_ends_and_corners_changes_nothing() {
 fn an_edge_pair_is_the_same_from_either_side() {
     for (_, scene) in small_scenes(4) {
         for pair in unshared_pairs(&scene).into_iter().filter(|pair| pair.kind == Kind::EdgeEdge).take(20) {
-            assert_eq!(of_pieces(&scene, pair), of_pieces(&scene, Pair::ee(pair.second, pair.first)));
+            let turned = Pair::ee(pair.second, pair.first);
+            assert_eq!(of_pieces(&scene, pair), of_pieces(&scene, turned));
+            assert_eq!(settled::of_pieces(&scene, pair), settled::of_pieces(&scene, turned));
         }
     }
 }

@@ -4,11 +4,11 @@ use compare::equations::{meet, Point};
 use compare::explain::explained;
 use compare::kept;
 use compare::mistakes::{self, Right};
-use compare::pieces::pieces;
 use compare::report::report;
 use compare::scene::{Pair, Scene, REPORT_ROOM};
+use compare::settled::{of_pair, Settled};
 use compare::text::read;
-use compare::verdict::{of_pieces, touches, Verdict};
+use compare::verdict::{of_pieces, Verdict};
 
 fn page() -> String {
     std::fs::read_to_string(kept::folder().join("../docs/TRAINING.md")).unwrap()
@@ -34,7 +34,7 @@ fn printed(command: &str) -> String {
     let room = |word: Option<&&str>| word.map_or(REPORT_ROOM, |word| word.parse().unwrap());
     let words: Vec<&str> = program.split(' ').collect();
     let whole = match words[..] {
-        ["target/bin/report"] => report(&text, REPORT_ROOM),
+        ["./report"] => report(&text, REPORT_ROOM),
         ["compare/show", "exact", ..] => report(&text, room(words.get(2))),
         ["compare/show", "wrong", key, ..] => wrong(key, room(words.get(3)), &text),
         ["compare/show", "why"] => explained(&read(&text).unwrap()),
@@ -105,7 +105,8 @@ fn the_pieces_that_are_told() {
     let pairs = [Pair::pt(3, 0), Pair::pt(4, 0), Pair::pt(5, 0), Pair::ee(0, 1)];
     assert!(pairs.iter().all(|&pair| of_pieces(&flat, pair).iter().all(|&verdict| verdict == D)));
     // three touch, the point beside the triangle does not
-    assert_eq!(pairs.map(|pair| pieces(&flat, pair).iter().any(touches)), [true, true, false, true]);
+    let (touch, apart) = (Settled::Touch, Settled::Apart);
+    assert_eq!(pairs.map(|pair| of_pair(&flat, pair)), [touch, touch, apart, touch]);
 }
 
 /// Whether a point and a triangle touch under straight motion at time p/q.

@@ -1,6 +1,6 @@
 /*
- * From a scene text on standard input to the verdict of each listed pair and of each of its pieces; then calls that are
- * refused, and the report.
+ * From a scene text on standard input to the word of each listed pair and of each of its pieces; then calls that are
+ * refused, a point at rest in three words and in four, and the report.
  *
  *     examples/c/run scene < scenes/printed.scene
  */
@@ -17,9 +17,12 @@ static uint16_t edges[MAKHNODRI_EDGES_LENGTH];
 static uint16_t triangles[MAKHNODRI_TRIANGLES_LENGTH];
 static uint8_t report[MAKHNODRI_REPORT_LENGTH];
 
-static const char *const verdict_words[] = {"hit", "miss", "degenerate"};
+static const char *const words[] = {
+    [MAKHNODRI_HIT] = "hit",     [MAKHNODRI_MISS] = "miss",   [MAKHNODRI_DEGENERATE] = "degenerate",
+    [MAKHNODRI_TOUCH] = "touch", [MAKHNODRI_APART] = "apart",
+};
 
-/* An answer that may be a refusal, and one that is a verdict. */
+/* An answer that may be a refusal, and one that is a word. */
 static void show(const char *asked, makhnodri_answer answer) {
     if (makhnodri_refusal(answer))
         printf("%s: refused %" PRIu32 " %" PRIu32 "\n", asked, makhnodri_refusal(answer), makhnodri_value(answer));
@@ -27,7 +30,7 @@ static void show(const char *asked, makhnodri_answer answer) {
         printf("%s: %" PRIu32 "\n", asked, makhnodri_value(answer));
 }
 
-static const char *word(makhnodri_answer answer) { return makhnodri_refusal(answer) ? "refused" : verdict_words[answer]; }
+static const char *word(makhnodri_answer answer) { return makhnodri_refusal(answer) ? "refused" : words[answer]; }
 
 int main(void) {
     size_t text_length = fread(text, 1, sizeof text, stdin), counts[3];
@@ -49,11 +52,11 @@ int main(void) {
     for (size_t i = 0; i < count; i++) {
         const uint16_t *entry = list + 3 * i;
         int pt = entry[0] == MAKHNODRI_PT;
-        printf("%s %u %u %s, pieces", pt ? "pt" : "ee", entry[1], entry[2], verdict_words[verdicts[i]]);
+        printf("%s %u %u %s, pieces", pt ? "pt" : "ee", entry[1], entry[2], words[verdicts[i]]);
         for (size_t piece = 0; piece < (pt ? 3 : 4); piece++) {
             makhnodri_answer answer =
-                pt ? makhnodri_judge_pt_piece(positions, p, edges, e, triangles, t, entry[1], entry[2], piece)
-                   : makhnodri_judge_ee_piece(positions, p, edges, e, triangles, t, entry[1], entry[2], piece);
+                pt ? makhnodri_settle_pt_piece(positions, p, edges, e, triangles, t, entry[1], entry[2], piece)
+                   : makhnodri_settle_ee_piece(positions, p, edges, e, triangles, t, entry[1], entry[2], piece);
             printf(" %s", word(answer));
         }
         printf("\n");
@@ -64,6 +67,15 @@ int main(void) {
     show("no such vertex", makhnodri_judge_pt(positions, p, edges, e, triangles, t, counts[0], 0));
     show("an edge with itself", makhnodri_judge_ee(positions, p, edges, e, triangles, t, 0, 0));
     show("half a vertex", makhnodri_check_scene(positions, 3, edges, 0, triangles, 0));
+
+    /* a triangle at rest, a point that rests in it, and one that rests above it: singular, so that only four words tell them apart */
+    static const int32_t still[] = {0, 0, 0, 0, 0, 0, 4, 0, 0, 4, 0, 0, 0, 4, 0, 0, 4, 0, 1, 1, 0, 1, 1, 0, 1, 1, 1, 1, 1, 1};
+    static const uint16_t corners[] = {0, 1, 2};
+    for (size_t vertex = 3; vertex < 5; vertex++) {
+        makhnodri_answer three = makhnodri_judge_pt(still, 30, edges, 0, corners, 3, vertex, 0);
+        makhnodri_answer four = makhnodri_settle_pt(still, 30, edges, 0, corners, 3, vertex, 0);
+        printf("at rest: judged %s, settled %s\n", word(three), word(four));
+    }
 
     fwrite(report, 1, makhnodri_write_report(text, text_length, report), stdout);
     free(list);

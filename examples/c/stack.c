@@ -39,6 +39,10 @@ static void judge_pt(void) { makhnodri_judge_pt(SCENE, place, place / 3); }
 static void judge_ee(void) { makhnodri_judge_ee(SCENE, place, place / 3); }
 static void judge_pt_piece(void) { makhnodri_judge_pt_piece(SCENE, place, place / 3, place % 3); }
 static void judge_ee_piece(void) { makhnodri_judge_ee_piece(SCENE, place, place / 3, place % 4); }
+static void settle_pt(void) { makhnodri_settle_pt(SCENE, place, place / 3); }
+static void settle_ee(void) { makhnodri_settle_ee(SCENE, place, place / 3); }
+static void settle_pt_piece(void) { makhnodri_settle_pt_piece(SCENE, place, place / 3, place % 3); }
+static void settle_ee_piece(void) { makhnodri_settle_ee_piece(SCENE, place, place / 3, place % 4); }
 static void read_text(void) {
     makhnodri_read_scene((const uint8_t *)text, text_length, read_positions, MAKHNODRI_POSITIONS_LENGTH, read_edges,
                          MAKHNODRI_EDGES_LENGTH, read_triangles, MAKHNODRI_TRIANGLES_LENGTH, counts);
@@ -61,10 +65,17 @@ static size_t used_by(void (*call)(void)) {
     return STACK - untouched;
 }
 
+/* What is degenerate is searched deepest where little moves: 0 everything moves, 1 at rest, 2 on one line, 3 in one place. */
+static int32_t coordinate(unsigned still, size_t i) {
+    if (still == 3 || (still == 2 && i % 3 != 0)) return 0;
+    if (still && i % 6 >= 3) return positions[i - 3];
+    return rand() % 7 - 3;
+}
+
 /* a scene whose triangles and edges are packed so close that everything is near everything */
 static void fill(unsigned seed) {
     srand(seed);
-    for (size_t i = 0; i < MAKHNODRI_POSITIONS_LENGTH; i++) positions[i] = rand() % 7 - 3;
+    for (size_t i = 0; i < MAKHNODRI_POSITIONS_LENGTH; i++) positions[i] = coordinate(seed % 4, i);
     for (size_t i = 0; i < MAKHNODRI_EDGES_LENGTH; i += 2) {
         edges[i] = (uint16_t)(rand() % 512);
         edges[i + 1] = (uint16_t)((edges[i] + 1 + rand() % 511) % 512);
@@ -76,18 +87,18 @@ static void fill(unsigned seed) {
     }
 }
 
-/* a text with about 2,000 listed pairs; a seed that is 1 below a multiple of 4 has a fault in its last line */
+/* a text of the first vertices, with about 2,000 pairs; a seed that is 1 below a multiple of 5 has a fault in its last line */
 static void write_text(unsigned seed) {
     srand(seed);
     int at = 0;
-    for (int i = 0; i < 45; i++) {
+    for (size_t i = 0; i < 45; i++) {
         at += sprintf(text + at, "v");
-        for (int k = 0; k < 6; k++) at += sprintf(text + at, "\t%d", rand() % 7 - 3);
+        for (size_t k = 0; k < 6; k++) at += sprintf(text + at, "\t%d", (int)positions[6 * i + k]);
         at += sprintf(text + at, "\n");
     }
     for (int i = 0; i < 40; i++) at += sprintf(text + at, "e\t%d\t%d\n", rand() % 22, 22 + rand() % 22);
     for (int i = 0; i < 30; i++) at += sprintf(text + at, "t\t%d\t%d\t%d\n", rand() % 15, 15 + rand() % 15, 30 + rand() % 15);
-    if (seed % 4 == 3) at += sprintf(text + at, "t\t%d\t%d\t%d\n", 1, 1, 2);
+    if (seed % 5 == 4) at += sprintf(text + at, "t\t%d\t%d\t%d\n", 1, 1, 2);
     text_length = (size_t)at;
 }
 
@@ -98,14 +109,18 @@ int main(void) {
         int runs;
     } calls[] = {
         {"(nothing)", nothing, 1},
-        {"check_scene", check, 2},
-        {"count_pairs", count, 2},
-        {"list_pairs", make_list, 2},
-        {"judge_scene", judge_scene, 2},
+        {"check_scene", check, 4},
+        {"count_pairs", count, 4},
+        {"list_pairs", make_list, 4},
+        {"judge_scene", judge_scene, 4},
         {"judge_pt", judge_pt, 400},
         {"judge_ee", judge_ee, 400},
         {"judge_pt_piece", judge_pt_piece, 400},
         {"judge_ee_piece", judge_ee_piece, 400},
+        {"settle_pt", settle_pt, 400},
+        {"settle_ee", settle_ee, 400},
+        {"settle_pt_piece", settle_pt_piece, 400},
+        {"settle_ee_piece", settle_ee_piece, 400},
         {"read_scene", read_text, 40},
         {"write_report", write_report, 40},
     };
@@ -113,7 +128,7 @@ int main(void) {
     for (size_t i = 0; i < sizeof calls / sizeof calls[0]; i++) {
         size_t most = 0;
         for (int run = 0; run < calls[i].runs; run++) {
-            fill((unsigned)run % 5);
+            fill((unsigned)run % 20);
             write_text((unsigned)run);
             place = (size_t)run;
             size_t used = used_by(calls[i].call);

@@ -11,11 +11,32 @@ pub enum Kind {
     EdgeEdge,
 }
 
+/// In three words: what is singular stays open.
 #[derive(Clone, Copy, Debug, PartialEq, Eq, Hash)]
 pub enum Verdict {
-    Hit,
-    Miss,
-    Degenerate,
+    Hit = 0,
+    Miss = 1,
+    Degenerate = 2,
+}
+
+/// In four words: a degenerate piece is decided too. It touches if weights exist, none negative; else it is apart.
+#[derive(Clone, Copy, Debug, PartialEq, Eq, Hash)]
+pub enum Settled {
+    Hit = 0,
+    Miss = 1,
+    Touch = 3,
+    Apart = 4,
+}
+
+impl Settled {
+    /// The verdict that it decides further.
+    pub fn verdict(self) -> Verdict {
+        match self {
+            Settled::Hit => Verdict::Hit,
+            Settled::Miss => Verdict::Miss,
+            Settled::Touch | Settled::Apart => Verdict::Degenerate,
+        }
+    }
 }
 
 /// A vertex and a triangle, or two edges, by their places in the scene.
@@ -151,6 +172,17 @@ pub(crate) fn heard(answer: u64) -> Result<usize, (Refusal, usize)> {
 
 pub(crate) fn verdict(number: usize) -> Verdict {
     [Verdict::Hit, Verdict::Miss, Verdict::Degenerate][number]
+}
+
+/// 2 is degenerate's, and no word of these.
+pub(crate) fn settled(number: usize) -> Settled {
+    match number {
+        0 => Settled::Hit,
+        1 => Settled::Miss,
+        3 => Settled::Touch,
+        4 => Settled::Apart,
+        other => unreachable!("{other} is no word's number"),
+    }
 }
 
 /// An entry of the list as its three numbers.

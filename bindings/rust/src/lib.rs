@@ -1,7 +1,7 @@
 //! Exact contact verdicts for a mesh that moves from a start to an end, over a library whose every answer is proved.
 //!
 //! ```
-//! use makhnodri::{Kind, Refusal, Scene, Verdict};
+//! use makhnodri::{Kind, Refusal, Scene, Settled, Verdict};
 //!
 //! // a resting triangle, and a point that goes through it
 //! let scene = Scene {
@@ -12,13 +12,26 @@
 //! assert_eq!(scene.judge_pair(Kind::PointTriangle, 3, 0), Ok(Verdict::Hit));
 //! assert_eq!(scene.judge_piece(Kind::PointTriangle, 3, 0, 0), Ok(Verdict::Miss));
 //! assert_eq!(scene.judge_pair(Kind::PointTriangle, 0, 0), Err(Refusal::SharedVertex));
-//! for (pair, verdict) in scene.judged().unwrap() {
-//!     println!("{pair:?}: {verdict:?}");
+//! for (pair, word) in scene.judged().unwrap() {
+//!     println!("{pair:?}: {word:?}");
 //! }
+//!
+//! // the same point at rest above the triangle, and in it: both degenerate, and yet not alike
+//! let mut positions = scene.positions.to_vec();
+//! positions[18..].copy_from_slice(&[1, 1, 1, 1, 1, 1]);
+//! let above = Scene { positions: &positions, ..scene };
+//! assert_eq!(above.judge_pair(Kind::PointTriangle, 3, 0), Ok(Verdict::Degenerate));
+//! assert_eq!(above.settle_pair(Kind::PointTriangle, 3, 0), Ok(Settled::Apart));
+//! positions[18..].copy_from_slice(&[1, 1, 0, 1, 1, 0]);
+//! let within = Scene { positions: &positions, ..scene };
+//! assert_eq!(within.judge_pair(Kind::PointTriangle, 3, 0), Ok(Verdict::Degenerate));
+//! assert_eq!(within.settle_pair(Kind::PointTriangle, 3, 0), Ok(Settled::Touch));
 //! ```
 //!
-//! A verdict speaks for the space-time pieces of a pair. A miss says nothing of straight motion; only the list does: a pair
-//! that is not listed, and shares no vertex, meets neither in its pieces nor under straight motion.
+//! `judge_pair` and `judge_piece` answer in three words, [`Verdict`]. `settle_pair`, `settle_piece`, the judged list and the report
+//! answer in four, [`Settled`]: what is degenerate is decided too. Either speaks for the space-time pieces of a pair. A miss, and
+//! apart too, says nothing of straight motion; only the list does: a pair that is not listed, and shares no vertex, meets neither in
+//! its pieces nor under straight motion.
 //!
 //! Nothing is kept between calls, so any number of threads may call at the same time. A call takes at most
 //! [`STACK`] bytes of stack.
@@ -28,7 +41,7 @@ mod raw;
 mod scenes;
 mod texts;
 
-pub use answers::{Kind, ListRefusal, Pair, Refusal, TextRefusal, Verdict};
+pub use answers::{Kind, ListRefusal, Pair, Refusal, Settled, TextRefusal, Verdict};
 pub use scenes::Scene;
 pub use texts::{read_scene, report, write_report, Counts, OwnedScene};
 

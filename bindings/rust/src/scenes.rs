@@ -1,7 +1,7 @@
 //! A scene as slices, and what can be asked of it.
 
-use crate::answers::{heard, pair, verdict};
-use crate::{raw, Kind, ListRefusal, Pair, Refusal, Verdict};
+use crate::answers::{heard, pair, settled, verdict};
+use crate::{raw, Kind, ListRefusal, Pair, Refusal, Settled, Verdict};
 
 /// Six numbers a vertex (start x, y, z, end x, y, z), two vertex numbers an edge, three a triangle, the latter in any order.
 /// Whether it may be used is found by each call: none is made from a scene that is refused.
@@ -38,10 +38,10 @@ impl Scene<'_> {
         heard(ask!(self, makhnodri_list_pairs, list.as_mut_ptr(), list.len())).map_err(list_refusal)
     }
 
-    /// Makes the list and judges it: `verdicts[i]` is 0, 1 or 2, for hit, miss or degenerate, of entry i.
-    pub fn judge_listed(self, list: &mut [u16], verdicts: &mut [u8]) -> Result<usize, ListRefusal> {
-        let (l, v) = ((list.as_mut_ptr(), list.len()), (verdicts.as_mut_ptr(), verdicts.len()));
-        heard(ask!(self, makhnodri_judge_scene, l.0, l.1, v.0, v.1)).map_err(list_refusal)
+    /// Makes the list and judges it: `words[i]` is 0, 1, 3 or 4, for hit, miss, touch or apart, of entry i.
+    pub fn judge_listed(self, list: &mut [u16], words: &mut [u8]) -> Result<usize, ListRefusal> {
+        let (l, w) = ((list.as_mut_ptr(), list.len()), (words.as_mut_ptr(), words.len()));
+        heard(ask!(self, makhnodri_judge_scene, l.0, l.1, w.0, w.1)).map_err(list_refusal)
     }
 
     /// The verdict of a pair, listed or not. Two edges may be asked for in either order.
@@ -62,6 +62,24 @@ impl Scene<'_> {
         heard(answer).map(verdict).map_err(bare)
     }
 
+    /// The word of a pair, listed or not: as its verdict, with what is degenerate decided.
+    pub fn settle_pair(self, kind: Kind, first: usize, second: usize) -> Result<Settled, Refusal> {
+        let answer = match kind {
+            Kind::PointTriangle => ask!(self, makhnodri_settle_pt, first, second),
+            Kind::EdgeEdge => ask!(self, makhnodri_settle_ee, first, second),
+        };
+        heard(answer).map(settled).map_err(bare)
+    }
+
+    /// The word of one of a pair's pieces.
+    pub fn settle_piece(self, kind: Kind, first: usize, second: usize, piece: usize) -> Result<Settled, Refusal> {
+        let answer = match kind {
+            Kind::PointTriangle => ask!(self, makhnodri_settle_pt_piece, first, second, piece),
+            Kind::EdgeEdge => ask!(self, makhnodri_settle_ee_piece, first, second, piece),
+        };
+        heard(answer).map(settled).map_err(bare)
+    }
+
     /// The list, with room of its own.
     pub fn pairs(self) -> Result<Vec<Pair>, Refusal> {
         let mut list = vec![0; 3 * self.count_pairs()?];
@@ -69,12 +87,12 @@ impl Scene<'_> {
         Ok(list.chunks(3).map(pair).collect())
     }
 
-    /// The list and its verdicts, with room of their own.
-    pub fn judged(self) -> Result<Vec<(Pair, Verdict)>, Refusal> {
+    /// The list and its words, with room of their own.
+    pub fn judged(self) -> Result<Vec<(Pair, Settled)>, Refusal> {
         let count = self.count_pairs()?;
-        let (mut list, mut verdicts) = (vec![0; 3 * count], vec![0; count]);
-        self.judge_listed(&mut list, &mut verdicts).map_err(ListRefusal::refusal)?;
-        Ok(list.chunks(3).map(pair).zip(verdicts.iter().map(|&byte| verdict(byte as usize))).collect())
+        let (mut list, mut words) = (vec![0; 3 * count], vec![0; count]);
+        self.judge_listed(&mut list, &mut words).map_err(ListRefusal::refusal)?;
+        Ok(list.chunks(3).map(pair).zip(words.iter().map(|&byte| settled(byte as usize))).collect())
     }
 }
 

@@ -1,5 +1,5 @@
-//! The library held against the independent program of compare/ on scenes from seeds: every pair and every piece, listed or not, and
-//! the lists; the same under demand 3's maps; damaged scenes; and full-size scenes.
+//! The library held against the independent program of compare/ on scenes from seeds: every pair and every piece, listed or not, in
+//! three words and in four, and the lists; the same under demand 3's maps; damaged scenes; and full-size scenes.
 
 mod common;
 
@@ -9,8 +9,8 @@ use compare::generate::{self, rewritten, KINDS as SCENES};
 use compare::random::Random;
 use compare::refusal::{NOT_THERE, SHARES_A_VERTEX};
 use compare::scene::{in_range, Kind, Scene};
-use compare::{slices, verdict};
-use makhnodri::Verdict;
+use compare::{settled, slices, verdict};
+use makhnodri::{Refusal, Settled, Verdict};
 
 /// The crowded kind is left out where every pair is looked at.
 fn small_scenes(rounds: u64) -> impl Iterator<Item = (u64, Scene)> {
@@ -26,21 +26,31 @@ fn library_kind(kind: Kind) -> makhnodri::Kind {
     KINDS.into_iter().find(|&k| kind_of(k) == kind).unwrap()
 }
 
+/// A pair's or a piece's answer in three words and in four.
+type Words = (Verdict, Settled);
+
 /// Each pair with each of its pieces, or the refusal that it shares a vertex.
-fn verdicts(scene: &Scene) -> Vec<Answer<Vec<Verdict>>> {
+fn words(scene: &Scene) -> Vec<Answer<Vec<Words>>> {
     let flat = Flat::of(scene);
     let ask = |pair: compare::scene::Pair| {
-        let kind = library_kind(pair.kind);
+        let (scene, kind) = (flat.scene(), library_kind(pair.kind));
         let pieces = if pair.kind == Kind::PointTriangle { 3 } else { 4 };
-        let whole = std::iter::once(flat.scene().judge_pair(kind, pair.first, pair.second));
-        let each = (0..pieces).map(|piece| flat.scene().judge_piece(kind, pair.first, pair.second, piece));
-        let answers: Result<Vec<Verdict>, _> = whole.chain(each).collect();
-        answers.map_err(bare)
+        let whole = (scene.judge_pair(kind, pair.first, pair.second), scene.settle_pair(kind, pair.first, pair.second));
+        let each = (0..pieces).map(|piece| {
+            (scene.judge_piece(kind, pair.first, pair.second, piece), scene.settle_piece(kind, pair.first, pair.second, piece))
+        });
+        std::iter::once(whole).chain(each).map(both).collect()
     };
     asked_for(scene).into_iter().map(ask).collect()
 }
 
-fn independent_verdicts(scene: &Scene) -> Vec<Answer<Vec<Verdict>>> {
+/// Refused alike, or not at all.
+fn both((verdict, settled): (Result<Verdict, Refusal>, Result<Settled, Refusal>)) -> Answer<Words> {
+    assert_eq!(verdict.err(), settled.err());
+    verdict.and_then(|verdict| settled.map(|settled| (verdict, settled))).map_err(bare)
+}
+
+fn independent_words(scene: &Scene) -> Vec<Answer<Vec<Words>>> {
     let ask = |mut pair: compare::scene::Pair| {
         if pair.shares_a_vertex(scene) {
             return Err((SHARES_A_VERTEX, 0));
@@ -48,13 +58,15 @@ fn independent_verdicts(scene: &Scene) -> Vec<Answer<Vec<Verdict>>> {
         if pair.kind == Kind::EdgeEdge && pair.second < pair.first {
             (pair.first, pair.second) = (pair.second, pair.first);
         }
-        let pieces = verdict::of_pieces(scene, pair);
-        Ok(std::iter::once(verdict::joined(&pieces)).chain(pieces).map(verdict_of).collect())
+        let (verdicts, words) = (verdict::of_pieces(scene, pair), settled::of_pieces(scene, pair));
+        let whole = (verdict::joined(&verdicts), settled::joined(&words));
+        let each = verdicts.into_iter().zip(words);
+        Ok(std::iter::once(whole).chain(each).map(|(verdict, word)| (verdict_of(verdict), settled_of(word))).collect())
     };
     asked_for(scene).into_iter().map(ask).collect()
 }
 
-/// The list, and the list with its verdicts, with just the room and with one entry less.
+/// The list, and the list with its words, with just the room and with one entry less.
 fn hold_list(scene: &Scene) -> usize {
     let flat = Flat::of(scene);
     let wanted = flat.independent(|slices| slices::list(slices, usize::MAX)).unwrap();
@@ -64,7 +76,7 @@ fn hold_list(scene: &Scene) -> usize {
     assert_eq!(listed(&flat, count + 9, 0).as_ref(), Ok(&wanted));
     let pairs = wanted.iter().map(|entry| {
         let kind = KINDS[entry[0] as usize];
-        flat.scene().judge_pair(kind, entry[1].into(), entry[2].into()).unwrap() as u8
+        flat.scene().settle_pair(kind, entry[1].into(), entry[2].into()).unwrap() as u8
     });
     assert_eq!(judged(&flat, count + 1, 1, count + 3), Ok((wanted.clone(), pairs.collect())));
     if count > 0 {
@@ -76,17 +88,19 @@ fn hold_list(scene: &Scene) -> usize {
 }
 
 #[test]
-fn every_pair_and_piece_has_the_independent_verdict() {
-    let (mut pieces, mut seen) = (0, [0; 3]);
+fn every_pair_and_piece_has_the_independent_words() {
+    let (mut pieces, mut seen) = (0, [0; 5]);
     for (seed, scene) in small_scenes(40).filter(|(_, scene)| kept_in_range(scene)) {
-        let got = verdicts(&scene);
-        assert_eq!(got, independent_verdicts(&scene), "seed {seed}");
-        for verdict in got.iter().flatten().flatten() {
+        let got = words(&scene);
+        assert_eq!(got, independent_words(&scene), "seed {seed}");
+        for &(verdict, word) in got.iter().flatten().flatten() {
+            assert_eq!(word.verdict(), verdict, "seed {seed}");
             pieces += 1;
-            seen[*verdict as usize] += 1;
+            seen[word as usize] += 1;
         }
     }
-    assert!(pieces > 100_000 && seen.iter().all(|&times| times > 10_000), "{pieces} verdicts, of which {seen:?}");
+    let often = [Settled::Hit, Settled::Miss, Settled::Touch, Settled::Apart].map(|word| seen[word as usize]);
+    assert!(pieces > 100_000 && often.iter().all(|&times| times > 10_000), "{pieces} words, of which {often:?}");
 }
 
 #[test]
@@ -104,26 +118,30 @@ fn the_twelve_shown_cases() {
             let got = flat.scene().judge_piece(kind, case.pair.first, case.pair.second, piece);
             assert_eq!(got, Ok(verdict_of(wanted)));
         }
+        for (piece, &wanted) in case.settled.iter().enumerate() {
+            let got = flat.scene().settle_piece(kind, case.pair.first, case.pair.second, piece);
+            assert_eq!(got, Ok(settled_of(wanted)));
+        }
         let pairs = flat.scene().pairs().unwrap();
         assert_eq!(pairs.iter().any(|p| (p.kind, p.first, p.second) == (kind, case.pair.first, case.pair.second)), case.listed);
     }
 }
 
-/// Demand 3: a matrix of nonzero determinant, one shift for all starts and another for all ends; every verdict stays. So it does
+/// Demand 3: a matrix of nonzero determinant, one shift for all starts and another for all ends; every word stays. So it does
 /// where ends and corners are written in another order.
 #[test]
-fn verdicts_survive_maps_and_the_order_of_corners() {
+fn words_survive_maps_and_the_order_of_corners() {
     let mut sent_on = 0;
     for (seed, scene) in small_scenes(40).filter(|(_, scene)| kept_in_range(scene)) {
-        let before = verdicts(&scene);
+        let before = words(&scene);
         let mut random = Random::new(!seed);
         let sent = Affine::draw(&mut random, &scene).send(&scene);
         if kept_in_range(&sent) {
             sent_on += 1;
-            assert_eq!(verdicts(&sent), before, "seed {seed}, sent on");
+            assert_eq!(words(&sent), before, "seed {seed}, sent on");
             hold_list(&sent);
         }
-        assert_eq!(verdicts(&rewritten(&mut random, &scene)), before, "seed {seed}, rewritten");
+        assert_eq!(words(&rewritten(&mut random, &scene)), before, "seed {seed}, rewritten");
     }
     assert!(sent_on > 200, "{sent_on} maps");
 }
@@ -149,6 +167,10 @@ fn damaged_scenes_are_refused_alike() {
             let (low, high) = if kind == makhnodri::Kind::EdgeEdge && second < first { (ask.2, ask.1) } else { (ask.1, ask.2) };
             let one = flat.independent(|s| slices::piece_verdict(s, ask.0, low, high, piece as u64)).map(verdict_of);
             assert_eq!(flat.scene().judge_piece(kind, first, second, piece).map_err(bare), one, "seed {seed}");
+            let word = flat.independent(|s| slices::pair_settled(s, ask.0, ask.1, ask.2)).map(settled_of);
+            assert_eq!(flat.scene().settle_pair(kind, first, second).map_err(bare), word, "seed {seed}");
+            let one_word = flat.independent(|s| slices::piece_settled(s, ask.0, low, high, piece as u64)).map(settled_of);
+            assert_eq!(flat.scene().settle_piece(kind, first, second, piece).map_err(bare), one_word, "seed {seed}");
             for (number, _) in [pair.err(), one.err()].into_iter().flatten() {
                 refused[number as usize] += 1;
             }
@@ -203,7 +225,7 @@ fn full_size_scenes() {
         for (entry, byte) in list.iter().zip(bytes).step_by(1 + list.len() / 2_000) {
             let kind = kind_of(KINDS[entry[0] as usize]);
             let pair = compare::scene::Pair { kind, first: entry[1].into(), second: entry[2].into() };
-            assert_eq!(byte, verdict_of(verdict::of_pair(&scene, pair)) as u8, "{pair:?}");
+            assert_eq!(byte, settled_of(settled::of_pair(&scene, pair)) as u8, "{pair:?}");
         }
     }
 }

@@ -1,4 +1,4 @@
-//! The C header says the same as the wrapper: sizes, verdicts, kinds and refusal numbers.
+//! The C header says the same as the wrapper: sizes, words, kinds and refusal numbers.
 
 use makhnodri::*;
 use std::collections::BTreeMap;
@@ -8,7 +8,8 @@ fn header() -> BTreeMap<String, i64> {
     let path = concat!(env!("CARGO_MANIFEST_DIR"), "/../../include/makhnodri.h");
     let text = std::fs::read_to_string(path).unwrap();
     let numbered = |line: &str| {
-        let mut words = line.trim().trim_start_matches("#define ").split([' ', ',']).filter(|word| !word.is_empty() && *word != "=");
+        let mut words =
+            line.trim().trim_start_matches("#define ").split([' ', ',']).filter(|word| !word.is_empty() && *word != "=");
         let name = words.next()?.strip_prefix("MAKHNODRI_")?.to_string();
         Some((name, words.next()?.parse().ok()?))
     };
@@ -33,6 +34,8 @@ fn the_header_has_the_same_numbers() {
         ("HIT", Verdict::Hit as usize),
         ("MISS", Verdict::Miss as usize),
         ("DEGENERATE", Verdict::Degenerate as usize),
+        ("TOUCH", Settled::Touch as usize),
+        ("APART", Settled::Apart as usize),
         ("PT", Kind::PointTriangle as usize),
         ("EE", Kind::EdgeEdge as usize),
     ];
@@ -53,4 +56,5 @@ fn the_header_has_the_same_numbers() {
     let numbers = refusals.map(|(name, refusal)| (name, refusal.number() as usize));
     let wanted = limits.into_iter().chain(numbers).map(|(name, number)| (name.to_string(), number as i64));
     assert_eq!(header(), wanted.collect());
+    assert_eq!((Settled::Hit as usize, Settled::Miss as usize), (Verdict::Hit as usize, Verdict::Miss as usize));
 }

@@ -6,7 +6,7 @@ mod common;
 use common::*;
 use compare::cases::PRINTED_SCENE;
 use compare::text::read;
-use makhnodri::{Kind, Refusal, TextRefusal, Verdict};
+use makhnodri::{Kind, Refusal, TextRefusal};
 
 /// Five vertices, three edges, two triangles, and pairs of both kinds that share nothing.
 fn good() -> Flat {
@@ -122,10 +122,15 @@ fn beyond(count: usize) -> Vec<usize> {
     out
 }
 
-fn asked(flat: &Flat, kind: Kind, first: usize, second: usize, pieces: &[usize]) -> Vec<Result<Verdict, Refusal>> {
+/// The pair and these pieces, asked for in three words and in four.
+fn asked(flat: &Flat, kind: Kind, first: usize, second: usize, pieces: &[usize]) -> Vec<Result<(), Refusal>> {
     let scene = flat.scene();
-    let pair = std::iter::once(scene.judge_pair(kind, first, second));
-    pair.chain(pieces.iter().map(|&piece| scene.judge_piece(kind, first, second, piece))).collect()
+    let mut out = vec![scene.judge_pair(kind, first, second).map(drop), scene.settle_pair(kind, first, second).map(drop)];
+    for &piece in pieces {
+        out.push(scene.judge_piece(kind, first, second, piece).map(drop));
+        out.push(scene.settle_piece(kind, first, second, piece).map(drop));
+    }
+    out
 }
 
 #[test]
@@ -165,11 +170,14 @@ fn a_piece_that_is_not_there_is_refused_before_what_the_pair_shares() {
         for (first, second) in [(3, 0), (0, 0), (1, 0), (0, 1)] {
             for piece in beyond(pieces) {
                 assert_eq!(flat.scene().judge_piece(kind, first, second, piece), Err(Refusal::NotThere));
+                assert_eq!(flat.scene().settle_piece(kind, first, second, piece), Err(Refusal::NotThere));
             }
         }
     }
     assert!((0..3).all(|piece| flat.scene().judge_piece(Kind::PointTriangle, 3, 0, piece).is_ok()));
+    assert!((0..3).all(|piece| flat.scene().settle_piece(Kind::PointTriangle, 3, 0, piece).is_ok()));
     assert!((0..4).all(|piece| flat.scene().judge_piece(Kind::EdgeEdge, 0, 1, piece).is_ok()));
+    assert!((0..4).all(|piece| flat.scene().settle_piece(Kind::EdgeEdge, 0, 1, piece).is_ok()));
 }
 
 // ---- 6

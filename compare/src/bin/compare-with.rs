@@ -12,8 +12,8 @@ use compare::refusal::{NO_ROOM, TEXT_TOO_LONG};
 use compare::report::{judged, written, Judged};
 use compare::running::{Failed, Program};
 use compare::scene::REPORT_ROOM;
+use compare::settled::WORDS;
 use compare::trials::{self, Trial};
-use compare::verdict::Verdict;
 use std::collections::BTreeMap;
 use std::process::exit;
 use std::time::Duration;
@@ -70,15 +70,15 @@ struct Comparison<'a> {
     suspects: Vec<&'a Mistake>,
     texts: usize,
     differences: usize,
-    /// By verdict, in the order in which the total names them.
-    pairs: [usize; 3],
+    /// By word, in the order in which the total names them.
+    pairs: [usize; 4],
     cells: BTreeMap<Cell, usize>,
 }
 
 impl<'a> Comparison<'a> {
     fn new(program: Program, mistakes: &'a [Mistake]) -> Comparison<'a> {
         let cells = faults::cells().into_iter().map(|cell| (cell, 0)).collect();
-        Comparison { program, suspects: mistakes.iter().collect(), texts: 0, differences: 0, pairs: [0; 3], cells }
+        Comparison { program, suspects: mistakes.iter().collect(), texts: 0, differences: 0, pairs: [0; 4], cells }
     }
 
     fn hold(&mut self, trial: &Trial) {
@@ -111,7 +111,9 @@ impl<'a> Comparison<'a> {
 
     fn count(&mut self, judged: &Judged, text: &[u8]) {
         let listed = judged.as_deref().unwrap_or_default();
-        listed.iter().for_each(|(_, verdict)| self.pairs[place_of(*verdict)] += 1);
+        for (pairs, wanted) in self.pairs.iter_mut().zip(WORDS) {
+            *pairs += listed.iter().filter(|(_, word)| *word == wanted).count();
+        }
         for cell in faults::reached(text) {
             *self.cells.get_mut(&cell).expect("only cells that exist are reached") += 1;
         }
@@ -156,13 +158,13 @@ impl<'a> Comparison<'a> {
         if table {
             self.table();
         }
-        let [hits, misses, degenerates] = self.pairs;
+        let [hits, misses, touch, apart] = self.pairs;
         let empty: Vec<&Cell> = self.cells.iter().filter(|(_, &count)| count == 0).map(|(cell, _)| cell).collect();
         if self.differences > 0 {
             self.sum_up();
         }
         println!(
-            "compared {} reports, {seeds} seeds among them: {hits} hits, {misses} misses, {degenerates} degenerates; {} of {} \
+            "compared {} reports, {seeds} seeds among them: {hits} hits, {misses} misses, {touch} touch, {apart} apart; {} of {} \
              faults and pairs of faults tried, {} differences",
             self.texts,
             self.cells.len() - empty.len(),
@@ -196,12 +198,4 @@ impl<'a> Comparison<'a> {
 fn named(mistakes: &[&Mistake], between: &str) -> String {
     let words: Vec<String> = mistakes.iter().take(MOST_NAMED).map(|m| format!("{} ({})", m.says, m.key)).collect();
     words.join(between)
-}
-
-fn place_of(verdict: Verdict) -> usize {
-    match verdict {
-        Verdict::Hit => 0,
-        Verdict::Miss => 1,
-        Verdict::Degenerate => 2,
-    }
 }

@@ -5,92 +5,90 @@ use crate::cubic;
 use crate::equations::Solutions;
 use crate::pieces::{pieces, Piece};
 use crate::scene::{Kind, Pair, Scene};
+use crate::settled::{decided, joined, of_pair, of_piece, of_pieces, Settled};
 use crate::signs::{none_opposed, weights};
-use crate::verdict::{joined, of_pair, of_piece, of_pieces, Verdict};
+use crate::verdict::{self, touches, Verdict};
 
 pub fn mistakes() -> Vec<Mistake> {
     let mut out: Vec<Mistake> = ["0", "1e-9", "1e-6", "1e-3"].map(by_cubic).into();
     out.extend([
         by_piece("doubles", "determinants in doubles", in_doubles),
-        by_piece("zero-weight-degenerate", "a zero weight taken as degenerate", |piece| {
-            of_zero_weight(piece, Verdict::Degenerate)
+        by_piece("zero-weight-degenerate", "a zero weight taken as degenerate, so that it is a touch", |piece| {
+            of_zero_weight(piece, Settled::Touch)
         }),
-        by_piece("zero-weight-miss", "a zero weight taken as a miss", |piece| of_zero_weight(piece, Verdict::Miss)),
-        by_piece("singular-hit", "a singular piece taken as a hit", |piece| of_singular(piece, Verdict::Hit)),
-        by_piece("singular-miss", "a singular piece taken as a miss", |piece| of_singular(piece, Verdict::Miss)),
+        by_piece("zero-weight-miss", "a zero weight taken as a miss", |piece| of_zero_weight(piece, Settled::Miss)),
+        by_piece("singular-hit", "a singular piece taken as a hit", |piece| of_singular(piece, Settled::Hit)),
+        by_piece("singular-miss", "a singular piece taken as a miss", |piece| of_singular(piece, Settled::Miss)),
         by_piece(
             "signs-only",
             "signs without the determinant: a singular piece is a hit where no sign is negative, else a miss",
             by_signs_only,
         ),
         by_pair("written-order", "corners in the order the scene writes them", in_written_order),
-        by_pair("first-piece", "the first piece's verdict given for the pair", |scene, pair| of_pieces(scene, pair)[0]),
-        by_pair("last-piece", "the last piece's verdict given for the pair", |scene, pair| {
-            *of_pieces(scene, pair).last().unwrap()
-        }),
+        by_pair("first-piece", "the first piece's word given for the pair", |scene, pair| of_pieces(scene, pair)[0]),
+        by_pair("last-piece", "the last piece's word given for the pair", |scene, pair| *of_pieces(scene, pair).last().unwrap()),
         by_pair("every-piece", "a hit only where every piece is a hit", |scene, pair| {
-            let verdicts = of_pieces(scene, pair);
-            if verdicts.iter().all(|&verdict| verdict == Verdict::Hit) {
-                return Verdict::Hit;
+            let words = of_pieces(scene, pair);
+            if words.iter().all(|&word| word == Settled::Hit) {
+                return Settled::Hit;
             }
-            joined(&verdicts.into_iter().filter(|&verdict| verdict != Verdict::Hit).collect::<Vec<Verdict>>())
+            joined(&words.into_iter().filter(|&word| word != Settled::Hit).collect::<Vec<Settled>>())
         }),
         by_pair("degenerate-first", "a degenerate piece counted before a hit", |scene, pair| {
-            let verdicts = of_pieces(scene, pair);
-            if verdicts.contains(&Verdict::Degenerate) {
-                Verdict::Degenerate
-            } else {
-                joined(&verdicts)
-            }
+            let words = of_pieces(scene, pair);
+            let degenerate = words.iter().any(|word| word.verdict() == Verdict::Degenerate);
+            joined(&words.into_iter().filter(|&word| !degenerate || word != Settled::Hit).collect::<Vec<Settled>>())
         }),
     ]);
     out
 }
 
-fn by_pair(key: &str, says: &str, judge: fn(&Scene, Pair) -> Verdict) -> Mistake {
+pub fn by_pair(key: &str, says: &str, judge: fn(&Scene, Pair) -> Settled) -> Mistake {
     Mistake::new(key, says, Steps { judge: Some(Box::new(judge)), ..Steps::default() })
 }
 
-fn by_piece(key: &str, says: &str, judge: fn(&Piece) -> Verdict) -> Mistake {
-    let joined_pieces = move |scene: &Scene, pair: Pair| joined(&pieces(scene, pair).iter().map(judge).collect::<Vec<Verdict>>());
+pub fn by_piece(key: &str, says: &str, judge: impl Fn(&Piece) -> Settled + 'static) -> Mistake {
+    let joined_pieces =
+        move |scene: &Scene, pair: Pair| joined(&pieces(scene, pair).iter().map(&judge).collect::<Vec<Settled>>());
     Mistake::new(key, says, Steps { judge: Some(Box::new(joined_pieces)), ..Steps::default() })
 }
 
-fn of_zero_weight(piece: &Piece, wrong: Verdict) -> Verdict {
+fn of_zero_weight(piece: &Piece, wrong: Settled) -> Settled {
     let solutions = Solutions::of(&piece.first, &piece.second);
     let zero_weight = !solutions.singular() && solutions.only().iter().any(|(numerator, _)| numerator.sign() == 0);
     match of_piece(piece) {
-        Verdict::Hit if zero_weight => wrong,
+        Settled::Hit if zero_weight => wrong,
         right => right,
     }
 }
 
-fn of_singular(piece: &Piece, wrong: Verdict) -> Verdict {
-    match of_piece(piece) {
+fn of_singular(piece: &Piece, wrong: Settled) -> Settled {
+    match verdict::of_piece(piece) {
         Verdict::Degenerate => wrong,
-        right => right,
+        other => decided(other, || unreachable!("not degenerate")),
     }
 }
 
-fn by_signs_only(piece: &Piece) -> Verdict {
+fn by_signs_only(piece: &Piece) -> Settled {
     if none_opposed(&weights::<i128>(piece).0) {
-        Verdict::Hit
+        Settled::Hit
     } else {
-        Verdict::Miss
+        Settled::Miss
     }
 }
 
-fn in_doubles(piece: &Piece) -> Verdict {
+/// Of what is singular in doubles, whether it touches is found exactly.
+fn in_doubles(piece: &Piece) -> Settled {
     let (weights, sum) = weights::<f64>(piece);
     match (sum == 0.0, none_opposed(&weights)) {
-        (true, _) => Verdict::Degenerate,
-        (false, true) => Verdict::Hit,
-        (false, false) => Verdict::Miss,
+        (true, _) => decided(Verdict::Degenerate, || touches(piece)),
+        (false, true) => Settled::Hit,
+        (false, false) => Settled::Miss,
     }
 }
 
 /// The pair alone, its vertices numbered as the scene writes them.
-fn in_written_order(scene: &Scene, pair: Pair) -> Verdict {
+fn in_written_order(scene: &Scene, pair: Pair) -> Settled {
     let (first, second) = pair.parts(scene);
     let vertices = first.iter().chain(second).map(|&v| scene.vertices[v]).collect();
     match pair.kind {
@@ -100,7 +98,7 @@ fn in_written_order(scene: &Scene, pair: Pair) -> Verdict {
 }
 
 fn by_cubic(tolerance: &str) -> Mistake {
-    let says = format!("a cubic in doubles, compared with {tolerance}; nothing is degenerate");
+    let says = format!("a cubic in doubles, compared with {tolerance}; nothing is touch or apart");
     let tolerance_number: f64 = tolerance.parse().unwrap();
     let judge = move |scene: &Scene, pair: Pair| {
         let moving = |v: usize| {
@@ -114,9 +112,9 @@ fn by_cubic(tolerance: &str) -> Mistake {
             Kind::EdgeEdge => cubic::edge_edge([&all[0], &all[1]], [&all[2], &all[3]], tolerance_number),
         };
         if hit {
-            Verdict::Hit
+            Settled::Hit
         } else {
-            Verdict::Miss
+            Settled::Miss
         }
     };
     Mistake::new(format!("cubic-{tolerance}"), says, Steps { judge: Some(Box::new(judge)), ..Steps::default() })

@@ -1,11 +1,11 @@
 //! The wrong pairs listed, or the right ones printed wrongly.
 
-use super::{fitting, print_right, with_verdicts, Mistake, Steps};
+use super::{fitting, print_right, with_words, Mistake, Steps};
 use crate::listing::{boxes_meet, listed as right};
 use crate::refusal::{Refusal, NO_ROOM};
 use crate::report::written;
 use crate::scene::{all_pairs, Kind, Pair, Scene};
-use crate::verdict::Verdict;
+use crate::settled::Settled;
 
 pub fn mistakes() -> Vec<Mistake> {
     vec![
@@ -32,13 +32,13 @@ pub fn mistakes() -> Vec<Mistake> {
             pairs
         }),
         printed("drop-oldest", "a full list that drops its oldest entry and goes on", |listed, room, judge| {
-            written(&Ok(with_verdicts(&listed[listed.len().saturating_sub(room)..], judge)))
+            written(&Ok(with_words(&listed[listed.len().saturating_sub(room)..], judge)))
         }),
         printed("drop-newest", "a full list that takes no further entry, and no refusal", |listed, room, judge| {
-            written(&Ok(with_verdicts(&listed[..listed.len().min(room)], judge)))
+            written(&Ok(with_words(&listed[..listed.len().min(room)], judge)))
         }),
         printed("filled-first", "a list filled up to its room and the refusal given after", |listed, room, judge| {
-            let fits = written(&Ok(with_verdicts(&listed[..listed.len().min(room)], judge)));
+            let fits = written(&Ok(with_words(&listed[..listed.len().min(room)], judge)));
             match fitting(listed, room) {
                 Ok(_) => fits,
                 // the pairs' lines are out before the refusal is known
@@ -52,15 +52,25 @@ pub fn mistakes() -> Vec<Mistake> {
             refused_with(room as u64 + 1, listed, room, judge)
         }),
         printed("room-one-less", "a list that just fits refused", |listed, room, judge| print_right(listed, room - 1, judge)),
-        printed("first-copied", "the first pair's verdict given for every pair", |listed, room, judge| {
+        printed("first-copied", "the first pair's word given for every pair", |listed, room, judge| {
             let first = listed.first().map(|&pair| judge(pair));
             print_right(listed, room, &|_| first.unwrap())
         }),
         printed("listed-as-hits", "every listed pair counted as a hit in the total", |listed, room, judge| {
-            retotalled(listed, room, judge, |[all, _, misses, degenerates]| [all.clone(), all, misses, degenerates])
+            retotalled(listed, room, judge, |[all, _, misses, touch, apart]| [all.clone(), all, misses, touch, apart])
         }),
-        printed("totals-exchanged", "misses and degenerates exchanged in the total", |listed, room, judge| {
-            retotalled(listed, room, judge, |[all, hits, misses, degenerates]| [all, hits, degenerates, misses])
+        printed("totals-exchanged", "misses and touch exchanged in the total", |listed, room, judge| {
+            retotalled(listed, room, judge, |[all, hits, misses, touch, apart]| [all, hits, touch, misses, apart])
+        }),
+        printed("apart-before-touch", "touch and apart exchanged in the total", |listed, room, judge| {
+            retotalled(listed, room, judge, |[all, hits, misses, touch, apart]| [all, hits, misses, apart, touch])
+        }),
+        printed("no-apart-total", "a total without its last field, touch and apart in one", |listed, room, judge| {
+            one_total(&print_right(listed, room, judge))
+        }),
+        printed("three-words", "the report of before: degenerate, and one total for it", |listed, room, judge| {
+            let report = print_right(listed, room, judge);
+            one_total(&report.replace("\ttouch\n", "\tdegenerate\n").replace("\tapart\n", "\tdegenerate\n"))
         }),
     ]
 }
@@ -69,7 +79,7 @@ fn listed(key: &str, says: &str, list: fn(&Scene) -> Vec<Pair>) -> Mistake {
     Mistake::new(key, says, Steps { list: Some(Box::new(list)), ..Steps::default() })
 }
 
-type Print = fn(&[Pair], usize, &dyn Fn(Pair) -> Verdict) -> String;
+type Print = fn(&[Pair], usize, &dyn Fn(Pair) -> Settled) -> String;
 
 fn printed(key: &str, says: &str, print: Print) -> Mistake {
     Mistake::new(key, says, Steps { print: Some(Box::new(print)), ..Steps::default() })
@@ -114,15 +124,25 @@ fn first_of_its_like(scene: &Scene, pair: Pair) -> bool {
     }
 }
 
-fn refused_with(third: u64, listed: &[Pair], room: usize, judge: &dyn Fn(Pair) -> Verdict) -> String {
+fn refused_with(third: u64, listed: &[Pair], room: usize, judge: &dyn Fn(Pair) -> Settled) -> String {
     let fits = fitting(listed, room).map_err(|_| Refusal::new(NO_ROOM, third));
-    written(&fits.map(|listed| with_verdicts(listed, judge)))
+    written(&fits.map(|listed| with_words(listed, judge)))
 }
 
 /// The right report with its total rewritten.
-fn retotalled(listed: &[Pair], room: usize, judge: &dyn Fn(Pair) -> Verdict, rewrite: fn([String; 4]) -> [String; 4]) -> String {
+fn retotalled(listed: &[Pair], room: usize, judge: &dyn Fn(Pair) -> Settled, rewrite: fn([String; 5]) -> [String; 5]) -> String {
     let report = print_right(listed, room, judge);
     let Some((lines, total)) = report.split_once("total\t") else { return report };
     let counts: Vec<String> = total.trim_end().split('\t').map(str::to_string).collect();
     format!("{lines}total\t{}\n", rewrite(counts.try_into().unwrap()).join("\t"))
+}
+
+/// A report whose last total is added to the one before it.
+fn one_total(report: &str) -> String {
+    let Some((before, apart)) = report.trim_end().rsplit_once('\t').filter(|_| report.contains("total\t")) else {
+        return report.to_string();
+    };
+    let (before, touch) = before.rsplit_once('\t').expect("a total has five fields");
+    let [touch, apart]: [u64; 2] = [touch, apart].map(|count| count.parse().expect("a count"));
+    format!("{before}\t{}\n", touch + apart)
 }

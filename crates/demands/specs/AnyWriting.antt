@@ -9,17 +9,20 @@ use Rattle.sequences.specs.Lists.{lists-as}
 use Rattle.meaning.specs.Scene.{Scene, Accepted, vertexCount, edgeCount, triangleCount}
 use Rattle.meaning.specs.Pieces.{pieceCount}
 use Rattle.meaning.specs.Refusals.{notThere, PairJudged, PieceJudged}
+use Rattle.meaning.specs.Resting.{PairDecided, PieceDecided}
 use Rattle.meaning.specs.Boxes.{xAxis, yAxis, zAxis, boxesMeet}
 use Rattle.meaning.specs.List.{Pair, pairs}
 use Rattle.meaning.specs.declared.Kind.{Kind}
 use Rattle.meaning.specs.declared.Kind.the-variants.{PointTriangle, EdgeEdge}
 use Rattle.meaning.specs.declared.PairAnswer.{PairAnswer}
-use Rattle.theory.specs.Rewritten.{Rewritten, WellMade, rewritten-notThere, rewritten-shares, rewritten-meet, rewritten-keeps-pieces, rewritten-keeps-pairs}
+use Rattle.meaning.specs.declared.SettledAnswer.{SettledAnswer}
+use Rattle.theory.specs.Rewritten.{Rewritten, WellMade, rewritten-notThere, rewritten-shares, rewritten-meet, rewritten-keeps-pieces, rewritten-keeps-pairs, rewritten-keeps-words, rewritten-keeps-pair-words}
 use Rattle.scenes.specs.Below.{or-left}
 use Rattle.scenes.specs.Speaking.{pair-says-one}
 use Rattle.listing.specs.InOrder.{ToList, are-there, list-is, list-only}
-use Rattle.demands.specs.Demand1.{demand1-pair, demand1-piece}
+use Rattle.demands.specs.Demand1.{demand1-pair, demand1-piece, demand1-settled-pair, demand1-settled-piece}
 use Rattle.demands.specs.Demand2.{demand2-verdicts}
+use Rattle.demands.specs.OneAnswer.{settled-says-one}
 use Rattle.demands.specs.SameAnswer.{answered-alike}
 use Rattle.demands.specs.StillAccepted.{different-ends, different-corners, rewritten-accepted}
 
@@ -82,3 +85,19 @@ module _ {s t : Scene} (h : Rewritten s t) (a : Accepted s) (kind : Kind) (i j :
       (answered-alike a (rewritten-accepted h a) (demand1-piece s kind i j k r p) (rw (rewritten-notThere h kind i j) at (demand1-piece t kind i j k r′ q))
       (λ n. rewritten-shares h kind i j (well-made a kind i j (there n))) (demand2-verdicts s kind i j .pieces k .one)
       (λ n f. rewritten-keeps-pieces h kind i j (well-made a kind i j (there n)) k))
+
+  pub word-as-written : (r r′ : SettledAnswer) → PairDecided s kind i j r → PairDecided t kind i j r′ → r ≡ r′
+  word-as-written r r′ p q =
+      settled-says-one r r′
+      (answered-alike a (rewritten-accepted h a) (demand1-settled-pair s kind i j r p) (rw (rewritten-notThere h kind i j) at (demand1-settled-pair t kind i j r′ q))
+      (λ n. rewritten-shares h kind i j (well-made a kind i j n)) (demand2-verdicts s kind i j .pair .oneWord)
+      (λ n f. rewritten-keeps-pair-words h kind i j (well-made a kind i j n)))
+
+  pub piece-word-as-written : (k : ℕ) (r r′ : SettledAnswer) → PieceDecided s kind i j k r → PieceDecided t kind i j k r′ → r ≡ r′
+  piece-word-as-written k r r′ p q =
+      let there : notThere s kind i j || leb (pieceCount kind) k ≡ false → notThere s kind i j ≡ false =
+      λ n. or-left (notThere s kind i j) (leb (pieceCount kind) k) n in
+      settled-says-one r r′
+      (answered-alike a (rewritten-accepted h a) (demand1-settled-piece s kind i j k r p) (rw (rewritten-notThere h kind i j) at (demand1-settled-piece t kind i j k r′ q))
+      (λ n. rewritten-shares h kind i j (well-made a kind i j (there n))) (demand2-verdicts s kind i j .pieces k .oneWord)
+      (λ n f. rewritten-keeps-words h kind i j (well-made a kind i j (there n)) k))

@@ -9,10 +9,11 @@ use native.Mathlib.Omega.{arith}
 use lib.Dec.{leb}
 use lib.ListN.{length, getD}
 use borrow.Author.Tests.{lt-leb}
-use Rattle.whole.specs.Vector.{volume}
-use Rattle.meaning.specs.Scene.{Scene, Accepted}
+use Rattle.whole.specs.Vector.{volume, axis}
+use Rattle.meaning.specs.Scene.{Scene, Accepted, someBelow}
 use Rattle.meaning.specs.Pieces.{pieceOf, pieceCount}
 use Rattle.meaning.specs.Verdicts.{PieceIs, PairIs}
+use Rattle.meaning.specs.Resting.{PieceSettled, PairSettled, settledSays, PairDecided, PieceDecided}
 use Rattle.meaning.specs.Refusals.{sceneSays, pairSays, notThere, shares, SceneChecked, PairJudged, PieceJudged}
 use Rattle.meaning.specs.List.{pairs, roomOf, listSays, Listing}
 use Rattle.meaning.specs.declared.Kind.{Kind}
@@ -23,15 +24,27 @@ use Rattle.meaning.specs.declared.SceneAnswer as SceneAnswers
 use Rattle.meaning.specs.declared.SceneAnswer.{SceneAnswer}
 use Rattle.meaning.specs.declared.PairAnswer.{PairAnswer}
 use Rattle.meaning.specs.declared.PairAnswer.the-variants.{Judged}
+use Rattle.meaning.specs.declared.Settled as Words
+use Rattle.meaning.specs.declared.Settled.{Settled}
+use Rattle.meaning.specs.declared.SettledAnswer.{SettledAnswer}
+use Rattle.meaning.specs.declared.SettledAnswer.the-variants.{Decided}
 use Rattle.meaning.specs.declared.ListAnswer as ListAnswers
 use Rattle.meaning.specs.declared.ListAnswer.{ListAnswer}
 use Rattle.theory.specs.Bounds.{Every, every-imp}
 use Rattle.theory.specs.Reading.{verdictOf, agreeing}
 use Rattle.theory.specs.Computed.{pieceVerdict, pointDifferences, joined, joinedBelow, pairVerdict}
 use Rattle.theory.specs.OneVerdict.{judged-pair}
+use Rattle.exact.specs.BySigns.{keep}
+use Rattle.exact.specs.OneWay.{oneWay}
+use Rattle.resting.specs.First.{firstOf}
+use Rattle.resting.specs.Others.{skip}
+use Rattle.resting.specs.Filled.{slot, next}
+use Rattle.resting.specs.Answer.{baseOf, judgedBy, turnOf, otherwise, leafOf}
+use Rattle.resting.specs.Sixes.{pointSix, sixOf}
+use Rattle.resting.specs.Decided.{byLeaf, touching, settledBy, verdictOfWord, pieceWord, isTouch, pairWord, settled-pair}
 use Rattle.scenes.specs.Speaking.{scene-says-one, pair-says-one}
-use Rattle.demands.specs.Demand1.{demand1-scene, demand1-pair, demand1-piece, demand1-listing}
-use Rattle.demands.specs.OneAnswer.{list-says-one}
+use Rattle.demands.specs.Demand1.{demand1-scene, demand1-pair, demand1-piece, demand1-settled-pair, demand1-settled-piece, demand1-listing}
+use Rattle.demands.specs.OneAnswer.{list-says-one, settled-says-one}
 use Rattle.demands.specs.Table.{Case, cases, numbered, IsRight}
 use Rattle.demands.specs.Cases.{twelve-cases}
 
@@ -53,6 +66,16 @@ module _ (s : Scene) (kind : Kind) (i j : ℕ) (a : Accepted s) (there : notTher
       let known : notThere s kind i j || leb (pieceCount kind) k ≡ false = rw (there, lt-leb (pieceCount kind) k below) in
       pair-says-one r (Judged v) (demand1-piece s kind i j k r p .judged v .1 (a, (known, apart, is)))
 
+  pub settles : (w : Settled) → PairSettled s kind i j w → (r : SettledAnswer) → PairDecided s kind i j r → r ≡ Decided w
+  unfolding settledSays
+  settles w is r p = settled-says-one r (Decided w) (demand1-settled-pair s kind i j r p .judged w .1 (a, (there, apart, is)))
+
+  pub settles-pieces : (k : ℕ) → k < pieceCount kind → (w : Settled) → PieceSettled (pieceOf s kind i j k) w → (r : SettledAnswer) → PieceDecided s kind i j k r → r ≡ Decided w
+  unfolding settledSays
+  settles-pieces k below w is r p =
+      let known : notThere s kind i j || leb (pieceCount kind) k ≡ false = rw (there, lt-leb (pieceCount kind) k below) in
+      settled-says-one r (Decided w) (demand1-settled-piece s kind i j k r p .judged w .1 (a, (known, apart, is)))
+
 pub lists : (s : Scene) (o o′ : List ℕ) (r : ListAnswer) → Accepted s → length (pairs s) ≤ roomOf o → Listing s o o′ r
     → r ≡ ListAnswers.the-variants.Listed (record { count = length (pairs s) })
 unfolding listSays
@@ -62,12 +85,22 @@ lists s o o′ r a room p = list-says-one r _ (demand1-listing s o o′ r p .lis
 
 abbrev Answered : Case → Type 0
 Answered c =
-    (k : ℕ) → k < pieceCount (c .kind) → (r : PairAnswer) → PieceJudged (c .scene) (c .kind) (c .first) (c .second) k r → r ≡ Judged (getD (c .pieces) k Miss)
+    (k : ℕ) → k < pieceCount (c .kind) → (r : PairAnswer) → PieceJudged (c .scene) (c .kind) (c .first) (c .second) k r → r ≡ Judged (verdictOfWord (getD (c .pieces) k Words.the-variants.Miss))
 
 pub cases-answered : Every Answered cases
 cases-answered =
     every-imp IsRight Answered
-    (λ c h k below r p. judges-pieces (c .scene) (c .kind) (c .first) (c .second) (h .accepted) (h .there) (h .apart) k below (getD (c .pieces) k Miss) (h .each k below) r p)
+    (λ c h k below r p. judges-pieces (c .scene) (c .kind) (c .first) (c .second) (h .accepted) (h .there) (h .apart) k below _ (h .verdicts k below) r p)
+    cases twelve-cases
+
+abbrev Settled-so : Case → Type 0
+Settled-so c =
+    (k : ℕ) → k < pieceCount (c .kind) → (r : SettledAnswer) → PieceDecided (c .scene) (c .kind) (c .first) (c .second) k r → r ≡ Decided (getD (c .pieces) k Words.the-variants.Miss)
+
+pub cases-settled : Every Settled-so cases
+cases-settled =
+    every-imp IsRight Settled-so
+    (λ c h k below r p. settles-pieces (c .scene) (c .kind) (c .first) (c .second) (h .accepted) (h .there) (h .apart) k below _ (h .each k below) r p)
     cases twelve-cases
 
 -- ---- always miss, always degenerate; a singular pair taken as a hit or as a miss
@@ -94,10 +127,30 @@ pub degenerate-in-case-7 : (r : PairAnswer) → PairJudged (numbered 7 .scene) P
 unfolding pieceCount pieceVerdict joinedBelow joined pointDifferences volume verdictOf agreeing
 degenerate-in-case-7 = pairs-answered .1 .1 .1 .1 .1 .1 .0
 
+-- ---- always touch, always apart
+
+abbrev WordAnswered : Case → Type 0
+WordAnswered c =
+    (r : SettledAnswer) → PairDecided (c .scene) (c .kind) (c .first) (c .second) r → r ≡ Decided (pairWord (c .scene) (c .kind) (c .first) (c .second))
+
+pub words-answered : Every WordAnswered cases
+words-answered =
+    every-imp IsRight WordAnswered
+    (λ c h r p. settles (c .scene) (c .kind) (c .first) (c .second) (h .accepted) (h .there) (h .apart) _ (settled-pair (c .scene) (c .kind) (c .first) (c .second)) r p)
+    cases twelve-cases
+
+pub apart-in-case-6 : (r : SettledAnswer) → PairDecided (numbered 6 .scene) PointTriangle 3 0 r → r ≡ Decided Words.the-variants.Apart
+unfolding pieceCount pieceVerdict joinedBelow joined pointDifferences volume verdictOf agreeing someBelow pairWord isTouch pieceWord settledBy touching byLeaf leafOf otherwise turnOf judgedBy baseOf firstOf skip slot next axis oneWay keep sixOf pointSix
+apart-in-case-6 = words-answered .1 .1 .1 .1 .1 .0
+
+pub touch-in-case-7 : (r : SettledAnswer) → PairDecided (numbered 7 .scene) PointTriangle 3 0 r → r ≡ Decided Words.the-variants.Touch
+unfolding pieceCount pieceVerdict joinedBelow joined pointDifferences volume verdictOf agreeing someBelow pairWord isTouch pieceWord settledBy touching byLeaf leafOf otherwise turnOf judgedBy baseOf firstOf skip slot next axis oneWay keep sixOf pointSix
+touch-in-case-7 = words-answered .1 .1 .1 .1 .1 .1 .0
+
 -- ---- testing piece 0 and copying its verdict
 
 pub pieces-differ : (r r′ : PairAnswer) → PieceJudged (numbered 1 .scene) PointTriangle 3 0 0 r → PieceJudged (numbered 1 .scene) PointTriangle 3 0 1 r′ → r ≢ r′
-unfolding pieceCount
+unfolding pieceCount verdictOfWord
 pieces-differ r r′ p q e =
     let a : r ≡ Judged Miss = cases-answered .0 0 (omega arith) r p in
     let b : r′ ≡ Judged Hit = cases-answered .0 1 (omega arith) r′ q in

@@ -17,13 +17,13 @@ use Rattle.meaning.specs.List.{pair, pairs, entry, entries, kindNumber, listSay
 use Rattle.meaning.specs.Judging.{byteOf, AllJudged, JudgedScene}
 use Rattle.meaning.specs.Text.{coordinates}
 use Rattle.meaning.specs.declared.Kind.the-variants.{PointTriangle}
-use Rattle.meaning.specs.declared.Verdict.the-variants.{Hit, Miss}
+use Rattle.meaning.specs.declared.Settled.the-variants.{Hit, Miss}
 use Rattle.meaning.specs.declared.Refusal.the-variants.{NoRoom}
 use Rattle.meaning.specs.declared.ListAnswer.{ListAnswer}
 use Rattle.meaning.specs.declared.ListAnswer.the-variants.{Listed, Refused}
 use Rattle.theory.specs.Reading.{verdictOf, agreeing}
 use Rattle.theory.specs.Computed.{pieceVerdict, pointDifferences, joined, joinedBelow}
-use Rattle.theory.specs.OneVerdict.{pair-is}
+use Rattle.resting.specs.Decided.{settledBy, pairWord, pair-word-is}
 use Rattle.demands.specs.Demand1.{demand1-listing, demand1-judging}
 use Rattle.demands.specs.Unchanged.{listing-unchanged}
 use Rattle.demands.specs.OneAnswer.{list-says-one, all-judged-one}
@@ -73,8 +73,8 @@ unfolding pairs gather over times shares meetOn
 two-pairs = refl
 
 hit-then-miss : AllJudged twoPoints (pairs twoPoints) (Hit ∷ Miss ∷ [])
-unfolding AllJudged pieceCount pieceVerdict joinedBelow joined pointDifferences volume verdictOf agreeing
-hit-then-miss = rw two-pairs (pair-is twoPoints PointTriangle 3 0 Hit .1 refl, (pair-is twoPoints PointTriangle 4 0 Miss .1 refl, tt))
+unfolding AllJudged pieceCount pieceVerdict joinedBelow joined pointDifferences volume verdictOf agreeing pairWord settledBy
+hit-then-miss = rw two-pairs (pair-word-is twoPoints PointTriangle 3 0 Hit .1 refl, (pair-word-is twoPoints PointTriangle 4 0 Miss .1 refl, tt))
 
 -- the bytes of a hit and of a miss
 pub verdicts-written : (o o′ b′ : List ℕ) (r : ListAnswer) → length o ≡ 6 → JudgedScene twoPoints o o′ (9 ∷ 9 ∷ []) b′ r → b′ ≡ 0 ∷ 1 ∷ []
@@ -82,5 +82,5 @@ unfolding leaves byteOf
 verdicts-written o o′ b′ r long p =
     let says : listSays r ≡ given 2 =
     demand1-judging twoPoints o o′ (9 ∷ 9 ∷ []) b′ r p .listed 2 .1 (two-accepted, rw two-pairs (omega arith, refl)) in
-    let same : p .verdicts ≡ Hit ∷ Miss ∷ [] = all-judged-one twoPoints (pairs twoPoints) (p .verdicts) (Hit ∷ Miss ∷ []) (p .right) hit-then-miss in
+    let same : p .words ≡ Hit ∷ Miss ∷ [] = all-judged-one twoPoints (pairs twoPoints) (p .words) (Hit ∷ Miss ∷ []) (p .right) hit-then-miss in
     p .bytes ∙ rw (says, same)

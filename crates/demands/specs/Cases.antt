@@ -1,6 +1,6 @@
 -- 'Prove the twelve cases as one table under a single statement': one test computes that no row has a fault, and one law says what a row
 -- without a fault is.
-use Prim.Native.Nat.{ℕ}
+use Prim.Native.Nat.{ℕ, _<_}
 use mathlib.Core.Bool.{Bool, true, false, not, cond, _||_, true≢false}
 use mathlib.Core.List.{List, [], _∷_}
 use mathlib.Core.Path.{_≡_, refl, sym, _∙_}
@@ -9,7 +9,7 @@ use lib.IntN.{ℤ, pos}
 use lib.ListN.{length, getD}
 use lib.Signed.{_<ℤ_, ltZ-yes}
 use borrow.Author.Tests.{eqb-true, not-false}
-use Rattle.whole.specs.Vector.{volume}
+use Rattle.whole.specs.Vector.{volume, axis}
 use Rattle.meaning.specs.Scene.{Scene, wrongShape, outOfRange, unknownVertex, repeatedVertex, someBelow}
 use Rattle.meaning.specs.Pieces.{Piece, movingTriangle, pieceOf, pieceCount}
 use Rattle.meaning.specs.Equations.{one, total, Balanced}
@@ -18,23 +18,30 @@ use Rattle.meaning.specs.Boxes.{meetOn, listed}
 use Rattle.meaning.specs.Judging.{byteOf}
 use Rattle.meaning.specs.declared.Kind.{Kind}
 use Rattle.meaning.specs.declared.Kind.the-variants.{PointTriangle}
-use Rattle.meaning.specs.declared.Verdict.{Verdict}
-use Rattle.meaning.specs.declared.Verdict.the-variants.{Hit, Miss, Degenerate}
+use Rattle.meaning.specs.declared.Settled.{Settled}
+use Rattle.meaning.specs.declared.Settled.the-variants.{Hit, Miss, Touch, Apart}
 use Rattle.theory.specs.Bounds.{Every}
 use Rattle.theory.specs.Reading.{verdictOf, agreeing}
 use Rattle.theory.specs.Computed.{pieceVerdict, pointDifferences, edgeDifferences, startSum, endSum}
-use Rattle.theory.specs.OneVerdict.{piece-is}
+use Rattle.exact.specs.BySigns.{keep}
+use Rattle.exact.specs.OneWay.{oneWay}
+use Rattle.resting.specs.First.{firstOf}
+use Rattle.resting.specs.Others.{skip}
+use Rattle.resting.specs.Filled.{slot, next}
+use Rattle.resting.specs.Answer.{baseOf, judgedBy, turnOf, otherwise, leafOf}
+use Rattle.resting.specs.Sixes.{pointSix, edgesSix, sixOf}
+use Rattle.resting.specs.Decided.{byLeaf, touching, settledBy, pieceWord, piece-word-is, word-verdict}
 use Rattle.scenes.specs.Below.{or-left, or-rest, none-passes}
 use Rattle.demands.specs.Standing.{stands-is}
 use Rattle.demands.specs.Table.{Case, cases, numbered, StandsIf, IsRight}
 
 -- ---- the test
 
-unlike : Verdict → Verdict → Bool
+unlike : Settled → Settled → Bool
 unlike v w = not (eqb (byteOf v) (byteOf w))
 
 abbrev differs : Case → ℕ → Bool
-differs c k = unlike (getD (c .pieces) k Miss) (pieceVerdict (c .scene) (c .kind) (c .first) (c .second) k)
+differs c k = unlike (getD (c .pieces) k Miss) (pieceWord (c .scene) (c .kind) (c .first) (c .second) k)
 
 fault : Case → Bool
 fault c =
@@ -50,22 +57,29 @@ faults [] = false
 faults (c ∷ l) = fault c || faults l
 
 no-faults : faults cases ≡ false
-unfolding faults fault unlike someBelow notThere pieceCount byteOf pieceVerdict pointDifferences edgeDifferences startSum endSum volume verdictOf agreeing shares meetOn
+unfolding faults fault unlike someBelow notThere pieceCount byteOf pieceVerdict pointDifferences edgeDifferences startSum endSum volume verdictOf agreeing shares meetOn pieceWord settledBy touching byLeaf leafOf otherwise turnOf judgedBy baseOf firstOf skip slot next axis oneWay keep sixOf pointSix edgesSix
 no-faults = refl
 
 -- ---- the law
 
-like : (v w : Verdict) → unlike v w ≡ false → v ≡ w
+like : (v w : Settled) → unlike v w ≡ false → v ≡ w
 unfolding unlike byteOf
 like Hit Hit e = refl
 like Hit Miss e = absurd (true≢false e)
-like Hit Degenerate e = absurd (true≢false e)
+like Hit Touch e = absurd (true≢false e)
+like Hit Apart e = absurd (true≢false e)
 like Miss Hit e = absurd (true≢false e)
 like Miss Miss e = refl
-like Miss Degenerate e = absurd (true≢false e)
-like Degenerate Hit e = absurd (true≢false e)
-like Degenerate Miss e = absurd (true≢false e)
-like Degenerate Degenerate e = refl
+like Miss Touch e = absurd (true≢false e)
+like Miss Apart e = absurd (true≢false e)
+like Touch Hit e = absurd (true≢false e)
+like Touch Miss e = absurd (true≢false e)
+like Touch Touch e = refl
+like Touch Apart e = absurd (true≢false e)
+like Apart Hit e = absurd (true≢false e)
+like Apart Miss e = absurd (true≢false e)
+like Apart Touch e = absurd (true≢false e)
+like Apart Apart e = refl
 
 stands-if : (b : Bool) (s : Scene) (kind : Kind) (i j : ℕ) → notThere s kind i j ≡ false → cond b (not (listed s kind i j)) (listed s kind i j) ≡ false → StandsIf b s kind i j
 unfolding StandsIf
@@ -88,10 +102,17 @@ faultless c e =
       apart = search (or-left, or-rest) depth 12;
       asMany = eqb-true _ _ (not-false _ (search (or-left, or-rest) depth 12));
       each = λ k h.
-          piece-is (c .scene) (c .kind) (c .first) (c .second) k (getD (c .pieces) k Miss) .1
-          (like (getD (c .pieces) k Miss) (pieceVerdict (c .scene) (c .kind) (c .first) (c .second) k) (none-passes (differs c) (pieceCount (c .kind)) same k h));
+          piece-word-is (c .scene) (c .kind) (c .first) (c .second) k (getD (c .pieces) k Miss) .1 (alike same k h);
+      verdicts = λ k h.
+          word-verdict (pieceOf (c .scene) (c .kind) (c .first) (c .second) k) (getD (c .pieces) k Miss)
+          (piece-word-is (c .scene) (c .kind) (c .first) (c .second) k (getD (c .pieces) k Miss) .1 (alike same k h));
       list = stands-if (c .inList) (c .scene) (c .kind) (c .first) (c .second) there (search (or-left, or-rest) depth 12);
     }
+  where
+    alike : someBelow (pieceCount (c .kind)) (differs c) ≡ false → (k : ℕ) → k < pieceCount (c .kind)
+        → getD (c .pieces) k Miss ≡ pieceWord (c .scene) (c .kind) (c .first) (c .second) k
+    alike same k h =
+        like (getD (c .pieces) k Miss) (pieceWord (c .scene) (c .kind) (c .first) (c .second) k) (none-passes (differs c) (pieceCount (c .kind)) same k h)
 
 all-right : (l : List Case) → faults l ≡ false → Every IsRight l
 unfolding faults

@@ -12,14 +12,16 @@ use Rattle.meaning.specs.Scene.{Scene, Accepted, wrongShape, outOfRange, unknow
 use Rattle.meaning.specs.Pieces.{pieceOf, pieceCount}
 use Rattle.meaning.specs.Verdicts.{PieceIs, PairIs}
 use Rattle.meaning.specs.Refusals.{Outcome, given, refused, Check, Answers, sceneSays, pairSays, sceneChecks, notThere, shares, SceneChecked, PairJudged, PieceJudged}
+use Rattle.meaning.specs.Resting.{PieceSettled, PairSettled, settledSays, PairDecided, PieceDecided}
 use Rattle.meaning.specs.List.{pairs, roomOf, listSays, listChecks, Counted, Listing}
 use Rattle.meaning.specs.Judging.{JudgedScene}
 use Rattle.meaning.specs.declared.Kind.{Kind}
-use Rattle.meaning.specs.declared.Verdict.{Verdict}
 use Rattle.meaning.specs.declared.SceneAnswer.{SceneAnswer}
 use Rattle.meaning.specs.declared.PairAnswer.{PairAnswer}
+use Rattle.meaning.specs.declared.SettledAnswer.{SettledAnswer}
 use Rattle.meaning.specs.declared.ListAnswer.{ListAnswer}
 use Rattle.theory.specs.OneVerdict.{one-piece-verdict, one-pair-verdict}
+use Rattle.resting.specs.Decided.{one-piece-word, one-pair-word}
 use Rattle.demands.specs.Deciding.{Refuses, carriedBy, NoneHolds, absent, distinct, refused-exactly, carries-only, number-known, gives-exactly}
 
 -- ---- 1, 2, 3, 4, each over the whole scene before the next
@@ -69,20 +71,20 @@ demand1-scene s r p =
       accepted = (λ e. then-accepted .0 (gives .0 e .0) .0, λ a. gives .1 (then-accepted .1 (a, tt), tt));
     }
 
--- ---- a pair or a piece asked for: 5, 6
+-- ---- a pair or a piece asked for, in three words or in four: 5, 6
 
-pub record AskedTable (s : Scene) (missing shared : Bool) (Is : Verdict → Type 0) (o : Outcome Verdict) : Type 0 where
+pub record AskedTable {W : Type 0} (s : Scene) (missing shared : Bool) (Is : W → Type 0) (o : Outcome W) : Type 0 where
   pub rows : SceneRows s o
   pub only : (n c : ℕ) → o ≡ refused n c → List·Memᴰ n (1 ∷ 2 ∷ 3 ∷ 4 ∷ 5 ∷ 6 ∷ [])
   pub no5 : (o ≡ refused 5 0) ↔ (Accepted s × (missing ≡ true))
   pub no6 : (o ≡ refused 6 0) ↔ (Accepted s × ((missing ≡ false) × (shared ≡ true)))
-  pub judged : (v : Verdict) → (o ≡ given v) ↔ (Accepted s × ((missing ≡ false) × (shared ≡ false) × Is v))
+  pub judged : (v : W) → (o ≡ given v) ↔ (Accepted s × ((missing ≡ false) × (shared ≡ false) × Is v))
 
 askedChecks : Bool → Bool → List Check
 askedChecks missing shared =
     record { number = 5; holds = missing; carries = 0 } ∷ record { number = 6; holds = shared; carries = 0 } ∷ []
 
-asked-table : (s : Scene) (missing shared : Bool) (Is : Verdict → Type 0) (o : Outcome Verdict) → ((v w : Verdict) → Is v → Is w → v ≡ w)
+asked-table : {W : Type 0} (s : Scene) (missing shared : Bool) (Is : W → Type 0) (o : Outcome W) → ((v w : W) → Is v → Is w → v ≡ w)
     → Answers (sceneChecks s ++ askedChecks missing shared) Is o → AskedTable s missing shared Is o
 unfolding askedChecks Refuses carriedBy NoneHolds absent distinct
 asked-table s missing shared Is o one p =
@@ -112,6 +114,19 @@ unfolding askedChecks
 demand1-piece s kind i j k r p =
     let piece = pieceOf s kind i j k in
     asked-table s (notThere s kind i j || leb (pieceCount kind) k) (shares s kind i j) (PieceIs piece) (pairSays r) (one-piece-verdict piece) p
+
+pub demand1-settled-pair : (s : Scene) (kind : Kind) (i j : ℕ) (r : SettledAnswer) → PairDecided s kind i j r
+    → AskedTable s (notThere s kind i j) (shares s kind i j) (PairSettled s kind i j) (settledSays r)
+unfolding askedChecks
+demand1-settled-pair s kind i j r p =
+    asked-table s (notThere s kind i j) (shares s kind i j) (PairSettled s kind i j) (settledSays r) (one-pair-word s kind i j) p
+
+pub demand1-settled-piece : (s : Scene) (kind : Kind) (i j k : ℕ) (r : SettledAnswer) → PieceDecided s kind i j k r
+    → AskedTable s (notThere s kind i j || leb (pieceCount kind) k) (shares s kind i j) (PieceSettled (pieceOf s kind i j k)) (settledSays r)
+unfolding askedChecks
+demand1-settled-piece s kind i j k r p =
+    let piece = pieceOf s kind i j k in
+    asked-table s (notThere s kind i j || leb (pieceCount kind) k) (shares s kind i j) (PieceSettled piece) (settledSays r) (one-piece-word piece) p
 
 -- ---- the list: 7 last, with the count needed
 

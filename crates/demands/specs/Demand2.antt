@@ -3,7 +3,7 @@
 use Prim.Native.Nat.{ℕ, _<_}
 use mathlib.Core.Bool.{true, false}
 use mathlib.Core.List.{List}
-use mathlib.Core.Logic.{_↔_}
+use mathlib.Core.Logic.{_↔_, _⊎_, inl, inr, ⊎-elim}
 use mathlib.Core.Path.{_≡_}
 use lib.IntN.{pos}
 use lib.ListN.{length, getD}
@@ -12,6 +12,7 @@ use Rattle.meaning.specs.Scene.{Scene}
 use Rattle.meaning.specs.Pieces.{Piece, pieceOf}
 use Rattle.meaning.specs.Equations.{determinantOf, Touches}
 use Rattle.meaning.specs.Verdicts.{PieceIs, SomePiece, PairIs}
+use Rattle.meaning.specs.Resting.{PieceSettled, SomeSettled, PairSettled}
 use Rattle.meaning.specs.Refusals.{shares}
 use Rattle.meaning.specs.Boxes.{boxesMeet, culled}
 use Rattle.meaning.specs.Motion.{TouchInMotion}
@@ -19,19 +20,22 @@ use Rattle.meaning.specs.List.{Pair, pairs}
 use Rattle.meaning.specs.declared.Kind.{Kind}
 use Rattle.meaning.specs.declared.Verdict.{Verdict}
 use Rattle.meaning.specs.declared.Verdict.the-variants.{Hit, Miss, Degenerate}
+use Rattle.meaning.specs.declared.Settled as Words
+use Rattle.meaning.specs.declared.Settled.{Settled}
 use Rattle.theory.specs.Rational.{touch-rational}
 use Rattle.theory.specs.RationalVerdicts.{Solvable, Meets, RationalPieceIs, piece-rational}
 use Rattle.theory.specs.OneVerdict.{piece-is, judged-pair, pair-is}
 use Rattle.theory.specs.Computed.{pieceVerdict, pairVerdict}
 use Rattle.theory.specs.SevenPieces.{judged-piece}
-use Rattle.theory.specs.Cull.{culled-apart, culled-apart-in-motion}
+use Rattle.theory.specs.Cull.{culled-apart, culled-apart-in-motion, culled-never-meets}
+use Rattle.resting.specs.Decided.{pieceWord, pairWord, settled-piece, piece-word-is, settled-pair, pair-word-is, some-hit}
 use Rattle.listing.specs.InOrder.{Earlier, ToList, list-is, list-only, list-once}
 
--- one of the three, and no other
-pub record ExactlyOne (Is : Verdict → Type 0) : Type 0 where
-  pub verdict : Verdict
+-- one of the three, or of the four, and no other
+pub record ExactlyOne {W : Type 0} (Is : W → Type 0) : Type 0 where
+  pub verdict : W
   pub is : Is verdict
-  pub only : (v : Verdict) → Is v → v ≡ verdict
+  pub only : (v : W) → Is v → v ≡ verdict
 
 -- 'Where the six equations of a space-time piece have one solution, it is hit exactly when nonnegative rational weights solve them, else
 -- miss; where they are singular, degenerate.'
@@ -41,6 +45,14 @@ pub record PieceAsDemanded (p : Piece) : Type 0 where
   pub miss : Solvable p → PieceIs p Miss ↔ ¬ Meets p
   pub degenerate : PieceIs p Degenerate ↔ ¬ Solvable p
   pub singular : (determinantOf p ≡ pos 0) ↔ ¬ Solvable p
+  -- in four words: hit and miss are as before, and a singular piece is touch exactly when weights exist, else apart
+  pub oneWord : ExactlyOne (PieceSettled p)
+  pub sameHit : PieceSettled p Words.the-variants.Hit ↔ PieceIs p Hit
+  pub sameMiss : PieceSettled p Words.the-variants.Miss ↔ PieceIs p Miss
+  pub touch : ¬ Solvable p → PieceSettled p Words.the-variants.Touch ↔ Meets p
+  pub apart : ¬ Solvable p → PieceSettled p Words.the-variants.Apart ↔ ¬ Meets p
+  -- so the weights cover every piece, singular or not
+  pub weights : Meets p ↔ (PieceSettled p Words.the-variants.Hit ⊎ PieceSettled p Words.the-variants.Touch)
 
 -- 'hit if any piece is hit; else degenerate if any piece is; else miss'
 pub record PairAsDemanded (s : Scene) (kind : Kind) (i j : ℕ) : Type 0 where
@@ -48,32 +60,65 @@ pub record PairAsDemanded (s : Scene) (kind : Kind) (i j : ℕ) : Type 0 where
   pub hit : PairIs s kind i j Hit ↔ SomePiece s kind i j Hit
   pub degenerate : ¬ SomePiece s kind i j Hit → PairIs s kind i j Degenerate ↔ SomePiece s kind i j Degenerate
   pub miss : ¬ SomePiece s kind i j Hit → PairIs s kind i j Miss ↔ ¬ SomePiece s kind i j Degenerate
+  -- in four words: hit, else touch if a degenerate piece touches, else apart if any piece is degenerate, else miss
+  pub oneWord : ExactlyOne (PairSettled s kind i j)
+  pub sameHit : PairSettled s kind i j Words.the-variants.Hit ↔ PairIs s kind i j Hit
+  pub touch : ¬ PairIs s kind i j Hit → PairSettled s kind i j Words.the-variants.Touch ↔ SomeSettled s kind i j Words.the-variants.Touch
+  pub apart : ¬ PairIs s kind i j Hit → ¬ SomeSettled s kind i j Words.the-variants.Touch
+      → PairSettled s kind i j Words.the-variants.Apart ↔ SomePiece s kind i j Degenerate
+  pub sameMiss : PairSettled s kind i j Words.the-variants.Miss ↔ PairIs s kind i j Miss
 
 pub record VerdictsAsDemanded (s : Scene) (kind : Kind) (i j : ℕ) : Type 0 where
   pub pieces : (k : ℕ) → PieceAsDemanded (pieceOf s kind i j k)
   pub pair : PairAsDemanded s kind i j
 
 module _ (s : Scene) (kind : Kind) (i j : ℕ) where
+  -- a piece with weights is a hit or a touch
+  decided : (k : ℕ) → Touches (pieceOf s kind i j k) → PieceSettled (pieceOf s kind i j k) Words.the-variants.Hit ⊎ PieceSettled (pieceOf s kind i j k) Words.the-variants.Touch
+  unfolding PieceSettled PieceIs
+  decided k t = go (pieceWord s kind i j k) (settled-piece s kind i j k)
+    where
+      go : (w : Settled) → PieceSettled (pieceOf s kind i j k) w → PieceSettled (pieceOf s kind i j k) Words.the-variants.Hit ⊎ PieceSettled (pieceOf s kind i j k) Words.the-variants.Touch
+      go Words.the-variants.Hit h = inl h
+      go Words.the-variants.Miss h = absurd (h .1 t)
+      go Words.the-variants.Touch h = inr h
+      go Words.the-variants.Apart h = absurd (h .1 t)
+
   piece-as-demanded : (k : ℕ) → PieceAsDemanded (pieceOf s kind i j k)
-  unfolding PieceIs RationalPieceIs
+  unfolding PieceIs RationalPieceIs PieceSettled
   piece-as-demanded k =
       let told = piece-rational s kind i j k in
+      let meets = touch-rational (pieceOf s kind i j k .first) (pieceOf s kind i j k .second) in
       record {
         one = record { verdict = pieceVerdict s kind i j k; is = judged-piece s kind i j k; only = λ v h. piece-is s kind i j k v .0 h };
         hit = λ one. (λ h. told Hit .0 h .1, λ m. told Hit .1 (one, m));
         miss = λ one. (λ h. told Miss .0 h .1, λ m. told Miss .1 (one, m));
         degenerate = told Degenerate;
         singular = told Degenerate;
+        oneWord = record { verdict = pieceWord s kind i j k; is = settled-piece s kind i j k; only = λ w h. piece-word-is s kind i j k w .0 h };
+        sameHit = (λ h. h, λ h. h);
+        sameMiss = (λ h. h, λ h. h);
+        touch = λ none. (λ h. meets .0 (h .1), λ m. (told Degenerate .1 none, meets .1 m));
+        apart = λ none. (λ h m. h .1 (meets .1 m), λ n. (told Degenerate .1 none, λ t. n (meets .0 t)));
+        weights = (λ m. decided k (meets .1 m), ⊎-elim (λ h. meets .0 (h .1)) (λ h. meets .0 (h .1)));
       }
 
   pair-as-demanded : PairAsDemanded s kind i j
-  unfolding PairIs
+  unfolding PairIs PairSettled
   pair-as-demanded =
       record {
         one = record { verdict = pairVerdict s kind i j; is = judged-pair s kind i j; only = λ v h. pair-is s kind i j v .0 h };
         hit = (λ h. h, λ h. h);
         degenerate = λ none. (λ h. h .1, λ h. (none, h));
         miss = λ none. (λ h. h .1, λ h. (none, h));
+        oneWord = record { verdict = pairWord s kind i j; is = settled-pair s kind i j; only = λ w h. pair-word-is s kind i j w .0 h };
+        sameHit = (some-hit s kind i j .1, some-hit s kind i j .0);
+        touch = λ none. (λ h. h .1, λ h. (λ t. none (some-hit s kind i j .1 t), h));
+        apart = λ none no. (λ h. h .2, λ h. (λ t. none (some-hit s kind i j .1 t), no, h));
+        sameMiss = (
+          λ h. (λ t. h .0 (some-hit s kind i j .0 t), h .1),
+          λ h. (λ t. h .0 (some-hit s kind i j .1 t), h .1),
+        );
       }
 
   pub demand2-verdicts : VerdictsAsDemanded s kind i j
@@ -93,6 +138,8 @@ pub record ApartAsDemanded (s : Scene) (kind : Kind) (i j : ℕ) : Type 0 where
   pub inMotion : ¬ TouchInMotion s kind i j
   pub inPieces : (k : ℕ) → ¬ Touches (pieceOf s kind i j k)
   pub inRationals : (k : ℕ) → ¬ Meets (pieceOf s kind i j k)
+  pub notHit : ¬ PairSettled s kind i j Words.the-variants.Hit
+  pub notTouch : ¬ PairSettled s kind i j Words.the-variants.Touch
 
 pub demand2-culled : (s : Scene) (kind : Kind) (i j : ℕ) → shares s kind i j ≡ false → boxesMeet s kind i j ≡ false → ApartAsDemanded s kind i j
 demand2-culled s kind i j apart away =
@@ -101,4 +148,6 @@ demand2-culled s kind i j apart away =
       inMotion = culled-apart-in-motion s kind i j c;
       inPieces = culled-apart s kind i j c;
       inRationals = λ k m. culled-apart s kind i j c k (touch-rational (pieceOf s kind i j k .first) (pieceOf s kind i j k .second) .1 m);
+      notHit = culled-never-meets s kind i j c .0;
+      notTouch = culled-never-meets s kind i j c .1;
     }

@@ -1,6 +1,7 @@
 -- Demand 3: 'Send a scene through a whole-number 3 by 3 matrix of nonzero determinant, then add one shift to all start positions and another
 -- to all end positions. If both scenes are accepted, every pair without a shared vertex, and each of its pieces, keeps its verdict. A pair
--- culled in either scene is hit in neither.' The verdicts are those of demand 2.
+-- culled in either scene is hit in neither.' The verdicts are those of demand 2, in three words and in four; culled in either, a pair is also touch
+-- in neither.
 use Prim.Native.Nat.{ℕ}
 use mathlib.Core.Bool.{true, false}
 use mathlib.Core.Logic.{_↔_, _⊎_}
@@ -11,6 +12,7 @@ use Rattle.whole.specs.VectorLaws.{Matrix}
 use Rattle.meaning.specs.Scene.{Scene, Accepted, vertexCount, edgeCount, triangleCount}
 use Rattle.meaning.specs.Pieces.{pieceOf}
 use Rattle.meaning.specs.Verdicts.{PieceIs, PairIs}
+use Rattle.meaning.specs.Resting.{PieceSettled, PairSettled}
 use Rattle.meaning.specs.Refusals.{notThere, shares}
 use Rattle.meaning.specs.Boxes.{culled}
 use Rattle.meaning.specs.Motion.{firstPart, secondPart}
@@ -18,7 +20,9 @@ use Rattle.meaning.specs.declared.Kind.{Kind}
 use Rattle.meaning.specs.declared.Kind.the-variants.{PointTriangle, EdgeEdge}
 use Rattle.meaning.specs.declared.Verdict.{Verdict}
 use Rattle.meaning.specs.declared.Verdict.the-variants.{Hit}
-use Rattle.theory.specs.Moved.{Moves, Known, moved-keeps-pieces, moved-keeps-pairs, culled-in-either-hit-in-neither}
+use Rattle.meaning.specs.declared.Settled.{Settled}
+use Rattle.meaning.specs.declared.Settled.the-variants.{Touch}
+use Rattle.theory.specs.Moved.{Moves, Known, moved-keeps-pieces, moved-keeps-pairs, moved-keeps-words, moved-keeps-pair-words, culled-in-either-hit-in-neither, culled-in-either-meets-in-neither}
 use Rattle.scenes.specs.Facts.{accepted-end, accepted-corner}
 use Rattle.listing.specs.InOrder.{are-there}
 
@@ -38,11 +42,14 @@ vertices-there {s} a EdgeEdge i j there =
       second = (accepted-end a j 0 k (omega arith), (accepted-end a j 1 k (omega arith), tt));
     }
 
--- in both scenes the pair and each of its pieces have the same verdict; culled in either, it is hit in neither
+-- in both scenes the pair and each of its pieces have the same verdict and the same word; culled in either, it is hit or touch in neither
 pub record KeepsVerdicts (s t : Scene) (kind : Kind) (i j : ℕ) : Type 0 where
   pub pieces : (k : ℕ) (v : Verdict) → PieceIs (pieceOf s kind i j k) v ↔ PieceIs (pieceOf t kind i j k) v
   pub pair : (v : Verdict) → PairIs s kind i j v ↔ PairIs t kind i j v
+  pub pieceWords : (k : ℕ) (w : Settled) → PieceSettled (pieceOf s kind i j k) w ↔ PieceSettled (pieceOf t kind i j k) w
+  pub pairWord : (w : Settled) → PairSettled s kind i j w ↔ PairSettled t kind i j w
   pub culledInEither : (culled s kind i j ≡ true) ⊎ (culled t kind i j ≡ true) → ¬ PairIs s kind i j Hit × ¬ PairIs t kind i j Hit
+  pub touchInNeither : (culled s kind i j ≡ true) ⊎ (culled t kind i j ≡ true) → ¬ PairSettled s kind i j Touch × ¬ PairSettled t kind i j Touch
 
 pub demand3 : {m : Matrix} {a b : Vector} {s t : Scene} → Moves m a b s t → Accepted s → Accepted t
     → (kind : Kind) (i j : ℕ) → notThere s kind i j ≡ false → shares s kind i j ≡ false → KeepsVerdicts s t kind i j
@@ -51,5 +58,8 @@ demand3 moves accepted also kind i j there apart =
     record {
       pieces = moved-keeps-pieces moves kind i j known;
       pair = moved-keeps-pairs moves kind i j known;
+      pieceWords = moved-keeps-words moves kind i j known;
+      pairWord = moved-keeps-pair-words moves kind i j known;
       culledInEither = culled-in-either-hit-in-neither moves kind i j known;
+      touchInNeither = λ c. let n = culled-in-either-meets-in-neither moves kind i j known c in (n .0 .1, n .1 .1);
     }

@@ -8,15 +8,19 @@ use Rattle.meaning.specs.Scene.{Scene}
 use Rattle.meaning.specs.Pieces.{pieceOf}
 use Rattle.meaning.specs.Verdicts.{PieceIs, PairIs}
 use Rattle.meaning.specs.Refusals.{Check, Answers, pairSays, sceneChecks, pairChecks, pieceChecks, SceneChecked, PairJudged, PieceJudged}
+use Rattle.meaning.specs.Resting.{PieceSettled, PairSettled, settledSays, PairDecided, PieceDecided}
 use Rattle.meaning.specs.List.{Pair, pairs, entries, roomOf, listSays, listChecks, leaves, Counted, Listing}
 use Rattle.meaning.specs.Judging.{byteOf, AllJudged, JudgedScene}
 use Rattle.meaning.specs.declared.Kind.{Kind}
-use Rattle.meaning.specs.declared.Verdict.{Verdict}
+use Rattle.meaning.specs.declared.Settled.{Settled}
 use Rattle.meaning.specs.declared.SceneAnswer.{SceneAnswer}
 use Rattle.meaning.specs.declared.PairAnswer.{PairAnswer}
+use Rattle.meaning.specs.declared.SettledAnswer as SettledAnswers
+use Rattle.meaning.specs.declared.SettledAnswer.{SettledAnswer}
 use Rattle.meaning.specs.declared.ListAnswer as ListAnswers
 use Rattle.meaning.specs.declared.ListAnswer.{ListAnswer}
 use Rattle.theory.specs.OneVerdict.{one-piece-verdict, one-pair-verdict}
+use Rattle.resting.specs.Decided.{one-piece-word, one-pair-word}
 use Rattle.scenes.specs.Answering.{one-answer}
 use Rattle.scenes.specs.Speaking.{one-number, pair-says-one, one-scene-answer}
 
@@ -32,6 +36,14 @@ list-says-one (ListAnswers.the-variants.Refused x c) (ListAnswers.the-variants.R
     let n : c ≡ d = cc in
     λ i. ListAnswers.the-variants.Refused (k i) (n i)
 
+pub settled-says-one : (r r′ : SettledAnswer) → settledSays r ≡ settledSays r′ → r ≡ r′
+unfolding settledSays
+settled-says-one (SettledAnswers.the-variants.Decided v) (SettledAnswers.the-variants.Decided w) e = ap SettledAnswers.the-variants.Decided (cc)
+settled-says-one (SettledAnswers.the-variants.Decided v) (SettledAnswers.the-variants.Refused y) e = cc
+settled-says-one (SettledAnswers.the-variants.Refused x) (SettledAnswers.the-variants.Decided w) e = cc
+settled-says-one (SettledAnswers.the-variants.Refused x) (SettledAnswers.the-variants.Refused y) e =
+    ap SettledAnswers.the-variants.Refused (one-number x y (cc))
+
 -- ---- a scene, a pair, a piece
 
 pub one-scene : (s : Scene) (r r′ : SceneAnswer) → SceneChecked s r → SceneChecked s r′ → r ≡ r′
@@ -45,6 +57,15 @@ pub one-piece : (s : Scene) (kind : Kind) (i j k : ℕ) (r r′ : PairAnswer) �
 one-piece s kind i j k r r′ p q =
     let piece = pieceOf s kind i j k in
     pair-says-one r r′ (one-answer (PieceIs piece) (one-piece-verdict piece) (pieceChecks s kind i j k) (pairSays r) (pairSays r′) p q)
+
+pub one-settled-pair : (s : Scene) (kind : Kind) (i j : ℕ) (r r′ : SettledAnswer) → PairDecided s kind i j r → PairDecided s kind i j r′ → r ≡ r′
+one-settled-pair s kind i j r r′ p q =
+    settled-says-one r r′ (one-answer (PairSettled s kind i j) (one-pair-word s kind i j) (pairChecks s kind i j) (settledSays r) (settledSays r′) p q)
+
+pub one-settled-piece : (s : Scene) (kind : Kind) (i j k : ℕ) (r r′ : SettledAnswer) → PieceDecided s kind i j k r → PieceDecided s kind i j k r′ → r ≡ r′
+one-settled-piece s kind i j k r r′ p q =
+    let piece = pieceOf s kind i j k in
+    settled-says-one r r′ (one-answer (PieceSettled piece) (one-piece-word piece) (pieceChecks s kind i j k) (settledSays r) (settledSays r′) p q)
 
 -- ---- the list, counted, made, and judged
 
@@ -61,7 +82,7 @@ one-listing s o o′ o″ r r′ p q =
     let same : r ≡ r′ = one-count s (listChecks s (roomOf o)) r r′ (p .answer) (q .answer) in
     (same, p .buffer ∙ ap (λ (a : ListAnswer). leaves (listSays a) (entries (pairs s)) o) same ∙ sym (q .buffer))
 
-pub all-judged-one : (s : Scene) (ps : List Pair) (vs ws : List Verdict) → AllJudged s ps vs → AllJudged s ps ws → vs ≡ ws
+pub all-judged-one : (s : Scene) (ps : List Pair) (vs ws : List Settled) → AllJudged s ps vs → AllJudged s ps ws → vs ≡ ws
 unfolding AllJudged
 all-judged-one s [] [] [] h k = refl
 all-judged-one s [] [] (w ∷ ws) h k = absurd k
@@ -69,15 +90,15 @@ all-judged-one s [] (v ∷ vs) ws h k = absurd h
 all-judged-one s (p ∷ ps) [] ws h k = absurd h
 all-judged-one s (p ∷ ps) (v ∷ vs) [] h k = absurd k
 all-judged-one s (p ∷ ps) (v ∷ vs) (w ∷ ws) h k =
-    let e = one-pair-verdict s (p .kind) (p .first) (p .second) v w (h .0) (k .0) in
+    let e = one-pair-word s (p .kind) (p .first) (p .second) v w (h .0) (k .0) in
     let f = all-judged-one s ps vs ws (h .1) (k .1) in
     λ i. e i ∷ f i
 
 pub one-judging : (s : Scene) (o o′ o″ b b′ b″ : List ℕ) (r r′ : ListAnswer) → JudgedScene s o o′ b b′ r → JudgedScene s o o″ b b″ r′ → (r ≡ r′) × (o′ ≡ o″) × (b′ ≡ b″)
 one-judging s o o′ o″ b b′ b″ r r′ p q =
     let same : r ≡ r′ = one-count s (listChecks s (min (roomOf o) (length b))) r r′ (p .answer) (q .answer) in
-    let verdicts : p .verdicts ≡ q .verdicts = all-judged-one s (pairs s) (p .verdicts) (q .verdicts) (p .right) (q .right) in (
+    let words : p .words ≡ q .words = all-judged-one s (pairs s) (p .words) (q .words) (p .right) (q .right) in (
       same,
       p .list ∙ (λ i. leaves (listSays (same i)) (entries (pairs s)) o) ∙ sym (q .list),
-      p .bytes ∙ (λ i. leaves (listSays (same i)) (map byteOf (verdicts i)) b) ∙ sym (q .bytes),
+      p .bytes ∙ (λ i. leaves (listSays (same i)) (map byteOf (words i)) b) ∙ sym (q .bytes),
     )

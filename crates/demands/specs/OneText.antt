@@ -11,7 +11,7 @@ use Rattle.meaning.specs.List.{pairs}
 use Rattle.meaning.specs.Judging.{AllJudged}
 use Rattle.meaning.specs.Text.{Holds, FaultyAt, TextIs, TextRead}
 use Rattle.meaning.specs.Report.{refusedLine, pairLines, totalLine, ReportOf, tooLong, faulty, noRoom, judged, Reported}
-use Rattle.meaning.specs.declared.Verdict.{Verdict}
+use Rattle.meaning.specs.declared.Settled.{Settled}
 use Rattle.meaning.specs.declared.TextAnswer.{TextAnswer}
 use Rattle.scene_text.specs.Unique.{text-unique}
 use Rattle.scene_text.specs.Using.{one-text-answer}
@@ -41,7 +41,7 @@ faulty-one {text} {n} {line} {m} {place} f g =
     let b : line ≡ place = cc in
     λ i. refusedLine (a i) (b i)
 
-judged-one : {s t : Scene} (vs ws : List Verdict) → s ≡ t → AllJudged s (pairs s) vs → AllJudged t (pairs t) ws
+judged-one : {s t : Scene} (vs ws : List Settled) → s ≡ t → AllJudged s (pairs s) vs → AllJudged t (pairs t) ws
     → pairLines (pairs s) vs ++ totalLine vs ≡ pairLines (pairs t) ws ++ totalLine ws
 judged-one {s} {t} vs ws e h k =
     let h′ : AllJudged t (pairs t) vs = rw e at h in

@@ -1,5 +1,5 @@
--- 'Given this on standard input, the report program prints exactly': the scene and the report that document 01 shows, byte by byte. No
--- other report of this text meets the promise.
+-- 'Given this on standard input, the report program prints exactly': the scene and the report that document 01 shows, byte by byte, its
+-- totals now five. No other report of this text meets the promise.
 use Prim.Native.Nat.{ℕ}
 use Prim.Native.Char.{code}
 use Prim.Native.String as Strings
@@ -18,13 +18,13 @@ use Rattle.meaning.specs.Refusals.{Answers, shares}
 use Rattle.meaning.specs.Boxes.{meetOn}
 use Rattle.meaning.specs.List.{pair, pairs}
 use Rattle.meaning.specs.Text.{Entry, vertex, edge, triangle, letterOf, numbersOf, numeral, further, lineOf, Short, late, excess, far, unknown, twice, counted, Sound, coordinatesIn, endsIn, cornersIn, sceneFrom, Holds}
-use Rattle.meaning.specs.Judging.{AllJudged}
+use Rattle.meaning.specs.Judging.{byteOf, AllJudged}
 use Rattle.meaning.specs.Report.{kindWord, verdictWord, pairLines, isOne, howMany, totalLine, ReportOf, judged}
 use Rattle.meaning.specs.declared.Kind.the-variants.{PointTriangle, EdgeEdge}
-use Rattle.meaning.specs.declared.Verdict.the-variants.{Hit}
+use Rattle.meaning.specs.declared.Settled.the-variants.{Hit}
 use Rattle.theory.specs.Reading.{verdictOf, agreeing}
 use Rattle.theory.specs.Computed.{pieceVerdict, pointDifferences, edgeDifferences, startSum, endSum, joined, joinedBelow}
-use Rattle.theory.specs.OneVerdict.{pair-is}
+use Rattle.resting.specs.Decided.{settledBy, pairWord, pair-word-is}
 use Rattle.scene_text.specs.Accepted.{text-accepted}
 use Rattle.demands.specs.OneText.{one-report}
 use Rattle.demands.specs.Table.{at, neg}
@@ -39,7 +39,7 @@ printedText =
     ++ bytesOf "v\t1\t-1\t1\t1\t-1\t-1\n" ++ bytesOf "e\t0\t1\n" ++ bytesOf "e\t3\t4\n" ++ bytesOf "t\t0\t1\t2\n"
 
 abbrev pub printedReport : List ℕ
-printedReport = bytesOf "pt\t3\t0\thit\n" ++ bytesOf "ee\t0\t1\thit\n" ++ bytesOf "total\t2\t2\t0\t0\n"
+printedReport = bytesOf "pt\t3\t0\thit\n" ++ bytesOf "ee\t0\t1\thit\n" ++ bytesOf "total\t2\t2\t0\t0\t0\n"
 
 -- ---- the scene
 
@@ -67,12 +67,12 @@ printed-pairs = refl
 -- ---- the report
 
 both-hit : AllJudged printedScene (pairs printedScene) (Hit ∷ Hit ∷ [])
-unfolding AllJudged records printedScene flatMap coordinatesIn endsIn cornersIn pieceCount pieceVerdict joinedBelow joined pointDifferences edgeDifferences startSum endSum volume verdictOf agreeing
+unfolding AllJudged records printedScene flatMap coordinatesIn endsIn cornersIn pieceCount pieceVerdict joinedBelow joined pointDifferences edgeDifferences startSum endSum volume verdictOf agreeing pairWord settledBy
 both-hit =
-    rw printed-pairs (pair-is printedScene PointTriangle 3 0 Hit .1 refl, (pair-is printedScene EdgeEdge 0 1 Hit .1 refl, tt))
+    rw printed-pairs (pair-word-is printedScene PointTriangle 3 0 Hit .1 refl, (pair-word-is printedScene EdgeEdge 0 1 Hit .1 refl, tt))
 
 pub printed-report : ReportOf printedText printedReport
-unfolding bytesOf pairLines kindWord verdictWord further digits digitsWithin howMany isOne
+unfolding bytesOf pairLines kindWord verdictWord further digits digitsWithin howMany isOne byteOf
 printed-report =
     let lines : pairLines (pairs printedScene) (Hit ∷ Hit ∷ []) ++ totalLine (Hit ∷ Hit ∷ []) ≡ printedReport = rw printed-pairs in
     subst (ReportOf printedText) lines (judged printedScene (Hit ∷ Hit ∷ []) (omega arith) printed-holds (rw printed-pairs (omega arith)) both-hit)

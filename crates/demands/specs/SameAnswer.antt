@@ -9,20 +9,21 @@ use Rattle.whole.specs.Vector.{Vector}
 use Rattle.whole.specs.VectorLaws.{Matrix}
 use Rattle.meaning.specs.Scene.{Scene, Accepted}
 use Rattle.meaning.specs.Pieces.{pieceCount}
+use Rattle.meaning.specs.Resting.{PairDecided, PieceDecided}
 use Rattle.meaning.specs.Refusals.{Outcome, notThere, shares, PairJudged, PieceJudged}
 use Rattle.meaning.specs.declared.Kind.{Kind}
 use Rattle.meaning.specs.declared.Kind.the-variants.{PointTriangle, EdgeEdge}
-use Rattle.meaning.specs.declared.Verdict.{Verdict}
 use Rattle.meaning.specs.declared.PairAnswer.{PairAnswer}
-use Rattle.theory.specs.EitherOrder.{answer-either-order, piece-answer-either-order}
+use Rattle.meaning.specs.declared.SettledAnswer.{SettledAnswer}
+use Rattle.theory.specs.EitherOrder.{answer-either-order, piece-answer-either-order, settled-either-order, piece-settled-either-order}
 use Rattle.theory.specs.Moved.{Moves}
 use Rattle.scenes.specs.Below.{or-left}
 use Rattle.scenes.specs.Speaking.{pair-says-one}
 use Rattle.demands.specs.Deciding.{holds-or-not}
-use Rattle.demands.specs.Demand1.{AskedTable, demand1-pair, demand1-piece}
+use Rattle.demands.specs.Demand1.{AskedTable, demand1-pair, demand1-piece, demand1-settled-pair, demand1-settled-piece}
 use Rattle.demands.specs.Demand2.{ExactlyOne, demand2-verdicts}
 use Rattle.demands.specs.Demand3.{demand3}
-use Rattle.demands.specs.OneAnswer.{one-pair, one-piece}
+use Rattle.demands.specs.OneAnswer.{one-pair, one-piece, one-settled-pair, one-settled-piece, settled-says-one}
 
 -- ---- in either order
 
@@ -32,11 +33,17 @@ pair-in-either-order s i j r r′ p q = one-pair s EdgeEdge j i r r′ (answer-e
 pub piece-in-either-order : (s : Scene) (i j k : ℕ) (r r′ : PairAnswer) → PieceJudged s EdgeEdge i j k r → PieceJudged s EdgeEdge j i k r′ → r ≡ r′
 piece-in-either-order s i j k r r′ p q = one-piece s EdgeEdge j i k r r′ (piece-answer-either-order s i j k r p) q
 
+pub word-in-either-order : (s : Scene) (i j : ℕ) (r r′ : SettledAnswer) → PairDecided s EdgeEdge i j r → PairDecided s EdgeEdge j i r′ → r ≡ r′
+word-in-either-order s i j r r′ p q = one-settled-pair s EdgeEdge j i r r′ (settled-either-order s i j r p) q
+
+pub piece-word-in-either-order : (s : Scene) (i j k : ℕ) (r r′ : SettledAnswer) → PieceDecided s EdgeEdge i j k r → PieceDecided s EdgeEdge j i k r′ → r ≡ r′
+piece-word-in-either-order s i j k r r′ p q = one-settled-piece s EdgeEdge j i k r r′ (piece-settled-either-order s i j k r p) q
+
 -- ---- of two accepted scenes
 
-module _ {s t : Scene} {missing shared other : Bool} {Is Be : Verdict → Type 0} {o o′ : Outcome Verdict} (a : Accepted s) (b : Accepted t)
+module _ {W : Type 0} {s t : Scene} {missing shared other : Bool} {Is Be : W → Type 0} {o o′ : Outcome W} (a : Accepted s) (b : Accepted t)
     (p : AskedTable s missing shared Is o) (q : AskedTable t missing other Be o′) where
-  pub answered-alike : (missing ≡ false → other ≡ shared) → ExactlyOne Is → (missing ≡ false → shared ≡ false → (v : Verdict) → Is v ↔ Be v) → o ≡ o′
+  pub answered-alike : (missing ≡ false → other ≡ shared) → ExactlyOne Is → (missing ≡ false → shared ≡ false → (v : W) → Is v ↔ Be v) → o ≡ o′
   answered-alike shares one same =
       holds-or-not missing
       (λ m. p .no5 .1 (a, m) ∙ sym (q .no5 .1 (b, m)))
@@ -73,3 +80,16 @@ module _ {m : Matrix} {d e : Vector} {s t : Scene} (h : Moves m d e s t) where
         (answered-alike a b (demand1-piece s kind i j k r p) (rw (there-alike kind i j) at (demand1-piece t kind i j k r′ q))
         (λ n. shares-alike kind i j) (demand2-verdicts s kind i j .pieces k .one)
         (λ n f. demand3 h a b kind i j (or-left (notThere s kind i j) (leb (pieceCount kind) k) n) f .pieces k))
+
+    pub word-kept : (r r′ : SettledAnswer) → PairDecided s kind i j r → PairDecided t kind i j r′ → r ≡ r′
+    word-kept r r′ p q =
+        settled-says-one r r′
+        (answered-alike a b (demand1-settled-pair s kind i j r p) (rw (there-alike kind i j) at (demand1-settled-pair t kind i j r′ q))
+        (λ n. shares-alike kind i j) (demand2-verdicts s kind i j .pair .oneWord) (λ n f. demand3 h a b kind i j n f .pairWord))
+
+    pub piece-word-kept : (k : ℕ) (r r′ : SettledAnswer) → PieceDecided s kind i j k r → PieceDecided t kind i j k r′ → r ≡ r′
+    piece-word-kept k r r′ p q =
+        settled-says-one r r′
+        (answered-alike a b (demand1-settled-piece s kind i j k r p) (rw (there-alike kind i j) at (demand1-settled-piece t kind i j k r′ q))
+        (λ n. shares-alike kind i j) (demand2-verdicts s kind i j .pieces k .oneWord)
+        (λ n f. demand3 h a b kind i j (or-left (notThere s kind i j) (leb (pieceCount kind) k) n) f .pieceWords k))

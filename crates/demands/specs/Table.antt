@@ -1,4 +1,4 @@
--- 'Shown cases' of document 01: its table, row by row, and what it is for a row to be right.
+-- 'Shown cases' of document 01: its table, row by row, and what it is for a row to be right. Cloth at rest makes case 6 apart and case 7 touch.
 use Prim.Native.Nat.{ℕ, _-_, _<_}
 use mathlib.Core.Bool.{Bool, true, false}
 use mathlib.Core.List.{List, [], _∷_, _++_}
@@ -9,21 +9,23 @@ use Rattle.whole.specs.Vector.{Vector}
 use Rattle.meaning.specs.Scene.{Scene, sceneOf, Accepted}
 use Rattle.meaning.specs.Pieces.{pieceOf, pieceCount}
 use Rattle.meaning.specs.Verdicts.{PieceIs}
+use Rattle.meaning.specs.Resting.{PieceSettled}
 use Rattle.meaning.specs.Refusals.{notThere, shares}
 use Rattle.meaning.specs.Text.{coordinates}
 use Rattle.meaning.specs.declared.Kind.{Kind}
 use Rattle.meaning.specs.declared.Kind.the-variants.{PointTriangle, EdgeEdge}
-use Rattle.meaning.specs.declared.Verdict.{Verdict}
-use Rattle.meaning.specs.declared.Verdict.the-variants.{Hit, Miss, Degenerate}
+use Rattle.meaning.specs.declared.Settled.{Settled}
+use Rattle.meaning.specs.declared.Settled.the-variants.{Hit, Miss, Touch, Apart}
+use Rattle.resting.specs.Decided.{verdictOfWord}
 use Rattle.demands.specs.Standing.{Stands}
 
--- a row: the pair, the verdicts of its pieces, and whether it stands in the list
+-- a row: the pair, the words of its pieces, and whether it stands in the list
 pub record Case : Type 0 where
   pub scene : Scene
   pub kind : Kind
   pub first : ℕ
   pub second : ℕ
-  pub pieces : List Verdict
+  pub pieces : List Settled
   pub inList : Bool
 
 -- ---- the scenes
@@ -38,7 +40,7 @@ abbrev atRest : Vector → List ℤ
 atRest p = coordinates p p
 
 -- T is the resting triangle (0,0,0), (4,0,0), (0,4,0), vertices 0, 1, 2; the point is vertex 3
-abbrev pub pointCase : Vector → Vector → List Verdict → Bool → Case
+abbrev pub pointCase : Vector → Vector → List Settled → Bool → Case
 pointCase p q pieces inList =
     record {
       scene = sceneOf
@@ -52,7 +54,7 @@ pointCase p q pieces inList =
     }
 
 -- E is the resting edge (-2,0,0), (2,0,0), vertices 0, 1; the other edge, c d, is 2, 3; E is edge 0 and c d edge 1; z from 1 to -1
-abbrev pub edgeCase : (ℤ → Vector) → (ℤ → Vector) → List Verdict → Bool → Case
+abbrev pub edgeCase : (ℤ → Vector) → (ℤ → Vector) → List Settled → Bool → Case
 edgeCase c d pieces inList =
     record {
       scene = sceneOf
@@ -76,8 +78,8 @@ cases =
     ∷ pointCase (at (pos 1) (pos 1) (pos 1)) (at (pos 1) (pos 1) (pos 0)) (Miss ∷ Miss ∷ Hit ∷ []) true
     ∷ pointCase (at (pos 1) (pos 1) (pos 0)) (at (pos 1) (pos 1) (pos 1)) (Hit ∷ Miss ∷ Miss ∷ []) true
     ∷ pointCase (at (pos 5) (pos 5) (pos 1)) (at (pos 5) (pos 5) (neg 1)) (Miss ∷ Miss ∷ Miss ∷ []) false
-    ∷ pointCase (at (pos 1) (pos 1) (pos 1)) (at (pos 1) (pos 1) (pos 1)) (Degenerate ∷ Degenerate ∷ Degenerate ∷ []) false
-    ∷ pointCase (at (pos 1) (pos 1) (pos 0)) (at (pos 2) (pos 1) (pos 0)) (Degenerate ∷ Degenerate ∷ Degenerate ∷ []) true
+    ∷ pointCase (at (pos 1) (pos 1) (pos 1)) (at (pos 1) (pos 1) (pos 1)) (Apart ∷ Apart ∷ Apart ∷ []) false
+    ∷ pointCase (at (pos 1) (pos 1) (pos 0)) (at (pos 2) (pos 1) (pos 0)) (Touch ∷ Touch ∷ Touch ∷ []) true
     ∷ pointCase (at (pos 4) (pos 0) (pos 1)) (at (pos 4) (pos 0) (neg 1)) (Miss ∷ Hit ∷ Miss ∷ []) true
     ∷ edgeCase (at (pos 0) (neg 2)) (at (pos 0) (pos 2)) (Hit ∷ Hit ∷ Hit ∷ Hit ∷ []) true
     ∷ edgeCase (at (pos 0) (pos 3)) (at (pos 3) (pos 0)) (Miss ∷ Miss ∷ Miss ∷ Miss ∷ []) true
@@ -95,11 +97,14 @@ unfoldable pub StandsIf : Bool → Scene → Kind → ℕ → ℕ → Type 0
 StandsIf true s kind i j = Stands s kind i j
 StandsIf false s kind i j = ¬ Stands s kind i j
 
--- the scene is accepted, the pair is there and shares no vertex; each piece has its verdict; the pair stands in the list or does not
+-- the scene is accepted, the pair is there and shares no vertex; each piece has its word, and the verdict that goes with it; the pair stands in
+-- the list or does not
 pub record IsRight (c : Case) : Type 0 where
   pub accepted : Accepted (c .scene)
   pub there : notThere (c .scene) (c .kind) (c .first) (c .second) ≡ false
   pub apart : shares (c .scene) (c .kind) (c .first) (c .second) ≡ false
   pub asMany : length (c .pieces) ≡ pieceCount (c .kind)
-  pub each : (k : ℕ) → k < pieceCount (c .kind) → PieceIs (pieceOf (c .scene) (c .kind) (c .first) (c .second) k) (getD (c .pieces) k Miss)
+  pub each : (k : ℕ) → k < pieceCount (c .kind) → PieceSettled (pieceOf (c .scene) (c .kind) (c .first) (c .second) k) (getD (c .pieces) k Miss)
+  pub verdicts : (k : ℕ) → k < pieceCount (c .kind)
+      → PieceIs (pieceOf (c .scene) (c .kind) (c .first) (c .second) k) (verdictOfWord (getD (c .pieces) k Miss))
   pub list : StandsIf (c .inList) (c .scene) (c .kind) (c .first) (c .second)

@@ -33,7 +33,7 @@ listing-unchanged s o o′ r p n c e = p .buffer ∙ leaves-refused (listSays r)
 pub judging-unchanged : (s : Scene) (o o′ b b′ : List ℕ) (r : ListAnswer) → JudgedScene s o o′ b b′ r → (n c : ℕ) → listSays r ≡ refused n c → (o′ ≡ o) × (b′ ≡ b)
 judging-unchanged s o o′ b b′ r p n c e = (
   p .list ∙ leaves-refused (listSays r) (entries (pairs s)) o n c e,
-  p .bytes ∙ leaves-refused (listSays r) (map byteOf (p .verdicts)) b n c e,
+  p .bytes ∙ leaves-refused (listSays r) (map byteOf (p .words)) b n c e,
 )
 
 pub reading-unchanged : (text : List ℕ) (lent left : Scene) (r : TextAnswer) → TextRead text lent left r → (n line : ℕ) → textSays r ≡ refused n line → left ≡ lent

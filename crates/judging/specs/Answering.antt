@@ -15,7 +15,7 @@ use Rattle.meaning.specs.declared.ListAnswer as ListAnswers
 use Rattle.meaning.specs.declared.ListAnswer.{ListAnswer}
 use Rattle.scenes.specs.Accepting.{after-accepted, after-refused}
 use Rattle.listing.specs.Answering.{roomChecks, IsCount, ListedIn}
-use Rattle.judging.specs.Listed.{verdictsOf, bytesOf, all-judged, ListStands, noPair}
+use Rattle.judging.specs.Listed.{wordsOf, bytesOf, all-judged, ListStands, noPair}
 use Rattle.meaning.specs.declared.Made.{Made}
 use Rattle.listing.specs.Entries.{written-at, written-room}
 use Rattle.scenes.specs.Answering.{is-given}
@@ -34,7 +34,7 @@ judged-refused s x o b p e =
     record {
       answer = after-refused s (roomChecks s (min (roomOf o) (length b))) (IsCount s) e p;
       list = refl;
-      verdicts = verdictsOf s (pairs s);
+      words = wordsOf s (pairs s);
       right = all-judged s (pairs s);
       bytes = refl;
     }
@@ -45,7 +45,7 @@ judged-accepted s {o} {o′} {b} {b′} {r} a j =
     record {
       answer = after-accepted s (roomChecks s (min (roomOf o) (length b))) (IsCount s) (listSays r) a (j .list .answer);
       list = j .list .buffer;
-      verdicts = verdictsOf s (pairs s);
+      words = wordsOf s (pairs s);
       right = all-judged s (pairs s);
       bytes = j .bytes;
     }

@@ -1,3 +1,3 @@
--- The verdicts of a list of pairs, and their bytes.
+-- The words of a list of pairs, and their bytes.
 pub mod Listed
 pub mod Answering

@@ -1,4 +1,4 @@
--- The verdicts of listed pairs, as code finds them one by one.
+-- The words of listed pairs, as code finds them one by one.
 use Prim.Native.Nat.{ℕ, zero, suc, _≤_, _<_}
 use mathlib.Core.Bool.{cond, false}
 use mathlib.Core.List.{List, [], _∷_, map}
@@ -10,39 +10,38 @@ use lib.ListN.{length, getD, length-map}
 use Rattle.sequences.specs.Rising.{at-place}
 use Rattle.meaning.specs.Scene.{Scene}
 use Rattle.meaning.specs.Refusals.{notThere}
-use Rattle.meaning.specs.Verdicts.{PairIs}
+use Rattle.meaning.specs.Resting.{PairSettled}
 use Rattle.meaning.specs.List.{Pair, pair, pairs, entries, roomOf}
 use Rattle.meaning.specs.Judging.{byteOf, AllJudged}
 use Rattle.meaning.specs.declared.Kind.the-variants.{PointTriangle}
-use Rattle.meaning.specs.declared.Verdict.{Verdict}
-use Rattle.meaning.specs.declared.Verdict.the-variants.{Hit, Miss, Degenerate}
-use Rattle.theory.specs.Computed.{pairVerdict}
-use Rattle.theory.specs.OneVerdict.{pair-is, judged-pair}
+use Rattle.meaning.specs.declared.Settled.{Settled}
+use Rattle.meaning.specs.declared.Settled.the-variants.{Hit, Miss, Touch, Apart}
+use Rattle.resting.specs.Decided.{pairWord, pair-word-is, settled-pair}
 use Rattle.listing.specs.InOrder.{ToList, list-is}
 use Rattle.listing.specs.Entries.{pairAt}
 
-abbrev pub verdictOfPair : Scene → Pair → Verdict
-verdictOfPair s p = pairVerdict s (p .kind) (p .first) (p .second)
+abbrev pub wordOfPair : Scene → Pair → Settled
+wordOfPair s p = pairWord s (p .kind) (p .first) (p .second)
 
-abbrev pub verdictsOf : Scene → List Pair → List Verdict
-verdictsOf s ps = map (verdictOfPair s) ps
+abbrev pub wordsOf : Scene → List Pair → List Settled
+wordsOf s ps = map (wordOfPair s) ps
 
 abbrev pub bytesOf : Scene → List Pair → List ℕ
-bytesOf s ps = map byteOf (verdictsOf s ps)
+bytesOf s ps = map byteOf (wordsOf s ps)
 
-pub all-judged : (s : Scene) (ps : List Pair) → AllJudged s ps (verdictsOf s ps)
+pub all-judged : (s : Scene) (ps : List Pair) → AllJudged s ps (wordsOf s ps)
 unfolding AllJudged
 all-judged s [] = tt
-all-judged s (p ∷ ps) = (judged-pair s (p .kind) (p .first) (p .second), all-judged s ps)
+all-judged s (p ∷ ps) = (settled-pair s (p .kind) (p .first) (p .second), all-judged s ps)
 
 pub bytes-length : (s : Scene) (ps : List Pair) → length (bytesOf s ps) ≡ length ps
-bytes-length s ps = length-map (verdictsOf s ps) byteOf ∙ length-map ps (verdictOfPair s)
+bytes-length s ps = length-map (wordsOf s ps) byteOf ∙ length-map ps (wordOfPair s)
 
 -- the pair that is read where none stands
 abbrev pub noPair : Pair
 noPair = pair PointTriangle 0 0
 
-pub bytes-at : (s : Scene) (ps : List Pair) (k : ℕ) → k < length ps → getD (bytesOf s ps) k 0 ≡ byteOf (verdictOfPair s (getD ps k noPair))
+pub bytes-at : (s : Scene) (ps : List Pair) (k : ℕ) → k < length ps → getD (bytesOf s ps) k 0 ≡ byteOf (wordOfPair s (getD ps k noPair))
 bytes-at s [] k h = absurd (not-suc-le-zero h)
 bytes-at s (p ∷ ps) zero h = refl
 bytes-at s (p ∷ ps) (suc k) h = bytes-at s ps k (le-of-suc-le-suc h)
@@ -67,24 +66,26 @@ module _ {s : Scene} {l : List ℕ} (stands : ListStands s l) (k : ℕ) (h : k <
   entry-there =
       subst (λ (q : Pair). notThere s (q .kind) (q .first) (q .second) ≡ false) (sym same-pair) (listed-there s k h)
 
-  pub entry-byte : (v : Verdict) → PairIs s (p .kind) (p .first) (p .second) v → byteOf v ≡ getD (bytesOf s (pairs s)) k 0
-  entry-byte v is =
-      ap byteOf (pair-is s (p .kind) (p .first) (p .second) v .0 is ∙ ap (verdictOfPair s) same-pair)
+  pub entry-byte : (w : Settled) → PairSettled s (p .kind) (p .first) (p .second) w → byteOf w ≡ getD (bytesOf s (pairs s)) k 0
+  entry-byte w is =
+      ap byteOf (pair-word-is s (p .kind) (p .first) (p .second) w .0 is ∙ ap (wordOfPair s) same-pair)
       ∙ sym (bytes-at s (pairs s) k h)
 
--- ---- bytes and verdicts
+-- ---- bytes and words
 
-unfoldable pub verdictOfByte : ℕ → Verdict
-verdictOfByte b = cond (eqb b 0) Hit (cond (eqb b 1) Miss Degenerate)
+unfoldable pub wordOfByte : ℕ → Settled
+wordOfByte b = cond (eqb b 0) Hit (cond (eqb b 1) Miss (cond (eqb b 3) Touch Apart))
 
-pub byte-back : (v : Verdict) → verdictOfByte (byteOf v) ≡ v
-unfolding verdictOfByte byteOf
+pub byte-back : (w : Settled) → wordOfByte (byteOf w) ≡ w
+unfolding wordOfByte byteOf
 byte-back Hit = refl
 byte-back Miss = refl
-byte-back Degenerate = refl
+byte-back Touch = refl
+byte-back Apart = refl
 
-pub byte-small : (v : Verdict) → byteOf v ≤ 2
+pub byte-small : (w : Settled) → byteOf w ≤ 4
 unfolding byteOf
 byte-small Hit = omega arith
 byte-small Miss = omega arith
-byte-small Degenerate = omega arith
+byte-small Touch = omega arith
+byte-small Apart = omega arith

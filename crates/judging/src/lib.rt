@@ -1,4 +1,4 @@
-// List a scene and judge each listed pair, in one call that checks the scene once.
+// List a scene and judge each listed pair in the four words, in one call that checks the scene once.
 
 ghost use Prim.Native.Nat.{_≤_, _<_, min};
 ghost use mathlib.Core.Path.{_≡_};
@@ -7,33 +7,38 @@ ghost use Rattle.sequences.specs.Wrote.{written};
 ghost use Rattle.meaning.specs.Scene.{sceneOf, Accepted};
 ghost use Rattle.meaning.specs.List.{pairs, roomOf};
 ghost use Rattle.meaning.specs.Judging.{byteOf, JudgedScene};
-ghost use Rattle.judging.specs.Listed.{bytesOf, ListStands, verdictOfByte};
+ghost use Rattle.judging.specs.Listed.{bytesOf, ListStands, wordOfByte};
 ghost use Rattle.judging.specs.Answering.{JudgedIn};
 use meaning::ListAnswer;
 use meaning::SceneAnswer;
-use meaning::Verdict;
+use meaning::Settled;
 
-// A verdict as the byte that stands for it in a lent buffer, and back.
-pub fn byte_of(v: Verdict) -> u8
-    ensures { λ r. ⌜ r ≡ byteOf v ⌝ }
+// A word as the byte that stands for it in a lent buffer, and back. No byte is 2, the number of degenerate: a number never stands for
+// two words.
+pub fn byte_of(w: Settled) -> u8
+    ensures { λ r. ⌜ r ≡ byteOf w ⌝ }
 {
-    match v {
-        Verdict::Hit => 0,
-        Verdict::Miss => 1,
-        Verdict::Degenerate => 2,
+    match w {
+        Settled::Hit => 0,
+        Settled::Miss => 1,
+        Settled::Touch => 3,
+        Settled::Apart => 4,
     }
 }
 
-pub fn verdict_of(byte: u8) -> Verdict
-    ensures { λ r. ⌜ r ≡ verdictOfByte byte ⌝ }
+pub fn word_of(byte: u8) -> Settled
+    ensures { λ r. ⌜ r ≡ wordOfByte byte ⌝ }
 {
     if byte == 0 {
-        return Verdict::Hit;
+        return Settled::Hit;
     }
     if byte == 1 {
-        return Verdict::Miss;
+        return Settled::Miss;
     }
-    Verdict::Degenerate
+    if byte == 3 {
+        return Settled::Touch;
+    }
+    Settled::Apart
 }
 
 // The k-th entry of the list, judged.
@@ -44,7 +49,7 @@ fn judge_entry(positions: &[i32], edges: &[u16], triangles: &[u16], list: &[u16]
     let kind = listing::entries::entry_kind(list, k);
     let first = listing::entries::entry_first(list, k);
     let second = listing::entries::entry_second(list, k);
-    byte_of(verdicts::accepted::pair(positions, edges, triangles, kind, first, second))
+    byte_of(settling::accepted::pair(positions, edges, triangles, kind, first, second))
 }
 
 // Each entry in turn.

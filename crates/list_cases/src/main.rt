@@ -70,7 +70,7 @@ fn show_answer(answer: ListAnswer) {
         }
         ListAnswer::Refused(refusal, needed) => {
             io::write_all(libc::STDOUT_FILENO, b"refused\t");
-            io::print_decimal(libc::STDOUT_FILENO, summary::number_of(refusal));
+            io::print_decimal(libc::STDOUT_FILENO, wording::number_of(refusal));
             io::write_all(libc::STDOUT_FILENO, b"\t");
             io::print_decimal(libc::STDOUT_FILENO, needed as u64);
         }

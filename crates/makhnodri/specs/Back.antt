@@ -5,27 +5,34 @@ use mathlib.Core.Bool.{cond}
 use mathlib.Core.List.{List}
 use mathlib.Core.Path.{_≡_, refl, sym, ap, _∙_}
 use native.Mathlib.Omega.{arith}
-use lib.Dec.{ltb}
+use lib.Dec.{ltb, eqb}
 use lib.ListN.{getD}
 use borrow.Author.Tests.{lt-ltb, le-ltb}
 use Rattle.meaning.specs.Refusals.{Outcome, given, refused, sceneSays, pairSays}
 use Rattle.meaning.specs.List.{listSays}
+use Rattle.meaning.specs.Resting.{settledSays}
 use Rattle.meaning.specs.Judging.{byteOf}
 use Rattle.meaning.specs.Text.{textSays}
 use Rattle.meaning.specs.declared.SceneCounts.{SceneCounts}
+use Rattle.meaning.specs.declared.Verdict.{Verdict}
+use Rattle.meaning.specs.declared.Verdict.the-variants.{Hit, Miss, Degenerate}
 use Rattle.meaning.specs.declared.SceneAnswer as SceneAnswers
 use Rattle.meaning.specs.declared.SceneAnswer.{SceneAnswer}
+use Rattle.meaning.specs.declared.Settled as Settleds
+use Rattle.meaning.specs.declared.Settled.{Settled}
 use Rattle.meaning.specs.declared.PairAnswer as PairAnswers
 use Rattle.meaning.specs.declared.PairAnswer.{PairAnswer}
+use Rattle.meaning.specs.declared.SettledAnswer as SettledAnswers
+use Rattle.meaning.specs.declared.SettledAnswer.{SettledAnswer}
 use Rattle.meaning.specs.declared.ListAnswer as ListAnswers
 use Rattle.meaning.specs.declared.ListAnswer.{ListAnswer}
 use Rattle.meaning.specs.declared.TextAnswer as TextAnswers
 use Rattle.meaning.specs.declared.TextAnswer.{TextAnswer}
 use Rattle.scenes.specs.Speaking.{scene-says-one, pair-says-one}
-use Rattle.judging.specs.Listed.{verdictOfByte, byte-back, byte-small}
-use Rattle.demands.specs.OneAnswer.{list-says-one}
+use Rattle.judging.specs.Listed.{wordOfByte, byte-back, byte-small}
+use Rattle.demands.specs.OneAnswer.{settled-says-one, list-says-one}
 use Rattle.scene_text.specs.Using.{text-says-one}
-use Rattle.makhnodri.specs.Numbers.{upper, numberFor, sceneNumber, pairNumber, listNumber, textNumber, countsLeft}
+use Rattle.makhnodri.specs.Numbers.{upper, numberFor, verdictNumber, sceneNumber, pairNumber, settledNumber, listNumber, textNumber, countsLeft}
 use Rattle.makhnodri.specs.Small.{toldIn, lineIn, number-in-table}
 
 -- what is heard in a number, where a value is known by its own number
@@ -58,13 +65,52 @@ scene-heard a = heard-number (λ t. 0) noMore (sceneSays a) (clear a)
     clear SceneAnswers.the-variants.Accepted = (omega arith, refl)
     clear (SceneAnswers.the-variants.Refused x) = (number-in-table x .some, omega arith)
 
-pub pair-heard : (a : PairAnswer) → heard verdictOfByte (pairNumber a) ≡ pairSays a
+unfoldable pub verdictNumbered : ℕ → Verdict
+verdictNumbered n = cond (eqb n 0) Hit (cond (eqb n 1) Miss Degenerate)
+
+verdict-back : (v : Verdict) → verdictNumbered (verdictNumber v) ≡ v
+unfolding verdictNumbered verdictNumber
+verdict-back Hit = refl
+verdict-back Miss = refl
+verdict-back Degenerate = refl
+
+verdict-small : (v : Verdict) → verdictNumber v < upper
+unfolding verdictNumber
+verdict-small Hit = omega arith
+verdict-small Miss = omega arith
+verdict-small Degenerate = omega arith
+
+pub pair-heard : (a : PairAnswer) → heard verdictNumbered (pairNumber a) ≡ pairSays a
 unfolding pairNumber Clear pairSays
-pair-heard a = heard-number byteOf verdictOfByte (pairSays a) (clear a)
+pair-heard a = heard-number verdictNumber verdictNumbered (pairSays a) (clear a)
   where
-    clear : (a : PairAnswer) → Clear byteOf verdictOfByte (pairSays a)
-    clear (PairAnswers.the-variants.Judged v) = (omega (arith, byte-small v), byte-back v)
+    clear : (a : PairAnswer) → Clear verdictNumber verdictNumbered (pairSays a)
+    clear (PairAnswers.the-variants.Judged v) = (verdict-small v, verdict-back v)
     clear (PairAnswers.the-variants.Refused x) = (number-in-table x .some, omega arith)
+
+pub settled-heard : (a : SettledAnswer) → heard wordOfByte (settledNumber a) ≡ settledSays a
+unfolding settledNumber Clear settledSays
+settled-heard a = heard-number byteOf wordOfByte (settledSays a) (clear a)
+  where
+    clear : (a : SettledAnswer) → Clear byteOf wordOfByte (settledSays a)
+    clear (SettledAnswers.the-variants.Decided w) = (omega (arith, byte-small w), byte-back w)
+    clear (SettledAnswers.the-variants.Refused x) = (number-in-table x .some, omega arith)
+
+-- three words and four have hit and miss in common, and no word has degenerate's number: no number stands for two words
+pub same-hit : byteOf Settleds.the-variants.Hit ≡ verdictNumber Hit
+unfolding byteOf verdictNumber
+same-hit = refl
+
+pub same-miss : byteOf Settleds.the-variants.Miss ≡ verdictNumber Miss
+unfolding byteOf verdictNumber
+same-miss = refl
+
+pub never-degenerate : (w : Settled) → ¬ (byteOf w ≡ verdictNumber Degenerate)
+unfolding byteOf verdictNumber
+never-degenerate Settleds.the-variants.Hit e = omega (arith, e)
+never-degenerate Settleds.the-variants.Miss e = omega (arith, e)
+never-degenerate Settleds.the-variants.Touch e = omega (arith, e)
+never-degenerate Settleds.the-variants.Apart e = omega (arith, e)
 
 abbrev pub count : ℕ → ℕ
 count n = n
@@ -95,7 +141,10 @@ pub one-scene-number : (a b : SceneAnswer) → sceneNumber a ≡ sceneNumber b �
 one-scene-number a b e = scene-says-one a b (sym (scene-heard a) ∙ ap (heard noMore) e ∙ scene-heard b)
 
 pub one-pair-number : (a b : PairAnswer) → pairNumber a ≡ pairNumber b → a ≡ b
-one-pair-number a b e = pair-says-one a b (sym (pair-heard a) ∙ ap (heard verdictOfByte) e ∙ pair-heard b)
+one-pair-number a b e = pair-says-one a b (sym (pair-heard a) ∙ ap (heard verdictNumbered) e ∙ pair-heard b)
+
+pub one-settled-number : (a b : SettledAnswer) → settledNumber a ≡ settledNumber b → a ≡ b
+one-settled-number a b e = settled-says-one a b (sym (settled-heard a) ∙ ap (heard wordOfByte) e ∙ settled-heard b)
 
 pub one-list-number : (a b : ListAnswer) → toldIn (listSays a) < upper → toldIn (listSays b) < upper → listNumber a ≡ listNumber b → a ≡ b
 one-list-number a b h k e = list-says-one a b (sym (list-heard a h) ∙ ap (heard count) e ∙ list-heard b k)

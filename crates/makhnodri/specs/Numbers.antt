@@ -5,10 +5,14 @@ use mathlib.Core.Path.{_≡_}
 use Rattle.meaning.specs.Scene.{Scene}
 use Rattle.meaning.specs.Refusals.{Outcome, given, refused, sceneSays, pairSays}
 use Rattle.meaning.specs.List.{listSays}
+use Rattle.meaning.specs.Resting.{settledSays}
 use Rattle.meaning.specs.Judging.{byteOf}
 use Rattle.meaning.specs.Text.{textSays, TextRead}
 use Rattle.meaning.specs.declared.SceneAnswer.{SceneAnswer}
+use Rattle.meaning.specs.declared.Verdict.{Verdict}
+use Rattle.meaning.specs.declared.Verdict.the-variants.{Hit, Miss, Degenerate}
 use Rattle.meaning.specs.declared.PairAnswer.{PairAnswer}
+use Rattle.meaning.specs.declared.SettledAnswer.{SettledAnswer}
 use Rattle.meaning.specs.declared.ListAnswer.{ListAnswer}
 use Rattle.meaning.specs.declared.TextAnswer.{TextAnswer}
 use Rattle.meaning.specs.declared.TextAnswer.the-variants.{Read, Refused}
@@ -21,12 +25,22 @@ unfoldable pub numberFor : {A : Type 0} → (A → ℕ) → Outcome A → ℕ
 numberFor value (given a) = value a
 numberFor value (refused n c) = n * upper + c
 
--- 0 for an accepted scene; 0, 1, 2 for hit, miss, degenerate; the count of listed pairs; 0 for a text that was read
+-- the three-case verdict's own numbers. Hit and miss are those of the four words, whose touch and apart are 3 and 4: no number stands
+-- for two words
+unfoldable pub verdictNumber : Verdict → ℕ
+verdictNumber Hit = 0
+verdictNumber Miss = 1
+verdictNumber Degenerate = 2
+
+-- 0 for an accepted scene; a verdict's number; a word's number; the count of listed pairs; 0 for a text that was read
 unfoldable pub sceneNumber : SceneAnswer → ℕ
 sceneNumber r = numberFor (λ t. 0) (sceneSays r)
 
 unfoldable pub pairNumber : PairAnswer → ℕ
-pairNumber r = numberFor byteOf (pairSays r)
+pairNumber r = numberFor verdictNumber (pairSays r)
+
+unfoldable pub settledNumber : SettledAnswer → ℕ
+settledNumber r = numberFor byteOf (settledSays r)
 
 unfoldable pub listNumber : ListAnswer → ℕ
 listNumber r = numberFor (λ n. n) (listSays r)

@@ -7,18 +7,19 @@ use Rattle.meaning.specs.Scene.{Scene}
 use Rattle.meaning.specs.Pieces.{pieceOf}
 use Rattle.meaning.specs.Verdicts.{PieceIs, PairIs}
 use Rattle.meaning.specs.Refusals.{Outcome, Answers, sceneChecks, pairChecks, pieceChecks, SceneChecked, PairJudged, PieceJudged}
+use Rattle.meaning.specs.Resting.{PieceSettled, PairSettled, PairDecided, PieceDecided}
 use Rattle.meaning.specs.List.{pairs, entries, roomOf, listSays, listChecks, leaves, Counted, Listing}
 use Rattle.meaning.specs.Judging.{byteOf, JudgedScene}
 use Rattle.meaning.specs.Text.{textSays, TextRead}
 use Rattle.meaning.specs.declared.Kind.{Kind}
 use Rattle.meaning.specs.declared.TextAnswer.{TextAnswer}
-use Rattle.judging.specs.Listed.{verdictOfByte}
-use Rattle.demands.specs.OneAnswer.{one-scene, one-pair, one-piece, one-counted, one-listing, one-judging}
+use Rattle.judging.specs.Listed.{wordOfByte}
+use Rattle.demands.specs.OneAnswer.{one-scene, one-pair, one-piece, one-settled-pair, one-settled-piece, one-counted, one-listing, one-judging}
 use Rattle.demands.specs.OneText.{one-reading}
 use Rattle.demands.specs.TextTable.{TextRows, demand1-text}
-use Rattle.makhnodri.specs.Numbers.{sceneNumber, pairNumber, listNumber, textNumber, countsLeft, ReadInto, Told}
+use Rattle.makhnodri.specs.Numbers.{sceneNumber, pairNumber, settledNumber, listNumber, textNumber, countsLeft, ReadInto, Told}
 use Rattle.makhnodri.specs.Small.{counted-small, listing-small, judging-small, line-small}
-use Rattle.makhnodri.specs.Back.{heard, noMore, count, countsIn, scene-heard, pair-heard, list-heard, text-heard}
+use Rattle.makhnodri.specs.Back.{heard, noMore, count, countsIn, verdictNumbered, scene-heard, pair-heard, settled-heard, list-heard, text-heard}
 
 -- one right answer, one number
 one-number : {A : Type 0} {number : A → ℕ} {R S : A → Type 0} {r r′ : ℕ} (p : Told number R r) (q : Told number S r′) → p .answer ≡ q .answer → r ≡ r′
@@ -32,6 +33,12 @@ one-pair-told s kind i j r r′ p q = one-number p q (one-pair s kind i j (p .an
 
 pub one-piece-told : (s : Scene) (kind : Kind) (i j k r r′ : ℕ) → Told pairNumber (PieceJudged s kind i j k) r → Told pairNumber (PieceJudged s kind i j k) r′ → r ≡ r′
 one-piece-told s kind i j k r r′ p q = one-number p q (one-piece s kind i j k (p .answer) (q .answer) (p .right) (q .right))
+
+pub one-settled-pair-told : (s : Scene) (kind : Kind) (i j r r′ : ℕ) → Told settledNumber (PairDecided s kind i j) r → Told settledNumber (PairDecided s kind i j) r′ → r ≡ r′
+one-settled-pair-told s kind i j r r′ p q = one-number p q (one-settled-pair s kind i j (p .answer) (q .answer) (p .right) (q .right))
+
+pub one-settled-piece-told : (s : Scene) (kind : Kind) (i j k r r′ : ℕ) → Told settledNumber (PieceDecided s kind i j k) r → Told settledNumber (PieceDecided s kind i j k) r′ → r ≡ r′
+one-settled-piece-told s kind i j k r r′ p q = one-number p q (one-settled-piece s kind i j k (p .answer) (q .answer) (p .right) (q .right))
 
 pub one-count-told : (s : Scene) (r r′ : ℕ) → Told listNumber (Counted s) r → Told listNumber (Counted s) r′ → r ≡ r′
 one-count-told s r r′ p q = one-number p q (one-counted s (p .answer) (q .answer) (p .right) (q .right))
@@ -59,12 +66,20 @@ pub check-heard : (s : Scene) (r : ℕ) → Told sceneNumber (SceneChecked s) r 
 check-heard s r p = rw (p .is, scene-heard (p .answer)) (p .right)
 
 pub pair-told-heard : (s : Scene) (kind : Kind) (i j r : ℕ) → Told pairNumber (PairJudged s kind i j) r
-    → Answers (pairChecks s kind i j) (PairIs s kind i j) (heard verdictOfByte r)
+    → Answers (pairChecks s kind i j) (PairIs s kind i j) (heard verdictNumbered r)
 pair-told-heard s kind i j r p = rw (p .is, pair-heard (p .answer)) (p .right)
 
 pub piece-told-heard : (s : Scene) (kind : Kind) (i j k r : ℕ) → Told pairNumber (PieceJudged s kind i j k) r
-    → Answers (pieceChecks s kind i j k) (PieceIs (pieceOf s kind i j k)) (heard verdictOfByte r)
+    → Answers (pieceChecks s kind i j k) (PieceIs (pieceOf s kind i j k)) (heard verdictNumbered r)
 piece-told-heard s kind i j k r p = rw (p .is, pair-heard (p .answer)) (p .right)
+
+pub settled-pair-heard : (s : Scene) (kind : Kind) (i j r : ℕ) → Told settledNumber (PairDecided s kind i j) r
+    → Answers (pairChecks s kind i j) (PairSettled s kind i j) (heard wordOfByte r)
+settled-pair-heard s kind i j r p = rw (p .is, settled-heard (p .answer)) (p .right)
+
+pub settled-piece-heard : (s : Scene) (kind : Kind) (i j k r : ℕ) → Told settledNumber (PieceDecided s kind i j k) r
+    → Answers (pieceChecks s kind i j k) (PieceSettled (pieceOf s kind i j k)) (heard wordOfByte r)
+settled-piece-heard s kind i j k r p = rw (p .is, settled-heard (p .answer)) (p .right)
 
 pub count-heard : (s : Scene) (r : ℕ) → Told listNumber (Counted s) r → Answers (sceneChecks s) (λ n. n ≡ length (pairs s)) (heard count r)
 count-heard s r p = rw (p .is, list-heard (p .answer) (counted-small s (p .answer) (p .right))) (p .right)
@@ -76,7 +91,7 @@ list-told-heard s o o′ r p = rw (p .is, list-heard (p .answer) (listing-small 
 pub judging-told-heard : (s : Scene) (o o′ b b′ : List ℕ) (r : ℕ) → (p : Told listNumber (JudgedScene s o o′ b b′) r)
     → Answers (listChecks s (min (roomOf o) (length b))) (λ n. n ≡ length (pairs s)) (heard count r)
     × (o′ ≡ leaves (heard count r) (entries (pairs s)) o)
-    × (b′ ≡ leaves (heard count r) (map byteOf (p .right .verdicts)) b)
+    × (b′ ≡ leaves (heard count r) (map byteOf (p .right .words)) b)
 judging-told-heard s o o′ b b′ r p =
     rw (p .is, list-heard (p .answer) (judging-small (p .right))) (p .right .answer, p .right .list, p .right .bytes)
 

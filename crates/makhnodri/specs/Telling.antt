@@ -6,21 +6,25 @@ use native.Mathlib.Omega.{arith}
 use Rattle.meaning.specs.Scene.{Scene}
 use Rattle.meaning.specs.Refusals.{numberOf, sceneSays, pairSays}
 use Rattle.meaning.specs.List.{listSays}
+use Rattle.meaning.specs.Resting.{settledSays}
 use Rattle.meaning.specs.Judging.{byteOf}
 use Rattle.meaning.specs.Text.{textSays, TextRead}
 use Rattle.meaning.specs.declared.Refusal.{Refusal}
 use Rattle.meaning.specs.declared.Verdict.{Verdict}
+use Rattle.meaning.specs.declared.Settled.{Settled}
 use Rattle.meaning.specs.declared.Made.{Made}
 use Rattle.meaning.specs.declared.SceneCounts.{SceneCounts}
 use Rattle.meaning.specs.declared.SceneAnswer as SceneAnswers
 use Rattle.meaning.specs.declared.SceneAnswer.{SceneAnswer}
 use Rattle.meaning.specs.declared.PairAnswer as PairAnswers
 use Rattle.meaning.specs.declared.PairAnswer.{PairAnswer}
+use Rattle.meaning.specs.declared.SettledAnswer as SettledAnswers
+use Rattle.meaning.specs.declared.SettledAnswer.{SettledAnswer}
 use Rattle.meaning.specs.declared.ListAnswer as ListAnswers
 use Rattle.meaning.specs.declared.ListAnswer.{ListAnswer}
 use Rattle.meaning.specs.declared.TextAnswer as TextAnswers
 use Rattle.meaning.specs.declared.TextAnswer.{TextAnswer}
-use Rattle.makhnodri.specs.Numbers.{upper, numberFor, sceneNumber, pairNumber, listNumber, textNumber, countsLeft, ReadInto, Told}
+use Rattle.makhnodri.specs.Numbers.{upper, numberFor, verdictNumber, sceneNumber, pairNumber, settledNumber, listNumber, textNumber, countsLeft, ReadInto, Told}
 use Rattle.makhnodri.specs.Small.{toldIn, lineIn, line-small}
 
 -- the number of a refusal
@@ -31,13 +35,21 @@ pub scene-refused : {a : SceneAnswer} {x : Refusal} {r : ℕ} → a ≡ SceneAns
 unfolding sceneNumber sceneSays numberFor
 scene-refused e h = rw e h
 
-pub pair-judged : {a : PairAnswer} {v : Verdict} {r : ℕ} → a ≡ PairAnswers.the-variants.Judged v → r ≡ byteOf v → r ≡ pairNumber a
+pub pair-judged : {a : PairAnswer} {v : Verdict} {r : ℕ} → a ≡ PairAnswers.the-variants.Judged v → r ≡ verdictNumber v → r ≡ pairNumber a
 unfolding pairNumber pairSays numberFor
 pair-judged e h = rw e h
 
 pub pair-refused : {a : PairAnswer} {x : Refusal} {r : ℕ} → a ≡ PairAnswers.the-variants.Refused x → RefusalNumber x 0 r → r ≡ pairNumber a
 unfolding pairNumber pairSays numberFor
 pair-refused e h = rw e h
+
+pub settled-decided : {a : SettledAnswer} {w : Settled} {r : ℕ} → a ≡ SettledAnswers.the-variants.Decided w → r ≡ byteOf w → r ≡ settledNumber a
+unfolding settledNumber settledSays numberFor
+settled-decided e h = rw e h
+
+pub settled-refused : {a : SettledAnswer} {x : Refusal} {r : ℕ} → a ≡ SettledAnswers.the-variants.Refused x → RefusalNumber x 0 r → r ≡ settledNumber a
+unfolding settledNumber settledSays numberFor
+settled-refused e h = rw e h
 
 pub list-made : {a : ListAnswer} {m : Made} {r : ℕ} → a ≡ ListAnswers.the-variants.Listed m → r ≡ m .count → r ≡ listNumber a
 unfolding listNumber listSays numberFor

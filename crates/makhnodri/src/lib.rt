@@ -5,11 +5,12 @@ ghost use mathlib.Core.List.{[], _∷_};
 ghost use mathlib.Core.Path.{_≡_};
 ghost use Rattle.meaning.specs.Scene.{sceneOf};
 ghost use Rattle.meaning.specs.Refusals.{numberOf, SceneChecked, PairJudged, PieceJudged};
+ghost use Rattle.meaning.specs.Resting.{PairDecided, PieceDecided};
 ghost use Rattle.meaning.specs.List.{listSays, Counted, Listing};
 ghost use Rattle.meaning.specs.Judging.{JudgedScene};
 ghost use Rattle.meaning.specs.declared.Kind.the-variants.{PointTriangle, EdgeEdge};
 ghost use Rattle.meaning.specs.Report.{Reported};
-ghost use Rattle.makhnodri.specs.Numbers.{upper, sceneNumber, pairNumber, listNumber, textNumber, ReadInto, Told};
+ghost use Rattle.makhnodri.specs.Numbers.{upper, verdictNumber, sceneNumber, pairNumber, settledNumber, listNumber, textNumber, ReadInto, Told};
 ghost use Rattle.makhnodri.specs.Small.{toldIn};
 use meaning::Kind;
 use meaning::ListAnswer;
@@ -17,7 +18,9 @@ use meaning::PairAnswer;
 use meaning::Refusal;
 use meaning::SceneAnswer;
 use meaning::SceneCounts;
+use meaning::SettledAnswer;
 use meaning::TextAnswer;
+use meaning::Verdict;
 
 // ---- an answer as one number
 
@@ -26,7 +29,7 @@ fn refused(why: Refusal, carries: usize) -> u64
     requires { ⌜ carries < upper ⌝ }
     ensures { λ r. ⌜ r ≡ numberOf why * upper + carries ⌝ }
 {
-    summary::number_of(why) * 4294967296 + (carries as u64)
+    wording::number_of(why) * 4294967296 + (carries as u64)
 }
 
 fn scene_number(answer: SceneAnswer) -> u64
@@ -38,12 +41,32 @@ fn scene_number(answer: SceneAnswer) -> u64
     }
 }
 
+// The three-case verdict has numbers of its own; judging::byte_of numbers the four words.
+fn verdict_number(verdict: Verdict) -> u64
+    ensures { λ r. ⌜ r ≡ verdictNumber verdict ⌝ }
+{
+    match verdict {
+        Verdict::Hit => 0,
+        Verdict::Miss => 1,
+        Verdict::Degenerate => 2,
+    }
+}
+
 fn pair_number(answer: PairAnswer) -> u64
     ensures { λ r. ⌜ r ≡ pairNumber answer ⌝ }
 {
     match answer {
-        PairAnswer::Judged(verdict) => judging::byte_of(verdict) as u64,
+        PairAnswer::Judged(verdict) => verdict_number(verdict),
         PairAnswer::Refused(why) => refused(why, 0),
+    }
+}
+
+fn settled_number(answer: SettledAnswer) -> u64
+    ensures { λ r. ⌜ r ≡ settledNumber answer ⌝ }
+{
+    match answer {
+        SettledAnswer::Decided(word) => judging::byte_of(word) as u64,
+        SettledAnswer::Refused(why) => refused(why, 0),
     }
 }
 
@@ -94,7 +117,7 @@ pub extern "C" fn makhnodri_list_pairs(
     list_number(listing::list_pairs(positions, edges, triangles, list))
 }
 
-// The list, and the verdict of each listed pair as a byte.
+// The list, and the word of each listed pair as a byte: hit, miss, touch or apart.
 #[no_mangle]
 pub extern "C" fn makhnodri_judge_scene(
     positions: &[i32],
@@ -108,7 +131,7 @@ pub extern "C" fn makhnodri_judge_scene(
     list_number(judging::judge_scene(positions, edges, triangles, list, verdicts))
 }
 
-// ---- a pair and a piece; a kind has functions of its own, so that no bad kind can be asked for
+// ---- the verdict of a pair and of a piece: hit, miss or degenerate. A kind has functions of its own, so that no bad kind can be asked for
 
 #[no_mangle]
 pub extern "C" fn makhnodri_judge_pt(
@@ -177,6 +200,92 @@ pub extern "C" fn makhnodri_judge_ee_piece(
     ensures { λ r. ⌜ Told pairNumber (PieceJudged (sceneOf (now (positions .entry)) (now (edges .entry)) (now (triangles .entry))) EdgeEdge first second piece) r ⌝ }
 {
     pair_number(verdicts::judge_piece(
+        positions,
+        edges,
+        triangles,
+        Kind::EdgeEdge,
+        first,
+        second,
+        piece,
+    ))
+}
+
+// ---- the same in the four words: a degenerate piece is decided too
+
+#[no_mangle]
+pub extern "C" fn makhnodri_settle_pt(
+    positions: &[i32],
+    edges: &[u16],
+    triangles: &[u16],
+    vertex: usize,
+    triangle: usize,
+) -> u64
+    ensures { λ r. ⌜ Told settledNumber (PairDecided (sceneOf (now (positions .entry)) (now (edges .entry)) (now (triangles .entry))) PointTriangle vertex triangle) r ⌝ }
+{
+    settled_number(settling::settle_pair(
+        positions,
+        edges,
+        triangles,
+        Kind::PointTriangle,
+        vertex,
+        triangle,
+    ))
+}
+
+#[no_mangle]
+pub extern "C" fn makhnodri_settle_ee(
+    positions: &[i32],
+    edges: &[u16],
+    triangles: &[u16],
+    first: usize,
+    second: usize,
+) -> u64
+    ensures { λ r. ⌜ Told settledNumber (PairDecided (sceneOf (now (positions .entry)) (now (edges .entry)) (now (triangles .entry))) EdgeEdge first second) r ⌝ }
+{
+    settled_number(settling::settle_pair(
+        positions,
+        edges,
+        triangles,
+        Kind::EdgeEdge,
+        first,
+        second,
+    ))
+}
+
+#[no_mangle]
+pub extern "C" fn makhnodri_settle_pt_piece(
+    positions: &[i32],
+    edges: &[u16],
+    triangles: &[u16],
+    vertex: usize,
+    triangle: usize,
+    piece: usize,
+) -> u64
+    ensures { λ r. ⌜ Told settledNumber (PieceDecided (sceneOf (now (positions .entry)) (now (edges .entry)) (now (triangles .entry))) PointTriangle vertex triangle piece) r ⌝ }
+{
+    settled_number(settling::settle_piece(
+        positions,
+        edges,
+        triangles,
+        Kind::PointTriangle,
+        vertex,
+        triangle,
+        piece,
+    ))
+}
+
+#[no_mangle]
+pub extern "C" fn makhnodri_settle_ee_piece(
+    positions: &[i32],
+    edges: &[u16],
+    triangles: &[u16],
+    first: usize,
+    second: usize,
+    piece: usize,
+) -> u64
+    ensures { λ r. ⌜ Told settledNumber (PieceDecided (sceneOf (now (positions .entry)) (now (edges .entry)) (now (triangles .entry))) EdgeEdge first second piece) r ⌝ }
+{
+    settled_number(settling::settle_piece(
         positions,
         edges,
         triangles,

@@ -1,30 +1,33 @@
 -- The report of document 01: a line for each listed pair in order, last the totals; a refused scene prints only its refusal.
 use Prim.Native.Nat.{ℕ, zero, suc, _+_, _≤_, _<_}
+use mathlib.Core.Bool.{cond}
 use mathlib.Core.List.{List, [], _∷_, _++_}
 use mathlib.Core.Path.{_≡_}
+use lib.Dec.{eqb}
 use lib.ListN.{length}
 use Rattle.decimals.specs.Digits.{digits}
 use Rattle.sequences.specs.Wrote.{written}
 use Rattle.meaning.specs.Limits.{textLimit, reportRoom}
 use Rattle.meaning.specs.Scene.{Scene}
 use Rattle.meaning.specs.List.{Pair, pairs}
-use Rattle.meaning.specs.Judging.{AllJudged}
+use Rattle.meaning.specs.Judging.{byteOf, AllJudged}
 use Rattle.meaning.specs.Text.{Holds, FaultyAt, tab, lineFeed, further}
 use Rattle.meaning.specs.declared.Kind.{Kind}
 use Rattle.meaning.specs.declared.Kind.the-variants.{PointTriangle, EdgeEdge}
-use Rattle.meaning.specs.declared.Verdict.{Verdict}
-use Rattle.meaning.specs.declared.Verdict.the-variants.{Hit, Miss, Degenerate}
+use Rattle.meaning.specs.declared.Settled.{Settled}
+use Rattle.meaning.specs.declared.Settled.the-variants.{Hit, Miss, Touch, Apart}
 
 -- `pt` or `ee`
 unfoldable pub kindWord : Kind → List ℕ
 kindWord PointTriangle = 112 ∷ 116 ∷ []
 kindWord EdgeEdge = 101 ∷ 101 ∷ []
 
--- `hit`, `miss` or `degenerate`
-unfoldable pub verdictWord : Verdict → List ℕ
+-- `hit`, `miss`, `touch` or `apart`
+unfoldable pub verdictWord : Settled → List ℕ
 verdictWord Hit = 104 ∷ 105 ∷ 116 ∷ []
 verdictWord Miss = 109 ∷ 105 ∷ 115 ∷ 115 ∷ []
-verdictWord Degenerate = 100 ∷ 101 ∷ 103 ∷ 101 ∷ 110 ∷ 101 ∷ 114 ∷ 97 ∷ 116 ∷ 101 ∷ []
+verdictWord Touch = 116 ∷ 111 ∷ 117 ∷ 99 ∷ 104 ∷ []
+verdictWord Apart = 97 ∷ 112 ∷ 97 ∷ 114 ∷ 116 ∷ []
 
 -- `total` and `refused`
 abbrev pub totalWord : List ℕ
@@ -37,35 +40,27 @@ refusedWord = 114 ∷ 101 ∷ 102 ∷ 117 ∷ 115 ∷ 101 ∷ 100 ∷ []
 abbrev pub reportLine : List ℕ → List (List ℕ) → List ℕ
 reportLine word fields = word ++ further tab fields ++ (lineFeed ∷ [])
 
-abbrev pub pairLine : Pair → Verdict → List ℕ
-pairLine p v = reportLine (kindWord (p .kind)) (digits (p .first) ∷ digits (p .second) ∷ verdictWord v ∷ [])
+abbrev pub pairLine : Pair → Settled → List ℕ
+pairLine p w = reportLine (kindWord (p .kind)) (digits (p .first) ∷ digits (p .second) ∷ verdictWord w ∷ [])
 
-unfoldable pub pairLines : List Pair → List Verdict → List ℕ
-pairLines [] vs = []
+unfoldable pub pairLines : List Pair → List Settled → List ℕ
+pairLines [] ws = []
 pairLines (p ∷ ps) [] = []
-pairLines (p ∷ ps) (v ∷ vs) = pairLine p v ++ pairLines ps vs
+pairLines (p ∷ ps) (w ∷ ws) = pairLine p w ++ pairLines ps ws
 
--- how many of the verdicts are the one asked for
-unfoldable pub isOne : Verdict → Verdict → ℕ
-isOne Hit Hit = 1
-isOne Hit Miss = 0
-isOne Hit Degenerate = 0
-isOne Miss Hit = 0
-isOne Miss Miss = 1
-isOne Miss Degenerate = 0
-isOne Degenerate Hit = 0
-isOne Degenerate Miss = 0
-isOne Degenerate Degenerate = 1
+-- how many of the words are the one asked for
+unfoldable pub isOne : Settled → Settled → ℕ
+isOne v w = cond (eqb (byteOf v) (byteOf w)) 1 0
 
-unfoldable pub howMany : Verdict → List Verdict → ℕ
+unfoldable pub howMany : Settled → List Settled → ℕ
 howMany v [] = 0
 howMany v (w ∷ ws) = isOne v w + howMany v ws
 
--- listed, hits, misses, degenerates
-abbrev pub totalLine : List Verdict → List ℕ
-totalLine vs =
+-- listed, hits, misses, touch, apart
+abbrev pub totalLine : List Settled → List ℕ
+totalLine ws =
     reportLine totalWord
-    (digits (length vs) ∷ digits (howMany Hit vs) ∷ digits (howMany Miss vs) ∷ digits (howMany Degenerate vs) ∷ [])
+    (digits (length ws) ∷ digits (howMany Hit ws) ∷ digits (howMany Miss ws) ∷ digits (howMany Touch ws) ∷ digits (howMany Apart ws) ∷ [])
 
 -- the refusal's number, and the line or the needed count or 0
 abbrev pub refusedLine : ℕ → ℕ → List ℕ
@@ -77,9 +72,9 @@ pub data ReportOf (text : List ℕ) : List ℕ → Type 0 where
   faulty : (n line : ℕ) → length text ≤ textLimit → FaultyAt text n line → ReportOf text (refusedLine n line)
   noRoom : (s : Scene) → length text ≤ textLimit → Holds text s → reportRoom < length (pairs s)
       → ReportOf text (refusedLine 7 (length (pairs s)))
-  judged : (s : Scene) (vs : List Verdict) → length text ≤ textLimit → Holds text s → length (pairs s) ≤ reportRoom
-      → AllJudged s (pairs s) vs
-      → ReportOf text (pairLines (pairs s) vs ++ totalLine vs)
+  judged : (s : Scene) (ws : List Settled) → length text ≤ textLimit → Holds text s → length (pairs s) ≤ reportRoom
+      → AllJudged s (pairs s) ws
+      → ReportOf text (pairLines (pairs s) ws ++ totalLine ws)
 
 -- the report stands in front of the buffer that held o and holds o′, n bytes long, and the rest is unchanged
 pub record Reported (text o o′ : List ℕ) (n : ℕ) : Type 0 where

@@ -13,7 +13,7 @@ use Rattle.exact.specs.BySignsLaws.{clock}
 use Rattle.resting.specs.declared.SixPoints.{SixPoints}
 use Rattle.resting.specs.Others.{Order, order-of, othersOf}
 use Rattle.resting.specs.Slots.{Based, eventIn, Preferred}
-use Rattle.resting.specs.Points.{atEnd, isLeft, eventAt, pieceAt, SixIn, six-long, six-at}
+use Rattle.resting.specs.Points.{atEnd, isLeft, eventAt, pieceAt, Timed, six-long, six-at}
 use Rattle.resting.specs.First.{Passed, Failed, found-or}
 use Rattle.resting.specs.Answer.{sameBool, baseOf}
 
@@ -43,7 +43,7 @@ pub record BaseIs (six : SixPoints) (left : List Bool) (end : Bool) (r : ℕ) : 
   pub time : atEnd six r ≡ end
   pub preferred : isLeft left r ≡ false → (i : ℕ) → i < 6 → atEnd six i ≡ end → isLeft left i ≡ false
 
-module _ {ps : List ℤ} {six : SixPoints} (h : SixIn ps six) (left : List Bool) where
+module _ (ps : List ℤ) {six : SixPoints} (h : Timed six) (left : List Bool) where
   pub base-is : (end : Bool) → BaseIs six left end (baseOf six left end)
   unfolding baseOf
   base-is end = go (found-or test 6 0 (cond end 5 0))

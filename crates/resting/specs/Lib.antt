@@ -21,3 +21,6 @@ pub mod Slotted
 pub mod Says
 pub mod Step
 pub mod Settles
+pub mod Sixes
+pub mod Decided
+pub mod OneOut

@@ -41,13 +41,17 @@ pieceAt ps six = record { first = take (six .first) (sixEvents ps six); second =
 pub record TouchLeft (ps : List ℤ) (six : SixPoints) (left : List Bool) : Type 0 where
   pub weights : TouchIn (pieceAt ps six .first) (pieceAt ps six .second) (isLeft left)
 
--- what code asks of six points: each stands in the positions; as in every piece, the first is at the start and the last at the end
-pub record SixIn (ps : List ℤ) (six : SixPoints) : Type 0 where
-  pub bounded : Bounded coordinateLimit ps
-  pub room : (i : ℕ) → i < 6 → offset six i + 3 ≤ length ps
+-- as in every piece, the first point is at the start and the last at the end
+pub record Timed (six : SixPoints) : Type 0 where
   pub starts : atEnd six 0 ≡ false
   pub ends : atEnd six 5 ≡ true
   pub split : six .first ≤ 6
+
+-- what code asks of six points: each stands in the positions
+pub record SixIn (ps : List ℤ) (six : SixPoints) : Type 0 where
+  pub bounded : Bounded coordinateLimit ps
+  pub room : (i : ℕ) → i < 6 → offset six i + 3 ≤ length ps
+  pub timed : Timed six
 
 -- ---- the events of the piece are the six
 

@@ -30,7 +30,7 @@ use Rattle.resting.specs.Candidate.{InPlace, Fits, must-fit, may-touch}
 use Rattle.resting.specs.Dependent.{Some, Vanish}
 use Rattle.resting.specs.Flat.{zero-or}
 use Rattle.resting.specs.Opened.{open-leaves}
-use Rattle.resting.specs.Points.{offset, atEnd, isLeft, eventAt, pieceAt, TouchLeft, SixIn, six-at, first-long}
+use Rattle.resting.specs.Points.{offset, atEnd, isLeft, eventAt, pieceAt, TouchLeft, Timed, six-at, first-long}
 use Rattle.resting.specs.Answer.{sameBool, seenFrom, slotsAt, none, fitting, judgedBy, turnOf, otherwise, leafOf, baseOf}
 use Rattle.resting.specs.Base.{base-is, based, preferred}
 use Rattle.resting.specs.Tests.{Along, along-is, zero-but-is}
@@ -75,7 +75,7 @@ or-right : (a b : Bool) → T b → T (a || b)
 or-right true b t = tt
 or-right false b t = t
 
-module _ {ps : List ℤ} {six : SixPoints} (h : SixIn ps six) (left : List Bool) where
+module _ (ps : List ℤ) {six : SixPoints} (h : Timed six) (left : List Bool) where
   abbrev a : List Event
   a = pieceAt ps six .first
 
@@ -94,14 +94,14 @@ module _ {ps : List ℤ} {six : SixPoints} (h : SixIn ps six) (left : List Bool)
   -- ---- the differences are those that code takes
 
   seen : (i : ℕ) → i < 6 → seenFrom ps six s e i ≡ difference (eventIn (a ++ b) s .place) (eventIn (a ++ b) e .place) (eventIn (a ++ b) i)
-  seen i k = rw (six-at ps six s (base-is h left false .there), six-at ps six e (base-is h left true .there), six-at ps six i k) (go (atEnd six i))
+  seen i k = rw (six-at ps six s (base-is ps h left false .there), six-at ps six e (base-is ps h left true .there), six-at ps six i k) (go (atEnd six i))
     where
       go : (c : Bool) → minus (placeAt ps (offset six i)) (placeAt ps (offset six (cond c e s))) ≡ difference (placeAt ps (offset six s)) (placeAt ps (offset six e)) (record { place = placeAt ps (offset six i); time = clock c })
       go true = sym (difference-end (placeAt ps (offset six s)) (placeAt ps (offset six e)) (placeAt ps (offset six i)))
       go false = sym (difference-start (placeAt ps (offset six s)) (placeAt ps (offset six e)) (placeAt ps (offset six i)))
 
   below : (k : Place) → pick k q < 6
-  below = based h left .order .there
+  below = based ps h left .order .there
 
   all-seen : each (seenFrom ps six s e) q ≡ differencesIn (a ++ b) s e q
   all-seen = λ i. record { v0 = seen (q .v0) (below p0) i; v1 = seen (q .v1) (below p1) i; v2 = seen (q .v2) (below p2) i; v3 = seen (q .v3) (below p3) i }
@@ -193,8 +193,8 @@ module _ {ps : List ℤ} {six : SixPoints} (h : SixIn ps six) (left : List Bool)
       )
 
       decided : (t : Bool) → test n ≡ t → (k : Place) → pick k n ≢ pos 0 → TurnIs f (cond t Yes No)
-      decided true p k some = record { weights = may-touch a b (based h left) (in-place f) k some (preferred h left) (fits .1 (subst T (sym p) tt)) }
-      decided false p k some = λ t. absurd (subst T p (fits .0 (must-fit a b (based h left) (in-place f) k some (t .weights))))
+      decided true p k some = record { weights = may-touch a b (based ps h left) (in-place f) k some (preferred ps h left) (fits .1 (subst T (sym p) tt)) }
+      decided false p k some = λ t. absurd (subst T p (fits .0 (must-fit a b (based ps h left) (in-place f) k some (t .weights))))
 
       go : (z t : Bool) → zeroBut none n ≡ z → test n ≡ t → TurnIs f (cond z Open (cond t Yes No))
       go true t p r = record {
@@ -221,4 +221,4 @@ module _ {ps : List ℤ} {six : SixPoints} (h : SixIn ps six) (left : List Bool)
       go Open No r₂ x y z = y
       go Open Open Yes x y z = z
       go Open Open No x y z = z
-      go Open Open Open x y z = λ t. open-leaves a b (based h left) (preferred h left) (turns x y z) (t .weights)
+      go Open Open Open x y z = λ t. open-leaves a b (based ps h left) (preferred ps h left) (turns x y z) (t .weights)

@@ -16,7 +16,7 @@ use Rattle.resting.specs.declared.leaf.Leaf.{Leaf}
 use Rattle.resting.specs.declared.leaf.Leaf.the-variants.{Yes, No, Open}
 use Rattle.resting.specs.Left.{TouchIn, fewer, without, still-out, now-out}
 use Rattle.resting.specs.Leave.{Leaves}
-use Rattle.resting.specs.Points.{isLeft, pieceAt, TouchLeft, SixIn, six-long}
+use Rattle.resting.specs.Points.{isLeft, pieceAt, TouchLeft, Timed, six-long}
 use Rattle.resting.specs.Answer.{leafOf}
 use Rattle.resting.specs.Right.{LeafIs, leaf-is}
 use Rattle.resting.specs.Says.{isYes, NoneWithout, Says, touching, none, says-yes, says-no}
@@ -32,7 +32,7 @@ count (false ∷ l) = count l
 unfoldable pub toTry : List Bool → Bool → ℕ
 toTry left tried = 2 * count left + cond tried 0 1
 
-less : (left : List Bool) (i : ℕ) → isLeft left i ≡ true → suc (count (set left i false)) ≡ count left
+pub less : (left : List Bool) (i : ℕ) → isLeft left i ≡ true → suc (count (set left i false)) ≡ count left
 unfolding count
 less [] i h = absurd (subst T (sym h) tt)
 less (true ∷ l) zero h = refl
@@ -57,7 +57,7 @@ out-set (c ∷ l) zero (suc j) h = h
 out-set (c ∷ l) (suc i) zero h = h
 out-set (c ∷ l) (suc i) (suc j) h = out-set l i j h
 
-set-out : (left : List Bool) (i j : ℕ) → isLeft (set left i false) j ≡ false → without i (isLeft left) j ≡ false
+pub set-out : (left : List Bool) (i j : ℕ) → isLeft (set left i false) j ≡ false → without i (isLeft left) j ≡ false
 set-out left i j h = go (ℕ-discrete j i)
   where
     go : Dec (j ≡ i) → without i (isLeft left) j ≡ false
@@ -103,7 +103,7 @@ module _ {ps : List ℤ} {six : SixPoints} (left : List Bool) (i : ℕ) {l : Lis
 
 -- ---- what the step says
 
-module _ {ps : List ℤ} {six : SixPoints} (h : SixIn ps six) (left : List Bool) where
+module _ (ps : List ℤ) {six : SixPoints} (h : Timed six) (left : List Bool) where
   -- where the points left decide
   pub says-answer : (lo hi : ℕ) (tried : Bool) (r : Leaf) → r ≡ cond tried Open (leafOf ps six left) → (r ≡ Yes) ⊎ (r ≡ No) → Says ps six left lo hi tried (isYes r)
   unfolding LeafIs
@@ -114,9 +114,9 @@ module _ {ps : List ℤ} {six : SixPoints} (h : SixIn ps six) (left : List Bool)
 
       never-no : No ≡ Open → ⊥
       never-no e = let x : _≡_ {A = ℕ} 0 1 = cc in omega arith
-  says-answer lo hi false r e (inl y) = rw y (touching (subst (LeafIs ps six left) (sym e ∙ y) (leaf-is h left)))
+  says-answer lo hi false r e (inl y) = rw y (touching (subst (LeafIs ps six left) (sym e ∙ y) (leaf-is ps h left)))
   says-answer lo hi false r e (inr n) =
-      let none = subst (LeafIs ps six left) (sym e ∙ n) (leaf-is h left) in
+      let none = subst (LeafIs ps six left) (sym e ∙ n) (leaf-is ps h left) in
       rw n (Says.none (λ z. none) (record { at = λ i l k w t. none (put-back left i t) }))
 
   -- the other step has tried its corners: these were the last
@@ -127,7 +127,7 @@ module _ {ps : List ℤ} {six : SixPoints} (h : SixIn ps six) (left : List Bool)
   pub says-last : (lo hi i lo′ hi′ : ℕ) → ((j : ℕ) → j < 6 → ((lo ≤ j) × (j < hi)) ⊎ ((lo′ ≤ j) × (j < hi′))) → (tried : Bool) → tried ≡ false → (o : Leaf) → o ≡ cond tried Open (leafOf ps six left) → o ≡ Open → i ≡ hi → NoneWithout ps six left lo i → (r : Bool) → Says ps six left lo′ hi′ true r → Says ps six left lo hi tried r
   unfolding LeafIs
   says-last lo hi i lo′ hi′ c tried e o answer opened k own true said = touching (says-yes said)
-  says-last lo hi i lo′ hi′ c tried e o answer opened k own false said = none (λ w t. gone (subst (LeafIs ps six left) is-open (leaf-is h left) t)) mine
+  says-last lo hi i lo′ hi′ c tried e o answer opened k own false said = none (λ w t. gone (subst (LeafIs ps six left) is-open (leaf-is ps h left) t)) mine
     where
       others : NoneWithout ps six left lo′ hi′
       others = says-no said .1

@@ -1,8 +1,5 @@
--- The tally, and how large the lines of a report are.
-pub mod Tallied
-pub mod Lines
+-- The report of a list in its buffers, and of a text.
 pub mod Rendered
-pub mod Counted
 pub mod Sizes
 pub mod Whole
 pub mod FromCalls

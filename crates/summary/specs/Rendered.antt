@@ -10,21 +10,21 @@ use Rattle.sequences.specs.Gather.{gather, gather-none, gather-first, gather-sh
 use Rattle.sequences.specs.Parts.{drop-next}
 use Rattle.meaning.specs.List.{Pair}
 use Rattle.meaning.specs.Report.{pairLine, pairLines}
-use Rattle.meaning.specs.declared.Verdict.{Verdict}
-use Rattle.meaning.specs.declared.Verdict.the-variants.{Hit}
+use Rattle.meaning.specs.declared.Settled.{Settled}
+use Rattle.meaning.specs.declared.Settled.the-variants.{Hit}
 use Rattle.listing.specs.Entries.{pairAt}
-use Rattle.judging.specs.Listed.{verdictOfByte, noPair}
-use Rattle.summary.specs.Lines.{pair-line-short}
+use Rattle.judging.specs.Listed.{wordOfByte, noPair}
+use Rattle.wording.specs.Lines.{pair-line-short}
 
-abbrev pub verdictAt : List ℕ → ℕ → Verdict
-verdictAt b k = verdictOfByte (getD b k 0)
+abbrev pub verdictAt : List ℕ → ℕ → Settled
+verdictAt b k = wordOfByte (getD b k 0)
 
 -- the line of the k-th entry
 abbrev pub lineAt : List ℕ → List ℕ → ℕ → List ℕ
 lineAt l b k = pairLine (pairAt l k) (verdictAt b k)
 
 -- the verdicts from place i up to n
-abbrev pub verdictsIn : List ℕ → ℕ → ℕ → List Verdict
+abbrev pub verdictsIn : List ℕ → ℕ → ℕ → List Settled
 verdictsIn b i n = gather (λ k. verdictAt b k ∷ []) i n
 
 -- a list read place by place is the list
@@ -40,7 +40,7 @@ gather-is {A} xs f d same i =
     i
 
 -- lines made place by place are the lines of the pairs and their verdicts
-pub lines-are : (ps : List Pair) (vs : List Verdict) (f : ℕ → List ℕ) → length vs ≡ length ps
+pub lines-are : (ps : List Pair) (vs : List Settled) (f : ℕ → List ℕ) → length vs ≡ length ps
     → ((k : ℕ) → k < length ps → f k ≡ pairLine (getD ps k noPair) (getD vs k Hit))
     → (i : ℕ) → gather f i (length ps) ≡ pairLines (drop i ps) (drop i vs)
 unfolding pairLines
@@ -57,21 +57,13 @@ lines-are ps vs f long same i =
 
 -- ---- no line is long, and the verdicts are no more than there are
 
-pub line-short : (l b : List ℕ) → ((i : ℕ) → getD l i 0 < 2 ^ 16) → (k : ℕ) → length (lineAt l b k) ≤ 26
+pub line-short : (l b : List ℕ) → ((i : ℕ) → getD l i 0 < 2 ^ 16) → (k : ℕ) → length (lineAt l b k) ≤ 21
 line-short l b small k = pair-line-short (pairAt l k) (verdictAt b k) (small (k * 3 + 1)) (small (k * 3 + 2))
 
-pub lines-short : (l b : List ℕ) → ((i : ℕ) → getD l i 0 < 2 ^ 16) → (n : ℕ) → length (gather (lineAt l b) 0 n) ≤ n * 26
+pub lines-short : (l b : List ℕ) → ((i : ℕ) → getD l i 0 < 2 ^ 16) → (n : ℕ) → length (gather (lineAt l b) 0 n) ≤ n * 21
 lines-short l b small n =
-    rw (sub-zero n) at (gather-short (lineAt l b) 26 0 n (λ j p q. line-short l b small j))
+    rw (sub-zero n) at (gather-short (lineAt l b) 21 0 n (λ j p q. line-short l b small j))
 
 pub verdicts-short : (b : List ℕ) (n : ℕ) → length (verdictsIn b 0 n) ≤ n
 verdicts-short b n =
     rw (sub-zero n, mul-one n) at (gather-short (λ k. verdictAt b k ∷ []) 1 0 n (λ j p q. omega arith))
-
-pub verdicts-long : (b : List ℕ) (n : ℕ) → length (verdictsIn b 0 n) ≡ n
-verdicts-long b n =
-    towards n (λ i. length (verdictsIn b i n) ≡ n - i)
-    (λ i past. rw (gather-none (λ k. verdictAt b k ∷ []) i n past) (omega arith))
-    (λ i lt next. rw (gather-first (λ k. verdictAt b k ∷ []) i n lt, next) (omega arith))
-    0
-    ∙ sub-zero n

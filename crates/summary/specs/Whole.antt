@@ -13,17 +13,17 @@ use Rattle.meaning.specs.List.{Pair, pairs}
 use Rattle.meaning.specs.Text.{Holds}
 use Rattle.meaning.specs.Judging.{AllJudged}
 use Rattle.meaning.specs.Report.{pairLine, pairLines, totalLine, refusedLine, ReportOf, Reported}
-use Rattle.meaning.specs.declared.Verdict.{Verdict}
-use Rattle.meaning.specs.declared.Verdict.the-variants.{Hit}
+use Rattle.meaning.specs.declared.Settled.{Settled}
+use Rattle.meaning.specs.declared.Settled.the-variants.{Hit}
 use Rattle.listing.specs.Entries.{pairAt}
-use Rattle.judging.specs.Listed.{ListStands, verdictOfPair, verdictsOf, bytesOf, all-judged, noPair, verdictOfByte, byte-back, bytes-length, bytes-at}
-use Rattle.summary.specs.Lines.{wrote-as}
+use Rattle.judging.specs.Listed.{ListStands, wordOfPair, wordsOf, bytesOf, all-judged, noPair, wordOfByte, byte-back, bytes-length, bytes-at}
+use Rattle.wording.specs.Lines.{wrote-as}
 use Rattle.summary.specs.Rendered.{verdictAt, lineAt, verdictsIn, gather-is, lines-are}
 
 -- what is printed for a scene that was read: 7 with the count needed, or the pairs and the totals
 pub data SceneReport (s : Scene) : List ℕ → Type 0 where
   noRoom : reportRoom < length (pairs s) → SceneReport s (refusedLine 7 (length (pairs s)))
-  judged : (vs : List Verdict) → length (pairs s) ≤ reportRoom → AllJudged s (pairs s) vs → SceneReport s (pairLines (pairs s) vs ++ totalLine vs)
+  judged : (vs : List Settled) → length (pairs s) ≤ reportRoom → AllJudged s (pairs s) vs → SceneReport s (pairLines (pairs s) vs ++ totalLine vs)
 
 pub record SceneReported (s : Scene) (o o′ : List ℕ) (n : ℕ) : Type 0 where
   pub report : List ℕ
@@ -32,40 +32,40 @@ pub record SceneReported (s : Scene) (o o′ : List ℕ) (n : ℕ) : Type 0 wher
 
 -- ---- the list and its verdicts, as they stand in their buffers
 
-verdicts-at : (s : Scene) (ps : List Pair) (k : ℕ) → k < length ps → getD (verdictsOf s ps) k Hit ≡ verdictOfPair s (getD ps k noPair)
+verdicts-at : (s : Scene) (ps : List Pair) (k : ℕ) → k < length ps → getD (wordsOf s ps) k Hit ≡ wordOfPair s (getD ps k noPair)
 verdicts-at s [] k h = absurd (not-suc-le-zero h)
 verdicts-at s (p ∷ ps) zero h = refl
 verdicts-at s (p ∷ ps) (suc k) h = verdicts-at s ps k (le-of-suc-le-suc h)
 
 module _ (s : Scene) {l b : List ℕ} (b₀ : List ℕ) (stands : ListStands s l) (bytes : b ≡ written (bytesOf s (pairs s)) b₀) where
-  verdict-stands : (k : ℕ) → k < length (pairs s) → verdictAt b k ≡ getD (verdictsOf s (pairs s)) k Hit
+  verdict-stands : (k : ℕ) → k < length (pairs s) → verdictAt b k ≡ getD (wordsOf s (pairs s)) k Hit
   verdict-stands k h =
-      ap (λ (n : ℕ). verdictOfByte n)
+      ap (λ (n : ℕ). wordOfByte n)
       (ap (λ (c : List ℕ). getD c k 0) bytes
       ∙ written-in-front (bytesOf s (pairs s)) b₀ k 0 (rw (bytes-length s (pairs s)) h)
       ∙ bytes-at s (pairs s) k h)
-      ∙ byte-back (verdictOfPair s (getD (pairs s) k noPair))
+      ∙ byte-back (wordOfPair s (getD (pairs s) k noPair))
       ∙ sym (verdicts-at s (pairs s) k h)
 
-  long : length (verdictsOf s (pairs s)) ≡ length (pairs s)
-  long = length-map (pairs s) (verdictOfPair s)
+  long : length (wordsOf s (pairs s)) ≡ length (pairs s)
+  long = length-map (pairs s) (wordOfPair s)
 
-  pub lines-stand : (n : ℕ) → n ≡ length (pairs s) → gather (lineAt l b) 0 n ≡ pairLines (pairs s) (verdictsOf s (pairs s))
+  pub lines-stand : (n : ℕ) → n ≡ length (pairs s) → gather (lineAt l b) 0 n ≡ pairLines (pairs s) (wordsOf s (pairs s))
   lines-stand n e =
       ap (λ (m : ℕ). gather (lineAt l b) 0 m) e
-      ∙ lines-are (pairs s) (verdictsOf s (pairs s)) (lineAt l b) long (λ k h t. pairLine (stands .at k h t) (verdict-stands k h t)) 0
+      ∙ lines-are (pairs s) (wordsOf s (pairs s)) (lineAt l b) long (λ k h t. pairLine (stands .at k h t) (verdict-stands k h t)) 0
 
-  pub verdicts-stand : (n : ℕ) → n ≡ length (pairs s) → verdictsIn b 0 n ≡ verdictsOf s (pairs s)
+  pub verdicts-stand : (n : ℕ) → n ≡ length (pairs s) → verdictsIn b 0 n ≡ wordsOf s (pairs s)
   verdicts-stand n e =
       ap (λ (m : ℕ). verdictsIn b 0 m) (e ∙ sym long)
-      ∙ gather-is (verdictsOf s (pairs s)) (verdictAt b) Hit (λ k h. verdict-stands k (rw long at h)) 0
+      ∙ gather-is (wordsOf s (pairs s)) (verdictAt b) Hit (λ k h. verdict-stands k (rw long at h)) 0
 
   pub report-stands : {o o′ : List ℕ} {n r : ℕ} → n ≡ length (pairs s) → length (pairs s) ≤ reportRoom
       → Wrote o 0 (gather (lineAt l b) 0 n ++ totalLine (verdictsIn b 0 n)) o′ r → SceneReported s o o′ r
   report-stands {o} {o′} {n} {r} e few w =
       record {
-        report = pairLines (pairs s) (verdictsOf s (pairs s)) ++ totalLine (verdictsOf s (pairs s));
-        right = judged (verdictsOf s (pairs s)) few (all-judged s (pairs s));
+        report = pairLines (pairs s) (wordsOf s (pairs s)) ++ totalLine (wordsOf s (pairs s));
+        right = judged (wordsOf s (pairs s)) few (all-judged s (pairs s));
         wrote = wrote-as (λ t. lines-stand n e t ++ totalLine (verdicts-stand n e t)) w;
       }
 

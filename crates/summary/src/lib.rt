@@ -1,42 +1,18 @@
 // The report as bytes: a line for each listed pair, then the totals; or the one line of a refusal.
 
-mod words; // words.rt: words and numbers, written into a lent buffer
-mod lines; // lines.rt: the lines of the report
-pub mod tally; // tally.rt: how many pairs have each verdict
 mod pairs; // pairs.rt: the lines of a list and its totals
 
 ghost use mathlib.Core.Path.{_≡_};
 ghost use lib.ListN.{length};
 ghost use Rattle.meaning.specs.Scene.{sceneOf, Accepted};
-ghost use Rattle.meaning.specs.Refusals.{numberOf};
 ghost use Rattle.meaning.specs.Report.{Reported};
 ghost use Rattle.summary.specs.Sizes.{reportLength};
 ghost use Rattle.summary.specs.Whole.{SceneReported};
-use lines::refused_line;
 use meaning::ListAnswer;
-use meaning::Refusal;
 use meaning::TextAnswer;
 use pairs::pairs_report;
-
-// Document 01's number of a refusal.
-pub fn number_of(refusal: Refusal) -> u64
-    ensures { λ r. ⌜ r ≡ numberOf refusal ⌝ }
-{
-    match refusal {
-        Refusal::Shape => 1,
-        Refusal::Coordinate => 2,
-        Refusal::UnknownVertex => 3,
-        Refusal::RepeatedVertex => 4,
-        Refusal::NotThere => 5,
-        Refusal::SharedVertex => 6,
-        Refusal::NoRoom => 7,
-        Refusal::LongText => 8,
-        Refusal::BadLine => 9,
-        Refusal::LateRecord => 10,
-        Refusal::TooMany => 11,
-        Refusal::ShortBuffer => 12,
-    }
-}
+use wording::lines::refused_line;
+use wording::number_of;
 
 // The report of a scene that is accepted: 7 is found before anything is written.
 fn scene_report(positions: &[i32], edges: &[u16], triangles: &[u16], out: &mut [u8]) -> usize

@@ -9,29 +9,29 @@ ghost use Rattle.sequences.specs.Wrote.{Wrote};
 ghost use Rattle.meaning.specs.Limits.{reportRoom};
 ghost use Rattle.meaning.specs.List.{roomOf};
 ghost use Rattle.meaning.specs.Report.{totalLine};
+ghost use Rattle.wording.specs.Counted.{TallyOf};
 ghost use Rattle.summary.specs.Rendered.{lineAt, verdictsIn};
-ghost use Rattle.summary.specs.Counted.{TallyOf};
 ghost use Rattle.summary.specs.Sizes.{reportLength, Held};
-use crate::lines::pair_line;
-use crate::lines::total_line;
-use crate::tally::Tally;
+use wording::lines::pair_line;
+use wording::lines::total_line;
+use wording::tally::Tally;
 
 // The line of one entry.
 fn entry_line(list: &[u16], verdicts: &[u8], k: usize, out: &mut [u8], at: usize) -> usize
-    requires { ⌜ (k < roomOf (now list)) × (k < length (now verdicts)) × (at + 56 ≤ length (now out)) ⌝ }
+    requires { ⌜ (k < roomOf (now list)) × (k < length (now verdicts)) × (at + 51 ≤ length (now out)) ⌝ }
     ensures { λ r. ⌜ Wrote (now (out .entry)) at (lineAt (now (list .entry)) (now (verdicts .entry)) k) (now (out .exit)) r ⌝ }
 {
     let kind = listing::entries::entry_kind(list, k);
     let first = listing::entries::entry_first(list, k);
     let second = listing::entries::entry_second(list, k);
-    let verdict = judging::verdict_of(verdicts[k]);
+    let verdict = judging::word_of(verdicts[k]);
     pair_line(out, at, kind, first as u64, second as u64, verdict)
 }
 
 // A line for each of the first `count` entries.
 fn pair_lines(list: &[u16], verdicts: &[u8], count: usize, out: &mut [u8]) -> usize
     requires { ⌜ Held (now list) (now verdicts) count × (length (now out) ≡ reportLength) ⌝ }
-    ensures { λ r. ⌜ Wrote (now (out .entry)) 0 (gather (lineAt (now (list .entry)) (now (verdicts .entry))) 0 count) (now (out .exit)) r × (r ≤ 26 * reportRoom) ⌝ }
+    ensures { λ r. ⌜ Wrote (now (out .entry)) 0 (gather (lineAt (now (list .entry)) (now (verdicts .entry))) 0 count) (now (out .exit)) r × (r ≤ 21 * reportRoom) ⌝ }
 {
     let mut next = 0;
     let mut k = 0;
@@ -42,19 +42,21 @@ fn pair_lines(list: &[u16], verdicts: &[u8], count: usize, out: &mut [u8]) -> us
     next
 }
 
-// How many of the first `count` have each verdict.
+// How many the first `count` are, and how many of them have each verdict.
 fn tally_of(verdicts: &[u8], count: usize) -> Tally
     requires { ⌜ (count ≤ length (now verdicts)) × (count ≤ reportRoom) ⌝ }
     ensures { λ r. ⌜ TallyOf (verdictsIn (now (verdicts .entry)) 0 count) r ⌝ }
 {
     let mut tally = Tally {
+        listed: 0,
         hits: 0,
         misses: 0,
-        degenerates: 0,
+        touches: 0,
+        aparts: 0,
     };
     let mut k = 0;
     while k < count {
-        tally = tally.add(judging::verdict_of(verdicts[k]));
+        tally = tally.add(judging::word_of(verdicts[k]));
         k += 1;
     }
     tally
@@ -70,9 +72,10 @@ pub fn pairs_report(list: &[u16], verdicts: &[u8], count: usize, out: &mut [u8])
     total_line(
         out,
         next,
-        count as u64,
+        tally.listed,
         tally.hits,
         tally.misses,
-        tally.degenerates,
+        tally.touches,
+        tally.aparts,
     )
 }

@@ -8,9 +8,12 @@ use Rattle.meaning.specs.Scene.{Scene}
 use Rattle.meaning.specs.Pieces.{Piece, pieceOf, pieceCount}
 use Rattle.meaning.specs.Equations.{determinantOf, Touches}
 use Rattle.meaning.specs.Verdicts.{PieceIs, SomePiece, PairIs}
+use Rattle.meaning.specs.Resting.{PieceSettled, SomeSettled, PairSettled}
 use Rattle.meaning.specs.declared.Kind.{Kind}
 use Rattle.meaning.specs.declared.Verdict.{Verdict}
 use Rattle.meaning.specs.declared.Verdict.the-variants.{Hit, Miss, Degenerate}
+use Rattle.meaning.specs.declared.Settled as Words
+use Rattle.meaning.specs.declared.Settled.{Settled}
 
 pub record Alike (p q : Piece) : Type 0 where
   pub vanishes : (determinantOf p ≡ pos 0) ↔ (determinantOf q ≡ pos 0)
@@ -28,6 +31,14 @@ alike-piece a Degenerate = a .vanishes
 alike-piece a Hit = Iff·and (Iff·not (a .vanishes)) (a .touches)
 alike-piece a Miss = Iff·and (Iff·not (a .vanishes)) (Iff·not (a .touches))
 
+-- and the same of the four words
+pub alike-word : {p q : Piece} → Alike p q → (w : Settled) → PieceSettled p w ↔ PieceSettled q w
+unfolding PieceSettled
+alike-word a Words.the-variants.Hit = alike-piece a Hit
+alike-word a Words.the-variants.Miss = alike-piece a Miss
+alike-word a Words.the-variants.Touch = Iff·and (alike-piece a Degenerate) (a .touches)
+alike-word a Words.the-variants.Apart = Iff·and (alike-piece a Degenerate) (Iff·not (a .touches))
+
 -- two pairs of one kind, piece for piece
 abbrev pub AlikePairs : Kind → (ℕ → Piece) → (ℕ → Piece) → Type 0
 AlikePairs kind p q = (k : ℕ) → k < pieceCount kind → Alike (p k) (q k)
@@ -44,3 +55,22 @@ module _ (kind : Kind) (s t : Scene) (i j m n : ℕ) (a : AlikePairs kind (piece
   alike-pair Hit = some-alike Hit
   alike-pair Degenerate = Iff·and (Iff·not (some-alike Hit)) (some-alike Degenerate)
   alike-pair Miss = Iff·and (Iff·not (some-alike Hit)) (Iff·not (some-alike Degenerate))
+
+  some-word-alike : (w : Settled) → SomeSettled s kind i j w ↔ SomeSettled t kind m n w
+  some-word-alike w = (
+    λ p. record { which = p .which; there = p .there; has = alike-word (a (p .which) (p .there)) w .0 (p .has) },
+    λ p. record { which = p .which; there = p .there; has = alike-word (a (p .which) (p .there)) w .1 (p .has) },
+  )
+
+  pub alike-pair-word : (w : Settled) → PairSettled s kind i j w ↔ PairSettled t kind m n w
+  unfolding PairSettled
+  alike-pair-word Words.the-variants.Hit = some-word-alike Words.the-variants.Hit
+  alike-pair-word Words.the-variants.Touch = Iff·and (Iff·not (some-word-alike Words.the-variants.Hit)) (some-word-alike Words.the-variants.Touch)
+  alike-pair-word Words.the-variants.Apart =
+      let hit = Iff·not (some-word-alike Words.the-variants.Hit) in
+      let touch = Iff·not (some-word-alike Words.the-variants.Touch) in
+      let flat = some-alike Degenerate in (
+        λ h. (hit .0 (h .0), touch .0 (h .1), flat .0 (h .2)),
+        λ h. (hit .1 (h .0), touch .1 (h .1), flat .1 (h .2)),
+      )
+  alike-pair-word Words.the-variants.Miss = Iff·and (Iff·not (some-word-alike Words.the-variants.Hit)) (Iff·not (some-alike Degenerate))

@@ -12,6 +12,8 @@ use Rattle.meaning.specs.Pieces.{Event, movingEdge, movingTriangle, pieceOf}
 use Rattle.meaning.specs.Equations.{total, Touches}
 use Rattle.meaning.specs.Refusals.{shares}
 use Rattle.meaning.specs.Verdicts.{PieceIs, PairIs}
+use Rattle.meaning.specs.Resting.{PieceSettled, PairSettled}
+use Rattle.meaning.specs.declared.Settled as Words
 use Rattle.meaning.specs.Boxes.{Span, Axis, xAxis, yAxis, zAxis, meet, meetOn, culled, vertexSpan, edgeSpan, triangleSpan}
 use Rattle.meaning.specs.Motion.{standing, firstPart, secondPart, Together, TouchInMotion}
 use Rattle.meaning.specs.declared.Kind.{Kind}
@@ -121,3 +123,11 @@ module _ (s : Scene) (kind : Kind) (i j : ℕ) (h : culled s kind i j ≡ true) 
   pub culled-never-hit : ¬ PairIs s kind i j Hit
   unfolding PairIs PieceIs
   culled-never-hit p = culled-apart (p .which) (p .has .1)
+
+  -- nor is it a touch
+  pub culled-never-meets : ¬ PairSettled s kind i j Words.the-variants.Hit × ¬ PairSettled s kind i j Words.the-variants.Touch
+  unfolding PairSettled PieceSettled PieceIs
+  culled-never-meets = (
+    λ p. culled-apart (p .which) (p .has .1),
+    λ p. culled-apart (p .1 .which) (p .1 .has .1),
+  )

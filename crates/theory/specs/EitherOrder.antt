@@ -11,11 +11,14 @@ use Rattle.meaning.specs.Scene.{Scene, edgeCount, edgeEnd, same}
 use Rattle.meaning.specs.Pieces.{pieceOf}
 use Rattle.meaning.specs.Verdicts.{PairIs}
 use Rattle.meaning.specs.Refusals.{Outcome, given, refused, Check, Answers, notThere, shares, pairChecks, PairJudged, PieceJudged, pairSays}
+use Rattle.meaning.specs.Resting.{PairSettled, PairDecided, PieceDecided, settledSays}
 use Rattle.meaning.specs.Boxes.{Axis, xAxis, yAxis, zAxis, edgeSpan, meetOn, listed, culled}
 use Rattle.meaning.specs.declared.Kind.the-variants.{EdgeEdge}
 use Rattle.meaning.specs.declared.PairAnswer.{PairAnswer}
 use Rattle.meaning.specs.declared.Verdict.{Verdict}
-use Rattle.theory.specs.Alike.{alike-same, alike-pair}
+use Rattle.meaning.specs.declared.Settled.{Settled}
+use Rattle.meaning.specs.declared.SettledAnswer.{SettledAnswer}
+use Rattle.theory.specs.Alike.{alike-same, alike-pair, alike-pair-word}
 use Rattle.theory.specs.Written.{same-either-way}
 
 -- an answer stays right where what is right of a value follows
@@ -68,3 +71,14 @@ module _ (s : Scene) (i j : ℕ) where
 
   pub piece-answer-either-order : (k : ℕ) (r : PairAnswer) → PieceJudged s EdgeEdge i j k r → PieceJudged s EdgeEdge j i k r
   piece-answer-either-order k r h = rw (← notThere-either-order, ← shares-either-order, ← piece-either-order k) h
+
+  pub word-either-order : (w : Settled) → PairSettled s EdgeEdge i j w ↔ PairSettled s EdgeEdge j i w
+  word-either-order w = alike-pair-word EdgeEdge s s i j j i (λ k h. alike-same (piece-either-order k)) w
+
+  pub settled-either-order : (r : SettledAnswer) → PairDecided s EdgeEdge i j r → PairDecided s EdgeEdge j i r
+  settled-either-order r h =
+      rw (← notThere-either-order, ← shares-either-order)
+      (answers-imp (pairChecks s EdgeEdge i j) (PairSettled s EdgeEdge i j) (PairSettled s EdgeEdge j i) (λ w. word-either-order w .0) (settledSays r) h)
+
+  pub piece-settled-either-order : (k : ℕ) (r : SettledAnswer) → PieceDecided s EdgeEdge i j k r → PieceDecided s EdgeEdge j i k r
+  piece-settled-either-order k r h = rw (← notThere-either-order, ← shares-either-order, ← piece-either-order k) h

@@ -12,15 +12,18 @@ use Rattle.whole.specs.VectorLaws.{Matrix, apply, det}
 use Rattle.meaning.specs.Scene.{Scene, vertexCount, startOf, endOf, endsOf, rising, among}
 use Rattle.meaning.specs.Pieces.{pieceOf}
 use Rattle.meaning.specs.Verdicts.{PieceIs, PairIs}
+use Rattle.meaning.specs.Resting.{PieceSettled, PairSettled}
 use Rattle.meaning.specs.Boxes.{culled}
 use Rattle.meaning.specs.Motion.{firstPart, secondPart}
 use Rattle.meaning.specs.declared.Kind.{Kind}
 use Rattle.meaning.specs.declared.Kind.the-variants.{PointTriangle, EdgeEdge}
 use Rattle.meaning.specs.declared.Verdict.{Verdict}
 use Rattle.meaning.specs.declared.Verdict.the-variants.{Hit}
+use Rattle.meaning.specs.declared.Settled as Words
+use Rattle.meaning.specs.declared.Settled.{Settled}
 use Rattle.theory.specs.Bounds.{Every}
-use Rattle.theory.specs.Cull.{culled-never-hit}
-use Rattle.theory.specs.Alike.{Alike, alike-piece, alike-pair}
+use Rattle.theory.specs.Cull.{culled-never-hit, culled-never-meets}
+use Rattle.theory.specs.Alike.{Alike, alike-piece, alike-pair, alike-word, alike-pair-word}
 use Rattle.theory.specs.Differences.{atStart, atEnd}
 use Rattle.theory.specs.MovingParts.{Follows, SameParts, piece-follows}
 use Rattle.theory.specs.Sent.{sent}
@@ -73,6 +76,24 @@ module _ {m : Matrix} {a b : Vector} {s t : Scene} (h : Moves m a b s t) where
 
     pub moved-keeps-pairs : (v : Verdict) → PairIs s kind i j v ↔ PairIs t kind i j v
     moved-keeps-pairs v = alike-pair kind s t i j i j (λ k below. moved-alike k) v
+
+    pub moved-keeps-words : (k : ℕ) (w : Settled) → PieceSettled (pieceOf s kind i j k) w ↔ PieceSettled (pieceOf t kind i j k) w
+    moved-keeps-words k w = alike-word (moved-alike k) w
+
+    pub moved-keeps-pair-words : (w : Settled) → PairSettled s kind i j w ↔ PairSettled t kind i j w
+    moved-keeps-pair-words w = alike-pair-word kind s t i j i j (λ k below. moved-alike k) w
+
+    -- neither hit nor touch
+    abbrev NeverMeets : Scene → Type 0
+    NeverMeets u = ¬ PairSettled u kind i j Words.the-variants.Hit × ¬ PairSettled u kind i j Words.the-variants.Touch
+
+    pub culled-in-either-meets-in-neither : (culled s kind i j ≡ true) ⊎ (culled t kind i j ≡ true) → NeverMeets s × NeverMeets t
+    culled-in-either-meets-in-neither (inl c) =
+        let n = culled-never-meets s kind i j c in
+        (n, (λ p. n .0 (moved-keeps-pair-words Words.the-variants.Hit .1 p), λ p. n .1 (moved-keeps-pair-words Words.the-variants.Touch .1 p)))
+    culled-in-either-meets-in-neither (inr c) =
+        let n = culled-never-meets t kind i j c in
+        ((λ p. n .0 (moved-keeps-pair-words Words.the-variants.Hit .0 p), λ p. n .1 (moved-keeps-pair-words Words.the-variants.Touch .0 p)), n)
 
     pub culled-in-either-hit-in-neither : (culled s kind i j ≡ true) ⊎ (culled t kind i j ≡ true) → ¬ PairIs s kind i j Hit × ¬ PairIs t kind i j Hit
     culled-in-either-hit-in-neither (inl c) =

@@ -10,14 +10,16 @@ use lib.ListN.{length}
 use Rattle.meaning.specs.Scene.{Scene, sceneOf, edgeCount, triangleCount, same}
 use Rattle.meaning.specs.Pieces.{starting, ending, Event, Piece, pieceOf}
 use Rattle.meaning.specs.Verdicts.{PieceIs, PairIs}
+use Rattle.meaning.specs.Resting.{PieceSettled, PairSettled}
 use Rattle.meaning.specs.Refusals.{shares, notThere}
 use Rattle.meaning.specs.Boxes.{Span, Axis, xAxis, yAxis, zAxis, vertexSpan, edgeSpan, triangleSpan, meet, meetOn, listed, culled}
 use Rattle.meaning.specs.Motion.{firstPart, secondPart}
 use Rattle.meaning.specs.declared.Kind.{Kind}
 use Rattle.meaning.specs.declared.Kind.the-variants.{PointTriangle, EdgeEdge}
 use Rattle.meaning.specs.declared.Verdict.{Verdict}
+use Rattle.meaning.specs.declared.Settled.{Settled}
 use Rattle.theory.specs.Bounds.{Every}
-use Rattle.theory.specs.Alike.{alike-same, alike-piece, alike-pair}
+use Rattle.theory.specs.Alike.{alike-same, alike-piece, alike-pair, alike-word, alike-pair-word}
 use Rattle.theory.specs.MovingParts.{Follows, SameParts, mapped, piece-follows}
 use Rattle.theory.specs.Rearranged.{Rearranged}
 use Rattle.theory.specs.Written.{endsWritten, cornersWritten, Different, ends-any-order, corners-any-order}
@@ -71,6 +73,12 @@ module _ {s t : Scene} (h : Rewritten s t) where
 
   pub rewritten-keeps-pairs : (kind : Kind) (i j : ℕ) → WellMade s kind i j → (v : Verdict) → PairIs s kind i j v ↔ PairIs t kind i j v
   rewritten-keeps-pairs kind i j w v = alike-pair kind s t i j i j (λ k below. alike-same (sym (rewritten-piece kind i j w k))) v
+
+  pub rewritten-keeps-words : (kind : Kind) (i j : ℕ) → WellMade s kind i j → (k : ℕ) (v : Settled) → PieceSettled (pieceOf s kind i j k) v ↔ PieceSettled (pieceOf t kind i j k) v
+  rewritten-keeps-words kind i j w k v = alike-word (alike-same (sym (rewritten-piece kind i j w k))) v
+
+  pub rewritten-keeps-pair-words : (kind : Kind) (i j : ℕ) → WellMade s kind i j → (v : Settled) → PairSettled s kind i j v ↔ PairSettled t kind i j v
+  rewritten-keeps-pair-words kind i j w v = alike-pair-word kind s t i j i j (λ k below. alike-same (sym (rewritten-piece kind i j w k))) v
 
   -- ---- the checks of a pair, and the list
 

@@ -4,8 +4,8 @@
 
 use compare::scene::{self, all_pairs};
 use compare::slices::{self, Slices};
-use compare::verdict as independent;
-use makhnodri::{Kind, ListRefusal, Refusal, Scene, TextRefusal, Verdict};
+use compare::{settled, verdict};
+use makhnodri::{Kind, ListRefusal, Refusal, Scene, Settled, TextRefusal, Verdict};
 
 /// A value, or a refusal's number with the line, the needed count, or 0.
 pub type Answer<T> = Result<T, (u64, u64)>;
@@ -23,11 +23,7 @@ impl Flat {
     pub fn of(scene: &scene::Scene) -> Flat {
         let (positions, edges, triangles) = slices::flat(scene);
         let narrow = |numbers: Vec<u64>| numbers.into_iter().map(|n| n as u16).collect();
-        Flat {
-            positions: positions.into_iter().map(|n| n as i32).collect(),
-            edges: narrow(edges),
-            triangles: narrow(triangles),
-        }
+        Flat { positions: positions.into_iter().map(|n| n as i32).collect(), edges: narrow(edges), triangles: narrow(triangles) }
     }
 
     pub fn scene(&self) -> Scene<'_> {
@@ -50,11 +46,20 @@ pub fn kind_of(kind: Kind) -> scene::Kind {
     }
 }
 
-pub fn verdict_of(verdict: independent::Verdict) -> Verdict {
+pub fn verdict_of(verdict: verdict::Verdict) -> Verdict {
     match verdict {
-        independent::Verdict::Hit => Verdict::Hit,
-        independent::Verdict::Miss => Verdict::Miss,
-        independent::Verdict::Degenerate => Verdict::Degenerate,
+        verdict::Verdict::Hit => Verdict::Hit,
+        verdict::Verdict::Miss => Verdict::Miss,
+        verdict::Verdict::Degenerate => Verdict::Degenerate,
+    }
+}
+
+pub fn settled_of(word: settled::Settled) -> Settled {
+    match word {
+        settled::Settled::Hit => Settled::Hit,
+        settled::Settled::Miss => Settled::Miss,
+        settled::Settled::Touch => Settled::Touch,
+        settled::Settled::Apart => Settled::Apart,
     }
 }
 
@@ -88,16 +93,16 @@ pub fn listed(flat: &Flat, room: usize, spare: usize) -> Answer<Vec<[u16; 3]>> {
     answer.map(|_| entries(&list[..front]))
 }
 
-/// The same of the list with its verdicts.
+/// The same of the list with its words.
 pub fn judged(flat: &Flat, room: usize, spare: usize, bytes: usize) -> Answer<(Vec<[u16; 3]>, Vec<u8>)> {
-    let (mut list, mut verdicts): (Vec<u16>, Vec<u8>) = (painted(3 * room + spare), painted(bytes));
-    let before = (list.clone(), verdicts.clone());
-    let answer = flat.scene().judge_listed(&mut list, &mut verdicts).map_err(of_list);
+    let (mut list, mut words): (Vec<u16>, Vec<u8>) = (painted(3 * room + spare), painted(bytes));
+    let before = (list.clone(), words.clone());
+    let answer = flat.scene().judge_listed(&mut list, &mut words).map_err(of_list);
     let count = answer.unwrap_or(0);
     assert!(3 * count <= list.len() && count <= bytes);
     assert_eq!(list[3 * count..], before.0[3 * count..], "behind the list");
-    assert_eq!(verdicts[count..], before.1[count..], "behind the verdicts");
-    answer.map(|_| (entries(&list[..3 * count]), verdicts[..count].to_vec()))
+    assert_eq!(words[count..], before.1[count..], "behind the words");
+    answer.map(|_| (entries(&list[..3 * count]), words[..count].to_vec()))
 }
 
 fn entries(list: &[u16]) -> Vec<[u16; 3]> {
@@ -116,6 +121,8 @@ pub fn every_answer(flat: &Flat) -> Vec<(&'static str, Answer<()>)> {
     for kind in KINDS {
         out.push(("pair", scene.judge_pair(kind, 0, 1).map(drop).map_err(bare)));
         out.push(("piece", scene.judge_piece(kind, 0, 1, 0).map(drop).map_err(bare)));
+        out.push(("settled pair", scene.settle_pair(kind, 0, 1).map(drop).map_err(bare)));
+        out.push(("settled piece", scene.settle_piece(kind, 0, 1, 0).map(drop).map_err(bare)));
     }
     out
 }

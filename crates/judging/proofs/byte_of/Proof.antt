@@ -17,6 +17,9 @@ enum-told-2 c = search needs
 enum-told-3 : tie.Need-enum-told-3
 enum-told-3 c = search needs
 
+enum-told-4 : tie.Need-enum-told-4
+enum-told-4 c = search needs
+
 -- src/lib.rt:18:1
 returns : tie.Need-returns
 unfolding byteOf
@@ -32,5 +35,9 @@ returns-3 : tie.Need-returns-3
 unfolding byteOf
 returns-3 c = rw (c .enum-told3 .given .1)
 
+returns-4 : tie.Need-returns-4
+unfolding byteOf
+returns-4 c = rw (c .enum-told4 .given .1)
+
 pub byte-of-spec : {M : Type 1} → statement M
-byte-of-spec = tie.close (tie.spec enum-told enum-told-2 enum-told-3 returns returns-2 returns-3)
+byte-of-spec = tie.close (tie.spec enum-told enum-told-2 enum-told-3 enum-told-4 returns returns-2 returns-3 returns-4)

@@ -10,7 +10,7 @@ use Rattle.judging.proofs.byte_of.Reads as byte-of-reads
 use Rattle.listing.proofs.entries.entry_first.Reads as entry-first-reads
 use Rattle.listing.proofs.entries.entry_kind.Reads as entry-kind-reads
 use Rattle.listing.proofs.entries.entry_second.Reads as entry-second-reads
-use Rattle.verdicts.proofs.accepted.pair.Reads as pair-reads
+use Rattle.settling.proofs.accepted.pair.Reads as pair-reads
 
 -- src/lib.rt:45:9
 entry-kind-requires : tie.Need-entry-kind-requires

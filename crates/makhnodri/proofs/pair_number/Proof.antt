@@ -10,7 +10,6 @@ pair-number-spec =
     (λ c. search needs)
     (λ c κs. search needs)
     (λ c. search needs)
-    (λ c. search needs)
     (λ c κs. search needs)
-    (λ c. pair-judged (c .before .before .answer .given .1) (c .byte-of .ensures))
+    (λ c. pair-judged (c .before .before .answer .given .1) (c .verdict-number .ensures))
     (λ c. pair-refused (c .before .before .answer2 .given .1) (c .refused .ensures)))

@@ -8,7 +8,7 @@ use Rattle.summary.proofs.scene_report.Tie as tie
 use Rattle.summary.proofs.scene_report.Reads as reads
 use Rattle.summary.proofs.scene_report.Lts as lts
 use Rattle.judging.proofs.judge_accepted.Reads as judge-accepted-reads
-use Rattle.summary.proofs.lines.refused_line.Reads as refused-line-reads
+use Rattle.wording.proofs.lines.refused_line.Reads as refused-line-reads
 use Rattle.summary.proofs.pairs.pairs_report.Reads as pairs-report-reads
 
 -- src/lib.rt:49:64

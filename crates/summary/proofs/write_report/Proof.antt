@@ -7,7 +7,7 @@ use lib.Seq.{length-take-le}
 use borrow.Author.Needs.{needs}
 use Rattle.meaning.specs.Refusals.{numberOf}
 use Rattle.meaning.specs.Report.{refusedLine}
-use Rattle.summary.specs.Lines.{wrote-as}
+use Rattle.wording.specs.Lines.{wrote-as}
 use Rattle.summary.specs.FromCalls.{few-read, holds-read, accepted-read, short-read, refused-read}
 use Rattle.summary.specs.Whole.{scene-to-text, refused-text}
 use Rattle.summary.proofs.write_report.Statement.{statement}
@@ -15,8 +15,8 @@ use Rattle.summary.proofs.write_report.Tie as tie
 use Rattle.summary.proofs.write_report.Reads as reads
 use Rattle.summary.proofs.write_report.Lts as lts
 use Rattle.scene_text.proofs.read_scene.Reads as read-scene-reads
-use Rattle.summary.proofs.lines.refused_line.Reads as refused-line-reads
-use Rattle.summary.proofs.number_of.Reads as number-of-reads
+use Rattle.wording.proofs.lines.refused_line.Reads as refused-line-reads
+use Rattle.wording.proofs.number_of.Reads as number-of-reads
 use Rattle.summary.proofs.scene_report.Reads as scene-report-reads
 
 -- src/lib.rt:62:40

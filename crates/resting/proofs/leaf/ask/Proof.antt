@@ -17,7 +17,7 @@ use Rattle.resting.proofs.leaf.ask.Tie as tie
 
 module _ (ps : List ℤ) (six : SixPoints) (left : List Bool) (s e : ℕ) (p : s ≡ baseOf six left false) (q : e ≡ baseOf six left true) where
   asked : SixIn ps six → (f : ℕ) → f < 3 → SixIn ps six × (s < 6) × (e < 6) × (f < 3)
-  asked h f k = (h, rw p (base-is h left false .there), rw q (base-is h left true .there), k)
+  asked h f k = (h, rw p (base-is ps (h .timed) left false .there), rw q (base-is ps (h .timed) left true .there), k)
 
   abbrev turn : ℕ → Leaf
   turn = turnOf ps six left s e

@@ -66,15 +66,15 @@ pub +first+second-spec : {M : Type 1} → statement M
     (λ c κs. tt)
     (λ c.
     let a = c .before .before in
-    rw (c .is-yes .ensures) (says-answer (a .before .pre .1) _ _ _ _ _ (a .ask-once .ensures) (decided _ (c .before .match .keys2))))
+    rw (c .is-yes .ensures) (says-answer _ (a .before .pre .1 .timed) _ _ _ _ _ (a .ask-once .ensures) (decided _ (c .before .match .keys2))))
     (λ c. (zero-le, none-yet _ _))
-    (λ c. lt-of-lt-of-le (c .loop-test .taken) (c .before .before .before .before .before .pre .1 .split))
-    (λ c κs. lt-of-lt-of-le (c .before .loop-test .taken) (c .before .before .before .before .before .before .pre .1 .split))
+    (λ c. lt-of-lt-of-le (c .loop-test .taken) (c .before .before .before .before .before .pre .1 .timed .split))
+    (λ c κs. lt-of-lt-of-le (c .before .loop-test .taken) (c .before .before .before .before .before .before .pre .1 .timed .split))
     (λ c κs.
     let s = c .before .before .before .before .before .before .before in
     (falls-without _ _ _ _ (s .pre .0) (c .without .ensures) (c .before .if1 .taken), s .pre .1))
     (λ c. found _ _ (c .before .before .without .ensures) (c .before .second .ensures) _ _ _ (c .if2 .taken))
-    (λ c. let h = c .before .loop-test .taken in let k = c .before .before .before .before .before .before .pre .1 .split in omega arith)
+    (λ c. let h = c .before .loop-test .taken in let k = c .before .before .before .before .before .before .pre .1 .timed .split in omega arith)
     (λ c. let h = c .before .loop-test .taken in omega arith)
     (λ c.
     let l = c .before .before .loop in
@@ -85,13 +85,13 @@ pub +first+second-spec : {M : Type 1} → statement M
     ))
     (λ c.
     let l = c .before .before in
-    says-tried (l .before .before .before .before .pre .1) _ _ _ _ _ (c .if3 .taken) (le-antisymm (l .loop .inv .0) (c .before .loop-test .left)) (l .loop .inv .1))
+    says-tried _ (l .before .before .before .before .pre .1 .timed) _ _ _ _ _ (c .if3 .taken) (le-antisymm (l .loop .inv .0) (c .before .loop-test .left)) (l .loop .inv .1))
     (λ c κs. let s = c .before .before .before .before .before .before in (falls-handed _ _ (s .pre .0) (c .if3 .left), s .pre .1))
     (λ c.
     let l = c .before .before .before in
     let m = l .before .before in
     let s = m .before .before in
-    says-last (s .pre .1) _ _ _ _ _ _ (on-a-side _) _ (c .before .if3 .left) _ (m .before .ask-once .ensures) (is-open _ (m .match .keys1)) (le-antisymm (l .loop .inv .0) (c .before .before .loop-test .left)) (l .loop .inv .1) _ (c .second2 .ensures)))
+    says-last _ (s .pre .1 .timed) _ _ _ _ _ _ (on-a-side _) _ (c .before .if3 .left) _ (m .before .ask-once .ensures) (is-open _ (m .match .keys1)) (le-antisymm (l .loop .inv .0) (c .before .before .loop-test .left)) (l .loop .inv .1) _ (c .second2 .ensures)))
     (λ t. second-lts.spec
     (ask-once-reads.Asked, ask-once-reads.Learnt, is-yes-reads.Asked, is-yes-reads.Learnt, without-reads.Asked, without-reads.Learnt, first-below t, first.Post)
     (second-at t)
@@ -103,15 +103,15 @@ pub +first+second-spec : {M : Type 1} → statement M
     (λ c κs. tt)
     (λ c.
     let a = c .before .before in
-    rw (c .is-yes .ensures) (says-answer (a .before .pre .1) _ _ _ _ _ (a .ask-once .ensures) (decided _ (c .before .match .keys2))))
-    (λ c. (c .before .before .before .pre .1 .split, none-yet _ _))
+    rw (c .is-yes .ensures) (says-answer _ (a .before .pre .1 .timed) _ _ _ _ _ (a .ask-once .ensures) (decided _ (c .before .match .keys2))))
+    (λ c. let h = c .before .before .before .pre .1 .timed .split in (omega arith, none-yet _ _))
     (λ c. c .loop-test .taken)
     (λ c κs. c .before .loop-test .taken)
     (λ c κs.
     let s = c .before .before .before .before .before .before .before in
     (falls-without _ _ _ _ (s .pre .0) (c .without .ensures) (c .before .if1 .taken), s .pre .1))
     (λ c. found _ _ (c .before .before .without .ensures) (c .before .first .ensures) _ _ _ (c .if2 .taken))
-    (λ c. let h = c .before .loop-test .taken in let k = c .before .before .before .before .before .before .pre .1 .split in omega arith)
+    (λ c. let h = c .before .loop-test .taken in let k = c .before .before .before .before .before .before .pre .1 .timed .split in omega arith)
     (λ c. let h = c .before .loop-test .taken in omega arith)
     (λ c.
     let l = c .before .before .loop in
@@ -122,10 +122,10 @@ pub +first+second-spec : {M : Type 1} → statement M
     ))
     (λ c.
     let l = c .before .before in
-    says-tried (l .before .before .before .before .pre .1) _ _ _ _ _ (c .if3 .taken) (le-antisymm (l .loop .inv .0) (c .before .loop-test .left)) (l .loop .inv .1))
+    says-tried _ (l .before .before .before .before .pre .1 .timed) _ _ _ _ _ (c .if3 .taken) (le-antisymm (l .loop .inv .0) (c .before .loop-test .left)) (l .loop .inv .1))
     (λ c κs. let s = c .before .before .before .before .before .before in (falls-handed _ _ (s .pre .0) (c .if3 .left), s .pre .1))
     (λ c.
     let l = c .before .before .before in
     let m = l .before .before in
     let s = m .before .before in
-    says-last (s .pre .1) _ _ _ _ _ _ (λ j k. ⊎-swap (on-a-side _ j k)) _ (c .before .if3 .left) _ (m .before .ask-once .ensures) (is-open _ (m .match .keys1)) (le-antisymm (l .loop .inv .0) (c .before .before .loop-test .left)) (l .loop .inv .1) _ (c .first2 .ensures)))
+    says-last _ (s .pre .1 .timed) _ _ _ _ _ _ (λ j k. ⊎-swap (on-a-side _ j k)) _ (c .before .if3 .left) _ (m .before .ask-once .ensures) (is-open _ (m .match .keys1)) (le-antisymm (l .loop .inv .0) (c .before .before .loop-test .left)) (l .loop .inv .1) _ (c .first2 .ensures)))

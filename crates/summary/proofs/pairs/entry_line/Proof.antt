@@ -1,16 +1,16 @@
 use borrow.Author.Needs.{needs}
 use Rattle.meaning.specs.List.{pair}
 use Rattle.meaning.specs.Report.{pairLine}
-use Rattle.summary.specs.Lines.{wrote-as}
+use Rattle.wording.specs.Lines.{wrote-as}
 use Rattle.summary.proofs.pairs.entry_line.Statement.{statement}
 use Rattle.summary.proofs.pairs.entry_line.Tie as tie
 use Rattle.summary.proofs.pairs.entry_line.Reads as reads
 use Rattle.summary.proofs.pairs.entry_line.Lts as lts
-use Rattle.judging.proofs.verdict_of.Reads as verdict-of-reads
+use Rattle.judging.proofs.word_of.Reads as word-of-reads
 use Rattle.listing.proofs.entries.entry_first.Reads as entry-first-reads
 use Rattle.listing.proofs.entries.entry_kind.Reads as entry-kind-reads
 use Rattle.listing.proofs.entries.entry_second.Reads as entry-second-reads
-use Rattle.summary.proofs.lines.pair_line.Reads as pair-line-reads
+use Rattle.wording.proofs.lines.pair_line.Reads as pair-line-reads
 
 -- src/pairs.rt:25:9
 entry-kind-requires : tie.Need-entry-kind-requires
@@ -25,12 +25,12 @@ entry-second-requires : tie.Need-entry-second-requires
 entry-second-requires c κs = search needs
 
 -- src/pairs.rt:28:39
-shared-slice-read-verdict-of : tie.Need-shared-slice-read-verdict-of
-shared-slice-read-verdict-of c = search needs
+shared-slice-read-word-of : tie.Need-shared-slice-read-word-of
+shared-slice-read-word-of c = search needs
 
 -- src/pairs.rt:28:9
-verdict-of-requires : tie.Need-verdict-of-requires
-verdict-of-requires c κs = search needs
+word-of-requires : tie.Need-word-of-requires
+word-of-requires c κs = search needs
 
 -- src/pairs.rt:29:5
 pair-line-requires : tie.Need-pair-line-requires
@@ -44,7 +44,7 @@ same-length c = search needs
 returns : tie.Need-returns
 returns c =
     wrote-as
-    (λ t. pairLine (pair (c .before .before .before .before .before .before .before .before .entry-kind .ensures t) (c .before .before .before .before .before .before .before .entry-first .ensures t) (c .before .before .before .before .before .before .entry-second .ensures t)) (c .before .before .before .before .verdict-of .ensures t))
+    (λ t. pairLine (pair (c .before .before .before .before .before .before .before .before .entry-kind .ensures t) (c .before .before .before .before .before .before .before .entry-first .ensures t) (c .before .before .before .before .before .before .entry-second .ensures t)) (c .before .before .before .before .word-of .ensures t))
     (c .before .before .pair-line .ensures)
 
 pub entry-line-spec : {M : Type 1} → statement M
@@ -54,8 +54,8 @@ entry-line-spec =
     entry-kind-requires
     entry-first-requires
     entry-second-requires
-    shared-slice-read-verdict-of
-    verdict-of-requires
+    shared-slice-read-word-of
+    word-of-requires
     pair-line-requires
     same-length
     returns)

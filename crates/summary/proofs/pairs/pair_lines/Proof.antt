@@ -11,7 +11,7 @@ use Rattle.summary.proofs.pairs.entry_line.Reads as entry-line-reads
 
 abbrev Inv-loop : tie.InvT-loop
 Inv-loop list verdicts count out₀ next₀ k₀ out next k =
-    (k ≤ count) × (next ≤ 26 * k) × Writing out₀ (gather (lineAt list verdicts) 0 count) out next (gather (lineAt list verdicts) k count)
+    (k ≤ count) × (next ≤ 21 * k) × Writing out₀ (gather (lineAt list verdicts) 0 count) out next (gather (lineAt list verdicts) k count)
 
 abbrev μ-loop : tie.MeasureT-loop
 μ-loop list verdicts count out₀ next₀ k₀ out next k = count - k

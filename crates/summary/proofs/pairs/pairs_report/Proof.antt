@@ -1,16 +1,14 @@
 use borrow.Author.Needs.{needs}
 use mathlib.Core.List.{[], _∷_}
-use mathlib.Core.Path.{sym}
 use Rattle.decimals.specs.Digits.{digits}
 use Rattle.sequences.specs.Wrote.{wrote-then}
 use Rattle.meaning.specs.Report.{reportLine, totalWord}
-use Rattle.summary.specs.Lines.{wrote-as}
-use Rattle.summary.specs.Rendered.{verdicts-long}
+use Rattle.wording.specs.Lines.{wrote-as}
 use Rattle.summary.proofs.pairs.pairs_report.Statement.{statement}
 use Rattle.summary.proofs.pairs.pairs_report.Tie as tie
 use Rattle.summary.proofs.pairs.pairs_report.Reads as reads
 use Rattle.summary.proofs.pairs.pairs_report.Lts as lts
-use Rattle.summary.proofs.lines.total_line.Reads as total-line-reads
+use Rattle.wording.proofs.lines.total_line.Reads as total-line-reads
 use Rattle.summary.proofs.pairs.pair_lines.Reads as pair-lines-reads
 use Rattle.summary.proofs.pairs.tally_of.Reads as tally-of-reads
 
@@ -34,10 +32,9 @@ same-length c = search needs
 returns : tie.Need-returns
 returns c =
     let t = c .before .before .before .before .tally-of .ensures in
-    let a = c .before .before .before .before .before .before .before .before .before .before .before .before .args in
     wrote-then (c .before .before .before .before .before .before .before .pair-lines .ensures .0)
     (wrote-as
-    (λ i. reportLine totalWord (digits (sym (verdicts-long (a .verdicts .now) (a .count)) i) ∷ digits (t .hits i) ∷ digits (t .misses i) ∷ digits (t .degenerates i) ∷ []))
+    (λ i. reportLine totalWord (digits (t .listed i) ∷ digits (t .hits i) ∷ digits (t .misses i) ∷ digits (t .touches i) ∷ digits (t .aparts i) ∷ []))
     (c .before .before .total-line .ensures))
 
 pub pairs-report-spec : {M : Type 1} → statement M

@@ -5,13 +5,13 @@ use native.Mathlib.Omega.{arith}
 use borrow.Author.Needs.{needs}
 use Rattle.sequences.specs.Gather.{gather-none, gather-last}
 use Rattle.summary.specs.Rendered.{verdictAt, verdictsIn, verdicts-short}
-use Rattle.summary.specs.Counted.{TallyOf, tally-starts, tally-goes}
+use Rattle.wording.specs.Counted.{TallyOf, tally-starts, tally-goes}
 use Rattle.summary.proofs.pairs.tally_of.Statement.{statement}
 use Rattle.summary.proofs.pairs.tally_of.Tie as tie
 use Rattle.summary.proofs.pairs.tally_of.Reads as reads
 use Rattle.summary.proofs.pairs.tally_of.Lts as lts
-use Rattle.judging.proofs.verdict_of.Reads as verdict-of-reads
-use Rattle.summary.proofs.tally.Tally.add.Reads as add-reads
+use Rattle.judging.proofs.word_of.Reads as word-of-reads
+use Rattle.wording.proofs.tally.Tally.add.Reads as add-reads
 
 abbrev Inv-loop : tie.InvT-loop
 Inv-loop verdicts count tally₀ k₀ tally k = (k ≤ count) × TallyOf (verdictsIn verdicts 0 k) tally
@@ -24,12 +24,12 @@ loop-holds : tie.Need-loop-holds Inv-loop μ-loop
 loop-holds c = (omega arith, rw (gather-none (λ k. verdictAt (c .before .args .verdicts .now) k ∷ []) 0 0 (omega arith)) tally-starts)
 
 -- src/pairs.rt:58:47
-shared-slice-read-verdict-of : tie.Need-shared-slice-read-verdict-of Inv-loop μ-loop
-shared-slice-read-verdict-of c = omega (arith, c .before .before .before .before .pre)
+shared-slice-read-word-of : tie.Need-shared-slice-read-word-of Inv-loop μ-loop
+shared-slice-read-word-of c = omega (arith, c .before .before .before .before .pre)
 
 -- src/pairs.rt:58:27
-verdict-of-requires : tie.Need-verdict-of-requires Inv-loop μ-loop
-verdict-of-requires c κs = search needs
+word-of-requires : tie.Need-word-of-requires Inv-loop μ-loop
+word-of-requires c κs = search needs
 
 -- src/pairs.rt:58:9
 add-requires : tie.Need-add-requires Inv-loop μ-loop
@@ -49,7 +49,7 @@ loop-again c =
     let b = c .before .before .before .before .before .before .args .verdicts .now in
     let k = c .before .before .before .before .loop .k in (
       omega arith,
-      rw (gather-last (λ k. verdictAt (c .before .before .before .before .before .before .args .verdicts .now) k ∷ []) 0 k (omega arith), c .add .ensures, c .before .verdict-of .ensures)
+      rw (gather-last (λ k. verdictAt (c .before .before .before .before .before .before .args .verdicts .now) k ∷ []) 0 k (omega arith), c .add .ensures, c .before .word-of .ensures)
           (tally-goes (verdictAt b k) (omega (arith, verdicts-short b k, c .before .before .before .before .before .before .pre)) (c .before .before .before .before .loop .inv .1)),
     )
 
@@ -66,8 +66,8 @@ tally-of-spec =
     Inv-loop
     μ-loop
     loop-holds
-    shared-slice-read-verdict-of
-    verdict-of-requires
+    shared-slice-read-word-of
+    word-of-requires
     add-requires
     add-k
     loop-less

@@ -1,0 +1,4 @@
+-- From verdicts and six points to the four words.
+pub mod Six
+pub mod Words
+pub mod Deciding

@@ -1,0 +1,4 @@
+-- The tally, and how large the lines of a report are.
+pub mod Tallied
+pub mod Lines
+pub mod Counted

@@ -1,0 +1,29 @@
+// Words, numbers and lines of the report, written into a lent buffer, and the tally.
+
+mod words; // words.rt: words and numbers
+pub mod lines; // lines.rt: the lines of the report
+pub mod tally; // tally.rt: how many pairs have each verdict
+
+ghost use mathlib.Core.Path.{_≡_};
+ghost use Rattle.meaning.specs.Refusals.{numberOf};
+use meaning::Refusal;
+
+// Document 01's number of a refusal.
+pub fn number_of(refusal: Refusal) -> u64
+    ensures { λ r. ⌜ r ≡ numberOf refusal ⌝ }
+{
+    match refusal {
+        Refusal::Shape => 1,
+        Refusal::Coordinate => 2,
+        Refusal::UnknownVertex => 3,
+        Refusal::RepeatedVertex => 4,
+        Refusal::NotThere => 5,
+        Refusal::SharedVertex => 6,
+        Refusal::NoRoom => 7,
+        Refusal::LongText => 8,
+        Refusal::BadLine => 9,
+        Refusal::LateRecord => 10,
+        Refusal::TooMany => 11,
+        Refusal::ShortBuffer => 12,
+    }
+}
