@@ -43,8 +43,9 @@ use Rattle.resting.specs.Answer.{baseOf, judgedBy, turnOf, otherwise, leafOf}
 use Rattle.resting.specs.Sixes.{pointSix, sixOf}
 use Rattle.resting.specs.Decided.{byLeaf, touching, settledBy, verdictOfWord, pieceWord, isTouch, pairWord, settled-pair}
 use Rattle.scenes.specs.Speaking.{scene-says-one, pair-says-one}
+use Rattle.listing.specs.Once.{list-says-one}
 use Rattle.demands.specs.Demand1.{demand1-scene, demand1-pair, demand1-piece, demand1-settled-pair, demand1-settled-piece, demand1-listing}
-use Rattle.demands.specs.OneAnswer.{list-says-one, settled-says-one}
+use Rattle.demands.specs.OneAnswer.{settled-says-one}
 use Rattle.demands.specs.Table.{Case, cases, numbered, IsRight}
 use Rattle.demands.specs.Cases.{twelve-cases}
 

@@ -17,24 +17,12 @@ use Rattle.meaning.specs.declared.SceneAnswer.{SceneAnswer}
 use Rattle.meaning.specs.declared.PairAnswer.{PairAnswer}
 use Rattle.meaning.specs.declared.SettledAnswer as SettledAnswers
 use Rattle.meaning.specs.declared.SettledAnswer.{SettledAnswer}
-use Rattle.meaning.specs.declared.ListAnswer as ListAnswers
 use Rattle.meaning.specs.declared.ListAnswer.{ListAnswer}
 use Rattle.theory.specs.OneVerdict.{one-piece-verdict, one-pair-verdict}
 use Rattle.resting.specs.Decided.{one-piece-word, one-pair-word}
 use Rattle.scenes.specs.Answering.{one-answer}
 use Rattle.scenes.specs.Speaking.{one-number, pair-says-one, one-scene-answer}
-
-pub list-says-one : (r r′ : ListAnswer) → listSays r ≡ listSays r′ → r ≡ r′
-unfolding listSays
-list-says-one (ListAnswers.the-variants.Listed l) (ListAnswers.the-variants.Listed m) e =
-    let n : l .count ≡ m .count = cc in
-    λ i. ListAnswers.the-variants.Listed (record { count = n i })
-list-says-one (ListAnswers.the-variants.Listed l) (ListAnswers.the-variants.Refused y d) e = cc
-list-says-one (ListAnswers.the-variants.Refused x c) (ListAnswers.the-variants.Listed m) e = cc
-list-says-one (ListAnswers.the-variants.Refused x c) (ListAnswers.the-variants.Refused y d) e =
-    let k : x ≡ y = one-number x y (cc) in
-    let n : c ≡ d = cc in
-    λ i. ListAnswers.the-variants.Refused (k i) (n i)
+use Rattle.listing.specs.Once.{list-says-one}
 
 pub settled-says-one : (r r′ : SettledAnswer) → settledSays r ≡ settledSays r′ → r ≡ r′
 unfolding settledSays

@@ -30,7 +30,8 @@ use Rattle.meaning.specs.declared.TextAnswer as TextAnswers
 use Rattle.meaning.specs.declared.TextAnswer.{TextAnswer}
 use Rattle.scenes.specs.Speaking.{scene-says-one, pair-says-one}
 use Rattle.judging.specs.Listed.{wordOfByte, byte-back, byte-small}
-use Rattle.demands.specs.OneAnswer.{settled-says-one, list-says-one}
+use Rattle.listing.specs.Once.{list-says-one}
+use Rattle.demands.specs.OneAnswer.{settled-says-one}
 use Rattle.scene_text.specs.Using.{text-says-one}
 use Rattle.makhnodri.specs.Numbers.{upper, numberFor, verdictNumber, sceneNumber, pairNumber, settledNumber, listNumber, textNumber, countsLeft}
 use Rattle.makhnodri.specs.Small.{toldIn, lineIn, number-in-table}
