@@ -2,7 +2,6 @@
 
 ghost use mathlib.Core.Path.{_≡_};
 ghost use mathlib.Core.Bool.{false};
-ghost use Prim.Native.Nat.{min, max};
 ghost use Rattle.meaning.specs.Scene.{sceneOf, Accepted};
 ghost use Rattle.meaning.specs.Pieces.{pieceOf};
 ghost use Rattle.meaning.specs.Refusals.{notThere};
@@ -14,18 +13,8 @@ use super::six::point_six;
 use meaning::Kind;
 use meaning::Settled;
 use meaning::Verdict;
-
-fn smaller(i: usize, j: usize) -> usize
-    ensures { λ r. ⌜ r ≡ min i j ⌝ }
-{
-    if i < j { i } else { j }
-}
-
-fn larger(i: usize, j: usize) -> usize
-    ensures { λ r. ⌜ r ≡ max i j ⌝ }
-{
-    if i < j { j } else { i }
-}
+use verdicts::accepted::larger;
+use verdicts::accepted::smaller;
 
 // The word of a piece, from its verdict.
 pub(crate) fn piece_word(

@@ -60,13 +60,14 @@ pub fn shares_vertex(
     }
 }
 
-fn smaller(i: usize, j: usize) -> usize
+// The lower of two places, and the higher.
+pub fn smaller(i: usize, j: usize) -> usize
     ensures { λ r. ⌜ r ≡ min i j ⌝ }
 {
     if i < j { i } else { j }
 }
 
-fn larger(i: usize, j: usize) -> usize
+pub fn larger(i: usize, j: usize) -> usize
     ensures { λ r. ⌜ r ≡ max i j ⌝ }
 {
     if i < j { j } else { i }
