@@ -24,14 +24,18 @@ agree-negative negative = refl
 agree-negative nought = refl
 agree-negative positive = refl
 
--- the code's choice, from a test for 'not below 0' and one for 'not above 0'
+-- the code's two tests, from a test for 'not below 0' and one for 'not above 0'
+abbrev neither : {A : Type 0} → (A → Bool) → (A → Bool) → A → Bool
+neither up down d = down d && up d
+
+abbrev oneWay : {A : Type 0} → (A → Bool) → (A → Bool) → A → A → A → A → A → A → A → Bool
+oneWay up down d a b c e f g =
+    (up d && (up a && up b && up c && up e && up f && up g)) || (down d && (down a && down b && down c && down e && down f && down g))
+
+-- the code's choice
 abbrev chosen : {A : Type 0} → (A → Bool) → (A → Bool) → A → A → A → A → A → A → A → Verdict
 chosen up down d a b c e f g =
-    cond (down d && up d) Degenerate
-    (cond
-    ((up d && (up a && up b && up c && up e && up f && up g)) || (down d && (down a && down b && down c && down e && down f && down g)))
-    Hit
-    Miss)
+    cond (neither up down d) Degenerate (cond (oneWay up down d a b c e f g) Hit Miss)
 
 by-sign : (d a b c e f g : Sgn) → cond (isNought d) Degenerate (cond (agree d a && (agree d b && (agree d c && (agree d e && (agree d f && (agree d g && true)))))) Hit Miss) ≡ chosen (λ s. not (isNegative s)) (λ s. not (isPositive s)) d a b c e f g
 by-sign positive a b c e f g = simp (agree-positive, and-assoc, and-true, or-false)
@@ -48,16 +52,23 @@ by-test s =
     (toZ-ofZ (h .d), toZ-ofZ (h .a), toZ-ofZ (h .b), toZ-ofZ (h .c), toZ-ofZ (h .e), toZ-ofZ (h .f), toZ-ofZ (h .g), le-nought, nought-le)
     (by-sign (sgn (x .d)) (sgn (x .a)) (sgn (x .b)) (sgn (x .c)) (sgn (x .e)) (sgn (x .f)) (sgn (x .g)))
 
-if-so : {A : Type 0} {b : Bool} (x y : A) → b ≡ true → cond b x y ≡ x
-if-so x y e = ap (λ c. cond c x y) e
+-- the two tests, of the numbers as their locals hold them
+abbrev zeroTest : tie.Start → Bool
+zeroTest s = neither (λ z. leZ (pos 0) z) (λ z. leZ z (pos 0)) (held w64 (s .args .d))
 
-if-not : {A : Type 0} {b : Bool} (x y : A) → b ≡ false → cond b x y ≡ y
-if-not x y e = ap (λ c. cond c x y) e
+abbrev hitTest : tie.Start → Bool
+hitTest s = let x = s .args in oneWay (λ z. leZ (pos 0) z) (λ z. leZ z (pos 0)) (held w64 (x .d)) (held w64 (x .a)) (held w64 (x .b)) (held w64 (x .c)) (held w64 (x .e)) (held w64 (x .f)) (held w64 (x .g))
+
+if-so : {A : Type 0} (b : Bool) (x y : A) → b ≡ true → cond b x y ≡ x
+if-so b x y e = ap (λ c. cond c x y) e
+
+if-not : {A : Type 0} (b : Bool) (x y : A) → b ≡ false → cond b x y ≡ y
+if-not b x y e = ap (λ c. cond c x y) e
 
 pub by-signs-spec : {M : Type 1} → statement M
 by-signs-spec =
     tie.close
     (tie.spec
-    (λ c. sym (by-test (c .before) ∙ if-so _ _ (c .if1 .taken)))
-    (λ c. sym (by-test (c .before .before) ∙ if-not _ _ (c .before .if1 .left) ∙ if-so _ _ (c .if2 .taken)))
-    (λ c. sym (by-test (c .before .before) ∙ if-not _ _ (c .before .if1 .left) ∙ if-not _ _ (c .if2 .left))))
+    (λ c. let s = c .before in sym (by-test s ∙ if-so (zeroTest s) _ _ (c .if1 .taken)))
+    (λ c. let s = c .before .before in sym (by-test s ∙ if-not (zeroTest s) _ _ (c .before .if1 .left) ∙ if-so (hitTest s) _ _ (c .if2 .taken)))
+    (λ c. let s = c .before .before in sym (by-test s ∙ if-not (zeroTest s) _ _ (c .before .if1 .left) ∙ if-not (hitTest s) _ _ (c .if2 .left))))
