@@ -70,8 +70,9 @@ extern "C" {
  * ---- An answer ----
  *
  * One 64-bit number. Below 2^32 it is the value itself. From 2^32 on it is a refusal: the upper 32 bits are its number, the
- * lower 32 bits the line or the needed count that it carries, else 0. No two answers of a function have the same number.
- * After a refusal no lent byte or number has changed.
+ * lower 32 bits the line or the needed count that it carries, else 0. No two answers of a function have the same number
+ * (makhnodri_read_scene answers 0 for every text that it read, and the counts tell which). After a refusal no lent byte or
+ * number has changed.
  */
 typedef uint64_t makhnodri_answer;
 
@@ -89,10 +90,10 @@ static inline uint32_t makhnodri_value(makhnodri_answer answer) { return (uint32
  * _settle_ee_piece, the bytes that makhnodri_judge_scene writes, and the words of the report.
  */
 enum {
-    MAKHNODRI_HIT = 0,        /* a piece: six weights exist, none negative; touching a border, a corner, the start or the end counts */
-    MAKHNODRI_MISS = 1,       /* a piece: none exist */
+    MAKHNODRI_HIT = 0,        /* a piece: its six equations have one solution, and its weights are not negative; one that is 0 counts */
+    MAKHNODRI_MISS = 1,       /* a piece: its six equations have one solution, and one of its weights is negative */
     MAKHNODRI_DEGENERATE = 2, /* a piece: its six equations are singular, and nothing more is said of it; in three words only */
-    MAKHNODRI_TOUCH = 3,      /* a piece: its six equations are singular, and such weights exist */
+    MAKHNODRI_TOUCH = 3,      /* a piece: its six equations are singular, and weights that solve them exist, none negative */
     MAKHNODRI_APART = 4       /* a piece: its six equations are singular, and none exist */
 };
 /*
@@ -114,7 +115,7 @@ enum {
 enum {
     MAKHNODRI_SHAPE = 1,           /* positions not a multiple of 6 long, edges of 2, triangles of 3, or a count over its size */
     MAKHNODRI_COORDINATE = 2,      /* a coordinate outside its range; of a text, with the line */
-    MAKHNODRI_UNKNOWN_VERTEX = 3,  /* a vertex number not below the vertex count (of a text, the count of v lines above); with the line */
+    MAKHNODRI_UNKNOWN_VERTEX = 3,  /* a vertex number not below the vertex count (of a text, the count of v lines above, and with the line) */
     MAKHNODRI_REPEATED_VERTEX = 4, /* a vertex twice in one edge or triangle; of a text, with the line */
     MAKHNODRI_NOT_THERE = 5,       /* a vertex, edge, triangle or piece asked for that is not there */
     MAKHNODRI_SHARED_VERTEX = 6,   /* the pair asked for shares a vertex (an edge with itself too) */

@@ -1,12 +1,12 @@
 -- Nothing yet where all volumes are 0, else by the two tests.
 use mathlib.Core.Path.{_≡_, _∙_, sym}
-use mathlib.Core.Bool.{Bool, _&&_}
+use mathlib.Core.Bool.{Bool, true, false, _&&_}
 use Rattle.resting.specs.Answer.{judged-open, judged-yes, judged-no}
 use Rattle.resting.proofs.leaf.judge.Statement.{statement}
 use Rattle.resting.proofs.leaf.judge.Tie as tie
 
-joined : {a b a′ b′ c : Bool} → a ≡ a′ → b ≡ b′ → a && b ≡ c → a′ && b′ ≡ c
-joined p q h = sym (λ i. p i && q i) ∙ h
+joined : {a b a′ b′ : Bool} (c : Bool) → a ≡ a′ → b ≡ b′ → a && b ≡ c → a′ && b′ ≡ c
+joined c p q h = sym (λ i. p i && q i) ∙ h
 
 pub judge-spec : {M : Type 1} → statement M
 judge-spec =
@@ -26,7 +26,7 @@ judge-spec =
     (λ c κs. c .before .before .before .before .before .before .before .pre .0)
     (λ c.
     let z = c .before .before .before .before .before .before in
-    judged-yes _ _ _ _ _ _ (sym (z .before .before .zero-but .ensures) ∙ z .before .if1 .left) (joined (z .zero-but2 .ensures) (c .before .one-way .ensures) (c .if2 .taken)))
+    judged-yes _ _ _ _ _ _ (sym (z .before .before .zero-but .ensures) ∙ z .before .if1 .left) (joined true (z .zero-but2 .ensures) (c .before .one-way .ensures) (c .if2 .taken)))
     (λ c.
     let z = c .before .before .before .before .before .before in
-    judged-no _ _ _ _ _ _ (sym (z .before .before .zero-but .ensures) ∙ z .before .if1 .left) (joined (z .zero-but2 .ensures) (c .before .one-way .ensures) (c .if2 .left))))
+    judged-no _ _ _ _ _ _ (sym (z .before .before .zero-but .ensures) ∙ z .before .if1 .left) (joined false (z .zero-but2 .ensures) (c .before .one-way .ensures) (c .if2 .left))))
