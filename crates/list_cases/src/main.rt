@@ -117,5 +117,6 @@ fn main() {
     end_line();
     try_empty(&mut one[..0]);
     try_empty(&mut two);
-    try_bad(&mut eight);
+    let mut fresh = [9u16; 8];
+    try_bad(&mut fresh);
 }
