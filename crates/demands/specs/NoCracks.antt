@@ -1,22 +1,30 @@
--- 'They cut two faces that share an edge along different diagonals, and a corner slips through the crack': not in an accepted scene. What
--- touches a piece of a moving edge touches a piece of every moving triangle that has the edge, in whatever order their corners are written.
+-- 'They cut two faces that share an edge along different diagonals, and a corner slips through the crack': not in an accepted scene. Two faces
+-- share an edge when they have two corners in common, whether or not the scene has an edge of these two; and what touches a piece of this
+-- moving edge touches a piece of both moving triangles, in whatever order their corners are written.
 use Prim.Native.Nat.{ℕ, _<_}
 use mathlib.Core.List.{List}
-use Rattle.meaning.specs.Scene.{Scene, Accepted, triangleCount, endsOf, cornersOf}
+use Rattle.meaning.specs.Scene.{Scene, Accepted, triangleCount, rising, cornersOf}
 use Rattle.meaning.specs.Pieces.{Event, movingEdge, movingTriangle}
 use Rattle.meaning.specs.Equations.{Touch}
-use Rattle.theory.specs.NoCrack.{HasEdge, has-edge, edge-pieces-are-faces, touch-through}
+use Rattle.theory.specs.NoCrack.{HasTwo, side-pieces-are-faces, touch-through}
 use Rattle.demands.specs.StillAccepted.{different-corners}
 
--- some piece of the moving triangle j touches what stands in b
-pub record TouchesTriangle (s : Scene) (j : ℕ) (b : List Event) : Type 0 where
+-- some piece of the moving triangle t touches these points
+pub record TouchesTriangle (s : Scene) (t : ℕ) (points : List Event) : Type 0 where
   pub piece : ℕ
   pub there : piece < 3
-  pub touch : Touch (movingTriangle s (cornersOf s j) piece) b
+  pub touch : Touch (movingTriangle s (cornersOf s t) piece) points
 
-pub no-cracks : {s : Scene} → Accepted s → (i j : ℕ) → j < triangleCount s → HasEdge s j i
-    → (m : ℕ) (b : List Event) → Touch (movingEdge s (endsOf s i) m) b → TouchesTriangle s j b
-no-cracks {s} a i j h has m b t =
-    let face = edge-pieces-are-faces s (cornersOf s j) (endsOf s i) (has-edge s j i (different-corners a j h) has) m in
-    let (k, below, touch) = touch-through s (cornersOf s j) (movingEdge s (endsOf s i) m) b face t in
-    record { piece = k; there = below; touch = touch }
+-- what touches a piece of the moving side a b touches a piece of every moving triangle that has the corners a and b
+pub side-touched : {s : Scene} → Accepted s → (a b t : ℕ) → t < triangleCount s → HasTwo s t a b
+    → (m : ℕ) (points : List Event) → Touch (movingEdge s (rising s a b) m) points → TouchesTriangle s t points
+side-touched {s} accepted a b t there has m points touch =
+    let face = side-pieces-are-faces s t a b (different-corners accepted t there) has m in
+    let (k, below, through) = touch-through s (cornersOf s t) (movingEdge s (rising s a b) m) points face touch in
+    record { piece = k; there = below; touch = through }
+
+-- so of two triangles that have the corners a and b both are touched: there is no crack between them
+pub no-cracks : {s : Scene} → Accepted s → (a b t t′ : ℕ) → t < triangleCount s → t′ < triangleCount s → HasTwo s t a b → HasTwo s t′ a b
+    → (m : ℕ) (points : List Event) → Touch (movingEdge s (rising s a b) m) points → TouchesTriangle s t points × TouchesTriangle s t′ points
+no-cracks accepted a b t t′ there there′ has has′ m points touch =
+    (side-touched accepted a b t there has m points touch, side-touched accepted a b t′ there′ has′ m points touch)

@@ -1,17 +1,19 @@
--- No cracks: the two pieces of a moving edge are faces of pieces of every moving triangle that has the edge. So two triangles that share an edge
--- cut it alike, and what touches the edge touches both.
+-- No cracks: the two pieces of a moving edge are faces of pieces of every moving triangle that has its two ends. So two triangles that share two
+-- corners cut the side between them alike, and what touches it touches both.
+use mathlib.Core.Logic.{_≢_}
 use mathlib.Core.Path.{_≡_, refl, _∙_, ap, subst}
 use mathlib.Core.List.{List, [], _∷_}
 use Prim.Native.Nat.{ℕ, zero, suc, _<_}
 use native.Mathlib.Omega.{arith}
 use lib.IntN.{ℤ, pos, _+ℤ_, _*ℤ_, +ℤ-idl, zero-*ℤ}
-use Rattle.meaning.specs.Scene.{Scene, edgeEnd, before, among, endsOf, cornersOf}
+use Rattle.meaning.specs.Scene.{Scene, corner, rising, before, among, cornersOf}
 use Rattle.meaning.specs.Pieces.{Event, movingEdge, movingTriangle}
 use Rattle.meaning.specs.Equations.{total, one, xOf, yOf, zOf, timeOf, Touch}
 use Rattle.meaning.specs.declared.Ends.{Ends}
 use Rattle.meaning.specs.declared.Corners.{Corners}
 use Rattle.theory.specs.InOrder.{cond-keeps}
-use Rattle.theory.specs.Rearranged.{Rearranged, rearranged-back}
+use Rattle.theory.specs.Determinants.{front, behind}
+use Rattle.theory.specs.Rearranged.{Rearranged, unmoved, moved, rearranged-back}
 use Rattle.theory.specs.Written.{cornersWritten, Different, different-rearranged, corners-any-order}
 
 -- the list without its i-th element
@@ -50,21 +52,35 @@ among-has-edge s e c =
     let Q : Corners → Type 0 = λ (k : Corners). EdgeOf k e in
     cond-keeps Q (before s c (e .low)) _ _ middleHigh (cond-keeps Q (before s c (e .high)) _ _ lowHigh lowMiddle)
 
--- triangle t has edge j: its corners are the edge's ends and one more vertex, in any order
-pub record HasEdge (s : Scene) (t j : ℕ) : Type 0 where
+-- triangle t has the corners a and b: its corners are these two and one more vertex, in any order
+pub record HasTwo (s : Scene) (t a b : ℕ) : Type 0 where
   pub opposite : ℕ
-  pub corners : Rearranged (edgeEnd s j 0 ∷ edgeEnd s j 1 ∷ opposite ∷ []) (cornersWritten s t)
+  pub corners : Rearranged (a ∷ b ∷ opposite ∷ []) (cornersWritten s t)
 
-pub has-edge : (s : Scene) (t j : ℕ) → Different s (cornersWritten s t) → HasEdge s t j → EdgeOf (cornersOf s t) (endsOf s j)
-has-edge s t j d h =
-    subst (λ (c : Corners). EdgeOf c (endsOf s j)) (corners-any-order s (h .corners) (different-rearranged s (rearranged-back (h .corners)) d)) (among-has-edge s (endsOf s j) (h .opposite))
+-- two corners of a triangle, the lower number first, are one of its three edges
+pub has-two : (s : Scene) (t a b : ℕ) → Different s (cornersWritten s t) → HasTwo s t a b → EdgeOf (cornersOf s t) (rising s a b)
+has-two s t a b d h =
+    subst (λ (c : Corners). EdgeOf c (rising s a b)) (corners-any-order s (h .corners) (different-rearranged s (rearranged-back (h .corners)) d)) (among-has-edge s (rising s a b) (h .opposite))
 
--- the very same cut of the edge in both triangles
-pub no-crack : (s : Scene) (t t′ j : ℕ) → Different s (cornersWritten s t) → Different s (cornersWritten s t′) → HasEdge s t j → HasEdge s t′ j → (m : ℕ) → FaceOf s (cornersOf s t) (movingEdge s (endsOf s j) m) × FaceOf s (cornersOf s t′) (movingEdge s (endsOf s j) m)
-no-crack s t t′ j d d′ h h′ m = (
-  edge-pieces-are-faces s (cornersOf s t) (endsOf s j) (has-edge s t j d h) m,
-  edge-pieces-are-faces s (cornersOf s t′) (endsOf s j) (has-edge s t′ j d′ h′) m,
-)
+-- the very same cut of the side a b in every triangle that has both corners, whether or not the scene has an edge there
+pub side-pieces-are-faces : (s : Scene) (t a b : ℕ) → Different s (cornersWritten s t) → HasTwo s t a b → (m : ℕ) → FaceOf s (cornersOf s t) (movingEdge s (rising s a b) m)
+side-pieces-are-faces s t a b d h = edge-pieces-are-faces s (cornersOf s t) (rising s a b) (has-two s t a b d h)
+
+-- a triangle has every two of its corners, in either order
+pub any-two-corners : (s : Scene) (t i j : ℕ) → i < 3 → j < 3 → i ≢ j → HasTwo s t (corner s t i) (corner s t j)
+any-two-corners s t zero (suc zero) h k n = record { opposite = corner s t 2; corners = unmoved }
+any-two-corners s t zero (suc (suc zero)) h k n = record { opposite = corner s t 1; corners = moved (behind front) unmoved }
+any-two-corners s t (suc zero) zero h k n = record { opposite = corner s t 2; corners = moved front unmoved }
+any-two-corners s t (suc zero) (suc (suc zero)) h k n = record { opposite = corner s t 0; corners = moved (behind front) (moved front unmoved) }
+any-two-corners s t (suc (suc zero)) zero h k n = record { opposite = corner s t 1; corners = moved front (moved (behind front) unmoved) }
+any-two-corners s t (suc (suc zero)) (suc zero) h k n = record { opposite = corner s t 0; corners = moved front (moved (behind front) (moved front unmoved)) }
+any-two-corners s t zero zero h k n = absurd (n refl)
+any-two-corners s t (suc zero) (suc zero) h k n = absurd (n refl)
+any-two-corners s t (suc (suc zero)) (suc (suc zero)) h k n = absurd (n refl)
+any-two-corners s t (suc (suc (suc i))) j h k n = absurd (omega arith)
+any-two-corners s t zero (suc (suc (suc j))) h k n = absurd (omega arith)
+any-two-corners s t (suc zero) (suc (suc (suc j))) h k n = absurd (omega arith)
+any-two-corners s t (suc (suc zero)) (suc (suc (suc j))) h k n = absurd (omega arith)
 
 -- ---- what touches a face touches the piece, with weight 0 for the point left out
 
@@ -95,6 +111,6 @@ touch-of-face i l b t = record {
   some = rw (put-in-total one i (t .u) l) (t .some);
 }
 
--- so what touches a piece of the edge touches a piece of each triangle that has it
+-- so what touches a face of a triangle's piece touches a piece of the triangle
 pub touch-through : (s : Scene) (c : Corners) (f b : List Event) → FaceOf s c f → Touch f b → (k : ℕ) × (k < 3) × Touch (movingTriangle s c k) b
 touch-through s c f b h t = (h .piece, h .there, touch-of-face (h .leftOut) (movingTriangle s c (h .piece)) b (rw (h .is) t))
