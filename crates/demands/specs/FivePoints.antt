@@ -1,29 +1,39 @@
 -- 'By Cramer's rule each weight is, up to one common factor, a signed determinant of the other five points with rows x, y, z, at-start,
--- at-end': the numbers that solve a piece are these determinants, up to sign, in all three forms that a piece can have.
+-- at-end': the numbers that solve a piece are these determinants, with signs that depend on the place alone, in all three forms that a piece
+-- can have.
 use Prim.Native.Nat.{ℕ}
 use mathlib.Core.List.{List, [], _∷_, _++_, map}
 use mathlib.Core.Path.{_≡_, refl, sym, _∙_, ap}
-use lib.IntN.{ℤ, negℤ, natAbs}
-use lib.ListN.{length}
+use lib.IntN.{ℤ, negℤ, negℤ-negℤ}
 use Rattle.whole.specs.Vector.{Vector, volume}
-use Rattle.whole.specs.Signs.{natAbs-neg}
 use Rattle.whole.specs.Ring.{neg}
 use Rattle.whole.specs.Operations.{expandIn, determinantIn}
 use Rattle.whole.specs.Cramer.{Four, volumes, all}
 use Rattle.meaning.specs.Pieces.{Event, Piece}
-use Rattle.theory.specs.Rearranged.{passes, determinant-rearranged}
 use Rattle.theory.specs.Differences.{difference, differences, atStart, atEnd, Form, alone, behind, ahead, formed}
 use Rattle.theory.specs.NoCrack.{without}
-use Rattle.theory.specs.Spread.{startShare, endShare, firstNumbers, secondNumbers}
-use Rattle.demands.specs.Columns.{columnOf, Column, fiveRows, five, five-worth, startˣ, endˣ, o0, o1, o2, o3, letters, volumeˣ, shareˣ}
+use Rattle.theory.specs.Spread.{startShare, endShare, firstNumbers, secondNumbers, factor, weightsOf}
+use Rattle.theory.specs.Solved.{Solved}
+use Rattle.theory.specs.Shapes.{solved}
+use Rattle.demands.specs.Columns.{columnOf, five, five-worth, startˣ, endˣ, o0, o1, o2, o3, letters, volumeˣ, shareˣ}
 
 -- the determinant of the points of a piece without the i-th of the six
 abbrev pub otherFive : Piece → ℕ → ℤ
 otherFive p i = five (map columnOf (without i (p .first ++ p .second)))
 
-six-equal : {a b c d e f a′ b′ c′ d′ e′ f′ : ℕ} → a ≡ a′ → b ≡ b′ → c ≡ c′ → d ≡ d′ → e ≡ e′ → f ≡ f′
-    → _≡_ {A = List ℕ} (a ∷ b ∷ c ∷ d ∷ e ∷ f ∷ []) (a′ ∷ b′ ∷ c′ ∷ d′ ∷ e′ ∷ f′ ∷ [])
-six-equal p q r s t u = λ i. p i ∷ q i ∷ r i ∷ s i ∷ t i ∷ u i ∷ []
+-- ---- the signs
+
+-- d i is the determinant without the i-th point. From point to point of the six the sign turns, and it turns once more between the simplices,
+-- since the weights of the second stand on the other side of the equations: - + | + - + - and - + - | - + -
+unfoldable pub firstSigned : Form → (ℕ → ℤ) → List ℤ
+firstSigned alone d = negℤ (d 0) ∷ d 1 ∷ []
+firstSigned behind d = negℤ (d 0) ∷ d 1 ∷ negℤ (d 2) ∷ []
+firstSigned ahead d = negℤ (d 0) ∷ d 1 ∷ negℤ (d 2) ∷ []
+
+unfoldable pub secondSigned : Form → (ℕ → ℤ) → List ℤ
+secondSigned alone d = d 2 ∷ negℤ (d 3) ∷ d 4 ∷ negℤ (d 5) ∷ []
+secondSigned behind d = negℤ (d 3) ∷ d 4 ∷ negℤ (d 5) ∷ []
+secondSigned ahead d = negℤ (d 3) ∷ d 4 ∷ negℤ (d 5) ∷ []
 
 -- ---- each point left out in turn
 
@@ -33,6 +43,13 @@ pub five-is-volume : (p q : Vector) (c d e : Event)
 unfolding volume determinantIn expandIn
 five-is-volume p q c d e =
     five-worth (letters p q (record { v0 = c; v1 = c; v2 = d; v3 = e })) (startˣ ∷ endˣ ∷ o1 ∷ o2 ∷ o3 ∷ []) (volumeˣ o1 o2 o3) refl
+
+-- with a point before the base as well
+five-is-volume-behind : (p q : Vector) (c d e : Event)
+    → five (map columnOf (c ∷ atStart p ∷ atEnd q ∷ d ∷ e ∷ [])) ≡ volume (difference p q c) (difference p q d) (difference p q e)
+unfolding volume determinantIn expandIn
+five-is-volume-behind p q c d e =
+    five-worth (letters p q (record { v0 = c; v1 = c; v2 = d; v3 = e })) (o1 ∷ startˣ ∷ endˣ ∷ o2 ∷ o3 ∷ []) (volumeˣ o1 o2 o3) refl
 
 module _ (p q : Vector) (o : Four Event) where
   abbrev E : Four ℤ
@@ -46,58 +63,62 @@ module _ (p q : Vector) (o : Four Event) where
   unfolding volume determinantIn expandIn
   without-end = five-worth (letters p q o) (startˣ ∷ o0 ∷ o1 ∷ o2 ∷ o3 ∷ []) (shareˣ (λ c. c .end)) refl
 
+  without-start-behind : five (map columnOf (o .v0 ∷ atEnd q ∷ o .v1 ∷ o .v2 ∷ o .v3 ∷ [])) ≡ startShare o E
+  unfolding volume determinantIn expandIn
+  without-start-behind = five-worth (letters p q o) (o0 ∷ endˣ ∷ o1 ∷ o2 ∷ o3 ∷ []) (shareˣ (λ c. c .start)) refl
+
+  without-end-behind : five (map columnOf (o .v0 ∷ atStart p ∷ o .v1 ∷ o .v2 ∷ o .v3 ∷ [])) ≡ negℤ (endShare o E)
+  unfolding volume determinantIn expandIn
+  without-end-behind = five-worth (letters p q o) (o0 ∷ startˣ ∷ o1 ∷ o2 ∷ o3 ∷ []) (neg (shareˣ (λ c. c .end))) refl
+
   -- ---- the theorem
 
-  -- the number of the point left out is the determinant, or its opposite
-  kept : {d n : ℤ} → d ≡ n → natAbs n ≡ natAbs d
-  kept e = ap natAbs (sym e)
+  -- if the determinant is the opposite of a number, the number is the opposite of the determinant
+  turned : {d : ℤ} (n : ℤ) → d ≡ negℤ n → n ≡ negℤ d
+  turned n e = sym (negℤ-negℤ n) ∙ ap negℤ (sym e)
 
-  turned : {d : ℤ} (n : ℤ) → d ≡ negℤ n → natAbs n ≡ natAbs d
-  turned n e = sym (natAbs-neg n) ∙ kept e
-
-  opposite : (z : ℤ) {n : ℕ} → natAbs z ≡ n → natAbs (negℤ z) ≡ n
-  opposite z e = natAbs-neg z ∙ e
+  abbrev others : Form → ℕ → ℤ
+  others form = otherFive (formed form p q o)
 
   abbrev spanned : Event → Event → Event → ℤ
   spanned c d e = volume (difference p q c) (difference p q d) (difference p q e)
 
-  abbrev withBase : Event → Event → Event → ℕ
-  withBase c d e = natAbs (five (map columnOf (atStart p ∷ atEnd q ∷ c ∷ d ∷ e ∷ [])))
+  abbrev withBase : Event → Event → Event → ℤ
+  withBase c d e = five (map columnOf (atStart p ∷ atEnd q ∷ c ∷ d ∷ e ∷ []))
 
-  spans : (c d e : Event) → natAbs (spanned c d e) ≡ withBase c d e
-  spans c d e = kept (five-is-volume p q c d e)
+  spans : (c d e : Event) → spanned c d e ≡ withBase c d e
+  spans c d e = sym (five-is-volume p q c d e)
 
-  spans-turned : (c d e : Event) → natAbs (negℤ (spanned c d e)) ≡ withBase c d e
-  spans-turned c d e = opposite (spanned c d e) (spans c d e)
+  abbrev behindBase : Event → Event → Event → ℤ
+  behindBase c d e = five (map columnOf (c ∷ atStart p ∷ atEnd q ∷ d ∷ e ∷ []))
 
-  -- the event in front goes behind the base: the determinant changes its sign at most
-  moved-back : (front rest : List (Column ℤ)) {n : ℕ} → length (columnOf (o .v0) ∷ (front ++ rest)) ≡ 5
-      → n ≡ natAbs (five (front ++ (columnOf (o .v0) ∷ rest))) → n ≡ natAbs (five (columnOf (o .v0) ∷ (front ++ rest)))
-  moved-back front rest long e = e ∙ sym (determinant-rearranged (fiveRows ℤ) (passes (columnOf (o .v0)) front rest) long)
+  spans-behind : (c d e : Event) → spanned c d e ≡ behindBase c d e
+  spans-behind c d e = sym (five-is-volume-behind p q c d e)
 
-  abbrev pub sizes : Form → List ℕ
-  sizes form = map natAbs (firstNumbers form o E ++ secondNumbers form E)
+  -- the numbers of the first simplex
+  first-five : (form : Form) → firstNumbers form o E ≡ firstSigned form (others form)
+  unfolding formed without firstNumbers firstSigned
+  first-five alone = λ i. turned (startShare o E) without-start i ∷ sym without-end i ∷ []
+  first-five behind = λ i. negℤ (spans (o .v1) (o .v2) (o .v3) i) ∷ sym without-start-behind i ∷ turned (endShare o E) without-end-behind i ∷ []
+  first-five ahead = λ i. turned (startShare o E) without-start i ∷ sym without-end i ∷ negℤ (spans (o .v1) (o .v2) (o .v3) i) ∷ []
 
-  abbrev pub otherFives : Form → List ℕ
-  otherFives form = map (λ i. natAbs (otherFive (formed form p q o) i)) (0 ∷ 1 ∷ 2 ∷ 3 ∷ 4 ∷ 5 ∷ [])
+  -- and of the second
+  second-five : (form : Form) → secondNumbers form E ≡ secondSigned form (others form)
+  unfolding formed without secondNumbers secondSigned
+  second-five alone = λ i.
+      spans (o .v1) (o .v2) (o .v3) i ∷ negℤ (spans (o .v0) (o .v2) (o .v3) i) ∷ spans (o .v0) (o .v1) (o .v3) i
+      ∷ negℤ (spans (o .v0) (o .v1) (o .v2) i) ∷ []
+  second-five behind = λ i.
+      negℤ (spans-behind (o .v0) (o .v2) (o .v3) i) ∷ spans-behind (o .v0) (o .v1) (o .v3) i ∷ negℤ (spans-behind (o .v0) (o .v1) (o .v2) i) ∷ []
+  second-five ahead = λ i.
+      negℤ (spans (o .v0) (o .v2) (o .v3) i) ∷ spans (o .v0) (o .v1) (o .v3) i ∷ negℤ (spans (o .v0) (o .v1) (o .v2) i) ∷ []
 
-  pub other-five : (form : Form) → sizes form ≡ otherFives form
-  unfolding formed without firstNumbers secondNumbers
-  other-five alone =
-      six-equal (turned (startShare o E) without-start) (kept without-end) (spans (o .v1) (o .v2) (o .v3)) (spans-turned (o .v0) (o .v2) (o .v3))
-      (spans (o .v0) (o .v1) (o .v3)) (spans-turned (o .v0) (o .v1) (o .v2))
-  other-five ahead =
-      six-equal (turned (startShare o E) without-start) (kept without-end) (spans-turned (o .v1) (o .v2) (o .v3))
-      (spans-turned (o .v0) (o .v2) (o .v3)) (spans (o .v0) (o .v1) (o .v3)) (spans-turned (o .v0) (o .v1) (o .v2))
-  other-five behind =
-      let p0 : Column ℤ = columnOf (atStart p) in
-      let q0 : Column ℤ = columnOf (atEnd q) in
-      let c1 : Column ℤ = columnOf (o .v1) in
-      let c2 : Column ℤ = columnOf (o .v2) in
-      let c3 : Column ℤ = columnOf (o .v3) in
-      six-equal (spans-turned (o .v1) (o .v2) (o .v3))
-      (moved-back (q0 ∷ []) (c1 ∷ c2 ∷ c3 ∷ []) refl (turned (startShare o E) without-start))
-      (moved-back (p0 ∷ []) (c1 ∷ c2 ∷ c3 ∷ []) refl (kept without-end))
-      (moved-back (p0 ∷ q0 ∷ []) (c2 ∷ c3 ∷ []) refl (spans-turned (o .v0) (o .v2) (o .v3)))
-      (moved-back (p0 ∷ q0 ∷ []) (c1 ∷ c3 ∷ []) refl (spans (o .v0) (o .v1) (o .v3)))
-      (moved-back (p0 ∷ q0 ∷ []) (c1 ∷ c2 ∷ []) refl (spans-turned (o .v0) (o .v1) (o .v2)))
+  -- each of the six numbers is the determinant of the other five points, with the sign of its place
+  pub other-five : (form : Form)
+      → (firstNumbers form o E ≡ firstSigned form (otherFive (formed form p q o))) × (secondNumbers form E ≡ secondSigned form (otherFive (formed form p q o)))
+  other-five form = (first-five form, second-five form)
+
+  -- so all weights that balance are proportional to these signed determinants; the common factor is their sum over one simplex
+  pub weights-are-fives : (form : Form)
+      → Solved (formed form p q o .first) (formed form p q o .second) (factor form E) (weightsOf (firstSigned form (otherFive (formed form p q o)))) (weightsOf (secondSigned form (otherFive (formed form p q o))))
+  weights-are-fives form = rw (← first-five form, ← second-five form) (solved form p q o)
