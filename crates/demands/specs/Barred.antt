@@ -9,8 +9,7 @@ use native.Mathlib.Omega.{arith}
 use lib.Dec.{leb}
 use lib.ListN.{length, getD}
 use borrow.Author.Tests.{lt-leb}
-use Rattle.whole.specs.Vector.{volume, axis}
-use Rattle.meaning.specs.Scene.{Scene, Accepted, someBelow}
+use Rattle.meaning.specs.Scene.{Scene, Accepted}
 use Rattle.meaning.specs.Pieces.{pieceOf, pieceCount}
 use Rattle.meaning.specs.Verdicts.{PieceIs, PairIs}
 use Rattle.meaning.specs.Resting.{PieceSettled, PairSettled, settledSays, PairDecided, PieceDecided}
@@ -31,17 +30,7 @@ use Rattle.meaning.specs.declared.SettledAnswer.the-variants.{Decided}
 use Rattle.meaning.specs.declared.ListAnswer as ListAnswers
 use Rattle.meaning.specs.declared.ListAnswer.{ListAnswer}
 use Rattle.theory.specs.Bounds.{Every, every-imp}
-use Rattle.theory.specs.Reading.{verdictOf, agreeing}
-use Rattle.theory.specs.Computed.{pieceVerdict, pointDifferences, joined, joinedBelow, pairVerdict}
-use Rattle.theory.specs.OneVerdict.{judged-pair}
-use Rattle.exact.specs.BySigns.{keep}
-use Rattle.exact.specs.OneWay.{oneWay}
-use Rattle.resting.specs.First.{firstOf}
-use Rattle.resting.specs.Others.{skip}
-use Rattle.resting.specs.Filled.{slot, next}
-use Rattle.resting.specs.Answer.{baseOf, judgedBy, turnOf, otherwise, leafOf}
-use Rattle.resting.specs.Sixes.{pointSix, sixOf}
-use Rattle.resting.specs.Decided.{byLeaf, touching, settledBy, verdictOfWord, pieceWord, isTouch, pairWord, settled-pair}
+use Rattle.resting.specs.Decided.{verdictOfWord}
 use Rattle.scenes.specs.Speaking.{scene-says-one, pair-says-one}
 use Rattle.listing.specs.Once.{list-says-one}
 use Rattle.demands.specs.Demand1.{demand1-scene, demand1-pair, demand1-piece, demand1-settled-pair, demand1-settled-piece, demand1-listing}
@@ -106,46 +95,46 @@ cases-settled =
 
 -- ---- always miss, always degenerate; a singular pair taken as a hit or as a miss
 
+-- a pair's verdict, asked for in each of the twelve cases: the one that goes with its word in the table
 abbrev PairAnswered : Case → Type 0
 PairAnswered c =
-    (r : PairAnswer) → PairJudged (c .scene) (c .kind) (c .first) (c .second) r → r ≡ Judged (pairVerdict (c .scene) (c .kind) (c .first) (c .second))
+    (r : PairAnswer) → PairJudged (c .scene) (c .kind) (c .first) (c .second) r → r ≡ Judged (verdictOfWord (c .word))
 
 pub pairs-answered : Every PairAnswered cases
 pairs-answered =
     every-imp IsRight PairAnswered
-    (λ c h r p. judges (c .scene) (c .kind) (c .first) (c .second) (h .accepted) (h .there) (h .apart) _ (judged-pair (c .scene) (c .kind) (c .first) (c .second)) r p)
+    (λ c h r p. judges (c .scene) (c .kind) (c .first) (c .second) (h .accepted) (h .there) (h .apart) _ (h .pairVerdict) r p)
     cases twelve-cases
 
 pub hit-in-case-1 : (r : PairAnswer) → PairJudged (numbered 1 .scene) PointTriangle 3 0 r → r ≡ Judged Hit
-unfolding pieceCount pieceVerdict joinedBelow joined pointDifferences volume verdictOf agreeing
+unfolding verdictOfWord
 hit-in-case-1 = pairs-answered .0
 
 pub miss-in-case-2 : (r : PairAnswer) → PairJudged (numbered 2 .scene) PointTriangle 3 0 r → r ≡ Judged Miss
-unfolding pieceCount pieceVerdict joinedBelow joined pointDifferences volume verdictOf agreeing
+unfolding verdictOfWord
 miss-in-case-2 = pairs-answered .1 .0
 
 pub degenerate-in-case-7 : (r : PairAnswer) → PairJudged (numbered 7 .scene) PointTriangle 3 0 r → r ≡ Judged Degenerate
-unfolding pieceCount pieceVerdict joinedBelow joined pointDifferences volume verdictOf agreeing
+unfolding verdictOfWord
 degenerate-in-case-7 = pairs-answered .1 .1 .1 .1 .1 .1 .0
 
 -- ---- always touch, always apart
 
+-- and in four words: its word in the table
 abbrev WordAnswered : Case → Type 0
 WordAnswered c =
-    (r : SettledAnswer) → PairDecided (c .scene) (c .kind) (c .first) (c .second) r → r ≡ Decided (pairWord (c .scene) (c .kind) (c .first) (c .second))
+    (r : SettledAnswer) → PairDecided (c .scene) (c .kind) (c .first) (c .second) r → r ≡ Decided (c .word)
 
 pub words-answered : Every WordAnswered cases
 words-answered =
     every-imp IsRight WordAnswered
-    (λ c h r p. settles (c .scene) (c .kind) (c .first) (c .second) (h .accepted) (h .there) (h .apart) _ (settled-pair (c .scene) (c .kind) (c .first) (c .second)) r p)
+    (λ c h r p. settles (c .scene) (c .kind) (c .first) (c .second) (h .accepted) (h .there) (h .apart) _ (h .pairWord) r p)
     cases twelve-cases
 
 pub apart-in-case-6 : (r : SettledAnswer) → PairDecided (numbered 6 .scene) PointTriangle 3 0 r → r ≡ Decided Words.the-variants.Apart
-unfolding pieceCount pieceVerdict joinedBelow joined pointDifferences volume verdictOf agreeing someBelow pairWord isTouch pieceWord settledBy touching byLeaf leafOf otherwise turnOf judgedBy baseOf firstOf skip slot next axis oneWay keep sixOf pointSix
 apart-in-case-6 = words-answered .1 .1 .1 .1 .1 .0
 
 pub touch-in-case-7 : (r : SettledAnswer) → PairDecided (numbered 7 .scene) PointTriangle 3 0 r → r ≡ Decided Words.the-variants.Touch
-unfolding pieceCount pieceVerdict joinedBelow joined pointDifferences volume verdictOf agreeing someBelow pairWord isTouch pieceWord settledBy touching byLeaf leafOf otherwise turnOf judgedBy baseOf firstOf skip slot next axis oneWay keep sixOf pointSix
 touch-in-case-7 = words-answered .1 .1 .1 .1 .1 .1 .0
 
 -- ---- testing piece 0 and copying its verdict

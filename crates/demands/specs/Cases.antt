@@ -13,6 +13,8 @@ use Rattle.whole.specs.Vector.{volume, axis}
 use Rattle.meaning.specs.Scene.{Scene, wrongShape, outOfRange, unknownVertex, repeatedVertex, someBelow}
 use Rattle.meaning.specs.Pieces.{Piece, movingTriangle, pieceOf, pieceCount}
 use Rattle.meaning.specs.Equations.{one, total, Balanced}
+use Rattle.meaning.specs.Verdicts.{PairIs, SomePiece}
+use Rattle.meaning.specs.Resting.{SomeSettled, PairSettled}
 use Rattle.meaning.specs.Refusals.{notThere, shares}
 use Rattle.meaning.specs.Boxes.{meetOn, listed}
 use Rattle.meaning.specs.Judging.{byteOf}
@@ -22,7 +24,7 @@ use Rattle.meaning.specs.declared.Settled.{Settled}
 use Rattle.meaning.specs.declared.Settled.the-variants.{Hit, Miss, Touch, Apart}
 use Rattle.theory.specs.Bounds.{Every}
 use Rattle.theory.specs.Reading.{verdictOf, agreeing}
-use Rattle.theory.specs.Computed.{pieceVerdict, pointDifferences, edgeDifferences, startSum, endSum}
+use Rattle.theory.specs.Computed.{pieceVerdict, joined, joinedBelow, pointDifferences, edgeDifferences, startSum, endSum}
 use Rattle.exact.specs.BySigns.{keep}
 use Rattle.exact.specs.OneWay.{oneWay}
 use Rattle.resting.specs.First.{firstOf}
@@ -30,7 +32,7 @@ use Rattle.resting.specs.Others.{skip}
 use Rattle.resting.specs.Filled.{slot, next}
 use Rattle.resting.specs.Answer.{baseOf, judgedBy, turnOf, otherwise, leafOf}
 use Rattle.resting.specs.Sixes.{pointSix, edgesSix, sixOf}
-use Rattle.resting.specs.Decided.{byLeaf, touching, settledBy, pieceWord, piece-word-is, word-verdict}
+use Rattle.resting.specs.Decided.{byLeaf, touching, settledBy, verdictOfWord, pieceWord, isTouch, pairWord, piece-word-is, word-verdict, some-hit, pair-word-is}
 use Rattle.scenes.specs.Below.{or-left, or-rest, none-passes}
 use Rattle.demands.specs.Standing.{stands-is}
 use Rattle.demands.specs.Table.{Case, cases, numbered, StandsIf, IsRight}
@@ -50,6 +52,7 @@ fault c =
     || shares (c .scene) (c .kind) (c .first) (c .second)
     || not (eqb (length (c .pieces)) (pieceCount (c .kind)))
     || someBelow (pieceCount (c .kind)) (differs c)
+    || unlike (c .word) (pairWord (c .scene) (c .kind) (c .first) (c .second))
     || cond (c .inList) (not (listed (c .scene) (c .kind) (c .first) (c .second))) (listed (c .scene) (c .kind) (c .first) (c .second))
 
 faults : List Case → Bool
@@ -57,7 +60,7 @@ faults [] = false
 faults (c ∷ l) = fault c || faults l
 
 no-faults : faults cases ≡ false
-unfolding faults fault unlike someBelow notThere pieceCount byteOf pieceVerdict pointDifferences edgeDifferences startSum endSum volume verdictOf agreeing shares meetOn pieceWord settledBy touching byLeaf leafOf otherwise turnOf judgedBy baseOf firstOf skip slot next axis oneWay keep sixOf pointSix edgesSix
+unfolding faults fault unlike someBelow notThere pieceCount byteOf pieceVerdict joinedBelow joined pointDifferences edgeDifferences startSum endSum volume verdictOf agreeing shares meetOn pairWord isTouch pieceWord settledBy touching byLeaf leafOf otherwise turnOf judgedBy baseOf firstOf skip slot next axis oneWay keep sixOf pointSix edgesSix
 no-faults = refl
 
 -- ---- the law
@@ -86,11 +89,24 @@ unfolding StandsIf
 stands-if true s kind i j there e = stands-is s kind i j there .1 (not-false (listed s kind i j) e)
 stands-if false s kind i j there e = λ m. true≢false (sym (stands-is s kind i j there .0 m) ∙ e)
 
+-- a pair has the verdict that its word stands for, since a piece has
+module _ (s : Scene) (kind : Kind) (i j : ℕ) where
+  some-verdict : (w : Settled) → SomeSettled s kind i j w → SomePiece s kind i j (verdictOfWord w)
+  some-verdict w h = record { which = h .which; there = h .there; has = word-verdict (pieceOf s kind i j (h .which)) w (h .has) }
+
+  pair-word-verdict : (w : Settled) → PairSettled s kind i j w → PairIs s kind i j (verdictOfWord w)
+  unfolding PairSettled PairIs verdictOfWord
+  pair-word-verdict Hit h = some-verdict Hit h
+  pair-word-verdict Miss h = (λ t. h .0 (some-hit s kind i j .0 t), h .1)
+  pair-word-verdict Touch h = (λ t. h .0 (some-hit s kind i j .0 t), some-verdict Touch (h .1))
+  pair-word-verdict Apart h = (λ t. h .0 (some-hit s kind i j .0 t), h .2)
+
 faultless : (c : Case) → fault c ≡ false → IsRight c
 unfolding fault
 faultless c e =
     let there : notThere (c .scene) (c .kind) (c .first) (c .second) ≡ false = search (or-left, or-rest) depth 12 in
     let same : someBelow (pieceCount (c .kind)) (differs c) ≡ false = search (or-left, or-rest) depth 12 in
+    let word = worded (search (or-left, or-rest) depth 12) in
     record {
       accepted = record {
         shapely = search (or-left, or-rest) depth 12;
@@ -106,6 +122,8 @@ faultless c e =
       verdicts = λ k h.
           word-verdict (pieceOf (c .scene) (c .kind) (c .first) (c .second) k) (getD (c .pieces) k Miss)
           (piece-word-is (c .scene) (c .kind) (c .first) (c .second) k (getD (c .pieces) k Miss) .1 (alike same k h));
+      pairWord = word;
+      pairVerdict = pair-word-verdict (c .scene) (c .kind) (c .first) (c .second) (c .word) word;
       list = stands-if (c .inList) (c .scene) (c .kind) (c .first) (c .second) there (search (or-left, or-rest) depth 12);
     }
   where
@@ -113,6 +131,11 @@ faultless c e =
         → getD (c .pieces) k Miss ≡ pieceWord (c .scene) (c .kind) (c .first) (c .second) k
     alike same k h =
         like (getD (c .pieces) k Miss) (pieceWord (c .scene) (c .kind) (c .first) (c .second) k) (none-passes (differs c) (pieceCount (c .kind)) same k h)
+
+    worded : unlike (c .word) (pairWord (c .scene) (c .kind) (c .first) (c .second)) ≡ false
+        → PairSettled (c .scene) (c .kind) (c .first) (c .second) (c .word)
+    worded e =
+        pair-word-is (c .scene) (c .kind) (c .first) (c .second) (c .word) .1 (like (c .word) (pairWord (c .scene) (c .kind) (c .first) (c .second)) e)
 
 all-right : (l : List Case) → faults l ≡ false → Every IsRight l
 unfolding faults
