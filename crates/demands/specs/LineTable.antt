@@ -67,8 +67,12 @@ every-member : {A : Type 0} (P : A → Type 0) (l : List A) (a : A) → Every P 
 every-member P (x ∷ l) a h (List·Memᴰ·head e) = subst P (sym e) (h .0)
 every-member P (x ∷ l) a h (List·Memᴰ·tail m) = every-member P l a (h .1) m
 
+-- the number of a fault in a line is one of them
+pub fault-known : {c : SceneCounts} {text : List ℕ} {n : ℕ} → Fault c text n → List·Memᴰ n (9 ∷ 10 ∷ 11 ∷ 2 ∷ 3 ∷ 4 ∷ [])
+fault-known (unformed e some never) = List·Memᴰ·head e
+fault-known {c} {n = n} (misplaced r rest short e j) =
+    List·Memᴰ·tail (number-known (λ t. Unit {0}) (entryChecks c r) (refused n 0) j n 0 refl)
+
 pub fault-in-line : {c : SceneCounts} {text : List ℕ} {n : ℕ} → Fault c text n → inLine n ≡ true
-fault-in-line (unformed e some never) = rw e
-fault-in-line {c} {n = n} (misplaced r rest short e j) =
-    every-member (λ m. inLine m ≡ true) (10 ∷ 11 ∷ 2 ∷ 3 ∷ 4 ∷ []) n (refl, (refl, (refl, (refl, (refl, tt)))))
-    (number-known (λ t. Unit {0}) (entryChecks c r) (refused n 0) j n 0 refl)
+fault-in-line {n = n} f =
+    every-member (λ m. inLine m ≡ true) (9 ∷ 10 ∷ 11 ∷ 2 ∷ 3 ∷ 4 ∷ []) n (refl, (refl, (refl, (refl, (refl, (refl, tt)))))) (fault-known f)

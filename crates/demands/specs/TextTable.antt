@@ -1,7 +1,8 @@
--- Demand 1 of texts: '12, 8, then the first faulty line', each exactly when the table says so, and a scene is read exactly when none does.
+-- Demand 1 of texts: '12, 8, then the first faulty line', each exactly when the table says so, and no other number; and a scene is
+-- read exactly when none does.
 use Prim.Native.Nat.{ℕ}
 use mathlib.Core.Bool.{true, false, true≢false}
-use mathlib.Core.List.{List}
+use mathlib.Core.List.{List, [], _∷_, List·Memᴰ, List·Memᴰ·head, List·Memᴰ·tail}
 use mathlib.Core.Logic.{_↔_}
 use mathlib.Core.Path.{_≡_, refl, sym, _∙_, ap, subst}
 use native.Mathlib.Omega.{arith}
@@ -12,7 +13,7 @@ use Rattle.meaning.specs.declared.SceneCounts.{SceneCounts}
 use Rattle.meaning.specs.declared.TextAnswer.{TextAnswer}
 use Rattle.scene_text.specs.Unique.{text-unique}
 use Rattle.demands.specs.Deciding.{holds-or-not}
-use Rattle.demands.specs.LineTable.{inLine, fault-in-line}
+use Rattle.demands.specs.LineTable.{inLine, fault-known, fault-in-line}
 
 -- ---- what an answer tells
 
@@ -36,6 +37,7 @@ told-given (given s) c e = (s, refl, cc)
 told-given (refused m place) c e = let z : _≡_ {A = ℕ} 0 1 = cc in absurd (omega arith)
 
 pub record TextRows (text : List ℕ) (lent : Scene) (o : Outcome SceneCounts) : Type 0 where
+  pub only : (n line : ℕ) → o ≡ refused n line → List·Memᴰ n (12 ∷ 8 ∷ 9 ∷ 10 ∷ 11 ∷ 2 ∷ 3 ∷ 4 ∷ [])
   pub no12 : (o ≡ refused 12 0) ↔ (shortBuffer lent ≡ true)
   pub no8 : (o ≡ refused 8 0) ↔ ((shortBuffer lent ≡ false) × (longText text ≡ true))
   pub faulty : (n line : ℕ) → inLine n ≡ true → (o ≡ refused n line) ↔ ((shortBuffer lent ≡ false) × (longText text ≡ false) × FaultyAt text n line)
@@ -68,6 +70,13 @@ module _ (text : List ℕ) (lent : Scene) (x : Outcome Scene) (p : TextOutcome t
   never : (n line : ℕ) → inLine n ≡ false → x ≡ refused n line → shortBuffer lent ≡ false → longText text ≡ false → ⊥
   never n line o e h k = true≢false (sym (fault-in-line (is-faulty n line e h k .fault)) ∙ o)
 
+  -- no other number is given
+  known-number : (n line : ℕ) → x ≡ refused n line → List·Memᴰ n (12 ∷ 8 ∷ 9 ∷ 10 ∷ 11 ∷ 2 ∷ 3 ∷ 4 ∷ [])
+  known-number n line e =
+      by-stage (λ h. List·Memᴰ·head (other-number e (short-buffer h)))
+      (λ h k. List·Memᴰ·tail (List·Memᴰ·head (other-number e (long-text h k))))
+      (λ h k. List·Memᴰ·tail (List·Memᴰ·tail (fault-known (is-faulty n line e h k .fault))))
+
   refused-12 : x ≡ refused 12 0 → shortBuffer lent ≡ true
   refused-12 e =
       by-stage (λ h. h) (λ h k. absurd (omega (arith, other-number e (long-text h k)))) (λ h k. absurd (never 12 0 refl e h k))
@@ -97,6 +106,7 @@ demand1-text text lent left r p =
     let told : (n line : ℕ) → (textSays r ≡ refused n line) ↔ (x ≡ refused n line) =
     λ n line. (λ e. told-refused x n line .0 (sym (p .says) ∙ e), λ e. p .says ∙ told-refused x n line .1 e) in
     record {
+      only = λ n line e. known-number text lent x (p .right) n line (told n line .0 e);
       no12 = (λ e. refused-12 text lent x (p .right) (told 12 0 .0 e), λ h. told 12 0 .1 (short-buffer text lent x (p .right) h));
       no8 = (
         λ e. refused-8 text lent x (p .right) (told 8 0 .0 e),
