@@ -1,16 +1,17 @@
 -- Sentences of document 01 that are about single scenes and texts: 'zero of each is a scene'; 'an empty text is the empty scene; an empty line
 -- is bad'; 'repeated edges or triangles each make their own pairs'.
-use Prim.Native.Nat.{ℕ}
-use mathlib.Core.List.{List, [], _∷_, flatMap, head-eq-of-cons-eq, nil≢cons}
+use Prim.Native.Nat.{ℕ, _+_}
+use mathlib.Core.List.{List, [], _∷_, _++_, flatMap, head-eq-of-cons-eq, nil≢cons}
 use mathlib.Core.Path.{_≡_, refl, sym, _∙_}
 use native.Mathlib.Omega.{arith}
+use lib.ListN.{length}
 use Rattle.sequences.specs.Range.{times, over}
 use Rattle.sequences.specs.Gather.{gather}
 use Rattle.meaning.specs.Scene.{sceneOf, Accepted, someBelow}
 use Rattle.meaning.specs.Refusals.{shares}
 use Rattle.meaning.specs.Boxes.{meetOn}
 use Rattle.meaning.specs.List.{pair, pairs}
-use Rattle.meaning.specs.Text.{Entry, vertex, edge, triangle, letterOf, Sound, Holds, FaultyAt, lineFeed}
+use Rattle.meaning.specs.Text.{Entry, vertex, edge, triangle, letterOf, Sound, Holds, none, textOf, FaultyAt, lineFeed}
 use Rattle.meaning.specs.declared.Kind.the-variants.{PointTriangle}
 use Rattle.scene_text.specs.Lines.{line-is}
 use Rattle.demands.specs.LineTable.{NoLine, no9}
@@ -41,13 +42,12 @@ no-letter (triangle a b c) e = omega arith
 empty-line-bad : (rest : List ℕ) → NoLine (lineFeed ∷ rest)
 empty-line-bad rest r below short e = no-letter r (head-eq-of-cons-eq (e ∙ line-is r below))
 
--- as the first line it is refused 9, at line 1, whatever follows
-pub empty-line : (rest : List ℕ) → FaultyAt (lineFeed ∷ rest) 9 1
-unfolding Sound flatMap
-empty-line rest = record {
-  above = [];
+-- below records none of which is at fault, it is refused 9 with its line number, whatever follows
+pub empty-line : (above : List Entry) (rest : List ℕ) → Sound none above → FaultyAt (textOf above ++ (lineFeed ∷ rest)) 9 (length above + 1)
+empty-line above rest sound = record {
+  above = above;
   below = lineFeed ∷ rest;
-  sound = tt;
+  sound = sound;
   lines = refl;
   place = refl;
   fault = no9 _ (lineFeed ∷ rest) .1 (λ e. nil≢cons (sym e), empty-line-bad rest);
