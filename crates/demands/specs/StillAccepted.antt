@@ -1,28 +1,55 @@
--- A scene that writes the ends of its edges and the corners of its triangles in another order is accepted if the first is.
+-- A scene that writes the ends of its edges and the corners of its triangles in another order passes the same checks: it is refused with the
+-- number that the first is, and accepted if the first is.
 use Prim.Native.Nat.{ℕ, zero, suc, _+_, _*_, _/_, _%_, _<_}
-use mathlib.Core.Bool.{false}
+use mathlib.Core.Bool.{Bool, true, false}
 use mathlib.Core.List.{List, [], _∷_}
-use mathlib.Core.Path.{_≡_, _∙_, subst}
+use mathlib.Core.Path.{_≡_, refl, sym, _∙_, subst}
 use native.Mathlib.Omega.{arith}
 use native.Mathlib.Nat.{mul-comm, div-add-mod, div-lt-iff-lt-mul, mod-lt}
 use lib.Dec.{leb}
 use lib.ListN.{length, getD}
-use borrow.Author.Tests.{ne-eqb, lt-leb}
-use Rattle.meaning.specs.Scene.{Scene, Accepted, vertexCount, edgeCount, triangleCount, edgeEnd, corner, someBelow, unknownIn, twiceInEdge, twiceInTriangle}
+use borrow.Author.Tests.{eqb-true, lt-leb, not-false}
+use Rattle.meaning.specs.Scene.{Scene, Accepted, vertexCount, edgeCount, triangleCount, edgeEnd, corner, wrongShape, outOfRange, unknownIn, unknownVertex, someBelow, twiceInEdge, twiceInTriangle, repeatedVertex}
+use Rattle.meaning.specs.Refusals.{Outcome}
 use Rattle.theory.specs.Bounds.{Every}
 use Rattle.theory.specs.Rearranged.{Rearranged, unmoved, moved, every-exchanged}
 use Rattle.theory.specs.Written.{endsWritten, cornersWritten, Different, different-rearranged}
-use Rattle.theory.specs.Rewritten.{Rewritten}
-use Rattle.scenes.specs.Below.{none-below}
-use Rattle.scenes.specs.Facts.{accepted-sized, accepted-end, accepted-corner, accepted-ends-differ, accepted-corners-differ}
+use Rattle.theory.specs.Rewritten.{Rewritten, rewritten-back}
+use Rattle.scenes.specs.Below.{or-left, or-rest, none-below, none-passes}
+use Rattle.scenes.specs.Facts.{edge-inside, triangle-inside, known-inside}
+use Rattle.demands.specs.Deciding.{holds-or-not}
+use Rattle.demands.specs.Demand1.{SceneRows}
 
+-- ---- what the checks say of one scene
+
+-- two numbers to each edge, three to each triangle
+whole-edges : (s : Scene) → wrongShape s ≡ false → length (s .edges) ≡ 2 * edgeCount s
+whole-edges s e =
+    let over : length (s .edges) % 2 ≡ 0 = eqb-true _ 0 (not-false _ (search (or-left, or-rest))) in
+    omega arith
+
+whole-triangles : (s : Scene) → wrongShape s ≡ false → length (s .triangles) ≡ 3 * triangleCount s
+whole-triangles s e =
+    let over : length (s .triangles) % 3 ≡ 0 = eqb-true _ 0 (not-false _ (search (or-left, or-rest))) in
+    omega arith
+
+-- no vertex twice in one edge or triangle
+ends-differ : (s : Scene) → repeatedVertex s ≡ false → (j : ℕ) → j < edgeCount s → Different s (endsWritten s j)
+ends-differ s e j h = ((none-passes (twiceInEdge s) (edgeCount s) (search or-left) j h, tt), (tt, tt))
+
+corners-differ : (s : Scene) → repeatedVertex s ≡ false → (j : ℕ) → j < triangleCount s → Different s (cornersWritten s j)
+corners-differ s e j h =
+    let once : twiceInTriangle s j ≡ false = none-passes (twiceInTriangle s) (triangleCount s) (search (or-left, or-rest)) j h in
+    ((search (or-left, or-rest), (search (or-left, or-rest), tt)), ((search (or-left, or-rest), tt), (tt, tt)))
+
+-- so in an accepted scene
 pub different-ends : {s : Scene} → Accepted s → (j : ℕ) → j < edgeCount s → Different s (endsWritten s j)
-different-ends a j h = ((ne-eqb _ _ (accepted-ends-differ a j h), tt), (tt, tt))
+different-ends {s} a = ends-differ s (a .distinct)
 
 pub different-corners : {s : Scene} → Accepted s → (j : ℕ) → j < triangleCount s → Different s (cornersWritten s j)
-different-corners a j h =
-    let apart = accepted-corners-differ a j h in
-    ((ne-eqb _ _ (apart .ab), (ne-eqb _ _ (apart .ac), tt)), ((ne-eqb _ _ (apart .bc), tt), (tt, tt)))
+different-corners {s} a = corners-differ s (a .distinct)
+
+-- ---- and so of one written in another order
 
 every-rearranged : {A : Type 0} (P : A → Type 0) {k l : List A} → Rearranged k l → Every P k → Every P l
 every-rearranged P unmoved h = h
@@ -48,7 +75,7 @@ all-known n w m l some long each =
     lt-leb n (getD l i 0)
     (subst (λ k. getD l k 0 < n) (div-add-mod i w) (each (i / w) (i % w) (div-lt-iff-lt-mul some .1 below) (mod-lt i some))))
 
-module _ {s t : Scene} (h : Rewritten s t) (a : Accepted s) where
+module _ {s t : Scene} (h : Rewritten s t) where
   edges-many : edgeCount t ≡ edgeCount s
   edges-many = rw (h .edgesLong)
 
@@ -58,42 +85,99 @@ module _ {s t : Scene} (h : Rewritten s t) (a : Accepted s) where
   vertices-many : vertexCount t ≡ vertexCount s
   vertices-many = rw (h .positions)
 
-  ends-known : unknownIn (vertexCount t) (t .edges) ≡ false
-  ends-known =
+  ends-known : wrongShape s ≡ false → unknownIn (vertexCount s) (s .edges) ≡ false → unknownIn (vertexCount t) (t .edges) ≡ false
+  ends-known shapely e =
+      let known : (j k : ℕ) → j < edgeCount s → k < 2 → edgeEnd s j k < vertexCount s =
+      λ j k below l. known-inside (vertexCount s) (s .edges) e (2 * j + k) (edge-inside s j k below l) in
       rw vertices-many
-      (all-known (vertexCount s) 2 (edgeCount s) (t .edges) (omega arith) (h .edgesLong ∙ accepted-sized a .edgesLong)
+      (all-known (vertexCount s) 2 (edgeCount s) (t .edges) (omega arith) (h .edgesLong ∙ whole-edges s shapely)
       (λ j k below.
       of-two (λ v. v < vertexCount s) (edgeEnd t j)
-      (every-rearranged (λ v. v < vertexCount s) (h .edges j below) (accepted-end a j 0 below (omega arith), (accepted-end a j 1 below (omega arith), tt)))
+      (every-rearranged (λ v. v < vertexCount s) (h .edges j below) (known j 0 below (omega arith), (known j 1 below (omega arith), tt)))
       k))
 
-  corners-known : unknownIn (vertexCount t) (t .triangles) ≡ false
-  corners-known =
+  corners-known : wrongShape s ≡ false → unknownIn (vertexCount s) (s .triangles) ≡ false → unknownIn (vertexCount t) (t .triangles) ≡ false
+  corners-known shapely e =
+      let known : (j k : ℕ) → j < triangleCount s → k < 3 → corner s j k < vertexCount s =
+      λ j k below l. known-inside (vertexCount s) (s .triangles) e (3 * j + k) (triangle-inside s j k below l) in
       rw vertices-many
-      (all-known (vertexCount s) 3 (triangleCount s) (t .triangles) (omega arith) (h .trianglesLong ∙ accepted-sized a .trianglesLong)
+      (all-known (vertexCount s) 3 (triangleCount s) (t .triangles) (omega arith) (h .trianglesLong ∙ whole-triangles s shapely)
       (λ j k below.
       of-three (λ v. v < vertexCount s) (corner t j)
       (every-rearranged (λ v. v < vertexCount s) (h .triangles j below)
-      (accepted-corner a j 0 below (omega arith), (accepted-corner a j 1 below (omega arith), (accepted-corner a j 2 below (omega arith), tt))))
+      (known j 0 below (omega arith), (known j 1 below (omega arith), (known j 2 below (omega arith), tt))))
       k))
 
-  ends-once : someBelow (edgeCount t) (twiceInEdge t) ≡ false
-  ends-once =
-      none-below (twiceInEdge t) (edgeCount t)
-      (λ j below. let here : j < edgeCount s = omega (arith, edges-many) in different-rearranged s (h .edges j here) (different-ends a j here) .0 .0)
+  -- no vertex number is unknown in t if none is in s
+  known-too : wrongShape s ≡ false → unknownVertex s ≡ false → unknownVertex t ≡ false
+  known-too shapely e = rw (ends-known shapely (search or-left), corners-known shapely (search (or-left, or-rest)))
 
-  corners-once : someBelow (triangleCount t) (twiceInTriangle t) ≡ false
-  corners-once =
+  ends-once : repeatedVertex s ≡ false → someBelow (edgeCount t) (twiceInEdge t) ≡ false
+  ends-once e =
+      none-below (twiceInEdge t) (edgeCount t)
+      (λ j below. let here : j < edgeCount s = omega (arith, edges-many) in different-rearranged s (h .edges j here) (ends-differ s e j here) .0 .0)
+
+  corners-once : repeatedVertex s ≡ false → someBelow (triangleCount t) (twiceInTriangle t) ≡ false
+  corners-once e =
       none-below (twiceInTriangle t) (triangleCount t)
       (λ j below.
       let here : j < triangleCount s = omega (arith, triangles-many) in
-      let d = different-rearranged s (h .triangles j here) (different-corners a j here) in
+      let d = different-rearranged s (h .triangles j here) (corners-differ s e j here) in
       rw (d .0 .0, d .0 .1 .0, d .1 .0 .0))
 
-  pub rewritten-accepted : Accepted t
-  rewritten-accepted = record {
-    shapely = rw (h .positions, h .edgesLong, h .trianglesLong) (a .shapely);
-    inRange = rw (h .positions) (a .inRange);
-    known = rw (ends-known, corners-known);
-    distinct = rw (ends-once, corners-once);
+  -- no vertex stands twice in t if none does in s
+  once-too : repeatedVertex s ≡ false → repeatedVertex t ≡ false
+  once-too e = rw (ends-once e, corners-once e)
+
+-- ---- so each check says the same of both
+
+both-or-neither : (a b : Bool) → (a ≡ false → b ≡ false) → (b ≡ false → a ≡ false) → b ≡ a
+both-or-neither true true f g = refl
+both-or-neither true false f g = sym (g refl)
+both-or-neither false b f g = f refl
+
+module _ {s t : Scene} (h : Rewritten s t) where
+  -- 1: the lengths are the same
+  pub shape-alike : wrongShape t ≡ wrongShape s
+  shape-alike = rw (h .positions, h .edgesLong, h .trianglesLong)
+
+  -- 2: the coordinates are the same
+  pub range-alike : outOfRange t ≡ outOfRange s
+  range-alike = rw (h .positions)
+
+  -- 3, where 1 does not refuse: in a list of the wrong length the last numbers are of no edge or triangle
+  pub known-alike : wrongShape s ≡ false → unknownVertex t ≡ unknownVertex s
+  known-alike shapely =
+      both-or-neither (unknownVertex s) (unknownVertex t) (known-too h shapely) (known-too (rewritten-back h) (shape-alike ∙ shapely))
+
+  -- 4: the ends of an edge and the corners of a triangle are the same
+  pub repeated-alike : repeatedVertex t ≡ repeatedVertex s
+  repeated-alike = both-or-neither (repeatedVertex s) (repeatedVertex t) (once-too h) (once-too (rewritten-back h))
+
+  -- so t is accepted if s is
+  pub rewritten-accepted : Accepted s → Accepted t
+  rewritten-accepted a = record {
+    shapely = shape-alike ∙ a .shapely;
+    inRange = range-alike ∙ a .inRange;
+    known = known-alike (a .shapely) ∙ a .known;
+    distinct = repeated-alike ∙ a .distinct;
   }
+
+  -- where 1, 2, 3 or 4 refuses one of them, it refuses the other
+  pub refused-alike : {A : Type 0} {o o′ : Outcome A} → SceneRows s o → SceneRows t o′ → (Accepted s → o ≡ o′) → o ≡ o′
+  refused-alike p q then =
+      holds-or-not (wrongShape s)
+      (λ e. p .no1 .1 e ∙ sym (q .no1 .1 (shape-alike ∙ e)))
+      (λ h1.
+      let k1 = shape-alike ∙ h1 in
+      holds-or-not (outOfRange s)
+      (λ e. p .no2 .1 (h1, e) ∙ sym (q .no2 .1 (k1, range-alike ∙ e)))
+      (λ h2.
+      let k2 = range-alike ∙ h2 in
+      holds-or-not (unknownVertex s)
+      (λ e. p .no3 .1 (h1, (h2, e)) ∙ sym (q .no3 .1 (k1, (k2, known-alike h1 ∙ e))))
+      (λ h3.
+      let k3 = known-alike h1 ∙ h3 in
+      holds-or-not (repeatedVertex s)
+      (λ e. p .no4 .1 (h1, (h2, (h3, e))) ∙ sym (q .no4 .1 (k1, (k2, (k3, repeated-alike ∙ e)))))
+      (λ h4. then (record { shapely = h1; inRange = h2; known = h3; distinct = h4 })))))

@@ -5,6 +5,7 @@ use mathlib.Core.Logic.{_↔_}
 use mathlib.Core.Bool.{Bool}
 use mathlib.Core.List.{List, [], _∷_, map}
 use Prim.Native.Nat.{ℕ, _<_}
+use native.Mathlib.Omega.{arith}
 use lib.IntN.{ℤ}
 use lib.ListN.{length}
 use Rattle.meaning.specs.Scene.{Scene, sceneOf, edgeCount, triangleCount, same}
@@ -21,7 +22,7 @@ use Rattle.meaning.specs.declared.Settled.{Settled}
 use Rattle.theory.specs.Bounds.{Every}
 use Rattle.theory.specs.Alike.{alike-same, alike-piece, alike-pair, alike-word, alike-pair-word}
 use Rattle.theory.specs.MovingParts.{Follows, SameParts, mapped, piece-follows}
-use Rattle.theory.specs.Rearranged.{Rearranged}
+use Rattle.theory.specs.Rearranged.{Rearranged, rearranged-back}
 use Rattle.theory.specs.Written.{endsWritten, cornersWritten, Different, ends-any-order, corners-any-order}
 use Rattle.theory.specs.AnyOrder.{any, any-rearranged, spanIn, span-rearranged, shares-corners, shares-ends, edge-box-is, triangle-box-is}
 
@@ -33,7 +34,22 @@ pub record Rewritten (s t : Scene) : Type 0 where
   pub edges : (j : ℕ) → j < edgeCount s → Rearranged (endsWritten s j) (endsWritten t j)
   pub triangles : (j : ℕ) → j < triangleCount s → Rearranged (cornersWritten s j) (cornersWritten t j)
 
--- the edges and triangles of the pair are there, and no two vertices of one of them are the same
+-- and s is t so
+pub rewritten-back : {s t : Scene} → Rewritten s t → Rewritten t s
+rewritten-back h = record {
+  positions = sym (h .positions);
+  edgesLong = sym (h .edgesLong);
+  trianglesLong = sym (h .trianglesLong);
+  edges = λ j below. rearranged-back (h .edges j (omega (arith, h .edgesLong)));
+  triangles = λ j below. rearranged-back (h .triangles j (omega (arith, h .trianglesLong)));
+}
+
+-- the edges and triangles of the pair are there
+unfoldable pub PartsThere : Scene → Kind → ℕ → ℕ → Type 0
+PartsThere s PointTriangle i j = j < triangleCount s
+PartsThere s EdgeEdge i j = (i < edgeCount s) × (j < edgeCount s)
+
+-- they are, and no two vertices of one of them are the same
 unfoldable pub WellMade : Scene → Kind → ℕ → ℕ → Type 0
 WellMade s PointTriangle i j = (j < triangleCount s) × Different s (cornersWritten s j)
 WellMade s EdgeEdge i j = (i < edgeCount s) × Different s (endsWritten s i) × (j < edgeCount s) × Different s (endsWritten s j)
@@ -87,13 +103,13 @@ module _ {s t : Scene} (h : Rewritten s t) where
   rewritten-notThere PointTriangle i j = rw (h .positions, h .trianglesLong)
   rewritten-notThere EdgeEdge i j = rw (h .edgesLong)
 
-  pub rewritten-shares : (kind : Kind) (i j : ℕ) → WellMade s kind i j → shares t kind i j ≡ shares s kind i j
-  unfolding WellMade
+  pub rewritten-shares : (kind : Kind) (i j : ℕ) → PartsThere s kind i j → shares t kind i j ≡ shares s kind i j
+  unfolding PartsThere
   rewritten-shares PointTriangle i j w =
-      shares-corners t i j ∙ sym (any-rearranged (same s i) (h .triangles j (w .0))) ∙ sym (shares-corners s i j)
+      shares-corners t i j ∙ sym (any-rearranged (same s i) (h .triangles j w)) ∙ sym (shares-corners s i j)
   rewritten-shares EdgeEdge i j w =
       shares-ends t i j ∙ sym (any-rearranged (λ a. any (same s a) (endsWritten t j)) (h .edges i (w .0)))
-      ∙ ap (λ (f : ℕ → Bool). any f (endsWritten s i)) (fun-ext (λ a. sym (any-rearranged (same s a) (h .edges j (w .2)))))
+      ∙ ap (λ (f : ℕ → Bool). any f (endsWritten s i)) (fun-ext (λ a. sym (any-rearranged (same s a) (h .edges j (w .1)))))
       ∙ sym (shares-ends s i j)
 
   pub vertex-boxes : (a : Axis) → vertexSpan t a ≡ vertexSpan s a
@@ -108,12 +124,12 @@ module _ {s t : Scene} (h : Rewritten s t) where
   pub triangle-box : (a : Axis) (j : ℕ) → j < triangleCount s → triangleSpan t a j ≡ triangleSpan s a j
   triangle-box a j w = triangle-box-is t a j ∙ box-rewritten a (h .triangles j w) ∙ sym (triangle-box-is s a j)
 
-  pub rewritten-meet : (kind : Kind) (i j : ℕ) → WellMade s kind i j → (a : Axis) → meetOn t kind i j a ≡ meetOn s kind i j a
-  unfolding meetOn WellMade
-  rewritten-meet PointTriangle i j w a = ap₂ meet (ap (λ (f : ℕ → Span). f i) (vertex-boxes a)) (triangle-box a j (w .0))
-  rewritten-meet EdgeEdge i j w a = ap₂ meet (edge-box a i (w .0)) (edge-box a j (w .2))
+  pub rewritten-meet : (kind : Kind) (i j : ℕ) → PartsThere s kind i j → (a : Axis) → meetOn t kind i j a ≡ meetOn s kind i j a
+  unfolding meetOn PartsThere
+  rewritten-meet PointTriangle i j w a = ap₂ meet (ap (λ (f : ℕ → Span). f i) (vertex-boxes a)) (triangle-box a j w)
+  rewritten-meet EdgeEdge i j w a = ap₂ meet (edge-box a i (w .0)) (edge-box a j (w .1))
 
-  module _ (kind : Kind) (i j : ℕ) (w : WellMade s kind i j) where
+  module _ (kind : Kind) (i j : ℕ) (w : PartsThere s kind i j) where
     pub rewritten-listed : listed t kind i j ≡ listed s kind i j
     rewritten-listed = rw (rewritten-shares kind i j w, rewritten-meet kind i j w xAxis, rewritten-meet kind i j w yAxis, rewritten-meet kind i j w zAxis)
 
