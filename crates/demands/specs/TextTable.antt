@@ -31,7 +31,8 @@ pub record Reads (text : List ℕ) (c : SceneCounts) : Type 0 where
   pub holds : Holds text scene
   pub counts : c ≡ countsOf scene
 
-told-given : (x : Outcome Scene) (c : SceneCounts) → countsTold x ≡ given c → (s : Scene) × (x ≡ given s) × (c ≡ countsOf s)
+-- the counts told are those of the scene that was read
+pub told-given : (x : Outcome Scene) (c : SceneCounts) → countsTold x ≡ given c → (s : Scene) × (x ≡ given s) × (c ≡ countsOf s)
 unfolding countsTold
 told-given (given s) c e = (s, refl, cc)
 told-given (refused m place) c e = let z : _≡_ {A = ℕ} 0 1 = cc in absurd (omega arith)
@@ -91,7 +92,8 @@ module _ (text : List ℕ) (lent : Scene) (x : Outcome Scene) (p : TextOutcome t
       (λ h k. absurd (true≢false (sym l ∙ ap inLine (other-number e (long-text h k)))))
       (λ h k. (h, k, is-faulty n line e h k))
 
-  read-so : (s : Scene) → x ≡ given s → (shortBuffer lent ≡ false) × (longText text ≡ false) × Holds text s
+  -- a scene is read where none of the checks refuses, and it is the text's
+  pub read-so : (s : Scene) → x ≡ given s → (shortBuffer lent ≡ false) × (longText text ≡ false) × Holds text s
   unfolding TextIs
   read-so s e =
       by-stage (λ h. absurd (other-answer e (short-buffer h))) (λ h k. absurd (other-answer e (long-text h k)))

@@ -1,20 +1,28 @@
 -- 'A refusal returns its number (and line or count), and no lent byte or number changes'; 'after success the first entries hold the list and
--- the rest of the buffer is unchanged'.
-use Prim.Native.Nat.{ℕ, _*_}
+-- the rest of the buffer is unchanged'; 'after a text is accepted the lent buffers hold the scene in front, and what lies behind it is unchanged'.
+use Prim.Native.Nat.{ℕ, _*_, _≤_}
+use mathlib.Core.Bool.{false}
 use mathlib.Core.List.{List, map}
-use mathlib.Core.Path.{_≡_, refl, sym, _∙_, ap}
+use mathlib.Core.Path.{_≡_, refl, sym, _∙_, ap, subst}
 use native.Mathlib.Omega.{arith}
 use lib.ListN.{length}
+use borrow.Author.Tests.{ltb-false}
 use Rattle.sequences.specs.Flat.{flat-length}
-use Rattle.sequences.specs.Wrote.{Wrote, wrote-written}
-use Rattle.meaning.specs.Scene.{Scene}
+use Rattle.sequences.specs.Wrote.{Wrote, written, wrote-written}
+use Rattle.meaning.specs.Limits.{vertexLimit, edgeLimit, triangleLimit}
+use Rattle.meaning.specs.Scene.{Scene, vertexCount, edgeCount, triangleCount}
 use Rattle.meaning.specs.Refusals.{Outcome, given, refused}
 use Rattle.meaning.specs.List.{Pair, pairs, entry, entries, listSays, leaves, Listing}
 use Rattle.meaning.specs.Judging.{byteOf, JudgedScene}
-use Rattle.meaning.specs.Text.{countsTold, textSays, filled, TextRead}
+use Rattle.meaning.specs.Text.{Holds, shortBuffer, countsOf, countsTold, textSays, filled, TextRead}
+use Rattle.meaning.specs.declared.SceneCounts.{SceneCounts}
 use Rattle.meaning.specs.declared.ListAnswer.{ListAnswer}
 use Rattle.meaning.specs.declared.TextAnswer.{TextAnswer}
+use Rattle.scenes.specs.Below.{or-left, or-rest}
+use Rattle.scenes.specs.Facts.{accepted-sized}
+use Rattle.scene_text.specs.Accepted.{text-accepted}
 use Rattle.demands.specs.Demand1.{demand1-listing}
+use Rattle.demands.specs.TextTable.{Reads, told-given, read-so}
 
 -- ---- after a refusal
 
@@ -54,3 +62,39 @@ listing-holds s o o′ r p n e =
     let long : length (entries (pairs s)) ≡ n * 3 = omega (arith, entries-long (pairs s)) in
     let fits = wrote-written (entries (pairs s)) o (omega (arith, entries-long (pairs s))) in
     rw (p .buffer ∙ ap (λ (x : Outcome ℕ). leaves x (entries (pairs s)) o) e, ← long) fits
+
+-- the text is a scene with these counts, and it stands in front: its positions, its ends and its corners, and behind them nothing changed
+pub record SceneInFront (text : List ℕ) (lent left : Scene) (c : SceneCounts) : Type 0 where
+  pub reads : Reads text c
+  pub positions : Wrote (lent .positions) 0 (reads .scene .positions) (left .positions) (6 * c .vertices)
+  pub edges : Wrote (lent .edges) 0 (reads .scene .edges) (left .edges) (2 * c .edges)
+  pub triangles : Wrote (lent .triangles) 0 (reads .scene .triangles) (left .triangles) (3 * c .triangles)
+
+-- a list of m numbers, at most n, in a buffer of at least n
+in-front : {A : Type 0} (l o : List A) (m n : ℕ) → length l ≡ m → m ≤ n → n ≤ length o → Wrote o 0 l (written l o) m
+in-front l o m n long few room = rw (← long) (wrote-written l o (omega arith))
+
+-- lent buffers that are not too short have room for the scene of a text
+scene-in-front : {text : List ℕ} (lent s : Scene) → shortBuffer lent ≡ false → Holds text s → SceneInFront text lent (filled (given s) lent) (countsOf s)
+unfolding filled
+scene-in-front lent s room holds =
+    let sized = accepted-sized (text-accepted holds) in
+    record {
+      reads = record { scene = s; holds = holds; counts = refl };
+      positions =
+          in-front (s .positions) (lent .positions) (6 * vertexCount s) (6 * vertexLimit) (sized .positionsLong) (omega (arith, sized .fewVertices)) (ltb-false _ _ (search (or-left, or-rest)));
+      edges =
+          in-front (s .edges) (lent .edges) (2 * edgeCount s) (2 * edgeLimit) (sized .edgesLong) (omega (arith, sized .fewEdges)) (ltb-false _ _ (search (or-left, or-rest)));
+      triangles =
+          in-front (s .triangles) (lent .triangles) (3 * triangleCount s) (3 * triangleLimit) (sized .trianglesLong) (omega (arith, sized .fewTriangles)) (ltb-false _ _ (search (or-left, or-rest)));
+    }
+
+-- so the buffers are left where the counts are given
+pub reading-holds : (text : List ℕ) (lent left : Scene) (r : TextAnswer) → TextRead text lent left r → (c : SceneCounts) → textSays r ≡ given c
+    → SceneInFront text lent left c
+reading-holds text lent left r p c e =
+    let (s, is, counts) = told-given (p .outcome) c (sym (p .says) ∙ e) in
+    let (room, fits, holds) = read-so text lent (p .outcome) (p .right) s is in
+    let left-is : left ≡ filled (given s) lent = p .leaves ∙ ap (λ (x : Outcome Scene). filled x lent) is in
+    subst (λ (k : SceneCounts). SceneInFront text lent left k) (sym counts)
+    (subst (λ (l : Scene). SceneInFront text lent l (countsOf s)) (sym left-is) (scene-in-front lent s room holds))
