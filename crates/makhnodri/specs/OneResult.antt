@@ -1,22 +1,26 @@
 -- Each promise determines the number and every lent buffer, refused calls too; and what a caller hears in the number is right.
 use Prim.Native.Nat.{ℕ, min}
-use mathlib.Core.List.{List, map}
-use mathlib.Core.Path.{_≡_, refl, sym, ap, _∙_, subst}
+use mathlib.Core.List.{List, [], _∷_, map}
+use mathlib.Core.Path.{_≡_, refl, sym, ap, _∙_}
+use native.Mathlib.Omega.{arith}
 use lib.ListN.{length}
 use Rattle.meaning.specs.Scene.{Scene}
 use Rattle.meaning.specs.Pieces.{pieceOf}
 use Rattle.meaning.specs.Verdicts.{PieceIs, PairIs}
-use Rattle.meaning.specs.Refusals.{Outcome, Answers, sceneChecks, pairChecks, pieceChecks, SceneChecked, PairJudged, PieceJudged}
+use Rattle.meaning.specs.Refusals.{given, refused, Answers, sceneChecks, pairChecks, pieceChecks, SceneChecked, PairJudged, PieceJudged}
 use Rattle.meaning.specs.Resting.{PieceSettled, PairSettled, PairDecided, PieceDecided}
-use Rattle.meaning.specs.List.{pairs, entries, roomOf, listSays, listChecks, leaves, Counted, Listing}
+use Rattle.meaning.specs.List.{pairs, entries, roomOf, listChecks, leaves, Counted, Listing}
 use Rattle.meaning.specs.Judging.{byteOf, JudgedScene}
-use Rattle.meaning.specs.Text.{textSays, TextRead}
+use Rattle.meaning.specs.Text.{textSays}
 use Rattle.meaning.specs.declared.Kind.{Kind}
+use Rattle.meaning.specs.declared.SceneCounts.{SceneCounts}
 use Rattle.meaning.specs.declared.TextAnswer.{TextAnswer}
+use Rattle.meaning.specs.declared.TextAnswer.the-variants.{Read, Refused}
 use Rattle.judging.specs.Listed.{wordOfByte}
 use Rattle.demands.specs.OneAnswer.{one-scene, one-pair, one-piece, one-settled-pair, one-settled-piece, one-counted, one-listing, one-judging}
 use Rattle.demands.specs.OneText.{one-reading}
 use Rattle.demands.specs.TextTable.{TextRows, demand1-text}
+use Rattle.demands.specs.Unchanged.{reading-unchanged, SceneInFront, reading-holds}
 use Rattle.makhnodri.specs.Numbers.{sceneNumber, pairNumber, settledNumber, listNumber, textNumber, countsLeft, ReadInto, Told}
 use Rattle.makhnodri.specs.Small.{counted-small, listing-small, judging-small, line-small}
 use Rattle.makhnodri.specs.Back.{heard, noMore, count, countsIn, verdictNumbered, scene-heard, pair-heard, settled-heard, list-heard, text-heard}
@@ -95,7 +99,34 @@ pub judging-told-heard : (s : Scene) (o o′ b b′ : List ℕ) (r : ℕ) → (p
 judging-told-heard s o o′ b b′ r p =
     rw (p .is, list-heard (p .answer) (judging-small (p .right))) (p .right .answer, p .right .list, p .right .bytes)
 
+-- ---- and of a text too what the lent buffers then hold
+
+-- a refusal leaves the array of counts
+counts-refused : (a : TextAnswer) (l : List ℕ) (n line : ℕ) → textSays a ≡ refused n line → countsLeft a l ≡ l
+unfolding textSays countsLeft
+counts-refused (Read c) l n line e = let z : _≡_ {A = ℕ} 0 1 = cc in absurd (omega arith)
+counts-refused (Refused x k) l n line e = refl
+
+-- after success it holds them
+counts-given : (a : TextAnswer) (l : List ℕ) (c : SceneCounts) → textSays a ≡ given c → countsLeft a l ≡ c .vertices ∷ c .edges ∷ c .triangles ∷ []
+unfolding textSays countsLeft
+counts-given (Read d) l c e = let same : d ≡ c = cc in ap (λ (k : SceneCounts). k .vertices ∷ k .edges ∷ k .triangles ∷ []) same
+counts-given (Refused x k) l c e = let z : _≡_ {A = ℕ} 0 1 = cc in absurd (omega arith)
+
+-- a refusal leaves all four buffers as they were; after success the scene stands in front in three of them, the counts in the fourth
 pub reading-told-heard : (text : List ℕ) (lent left : Scene) (l l′ : List ℕ) (r : ℕ) → Told textNumber (ReadInto text lent left l l′) r
     → TextRows text lent (heard (countsIn l′) r)
+    × ((n line : ℕ) → heard (countsIn l′) r ≡ refused n line → (left ≡ lent) × (l′ ≡ l))
+    × ((c : SceneCounts) → heard (countsIn l′) r ≡ given c → SceneInFront text lent left c × (l′ ≡ c .vertices ∷ c .edges ∷ c .triangles ∷ []))
 reading-told-heard text lent left l l′ r p =
-    rw (p .is, p .right .counts, text-heard (p .answer) l (line-small (p .right .scene))) (demand1-text text lent left (p .answer) (p .right .scene))
+    let says : heard (countsIn l′) r ≡ textSays (p .answer) = rw (p .is, p .right .counts) (text-heard (p .answer) l (line-small (p .right .scene))) in (
+      rw says (demand1-text text lent left (p .answer) (p .right .scene)),
+      λ n line e. (
+        reading-unchanged text lent left (p .answer) (p .right .scene) n line (sym says ∙ e),
+        p .right .counts ∙ counts-refused (p .answer) l n line (sym says ∙ e),
+      ),
+      λ c e. (
+        reading-holds text lent left (p .answer) (p .right .scene) c (sym says ∙ e),
+        p .right .counts ∙ counts-given (p .answer) l c (sym says ∙ e),
+      ),
+    )
