@@ -9,7 +9,7 @@ use crate::texts::byte_from;
 use crate::texts::repeat;
 
 // The cases of standard input: a label, a colon, a text and a bar, one after the other.
-pub fn given(all: &[u8]) {
+pub(crate) fn given(all: &[u8]) {
     let mut at: usize = 0;
     while at < all.len() {
         let colon = byte_from(all, at, b':');
@@ -24,7 +24,7 @@ pub fn given(all: &[u8]) {
 }
 
 // Texts that are taken, with the numbers that then stand in front.
-pub fn taken() {
+pub(crate) fn taken() {
     print(b"\nthe printed scene");
     show_read(
         b"v\t0\t0\t0\t0\t0\t0\nv\t4\t0\t0\t4\t0\t0\nv\t0\t4\t0\t0\t4\t0\nv\t1\t1\t1\t1\t1\t-1\nv\t1\t-1\t1\t1\t-1\t-1\ne\t0\t1\ne\t3\t4\nt\t0\t1\t2\n",
@@ -93,7 +93,7 @@ fn show_made(a: &[u8], m: usize, b: &[u8], n: usize, c: &[u8], k: usize, out: &m
 }
 
 // At the sizes, and one past them.
-pub fn long() {
+pub(crate) fn long() {
     let v = b"v\t0\t0\t0\t0\t0\t0\n";
     let e = b"e\t0\t1\n";
     print(b"\n512 v");
@@ -108,7 +108,7 @@ pub fn long() {
     show_lines(v, 512, b"v\t262144\t0\t0\t0\t0\n", 1, b"", 0);
 }
 
-pub fn longer() {
+pub(crate) fn longer() {
     let v = b"v\t0\t0\t0\t0\t0\t0\n";
     let e = b"e\t0\t1\n";
     let t = b"t\t0\t1\t2\n";
@@ -122,7 +122,7 @@ pub fn longer() {
     show_lines(v, 3, t, 513, b"", 0);
 }
 
-pub fn longest() {
+pub(crate) fn longest() {
     let v = b"v\t-262143\t-262143\t-262143\t-262143\t-262143\t-262143\n";
     let e = b"e\t0\t1\n";
     print(b"\n32768 bytes");
@@ -134,7 +134,7 @@ pub fn longest() {
 }
 
 // Buffers of other lengths: longer ones are fine, a shorter one is 12 before anything else.
-pub fn buffers() {
+pub(crate) fn buffers() {
     let v = b"v\t1\t2\t3\t4\t5\t6\n";
     print(b"\nlonger buffers");
     show_cut(v, 3080, 2056, 1544);

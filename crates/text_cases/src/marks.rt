@@ -1,16 +1,16 @@
 // What is seen of a buffer after a call: every number of it was the mark before.
 
-pub fn print(text: &[u8]) {
+pub(crate) fn print(text: &[u8]) {
     io::write_all(1, text);
 }
 
-pub fn print_number(n: usize) {
+pub(crate) fn print_number(n: usize) {
     io::write_all(1, b" ");
     io::print_decimal(1, n as u64);
 }
 
 // Each number from a place on is still the mark.
-pub fn kept(b: &[i32], from: usize) -> bool {
+pub(crate) fn kept(b: &[i32], from: usize) -> bool {
     let mut i = from;
     while i < b.len() {
         if b[i] != 77 {
@@ -21,7 +21,7 @@ pub fn kept(b: &[i32], from: usize) -> bool {
     true
 }
 
-pub fn kept_plain(b: &[u16], from: usize) -> bool {
+pub(crate) fn kept_plain(b: &[u16], from: usize) -> bool {
     let mut i = from;
     while i < b.len() {
         if b[i] != 77 {
@@ -33,7 +33,7 @@ pub fn kept_plain(b: &[u16], from: usize) -> bool {
 }
 
 // The wanted numbers stand in front.
-pub fn stand(b: &[i32], want: &[i32]) -> bool {
+pub(crate) fn stand(b: &[i32], want: &[i32]) -> bool {
     let mut i: usize = 0;
     while i < want.len() {
         if b.len() <= i {
@@ -47,7 +47,7 @@ pub fn stand(b: &[i32], want: &[i32]) -> bool {
     true
 }
 
-pub fn stand_plain(b: &[u16], want: &[u16]) -> bool {
+pub(crate) fn stand_plain(b: &[u16], want: &[u16]) -> bool {
     let mut i: usize = 0;
     while i < want.len() {
         if b.len() <= i {

@@ -21,7 +21,7 @@ fn append(out: &mut [u8], at: usize, line: &[u8]) -> usize
     end
 }
 
-pub fn repeat(out: &mut [u8], at: usize, line: &[u8], times: usize) -> usize
+pub(crate) fn repeat(out: &mut [u8], at: usize, line: &[u8], times: usize) -> usize
     requires { ⌜ at ≤ length (now out) ⌝ }
     ensures { λ r. ⌜ r ≤ length (now (out .entry)) ⌝ }
 {
@@ -35,7 +35,7 @@ pub fn repeat(out: &mut [u8], at: usize, line: &[u8], times: usize) -> usize
 }
 
 // The place of the first such byte from a place on, or the end.
-pub fn byte_from(all: &[u8], at: usize, byte: u8) -> usize
+pub(crate) fn byte_from(all: &[u8], at: usize, byte: u8) -> usize
     requires { ⌜ at ≤ length (now all) ⌝ }
     ensures { λ r. ⌜ Between at r (length (now (all .entry))) ⌝ }
 {
