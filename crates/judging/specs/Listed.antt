@@ -8,6 +8,7 @@ use native.Mathlib.Omega.{arith}
 use lib.Dec.{eqb}
 use lib.ListN.{length, getD, length-map}
 use Rattle.sequences.specs.Rising.{at-place}
+use Rattle.sequences.specs.Wrote.{written, written-in-front}
 use Rattle.meaning.specs.Scene.{Scene}
 use Rattle.meaning.specs.Refusals.{notThere}
 use Rattle.meaning.specs.Resting.{PairSettled}
@@ -73,6 +74,12 @@ module _ {s : Scene} {l : List ℕ} (stands : ListStands s l) (k : ℕ) (h : k <
 
 -- ---- bytes and words
 
+-- a byte that stands for a word
+pub record WordByte (b : ℕ) : Type 0 where
+  pub word : Settled
+  pub stands : byteOf word ≡ b
+
+-- a byte back to its word. It is asked of a word's byte alone; for any other number the answer says nothing
 unfoldable pub wordOfByte : ℕ → Settled
 wordOfByte b = cond (eqb b 0) Hit (cond (eqb b 1) Miss (cond (eqb b 3) Touch Apart))
 
@@ -83,9 +90,40 @@ byte-back Miss = refl
 byte-back Touch = refl
 byte-back Apart = refl
 
+-- whose byte it is, that is its word
+pub word-of-its-byte : {b : ℕ} (w : Settled) → byteOf w ≡ b → w ≡ wordOfByte b
+word-of-its-byte w e = sym (byte-back w) ∙ ap wordOfByte e
+
+-- two words never have one byte
+pub byte-one : (v w : Settled) → byteOf v ≡ byteOf w → v ≡ w
+byte-one v w e = word-of-its-byte v e ∙ byte-back w
+
+-- a word's byte that is not hit's, miss's or touch's is apart's
+pub else-apart : {b : ℕ} → WordByte b → ¬ (b ≡ 0) → ¬ (b ≡ 1) → ¬ (b ≡ 3) → byteOf Apart ≡ b
+unfolding byteOf
+else-apart {b} p hit miss touch = by-word (p .word) (p .stands)
+  where
+    by-word : (w : Settled) → byteOf w ≡ b → byteOf Apart ≡ b
+    by-word Hit e = absurd (hit (sym e))
+    by-word Miss e = absurd (miss (sym e))
+    by-word Touch e = absurd (touch (sym e))
+    by-word Apart e = e
+
 pub byte-small : (w : Settled) → byteOf w ≤ 4
 unfolding byteOf
 byte-small Hit = omega arith
 byte-small Miss = omega arith
 byte-small Touch = omega arith
 byte-small Apart = omega arith
+
+-- where the bytes of the listed pairs stand in front of a buffer, each is its pair's
+module _ (s : Scene) {b : List ℕ} (b₀ : List ℕ) (bytes : b ≡ written (bytesOf s (pairs s)) b₀) (k : ℕ) (h : k < length (pairs s)) where
+  pub byte-in-front : byteOf (wordOfPair s (getD (pairs s) k noPair)) ≡ getD b k 0
+  byte-in-front =
+      sym
+      (ap (λ (c : List ℕ). getD c k 0) bytes
+      ∙ written-in-front (bytesOf s (pairs s)) b₀ k 0 (rw (bytes-length s (pairs s)) h)
+      ∙ bytes-at s (pairs s) k h)
+
+  pub word-in-front : WordByte (getD b k 0)
+  word-in-front = record { word = wordOfPair s (getD (pairs s) k noPair); stands = byte-in-front }

@@ -7,14 +7,13 @@ ghost use Rattle.sequences.specs.Wrote.{written};
 ghost use Rattle.meaning.specs.Scene.{sceneOf, Accepted};
 ghost use Rattle.meaning.specs.List.{pairs, roomOf};
 ghost use Rattle.meaning.specs.Judging.{byteOf, JudgedScene};
-ghost use Rattle.judging.specs.Listed.{bytesOf, ListStands, wordOfByte};
+ghost use Rattle.judging.specs.Listed.{bytesOf, ListStands, WordByte};
 ghost use Rattle.judging.specs.Answering.{JudgedIn};
 use meaning::ListAnswer;
 use meaning::SceneAnswer;
 use meaning::Settled;
 
-// A word as the byte that stands for it in a lent buffer, and back. No byte is 2, the number of degenerate: a number never stands for
-// two words.
+// A word as the byte that stands for it in a lent buffer. No byte is 2, the number of degenerate: a number never stands for two words.
 pub fn byte_of(w: Settled) -> u8
     ensures { λ r. ⌜ r ≡ byteOf w ⌝ }
 {
@@ -26,8 +25,10 @@ pub fn byte_of(w: Settled) -> u8
     }
 }
 
+// And back, from a byte that stands for a word.
 pub fn word_of(byte: u8) -> Settled
-    ensures { λ r. ⌜ r ≡ wordOfByte byte ⌝ }
+    requires { ⌜ WordByte byte ⌝ }
+    ensures { λ r. ⌜ byteOf r ≡ byte ⌝ }
 {
     if byte == 0 {
         return Settled::Hit;

@@ -26,7 +26,7 @@ use Rattle.meaning.specs.declared.ListAnswer.{ListAnswer}
 use Rattle.meaning.specs.declared.TextAnswer as TextAnswers
 use Rattle.scenes.specs.Answering.{is-refused, is-past}
 use Rattle.listing.specs.Answering.{roomChecks, IsCount, ListedIn}
-use Rattle.judging.specs.Listed.{ListStands, bytesOf, bytes-length}
+use Rattle.judging.specs.Listed.{ListStands, bytesOf, bytes-length, word-in-front}
 use Rattle.judging.specs.Answering.{JudgedIn, MadeList, made-list, made-stands}
 use Rattle.scene_text.specs.Using.{Came, byBuffers, byLength, byLines, came, read-refusal-of, FewOf, read-counts-few, frontOf, read-scene-of}
 use Rattle.summary.specs.Sizes.{Held}
@@ -59,7 +59,10 @@ judged-list {s} {room} {o} {o′} {b} {b′} {r} {m} h k j e =
       held = record {
         few = omega (arith, l .counts, l .fits);
         entries = omega (arith, l .counts, stands .room);
-        judged = omega (arith, l .counts, simp length-append at long, bytes-length s (pairs s));
+        judged = record {
+          there = omega (arith, l .counts, simp length-append at long, bytes-length s (pairs s));
+          at = λ k below. word-in-front s b bytes k (omega (arith, l .counts));
+        };
       };
     }
 

@@ -6,7 +6,7 @@ use native.Mathlib.Omega.{arith}
 use native.Mathlib.Nat.{not-suc-le-zero, le-of-suc-le-suc, zero-add}
 use lib.ListN.{length, getD, length-map}
 use Rattle.sequences.specs.Gather.{gather}
-use Rattle.sequences.specs.Wrote.{Wrote, written, wrote-front, written-in-front}
+use Rattle.sequences.specs.Wrote.{Wrote, written, wrote-front}
 use Rattle.meaning.specs.Limits.{reportRoom, textLimit}
 use Rattle.meaning.specs.Scene.{Scene}
 use Rattle.meaning.specs.List.{Pair, pairs}
@@ -16,7 +16,7 @@ use Rattle.meaning.specs.Report.{pairLine, pairLines, totalLine, refusedLine, R
 use Rattle.meaning.specs.declared.Settled.{Settled}
 use Rattle.meaning.specs.declared.Settled.the-variants.{Hit}
 use Rattle.listing.specs.Entries.{pairAt}
-use Rattle.judging.specs.Listed.{ListStands, wordOfPair, wordsOf, bytesOf, all-judged, noPair, wordOfByte, byte-back, bytes-length, bytes-at}
+use Rattle.judging.specs.Listed.{ListStands, wordOfPair, wordsOf, bytesOf, all-judged, noPair, word-of-its-byte, byte-in-front}
 use Rattle.wording.specs.Lines.{wrote-as}
 use Rattle.summary.specs.Rendered.{verdictAt, lineAt, verdictsIn, gather-is, lines-are}
 
@@ -40,11 +40,7 @@ verdicts-at s (p ∷ ps) (suc k) h = verdicts-at s ps k (le-of-suc-le-suc h)
 module _ (s : Scene) {l b : List ℕ} (b₀ : List ℕ) (stands : ListStands s l) (bytes : b ≡ written (bytesOf s (pairs s)) b₀) where
   verdict-stands : (k : ℕ) → k < length (pairs s) → verdictAt b k ≡ getD (wordsOf s (pairs s)) k Hit
   verdict-stands k h =
-      ap (λ (n : ℕ). wordOfByte n)
-      (ap (λ (c : List ℕ). getD c k 0) bytes
-      ∙ written-in-front (bytesOf s (pairs s)) b₀ k 0 (rw (bytes-length s (pairs s)) h)
-      ∙ bytes-at s (pairs s) k h)
-      ∙ byte-back (wordOfPair s (getD (pairs s) k noPair))
+      sym (word-of-its-byte (wordOfPair s (getD (pairs s) k noPair)) (byte-in-front s b₀ bytes k h))
       ∙ sym (verdicts-at s (pairs s) k h)
 
   long : length (wordsOf s (pairs s)) ≡ length (pairs s)

@@ -3,22 +3,23 @@
 ghost use Prim.Native.Nat.{_+_, _*_, _≤_, _<_};
 ghost use mathlib.Core.Path.{_≡_};
 ghost use mathlib.Core.List.{_++_};
-ghost use lib.ListN.{length};
+ghost use lib.ListN.{length, getD};
 ghost use Rattle.sequences.specs.Gather.{gather};
 ghost use Rattle.sequences.specs.Wrote.{Wrote};
 ghost use Rattle.meaning.specs.Limits.{reportRoom};
 ghost use Rattle.meaning.specs.List.{roomOf};
 ghost use Rattle.meaning.specs.Report.{totalLine};
+ghost use Rattle.judging.specs.Listed.{WordByte};
 ghost use Rattle.wording.specs.Counted.{TallyOf};
 ghost use Rattle.summary.specs.Rendered.{lineAt, verdictsIn};
-ghost use Rattle.summary.specs.Sizes.{reportLength, Held};
+ghost use Rattle.summary.specs.Sizes.{reportLength, Words, Held};
 use wording::lines::pair_line;
 use wording::lines::total_line;
 use wording::tally::Tally;
 
 // The line of one entry.
 fn entry_line(list: &[u16], verdicts: &[u8], k: usize, out: &mut [u8], at: usize) -> usize
-    requires { ⌜ (k < roomOf (now list)) × (k < length (now verdicts)) × (at + 51 ≤ length (now out)) ⌝ }
+    requires { ⌜ (k < roomOf (now list)) × (k < length (now verdicts)) × WordByte (getD (now verdicts) k 0) × (at + 51 ≤ length (now out)) ⌝ }
     ensures { λ r. ⌜ Wrote (now (out .entry)) at (lineAt (now (list .entry)) (now (verdicts .entry)) k) (now (out .exit)) r ⌝ }
 {
     let kind = listing::entries::entry_kind(list, k);
@@ -44,7 +45,7 @@ fn pair_lines(list: &[u16], verdicts: &[u8], count: usize, out: &mut [u8]) -> us
 
 // How many the first `count` are, and how many of them have each verdict.
 fn tally_of(verdicts: &[u8], count: usize) -> Tally
-    requires { ⌜ (count ≤ length (now verdicts)) × (count ≤ reportRoom) ⌝ }
+    requires { ⌜ Words (now verdicts) count × (count ≤ reportRoom) ⌝ }
     ensures { λ r. ⌜ TallyOf (verdictsIn (now (verdicts .entry)) 0 count) r ⌝ }
 {
     let mut tally = Tally {

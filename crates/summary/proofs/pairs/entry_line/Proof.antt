@@ -1,6 +1,7 @@
 use borrow.Author.Needs.{needs}
 use Rattle.meaning.specs.List.{pair}
 use Rattle.meaning.specs.Report.{pairLine}
+use Rattle.judging.specs.Listed.{word-of-its-byte}
 use Rattle.wording.specs.Lines.{wrote-as}
 use Rattle.summary.proofs.pairs.entry_line.Statement.{statement}
 use Rattle.summary.proofs.pairs.entry_line.Tie as tie
@@ -44,7 +45,7 @@ same-length c = search needs
 returns : tie.Need-returns
 returns c =
     wrote-as
-    (λ t. pairLine (pair (c .before .before .before .before .before .before .before .before .entry-kind .ensures t) (c .before .before .before .before .before .before .before .entry-first .ensures t) (c .before .before .before .before .before .before .entry-second .ensures t)) (c .before .before .before .before .word-of .ensures t))
+    (λ t. pairLine (pair (c .before .before .before .before .before .before .before .before .entry-kind .ensures t) (c .before .before .before .before .before .before .before .entry-first .ensures t) (c .before .before .before .before .before .before .entry-second .ensures t)) (word-of-its-byte (c .before .before .before .before .word-of .result) (c .before .before .before .before .word-of .ensures) t))
     (c .before .before .pair-line .ensures)
 
 pub entry-line-spec : {M : Type 1} → statement M

@@ -28,8 +28,12 @@ loop-holds c = (
 entry-line-requires : tie.Need-entry-line-requires Inv-loop μ-loop
 entry-line-requires c κs =
     let i = c .before .before .loop .inv in
-    let p = c .before .before .before .before .before .before .pre in
-    (omega (arith, p .0 .entries), omega (arith, p .0 .judged), omega (arith, i .1, i .2 .same, p .1, p .0 .few))
+    let p = c .before .before .before .before .before .before .pre in (
+      omega (arith, p .0 .entries),
+      omega (arith, p .0 .judged .there),
+      p .0 .judged .at (c .before .before .loop .k) (omega arith),
+      omega (arith, i .1, i .2 .same, p .1, p .0 .few),
+    )
 
 -- src/pairs.rt:41:9
 add-k : tie.Need-add-k Inv-loop μ-loop

@@ -4,6 +4,7 @@ use mathlib.Core.Path.{_≡_}
 use native.Mathlib.Omega.{arith}
 use borrow.Author.Needs.{needs}
 use Rattle.sequences.specs.Gather.{gather-none, gather-last}
+use Rattle.judging.specs.Listed.{word-of-its-byte}
 use Rattle.summary.specs.Rendered.{verdictAt, verdictsIn, verdicts-short}
 use Rattle.wording.specs.Counted.{TallyOf, tally-starts, tally-goes}
 use Rattle.summary.proofs.pairs.tally_of.Statement.{statement}
@@ -25,11 +26,12 @@ loop-holds c = (omega arith, rw (gather-none (λ k. verdictAt (c .before .args .
 
 -- src/pairs.rt:58:47
 shared-slice-read-word-of : tie.Need-shared-slice-read-word-of Inv-loop μ-loop
-shared-slice-read-word-of c = omega (arith, c .before .before .before .before .pre)
+shared-slice-read-word-of c = omega (arith, c .before .before .before .before .pre .0 .there)
 
 -- src/pairs.rt:58:27
 word-of-requires : tie.Need-word-of-requires Inv-loop μ-loop
-word-of-requires c κs = search needs
+word-of-requires c κs =
+    c .before .before .before .before .pre .0 .at (c .before .before .loop .k) (omega arith)
 
 -- src/pairs.rt:58:9
 add-requires : tie.Need-add-requires Inv-loop μ-loop
@@ -49,8 +51,8 @@ loop-again c =
     let b = c .before .before .before .before .before .before .args .verdicts .now in
     let k = c .before .before .before .before .loop .k in (
       omega arith,
-      rw (gather-last (λ k. verdictAt (c .before .before .before .before .before .before .args .verdicts .now) k ∷ []) 0 k (omega arith), c .add .ensures, c .before .word-of .ensures)
-          (tally-goes (verdictAt b k) (omega (arith, verdicts-short b k, c .before .before .before .before .before .before .pre)) (c .before .before .before .before .loop .inv .1)),
+      rw (gather-last (λ k. verdictAt (c .before .before .before .before .before .before .args .verdicts .now) k ∷ []) 0 k (omega arith), c .add .ensures, word-of-its-byte _ (c .before .word-of .ensures))
+          (tally-goes (verdictAt b k) (omega (arith, verdicts-short b k, c .before .before .before .before .before .before .pre .1)) (c .before .before .before .before .loop .inv .1)),
     )
 
 -- src/pairs.rt:47:1
