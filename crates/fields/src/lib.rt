@@ -2,6 +2,7 @@
 // be is the caller's; a number's sign and its size are kept apart.
 ghost use Prim.Native.Nat.{_≤_};
 ghost use lib.ListN.{length};
+ghost use Rattle.decimals.specs.Byte.{IsDigit};
 ghost use Rattle.fields.specs.Ended.{RowEnded};
 ghost use Rattle.fields.specs.Rows.{RowRead};
 ghost use Rattle.fields.specs.Field.{Found, PlainFound, NumeralStands, FieldStands};
@@ -98,6 +99,7 @@ pub fn read_field(s: &[u8], at: usize, form: Form) -> Field
 }
 
 // Fields in a row, as many as stand there and not more than count. Their sizes and their signs are written to the front of the buffers.
+// The separator is no digit: it is then clear where a number ends.
 pub fn read_fields(
     s: &[u8],
     at: usize,
@@ -107,6 +109,7 @@ pub fn read_fields(
     minus: &mut [bool],
 ) -> Row
     requires { ⌜ form .most ≤ 19 ⌝ }
+    requires { ⌜ ¬ IsDigit (form .separator) ⌝ }
     requires { ⌜ count ≤ length (now sizes) ⌝ }
     requires { ⌜ count ≤ length (now minus) ⌝ }
     ensures { λ r. ⌜ RowRead (now (s .entry)) at form count (now (sizes .entry)) (now (sizes .exit)) (now (minus .entry)) (now (minus .exit)) r ⌝ }
@@ -143,6 +146,7 @@ pub fn read_row(
     minus: &mut [bool],
 ) -> Ending
     requires { ⌜ form .most ≤ 19 ⌝ }
+    requires { ⌜ ¬ IsDigit (form .separator) ⌝ }
     requires { ⌜ count ≤ length (now sizes) ⌝ }
     requires { ⌜ count ≤ length (now minus) ⌝ }
     ensures { λ r. ⌜ RowEnded (now (s .entry)) at form count (now (sizes .entry)) (now (sizes .exit)) (now (minus .entry)) (now (minus .exit)) r ⌝ }

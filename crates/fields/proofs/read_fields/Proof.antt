@@ -27,7 +27,7 @@ loop-again : tie.Need-loop-again Inv-loop μ-loop
 loop-again c =
     let a = c .before .before .before .before .before .before .before .before .before in
     more (c .before .before .before .before .before .loop .inv) (c .before .before .before .before .loop-test .taken)
-    (a .pre .1 .0) (a .pre .1 .1) (c .before .before .before .read-field .ensures) (c .before .sign .given .1)
+    (a .pre .1 .1 .0) (a .pre .1 .1 .1) (c .before .before .before .read-field .ensures) (c .before .sign .given .1)
 
 same-length : tie.Need-same-length Inv-loop μ-loop
 same-length c = c .before .before .before .before .loop .inv .sized .same
