@@ -43,8 +43,24 @@ fn print_kept(all: bool) {
     }
 }
 
-// The counts, whether the wanted numbers stand in front, and whether the numbers behind the scene are still marks.
-fn print_read(c: SceneCounts, front: bool, positions: &[i32], edges: &[u16], triangles: &[u16]) {
+fn print_front(all: bool) {
+    if all {
+        print(b", as written");
+    } else {
+        print(b", WRONG");
+    }
+}
+
+// The counts, whether the wanted numbers are all that stands in front, and whether the numbers behind the scene are still marks.
+fn print_read(
+    c: SceneCounts,
+    want: &[i32],
+    ends: &[u16],
+    corners: &[u16],
+    positions: &[i32],
+    edges: &[u16],
+    triangles: &[u16],
+) {
     let v = c.vertices;
     let e = c.edges;
     let t = c.triangles;
@@ -52,14 +68,14 @@ fn print_read(c: SceneCounts, front: bool, positions: &[i32], edges: &[u16], tri
     print_number(v);
     print_number(e);
     print_number(t);
-    if front {
-        print(b", as written");
-    } else {
-        print(b", WRONG");
-    }
     if v <= 512 {
         if e <= 1024 {
             if t <= 512 {
+                print_front(
+                    stand(positions, want, 6 * v)
+                        & stand_plain(edges, ends, 2 * e)
+                        & stand_plain(triangles, corners, 3 * t),
+                );
                 print_kept(
                     kept(positions, 6 * v)
                         & kept_plain(edges, 2 * e)
@@ -83,7 +99,7 @@ fn print_refused(
     print_kept(kept(positions, 0) & kept_plain(edges, 0) & kept_plain(triangles, 0));
 }
 
-// Reads a text into buffers that hold marks. A refused text has no wanted numbers.
+// Reads a text into buffers that hold marks. The wanted numbers stand there again and again, up to the end of the scene.
 fn show_in(
     text: &[u8],
     want: &[i32],
@@ -94,12 +110,7 @@ fn show_in(
     triangles: &mut [u16],
 ) {
     match read_scene(text, positions, edges, triangles) {
-        TextAnswer::Read(c) => {
-            let front = stand(positions, want)
-                & stand_plain(edges, ends)
-                & stand_plain(triangles, corners);
-            print_read(c, front, positions, edges, triangles);
-        }
+        TextAnswer::Read(c) => print_read(c, want, ends, corners, positions, edges, triangles),
         TextAnswer::Refused(refusal, line) => print_refused(
             refusal,
             line,
@@ -126,8 +137,9 @@ fn show_read(text: &[u8], want: &[i32], ends: &[u16], corners: &[u16]) {
     );
 }
 
+// A text whose lines are `v 1 2 3 4 5 6`, `e 0 1` and `t 0 1 2`, or one that is refused.
 fn show(text: &[u8]) {
-    show_read(text, &[], &[], &[]);
+    show_read(text, &[1, 2, 3, 4, 5, 6], &[0, 1], &[0, 1, 2]);
 }
 
 // Buffers of these lengths.
@@ -157,9 +169,9 @@ fn show_part(
 {
     show_in(
         text,
-        &[],
-        &[],
-        &[],
+        &[1, 2, 3, 4, 5, 6],
+        &[0, 1],
+        &[0, 1, 2],
         &mut positions[..p],
         &mut edges[..e],
         &mut triangles[..t],

@@ -32,31 +32,41 @@ pub(crate) fn kept_plain(b: &[u16], from: usize) -> bool {
     true
 }
 
-// The wanted numbers stand in front.
-pub(crate) fn stand(b: &[i32], want: &[i32]) -> bool {
+// The wanted numbers stand in front, again and again, so many in all.
+pub(crate) fn stand(b: &[i32], want: &[i32], count: usize) -> bool {
     let mut i: usize = 0;
-    while i < want.len() {
+    let mut k: usize = 0;
+    while i < count {
+        if want.len() <= k {
+            return false;
+        }
         if b.len() <= i {
             return false;
         }
-        if b[i] != want[i] {
+        if b[i] != want[k] {
             return false;
         }
         i += 1;
+        k = (k + 1) % want.len();
     }
     true
 }
 
-pub(crate) fn stand_plain(b: &[u16], want: &[u16]) -> bool {
+pub(crate) fn stand_plain(b: &[u16], want: &[u16], count: usize) -> bool {
     let mut i: usize = 0;
-    while i < want.len() {
+    let mut k: usize = 0;
+    while i < count {
+        if want.len() <= k {
+            return false;
+        }
         if b.len() <= i {
             return false;
         }
-        if b[i] != want[i] {
+        if b[i] != want[k] {
             return false;
         }
         i += 1;
+        k = (k + 1) % want.len();
     }
     true
 }

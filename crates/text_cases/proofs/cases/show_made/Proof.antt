@@ -5,8 +5,8 @@ use borrow.Author.Needs.{needs}
 use Rattle.text_cases.proofs.cases.show_made.Statement.{statement}
 use Rattle.text_cases.proofs.cases.show_made.Tie as tie
 
-slice-aggregate-show : tie.Need-slice-aggregate-show
-slice-aggregate-show c =
+slice-aggregate-show-read : tie.Need-slice-aggregate-show-read
+slice-aggregate-show-read c =
     let r = c .before .before .before in
     simp length-take (omega (arith, r .repeat3 .ensures, r .repeat3 .kept .0))
 
@@ -18,7 +18,9 @@ show-made-spec =
     (λ c κs. search needs)
     (λ c κs. search needs)
     (λ c. search needs)
-    slice-aggregate-show
+    slice-aggregate-show-read
+    (λ c. search needs)
+    (λ c. search needs)
     (λ c κs. search needs)
     (λ c. search needs)
     (λ c. search needs))

@@ -1,15 +1,14 @@
--- `text_cases::marks::stand` is safe and ends: the index stays below both lengths.
+-- `text_cases::marks::stand` is safe and ends: the one index stays below the count, the other below the length of the wanted.
 use Prim.Native.Nat.{_-_}
-use lib.ListN.{length}
 use borrow.Author.Needs.{needs}
 use Rattle.text_cases.proofs.marks.stand.Statement.{statement}
 use Rattle.text_cases.proofs.marks.stand.Tie as tie
 
 abbrev Inv-loop : tie.InvT-loop
-Inv-loop b want i₀ i = Unit {0}
+Inv-loop b want count i₀ k₀ i k = Unit {0}
 
 abbrev μ-loop : tie.MeasureT-loop
-μ-loop b want i₀ i = length want - i
+μ-loop b want count i₀ k₀ i k = count - i
 
 pub stand-spec : {M : Type 1} → statement M
 stand-spec =
@@ -17,6 +16,9 @@ stand-spec =
     (tie.spec
     Inv-loop
     μ-loop
+    (λ c. search needs)
+    (λ c. search needs)
+    (λ c. search needs)
     (λ c. search needs)
     (λ c. search needs)
     (λ c. search needs)
