@@ -25,8 +25,8 @@ use Rattle.meaning.specs.declared.Settled.the-variants.{Hit, Miss, Touch, Apart
 use Rattle.theory.specs.Bounds.{Every}
 use Rattle.theory.specs.Reading.{verdictOf, agreeing}
 use Rattle.theory.specs.Computed.{pieceVerdict, joined, joinedBelow, pointDifferences, edgeDifferences, startSum, endSum}
-use Rattle.exact.specs.BySigns.{keep}
-use Rattle.exact.specs.OneWay.{oneWay}
+use Rattle.signs.specs.BySigns.{keep}
+use Rattle.signs.specs.OneWay.{oneWay}
 use Rattle.resting.specs.First.{firstOf}
 use Rattle.resting.specs.Others.{skip}
 use Rattle.resting.specs.Filled.{slot, next}

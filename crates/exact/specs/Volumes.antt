@@ -2,9 +2,10 @@
 use mathlib.Core.Path.{_≡_}
 use mathlib.Core.List.{List}
 use Prim.Native.Nat.{ℕ}
-use lib.IntN.{ℤ}
+use lib.IntN.{ℤ, pos, negℤ, _-ℤ_, +ℤ-idl}
+use mir.Syntax.{w64}
 use Rattle.whole.specs.Cramer.{Four, volumes}
-use Rattle.whole.specs.Sizes.{Is, is-self}
+use Rattle.whole.specs.Sizes.{Is, is-self, is-neg, held, back}
 use Rattle.exact.specs.Limits.{determinantLimit}
 use Rattle.exact.specs.Places.{Room, apart}
 use Rattle.exact.specs.declared.Volumes.{Volumes}
@@ -44,3 +45,7 @@ module _ {v : Volumes} {e : Four ℤ} (h : Holds v e) where
 
   pub holds-same : fourOf v ≡ e
   holds-same = rw (h .is0 .same, h .is1 .same, h .is2 .same, h .is3 .same)
+
+-- a volume that the machine turned round
+pub turned : {u z : ℤ} → Is determinantLimit u z → Is determinantLimit (pos 0 -ℤ held w64 u) (negℤ z)
+turned h = rw +ℤ-idl (is-neg (back w64 h tt))

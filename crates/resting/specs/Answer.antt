@@ -11,7 +11,7 @@ use Rattle.whole.specs.Cramer.{Four, each, volumes}
 use Rattle.exact.specs.Places.{apart}
 use Rattle.exact.specs.declared.arrows.Arrow.{Arrow}
 use Rattle.exact.specs.declared.arrows.Arrow.the-variants.{Between, Axis}
-use Rattle.exact.specs.OneWay.{oneWay, zeroBut}
+use Rattle.signs.specs.OneWay.{oneWay, zeroBut}
 use Rattle.resting.specs.declared.SixPoints.{SixPoints}
 use Rattle.resting.specs.declared.leaf.Leaf.{Leaf}
 use Rattle.resting.specs.declared.leaf.Leaf.the-variants.{Yes, No, Open}

@@ -9,7 +9,7 @@ use mathlib.Core.List.{List, _++_}
 use lib.IntN.{ℤ, pos}
 use Rattle.whole.specs.Cramer.{Place, pick}
 use Rattle.meaning.specs.Pieces.{Event}
-use Rattle.exact.specs.BySignsLaws.{clock}
+use Rattle.signs.specs.BySignsLaws.{clock}
 use Rattle.resting.specs.declared.SixPoints.{SixPoints}
 use Rattle.resting.specs.Others.{Order, order-of, othersOf}
 use Rattle.resting.specs.Slots.{Based, eventIn, Preferred}

@@ -10,7 +10,7 @@ use lib.ListN.{length, getD, take, drop, take-append-drop, length-take}
 use Rattle.meaning.specs.Limits.{coordinateLimit}
 use Rattle.meaning.specs.Pieces.{Event, Piece}
 use Rattle.exact.specs.Places.{Bounded, placeAt}
-use Rattle.exact.specs.BySignsLaws.{clock}
+use Rattle.signs.specs.BySignsLaws.{clock}
 use Rattle.resting.specs.declared.SixPoints.{SixPoints}
 use Rattle.resting.specs.Left.{TouchIn}
 use Rattle.resting.specs.Slots.{eventIn}

@@ -13,9 +13,9 @@ use Rattle.whole.specs.Vector.{Vector, minus}
 use Rattle.whole.specs.Cramer.{Four, each, weigh, volumes, dot4, Place, p0, p1, p2, p3, pick}
 use Rattle.meaning.specs.Pieces.{Event}
 use Rattle.exact.specs.Places.{placeAt}
-use Rattle.exact.specs.BySigns.{sum, kept}
-use Rattle.exact.specs.BySignsLaws.{clock, sum-starts, sum-ends}
-use Rattle.exact.specs.OneWay.{oneWay, zeroBut, allNotBelow}
+use Rattle.signs.specs.BySigns.{sum, kept}
+use Rattle.signs.specs.BySignsLaws.{clock, sum-starts, sum-ends}
+use Rattle.signs.specs.OneWay.{oneWay, zeroBut, allNotBelow}
 use Rattle.theory.specs.Differences.{difference, difference-start, difference-end}
 use Rattle.theory.specs.Spread.{startShare, endShare}
 use Rattle.resting.specs.declared.SixPoints.{SixPoints}

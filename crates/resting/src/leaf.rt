@@ -13,8 +13,8 @@ use super::SixPoints;
 use exact::Volumes;
 use exact::arrows::Arrow;
 use exact::arrows::arrow_volumes;
-use exact::arrows::one_way;
-use exact::arrows::zero_but;
+use signs::ways::one_way;
+use signs::ways::zero_but;
 
 pub(crate) enum Leaf {
     Yes,

@@ -15,7 +15,7 @@ use Rattle.meaning.specs.declared.Ends.{Ends}
 use Rattle.meaning.specs.declared.Corners.{Corners}
 use Rattle.meaning.specs.declared.Verdict.{Verdict}
 use Rattle.meaning.specs.declared.Verdict.the-variants.{Hit, Miss, Degenerate}
-use Rattle.exact.specs.BySigns.{allAgree, bySigns, sum, keep, kept, pointVerdict, edgeVerdict}
+use Rattle.signs.specs.BySigns.{allAgree, bySigns, sum, keep, kept, pointVerdict, edgeVerdict}
 use Rattle.exact.specs.Volumes.{four}
 use Rattle.theory.specs.Reading.{agreeing, verdictOf}
 use Rattle.theory.specs.Computed.{pointDifferences, edgeDifferences, startSum, endSum, edgeNumbers}

@@ -21,7 +21,7 @@ pub fn point_piece(positions: &[i32], p: usize, c: Corners, k: usize) -> Verdict
     let middle = 6 * c.middle;
     let high = 6 * c.high;
     if k == 0 {
-        return exact::judge_point(
+        return signs::judge_point(
             positions,
             low,
             base,
@@ -34,7 +34,7 @@ pub fn point_piece(positions: &[i32], p: usize, c: Corners, k: usize) -> Verdict
         );
     }
     if k == 1 {
-        return exact::judge_point(
+        return signs::judge_point(
             positions,
             low,
             base,
@@ -46,7 +46,7 @@ pub fn point_piece(positions: &[i32], p: usize, c: Corners, k: usize) -> Verdict
             base + 3,
         );
     }
-    exact::judge_point(
+    signs::judge_point(
         positions,
         low,
         base,
@@ -81,7 +81,7 @@ fn first_a(positions: &[i32], e: Ends, f: Ends, j: usize) -> Verdict
     let low = 6 * f.low;
     let high = 6 * f.high;
     if j == 0 {
-        return exact::judge_edges(
+        return signs::judge_edges(
             positions,
             other,
             base,
@@ -97,7 +97,7 @@ fn first_a(positions: &[i32], e: Ends, f: Ends, j: usize) -> Verdict
             true,
         );
     }
-    exact::judge_edges(
+    signs::judge_edges(
         positions,
         other,
         base,
@@ -123,7 +123,7 @@ fn first_b(positions: &[i32], e: Ends, f: Ends, j: usize) -> Verdict
     let low = 6 * f.low;
     let high = 6 * f.high;
     if j == 0 {
-        return exact::judge_edges(
+        return signs::judge_edges(
             positions,
             other + 3,
             base + 3,
@@ -139,7 +139,7 @@ fn first_b(positions: &[i32], e: Ends, f: Ends, j: usize) -> Verdict
             true,
         );
     }
-    exact::judge_edges(
+    signs::judge_edges(
         positions,
         other + 3,
         base + 3,

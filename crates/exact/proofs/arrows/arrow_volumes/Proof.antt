@@ -2,7 +2,7 @@
 use borrow.Author.Needs.{needs}
 use mir.Syntax.{w64}
 use Rattle.whole.specs.Sizes.{fits, back}
-use Rattle.exact.proofs.Held.{turned}
+use Rattle.exact.specs.Volumes.{turned}
 use Rattle.exact.proofs.arrows.arrow_volumes.Statement.{statement}
 use Rattle.exact.proofs.arrows.arrow_volumes.Tie as tie
 

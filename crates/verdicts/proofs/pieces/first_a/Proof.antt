@@ -10,7 +10,7 @@ use Rattle.verdicts.proofs.pieces.first_a.Statement.{statement}
 use Rattle.verdicts.proofs.pieces.first_a.Tie as tie
 use Rattle.verdicts.proofs.pieces.first_a.Reads as reads
 use Rattle.verdicts.proofs.pieces.first_a.Lts as lts
-use Rattle.exact.proofs.judge_edges.Reads as judge-edges-reads
+use Rattle.signs.proofs.judge_edges.Reads as judge-edges-reads
 
 -- src/pieces.rt:50:16
 mul-base : tie.Need-mul-base

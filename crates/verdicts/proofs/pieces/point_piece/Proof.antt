@@ -10,7 +10,7 @@ use Rattle.verdicts.proofs.pieces.point_piece.Statement.{statement}
 use Rattle.verdicts.proofs.pieces.point_piece.Tie as tie
 use Rattle.verdicts.proofs.pieces.point_piece.Reads as reads
 use Rattle.verdicts.proofs.pieces.point_piece.Lts as lts
-use Rattle.exact.proofs.judge_point.Reads as judge-point-reads
+use Rattle.signs.proofs.judge_point.Reads as judge-point-reads
 
 -- src/pieces.rt:20:16
 mul-base : tie.Need-mul-base

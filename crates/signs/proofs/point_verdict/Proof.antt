@@ -1,11 +1,11 @@
 -- A point's verdict: the signs are those of the exact numbers.
 use borrow.Author.Needs.{needs}
 use mathlib.Core.Path.{_∙_}
-use Rattle.exact.specs.BySigns.{pointVerdict}
-use Rattle.exact.specs.BySignsLaws.{bySigns-nought}
-use Rattle.exact.proofs.Held.{same-signs, zero-sum}
-use Rattle.exact.proofs.point_verdict.Statement.{statement}
-use Rattle.exact.proofs.point_verdict.Tie as tie
+use Rattle.signs.specs.BySigns.{pointVerdict}
+use Rattle.signs.specs.BySignsLaws.{bySigns-nought}
+use Rattle.signs.proofs.Held.{same-signs, zero-sum}
+use Rattle.signs.proofs.point_verdict.Statement.{statement}
+use Rattle.signs.proofs.point_verdict.Tie as tie
 
 pub point-verdict-spec : {M : Type 1} → statement M
 unfolding pointVerdict

@@ -3,10 +3,10 @@ use borrow.Author.Needs.{needs}
 use mathlib.Core.Path.{ap}
 use mir.Syntax.{w64}
 use Rattle.whole.specs.Sizes.{is-equal, back}
-use Rattle.exact.specs.BySigns.{sum}
+use Rattle.signs.specs.BySigns.{sum}
 use Rattle.exact.specs.Volumes.{holds-small, holds-same}
-use Rattle.exact.proofs.sum_where.Statement.{statement}
-use Rattle.exact.proofs.sum_where.Tie as tie
+use Rattle.signs.proofs.sum_where.Statement.{statement}
+use Rattle.signs.proofs.sum_where.Tie as tie
 
 pub sum-where-spec : {M : Type 1} → statement M
 sum-where-spec =

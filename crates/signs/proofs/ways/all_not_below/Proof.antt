@@ -3,8 +3,8 @@ use borrow.Author.Needs.{needs}
 use mir.Syntax.{w64}
 use mir.Facts.{toZ-ofZ}
 use Rattle.whole.specs.Sizes.{back}
-use Rattle.exact.proofs.arrows.all_not_below.Statement.{statement}
-use Rattle.exact.proofs.arrows.all_not_below.Tie as tie
+use Rattle.signs.proofs.ways.all_not_below.Statement.{statement}
+use Rattle.signs.proofs.ways.all_not_below.Tie as tie
 
 pub all-not-below-spec : {M : Type 1} → statement M
 all-not-below-spec =

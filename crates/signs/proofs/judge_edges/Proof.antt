@@ -1,10 +1,10 @@
 -- The volumes are exact, so the verdict by them is that of the exact volumes.
 use borrow.Author.Needs.{needs}
 use mathlib.Core.Path.{_∙_, ap}
-use Rattle.exact.specs.BySigns.{edgeVerdict}
+use Rattle.signs.specs.BySigns.{edgeVerdict}
 use Rattle.exact.specs.Volumes.{holds-small, holds-same}
-use Rattle.exact.proofs.judge_edges.Statement.{statement}
-use Rattle.exact.proofs.judge_edges.Tie as tie
+use Rattle.signs.proofs.judge_edges.Statement.{statement}
+use Rattle.signs.proofs.judge_edges.Tie as tie
 
 pub judge-edges-spec : {M : Type 1} → statement M
 judge-edges-spec =

@@ -5,7 +5,7 @@ use lib.IntN.{ℤ, pos}
 use lib.Signed.{leZ}
 use Rattle.whole.specs.Cramer.{Four, each}
 use Rattle.whole.specs.Signs.{sgn, isNought}
-use Rattle.exact.specs.BySigns.{sum, kept}
+use Rattle.signs.specs.BySigns.{sum, kept}
 
 -- not below 0, or not above it
 abbrev pub notBelow : Bool → ℤ → Bool

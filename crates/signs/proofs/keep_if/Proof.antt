@@ -1,8 +1,8 @@
 -- A number where it counts, else 0.
 use mir.Facts.{toZ-ofZ}
-use Rattle.exact.specs.BySigns.{keep}
-use Rattle.exact.proofs.keep_if.Statement.{statement}
-use Rattle.exact.proofs.keep_if.Tie as tie
+use Rattle.signs.specs.BySigns.{keep}
+use Rattle.signs.proofs.keep_if.Statement.{statement}
+use Rattle.signs.proofs.keep_if.Tie as tie
 
 pub keep-if-spec : {M : Type 1} → statement M
 unfolding keep

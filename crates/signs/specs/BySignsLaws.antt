@@ -11,7 +11,7 @@ use Rattle.whole.specs.Cramer.{Four, each, dot4}
 use Rattle.whole.specs.Signs.{sgn, isNought, isNought-is, nought-is, Agrees, agree, agree-is}
 use Rattle.meaning.specs.declared.Verdict.{Verdict}
 use Rattle.meaning.specs.declared.Verdict.the-variants.{Hit, Miss, Degenerate}
-use Rattle.exact.specs.BySigns.{allAgree, bySigns, sum, keep, kept}
+use Rattle.signs.specs.BySigns.{allAgree, bySigns, sum, keep, kept}
 
 unfoldable pub EachAgrees : ℤ → List ℤ → Type 0
 EachAgrees d [] = Unit {0}

@@ -1,6 +1,6 @@
 -- The sum of the four: two, three and four volumes fit 64 bits.
-use Rattle.exact.proofs.sum_of.Statement.{statement}
-use Rattle.exact.proofs.sum_of.Tie as tie
+use Rattle.signs.proofs.sum_of.Statement.{statement}
+use Rattle.signs.proofs.sum_of.Tie as tie
 use mathlib.Core.Path.{refl}
 use Rattle.whole.specs.Sized.{sized, fitting, meant}
 

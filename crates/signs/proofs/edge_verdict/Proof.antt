@@ -6,11 +6,11 @@ use lib.IntN.{ℤ, _+ℤ_, +ℤ-idl}
 use mir.Syntax.{w64}
 use Rattle.whole.specs.Cramer.{Four}
 use Rattle.whole.specs.Sizes.{is-equal, fits}
-use Rattle.exact.specs.BySigns.{sum, keep, kept, edgeVerdict}
-use Rattle.exact.specs.Volumes.{four, fourOf}
-use Rattle.exact.proofs.Held.{turned, same-signs}
-use Rattle.exact.proofs.edge_verdict.Statement.{statement}
-use Rattle.exact.proofs.edge_verdict.Tie as tie
+use Rattle.signs.specs.BySigns.{sum, keep, kept, edgeVerdict}
+use Rattle.exact.specs.Volumes.{four, fourOf, turned}
+use Rattle.signs.proofs.Held.{same-signs}
+use Rattle.signs.proofs.edge_verdict.Statement.{statement}
+use Rattle.signs.proofs.edge_verdict.Tie as tie
 
 without-first : (e : Four ℤ) → sum (kept (four false true true true) e) ≡ e .v1 +ℤ e .v2 +ℤ e .v3
 unfolding keep

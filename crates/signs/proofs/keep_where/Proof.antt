@@ -6,10 +6,10 @@ use lib.IntN.{ℤ}
 use lib.Dec.{lit≤}
 use mir.Syntax.{w64}
 use Rattle.whole.specs.Sizes.{Within, Is, held, back}
 use Rattle.exact.specs.Limits.{determinantLimit}
-use Rattle.exact.specs.BySigns.{keep}
-use Rattle.exact.proofs.keep_where.Statement.{statement}
-use Rattle.exact.proofs.keep_where.Tie as tie
+use Rattle.signs.specs.BySigns.{keep}
+use Rattle.signs.proofs.keep_where.Statement.{statement}
+use Rattle.signs.proofs.keep_where.Tie as tie
 
 keep-small : (t : Bool) {e : ℤ} → Within determinantLimit e → Within determinantLimit (keep t e)
 unfolding keep

@@ -1,7 +1,7 @@
 -- By the way that is asked for.
 use mir.Facts.{toZ-ofZ}
-use Rattle.exact.proofs.arrows.not_below.Statement.{statement}
-use Rattle.exact.proofs.arrows.not_below.Tie as tie
+use Rattle.signs.proofs.ways.not_below.Statement.{statement}
+use Rattle.signs.proofs.ways.not_below.Tie as tie
 
 pub not-below-spec : {M : Type 1} → statement M
 not-below-spec =

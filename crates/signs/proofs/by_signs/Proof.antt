@@ -10,9 +10,9 @@ use Rattle.whole.specs.Signs.{Sgn, negative, nought, positive, sgn, isNought, i
 use Rattle.whole.specs.Sizes.{held}
 use Rattle.meaning.specs.declared.Verdict.{Verdict}
 use Rattle.meaning.specs.declared.Verdict.the-variants.{Hit, Miss, Degenerate}
-use Rattle.exact.specs.BySigns.{bySigns}
-use Rattle.exact.proofs.by_signs.Statement.{statement}
-use Rattle.exact.proofs.by_signs.Tie as tie
+use Rattle.signs.specs.BySigns.{bySigns}
+use Rattle.signs.proofs.by_signs.Statement.{statement}
+use Rattle.signs.proofs.by_signs.Tie as tie
 
 agree-positive : (s : Sgn) → agree positive s ≡ not (isNegative s)
 agree-positive negative = refl

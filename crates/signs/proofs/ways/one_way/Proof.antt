@@ -2,9 +2,9 @@
 use borrow.Author.Needs.{needs}
 use mir.Syntax.{w64}
 use Rattle.whole.specs.Sizes.{back}
-use Rattle.exact.specs.OneWay.{oneWay}
-use Rattle.exact.proofs.arrows.one_way.Statement.{statement}
-use Rattle.exact.proofs.arrows.one_way.Tie as tie
+use Rattle.signs.specs.OneWay.{oneWay}
+use Rattle.signs.proofs.ways.one_way.Statement.{statement}
+use Rattle.signs.proofs.ways.one_way.Tie as tie
 
 pub one-way-spec : {M : Type 1} → statement M
 unfolding oneWay

@@ -1,0 +1,4 @@
+-- What the signs of four volumes and of their sums say.
+pub mod BySigns
+pub mod BySignsLaws
+pub mod OneWay
