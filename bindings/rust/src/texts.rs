@@ -35,9 +35,11 @@ pub fn write_report(text: &[u8], out: &mut [u8; REPORT_LENGTH]) -> usize {
 
 /// The whole report of a text.
 pub fn report(text: &[u8]) -> Vec<u8> {
-    let mut out = Box::new([0; REPORT_LENGTH]);
-    let length = write_report(text, &mut out);
-    out[..length].to_vec()
+    // made where it stays: an array in a box would first stand on the stack
+    let mut out = vec![0; REPORT_LENGTH];
+    let length = write_report(text, out.as_mut_slice().try_into().expect("it is as long as a report"));
+    out.truncate(length);
+    out
 }
 
 /// A scene that was read from a text; it is accepted.

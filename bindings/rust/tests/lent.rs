@@ -20,20 +20,20 @@ fn what_is_read_is_not_written() {
     }
 }
 
-/// Threads with little more stack than a call may take, each over its own scene, all at once.
+/// What a thread itself takes before it calls, and to hand its answers over.
+const OWN: usize = 16_384;
+
+/// Threads with hardly more stack than a call may take, each over its own scene, all at once.
 #[test]
 fn threads_at_once_on_small_stacks() {
-    let work = |seed: u64| {
+    let lent = |seed: u64| {
         let scene = generate::scene(seed);
-        let (flat, text) = (Flat::of(&scene), compare::text::write(&scene).into_bytes());
-        (flat.scene().judged(), report(&text))
+        (Flat::of(&scene), compare::text::write(&scene).into_bytes())
     };
-    let alone: Vec<_> = (0..26).map(work).collect();
-    let thread = |seed: u64| {
-        let small = std::thread::Builder::new().stack_size(STACK + 65_536);
-        small.spawn(move || work(seed)).unwrap()
-    };
-    let threads: Vec<_> = (0..26).map(thread).collect();
+    let work = |(flat, text): (Flat, Vec<u8>)| (flat.scene().judged(), report(&text));
+    let alone: Vec<_> = (0..26).map(lent).map(work).collect();
+    let thread = |lent| std::thread::Builder::new().stack_size(STACK + OWN).spawn(move || work(lent)).unwrap();
+    let threads: Vec<_> = (0..26).map(lent).map(thread).collect();
     for (thread, alone) in threads.into_iter().zip(alone) {
         assert_eq!(thread.join().unwrap(), alone);
     }
