@@ -249,7 +249,7 @@ fn crowd(random: &mut Random) -> Scene {
 }
 
 /// As many records as there may be, most of them far from each other: one wide sheet, creased a little.
-fn sizes(random: &mut Random) -> Scene {
+pub fn sizes(random: &mut Random) -> Scene {
     let (columns, rows) = (32, VERTEX_LIMIT / 32);
     let mut scene = Scene::default();
     for i in 0..VERTEX_LIMIT {

@@ -20,6 +20,7 @@ pub mod looks;
 pub mod mistakes;
 pub mod pieces;
 pub mod random;
+pub mod raw;
 pub mod refusal;
 pub mod report;
 pub mod running;

@@ -63,7 +63,7 @@ fn unshared(scene: &Scene, pair: Pair) -> Result<(), Refusal> {
 }
 
 /// The scene and a pair of it that may be asked for.
-fn a_pair(slices: Slices, kind: Kind, first: u64, second: u64) -> Result<(Scene, Pair), Refusal> {
+pub fn a_pair(slices: Slices, kind: Kind, first: u64, second: u64) -> Result<(Scene, Pair), Refusal> {
     let scene = scene(slices)?;
     let pair = asked(&scene, kind, first, second)?;
     unshared(&scene, pair)?;
@@ -71,7 +71,7 @@ fn a_pair(slices: Slices, kind: Kind, first: u64, second: u64) -> Result<(Scene,
 }
 
 /// The scene, a pair of it and a piece of that, which may be asked for.
-fn a_piece(slices: Slices, kind: Kind, first: u64, second: u64, piece: u64) -> Result<(Scene, Pair, usize), Refusal> {
+pub fn a_piece(slices: Slices, kind: Kind, first: u64, second: u64, piece: u64) -> Result<(Scene, Pair, usize), Refusal> {
     let scene = scene(slices)?;
     let pair = asked(&scene, kind, first, second)?;
     let pieces = match kind {

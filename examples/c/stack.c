@@ -4,7 +4,6 @@
  * the header's table says. Ends with status 1 where a call took more than its row of the table or than MAKHNODRI_STACK.
  *
  *     examples/c/run stack
- *     examples/c/run stack 7      only each 7th place and text: an emulator takes its time
  */
 #define _GNU_SOURCE
 #include "makhnodri.h"
@@ -124,15 +123,19 @@ static const struct {
     {"write_report", write_report, 40},
 };
 
-/* the most that a call took; with a step, only each so many-th of its 40 or 400 runs */
-static size_t most_of(size_t i, int step) {
+enum { SCENES = 20 };
+
+/* the most that a call took; the runs take the scenes in turn */
+static size_t most_of(size_t i) {
     size_t most = 0;
-    for (int run = 0; run < calls[i].runs; run += calls[i].runs > 4 ? step : 1) {
-        fill((unsigned)run % 20);
-        write_text((unsigned)run);
-        place = (size_t)run;
-        size_t used = used_by(calls[i].call);
-        if (most < used) most = used;
+    for (int seed = 0; seed < SCENES && seed < calls[i].runs; seed++) {
+        fill((unsigned)seed);
+        for (int run = seed; run < calls[i].runs; run += SCENES) {
+            write_text((unsigned)run);
+            place = (size_t)run;
+            size_t used = used_by(calls[i].call);
+            if (most < used) most = used;
+        }
     }
     return most;
 }
@@ -151,15 +154,14 @@ static size_t row_of(const char *header, const char *name) {
     return number;
 }
 
-int main(int argc, char **argv) {
+int main(void) {
     static char header[1 << 20];
     FILE *file = fopen("include/makhnodri.h", "r"); /* examples/c/run runs this in the top folder */
     if (!file || !fread(header, 1, sizeof header - 1, file)) return 2;
-    int step = argc > 1 ? atoi(argv[1]) : 1;
     size_t any = 0;
     int over = 0;
     for (size_t i = 0; i < sizeof calls / sizeof calls[0]; i++) {
-        size_t most = most_of(i, step > 0 ? step : 1), row = row_of(header, calls[i].name);
+        size_t most = most_of(i), row = row_of(header, calls[i].name);
         if (any < most) any = most;
         over |= most > row;
         printf("%-16s %6zu, where the table says %6zu%s\n", calls[i].name, most, row, most > row ? ": TOO LITTLE" : "");

@@ -1,0 +1,118 @@
+//! usage: raw [--table] SEEDS DRIVER [WORDS...]
+//! Asks the driver (driver.c, and in front of it whatever starts it) questions from so many seeds, and holds every answer, and every byte
+//! of every buffer and of its margins, to what document 01 says. Ends with status 1 on a difference, on a driver that fails, and where
+//! some sort of question was never asked; `--table` shows how often each was.
+
+use compare::raw::asking;
+use compare::raw::expected::Expecting;
+use compare::raw::question::{calls, Answer, Question};
+use compare::raw::sorts::{self, Sorts};
+use std::collections::BTreeMap;
+use std::io::{BufReader, BufWriter, Write};
+use std::process::{exit, ChildStdin, Command, Stdio};
+use std::sync::mpsc::{channel, Sender};
+
+const MOST_SHOWN: usize = 5;
+
+type Asked = (u64, Question);
+
+fn main() {
+    let mut words: Vec<String> = std::env::args().skip(1).collect();
+    let table = words.first().is_some_and(|word| word == "--table");
+    words.drain(..table as usize);
+    let Some((seeds, command)) = words.split_first().and_then(|(seeds, rest)| Some((seeds.parse().ok()?, rest))) else { usage() };
+    let Some((program, rest)) = command.split_first() else { usage() };
+    let started = Command::new(program).args(rest).stdin(Stdio::piped()).stdout(Stdio::piped()).spawn();
+    let mut driver = started.unwrap_or_else(|error| {
+        eprintln!("{program}: {error}");
+        exit(2);
+    });
+    let (input, output) = (driver.stdin.take().unwrap(), driver.stdout.take().unwrap());
+    let (sender, asked) = channel();
+    let asking = std::thread::spawn(move || ask(seeds, input, sender));
+    let mut comparison = Comparison::default();
+    let mut output = BufReader::with_capacity(1 << 16, output);
+    for (seed, question) in asked {
+        match Answer::read(&question, &mut output) {
+            Ok(answer) => comparison.hold(seed, &question, &answer),
+            Err(error) => {
+                println!("raw: seed {seed}: {}: the driver gives no answer: {error}", question.in_words());
+                exit(1);
+            }
+        }
+    }
+    let sent = asking.join().is_ok_and(|sent| sent.is_ok());
+    if !sent || !driver.wait().is_ok_and(|status| status.success()) {
+        println!("raw: the driver failed");
+        exit(1);
+    }
+    comparison.close(seeds, table);
+}
+
+fn usage() -> ! {
+    eprintln!("usage: raw [--table] SEEDS DRIVER [WORDS...]");
+    exit(2);
+}
+
+/// Questions go ahead of their answers by as much as the pipes hold.
+fn ask(seeds: u64, input: ChildStdin, asked: Sender<Asked>) -> std::io::Result<()> {
+    let mut input = BufWriter::with_capacity(1 << 16, input);
+    for seed in 0..seeds {
+        for question in asking::seeded(seed) {
+            let written = question.written();
+            // whoever compares may have stopped at a difference
+            if asked.send((seed, question)).is_err() {
+                return Ok(());
+            }
+            input.write_all(&written)?;
+        }
+    }
+    input.flush()
+}
+
+struct Comparison {
+    expecting: Expecting,
+    calls: BTreeMap<String, usize>,
+    sorts: Sorts,
+    differences: usize,
+}
+
+impl Default for Comparison {
+    fn default() -> Comparison {
+        let calls = calls().into_iter().map(|call| (call.name(), 0)).collect();
+        Comparison { expecting: Expecting::default(), calls, sorts: sorts::none_yet(), differences: 0 }
+    }
+}
+
+impl Comparison {
+    fn hold(&mut self, seed: u64, question: &Question, answer: &Answer) {
+        let wanted = self.expecting.answer(question);
+        *self.calls.get_mut(&question.call.name()).unwrap() += 1;
+        for sort in sorts::of(question, &wanted) {
+            *self.sorts.entry(sort).or_default() += 1;
+        }
+        let Some(difference) = answer.difference(&wanted) else { return };
+        self.differences += 1;
+        println!("raw: seed {seed}: {}: it {difference}", question.in_words());
+        if self.differences == MOST_SHOWN {
+            println!("raw: {MOST_SHOWN} differences, and nothing further is asked");
+            exit(1);
+        }
+    }
+
+    fn close(&self, seeds: u64, table: bool) {
+        if table {
+            self.sorts.iter().for_each(|(sort, count)| println!("{count:>8} {sort}"));
+        }
+        self.calls.iter().for_each(|(call, count)| println!("{count:>8} questions to {call}"));
+        let never: Vec<&String> = self.sorts.iter().filter(|(_, count)| **count == 0).map(|(sort, _)| sort).collect();
+        never.iter().for_each(|sort| println!("raw: never asked: {sort}"));
+        let questions: usize = self.calls.values().sum();
+        let (differences, sorts) = (self.differences, self.sorts.len());
+        println!(
+            "raw: {questions} questions of {seeds} seeds, {sorts} sorts of them ({} never asked), every answer and every lent byte: {differences} differences",
+            never.len()
+        );
+        exit((differences > 0 || !never.is_empty()) as i32);
+    }
+}

@@ -1,0 +1,8 @@
+//! The functions for C, number for number: every answer, and every byte of every buffer that a call was lent and of its margins.
+
+pub mod asking;
+pub mod damaged;
+pub mod expected;
+pub mod harm;
+pub mod question;
+pub mod sorts;

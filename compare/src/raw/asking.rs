@@ -1,0 +1,227 @@
+//! Questions from seeds.
+
+use super::harm::{harm, SCENE_CHECKS};
+use super::question::*;
+use crate::cases::PRINTED_SCENE;
+use crate::damage::damaged;
+use crate::faults::cells;
+use crate::random::Random;
+use crate::scene::*;
+use crate::text::{self, write};
+use crate::{crossed, generate, listing};
+
+/// Pairs that are asked about in one scene, and cells of the table of faults in texts that a seed takes.
+const MOST_PAIRS: usize = 24;
+const CELLS: usize = 4;
+/// Longer lists are made, and their pairs not judged in one call.
+const LONGEST_JUDGED: usize = 2_500;
+/// A scene of full size comes with one seed in so many.
+const SELDOM: u64 = 40;
+
+pub fn seeded(seed: u64) -> Vec<Question> {
+    let mut random = Random::new(seed ^ 0x5eed);
+    let scene = generate::scene(seed);
+    let mut out = whole(&mut random, &scene);
+    out.extend(pairs(&mut random, &scene));
+    let small = if fit_to_harm(&scene) { scene.clone() } else { text::read(PRINTED_SCENE.as_bytes()).unwrap() };
+    out.extend(asked_for_wrongly(&mut random, &small));
+    out.extend(harmed(&mut random, &small));
+    out.extend(texts(&mut random, &scene, seed));
+    if seed % SELDOM == 1 {
+        let full = generate::sizes(&mut random);
+        out.extend(whole(&mut random, &full));
+        out.extend(pairs(&mut random, &full));
+    }
+    out
+}
+
+fn fit_to_harm(scene: &Scene) -> bool {
+    (4..=40).contains(&scene.vertices.len()) && scene.edges.len() > 1 && !scene.triangles.is_empty()
+}
+
+fn scene_calls() -> Vec<Call> {
+    calls().into_iter().filter(|call| call.takes_a_scene()).collect()
+}
+
+/// A call on a scene with room for so many numbers and so many words.
+fn with_room(call: Call, scene: &Scene, list: usize, words: usize) -> Question {
+    let mut lent = Lent::of_scene(scene);
+    if call.lists() {
+        lent.list = marks_of_16(list);
+    }
+    if call == Call::JudgeScene {
+        lent.words = marks(words);
+    }
+    Question::new(call, lent)
+}
+
+/// Questions about the scene as a whole: room that is just enough, one too little, none, more than enough.
+fn whole(random: &mut Random, scene: &Scene) -> Vec<Question> {
+    let count = listing::listed(scene).len();
+    let mut out = vec![with_room(Call::CheckScene, scene, 0, 0), with_room(Call::CountPairs, scene, 0, 0)];
+    let more = 1 + random.below(40);
+    let mut lists = vec![3 * count, 3 * count + 1, 3 * count + 2, 3 * count + more, 0];
+    lists.extend([1, 2, 3].map(|less| (3 * count).saturating_sub(less)));
+    out.extend(lists.iter().map(|&list| with_room(Call::ListPairs, scene, list, 0)));
+    let fewer = count.saturating_sub(1);
+    let mut rooms = vec![(0, 0), (3 * count, 0), (0, count), (3 * count, fewer), (3 * fewer + 2, count), (3 * fewer, fewer)];
+    if count <= LONGEST_JUDGED {
+        rooms.extend([
+            (3 * count, count),
+            (3 * count + more, count),
+            (3 * count + 2, count + more),
+            (3 * count + more, count + more),
+        ]);
+    }
+    out.extend(rooms.into_iter().map(|(list, words)| with_room(Call::JudgeScene, scene, list, words)));
+    out
+}
+
+/// Everything that can be asked about a pair: in three and in four words, the pair and each piece; two edges in either order.
+fn about(scene: &Scene, pair: Pair) -> Vec<Question> {
+    let lent = Lent::of_scene(scene);
+    let pieces = if pair.kind == Kind::EdgeEdge { 4 } else { 3 };
+    let mut orders = vec![[pair.first as u64, pair.second as u64]];
+    if pair.kind == Kind::EdgeEdge {
+        orders.push([pair.second as u64, pair.first as u64]);
+    }
+    let mut out = Vec::new();
+    for [first, second] in orders {
+        let (whole, piece) = (Asked::of(pair.kind, false), Asked::of(pair.kind, true));
+        let mut ask = |call: Call, piece: u64| out.push(Question { call, asked: [first, second, piece], lent: lent.clone() });
+        [Call::Judge(whole), Call::Settle(whole)].iter().for_each(|&call| ask(call, 0));
+        (0..pieces).for_each(|place| [Call::Judge(piece), Call::Settle(piece)].iter().for_each(|&call| ask(call, place)));
+    }
+    out
+}
+
+/// Some pairs, listed or not; those that share a vertex too.
+fn pairs(random: &mut Random, scene: &Scene) -> Vec<Question> {
+    let mut all = listing::listed(scene);
+    let listed = all.len().min(MOST_PAIRS / 2);
+    for place in 0..listed {
+        let other = random.between(place as i64, all.len() as i64 - 1) as usize;
+        all.swap(place, other);
+    }
+    all.truncate(listed);
+    let rest = crate::scene::all_pairs(scene);
+    if !rest.is_empty() {
+        all.extend((listed..MOST_PAIRS).map(|_| random.pick(&rest)));
+    }
+    all.into_iter().flat_map(|pair| about(scene, pair)).collect()
+}
+
+/// A number that is not below the count, also where a program would look at some of its bits only.
+fn beyond(random: &mut Random, count: usize) -> u64 {
+    let count = count as u64;
+    random.pick(&[count, count, count + 1, 1 << 16, 1 << 32, 1 << 63, u64::MAX, (1 << 32) + count.saturating_sub(1)]).max(count)
+}
+
+/// Places and pieces beyond each bound, and pairs that share each vertex.
+fn asked_for_wrongly(random: &mut Random, scene: &Scene) -> Vec<Question> {
+    let mut out = Vec::new();
+    for call in scene_calls() {
+        let Some(asked) = call.asked() else { continue };
+        let (firsts, seconds, pieces) = match asked.kind() {
+            Kind::PointTriangle => (scene.vertices.len(), scene.triangles.len(), 3),
+            Kind::EdgeEdge => (scene.edges.len(), scene.edges.len(), 4),
+        };
+        let mut ask = |first: u64, second: u64, piece: u64| {
+            out.push(Question { call, asked: [first, second, piece], lent: Lent::of_scene(scene) });
+        };
+        let inside = [firsts, seconds, pieces].map(|count| random.below(count) as u64);
+        ask(beyond(random, firsts), inside[1], inside[2]);
+        ask(inside[0], beyond(random, seconds), inside[2]);
+        ask(inside[0], inside[1], beyond(random, pieces));
+        for (first, second) in sharing(random, scene, asked.kind()) {
+            ask(first, second, random.below(pieces) as u64);
+            ask(first, second, beyond(random, pieces));
+        }
+    }
+    out
+}
+
+/// Pairs that share a vertex: a triangle with each of its corners, an edge with itself and with those that meet it.
+fn sharing(random: &mut Random, scene: &Scene, kind: Kind) -> Vec<(u64, u64)> {
+    match kind {
+        Kind::PointTriangle => {
+            let triangle = random.below(scene.triangles.len());
+            scene.triangles[triangle].map(|corner| (corner as u64, triangle as u64)).to_vec()
+        }
+        Kind::EdgeEdge => {
+            let edge = random.below(scene.edges.len());
+            let meets = |&other: &usize| scene.edges[other].iter().any(|end| scene.edges[edge].contains(end));
+            let met = (0..scene.edges.len()).filter(meets).take(6);
+            met.flat_map(|other| [(edge as u64, other as u64), (other as u64, edge as u64)]).collect()
+        }
+    }
+}
+
+/// Scenes that are refused: each fault alone, and each two at once; every call, with places that are there, with places that are
+/// not, with a shared vertex; with room and without.
+fn harmed(random: &mut Random, scene: &Scene) -> Vec<Question> {
+    let mut out = Vec::new();
+    for (i, &number) in SCENE_CHECKS.iter().enumerate() {
+        for &other in &SCENE_CHECKS[i..] {
+            let mut lent = Lent::of_scene(scene);
+            harm(random, &mut lent, number);
+            if other != number {
+                harm(random, &mut lent, other);
+            }
+            for call in scene_calls() {
+                out.extend(on_harmed(random, call, &lent));
+            }
+        }
+    }
+    out
+}
+
+fn on_harmed(random: &mut Random, call: Call, harmed: &Lent) -> Vec<Question> {
+    let mut lent = harmed.clone();
+    if call.lists() {
+        lent.list = marks_of_16(random.pick(&[0, 3_000]));
+    }
+    if call == Call::JudgeScene {
+        lent.words = marks(random.pick(&[0, 1_000]));
+    }
+    let Some(asked) = call.asked() else { return vec![Question::new(call, lent)] };
+    let shared = match asked.kind() {
+        Kind::PointTriangle => [lent.triangles.first().copied().unwrap_or(0) as u64, 0],
+        Kind::EdgeEdge => [0, 0],
+    };
+    let places = [[0, 1, 0], [shared[0], shared[1], 0], [beyond(random, 2_000), 0, 0], [0, 0, 4]];
+    places.map(|asked| Question { call, asked, lent: lent.clone() }).to_vec()
+}
+
+/// Texts as they are, damaged, and of some cells of the table of faults: read and reported.
+fn texts(random: &mut Random, scene: &Scene, seed: u64) -> Vec<Question> {
+    let made = write(scene);
+    let mut texts = vec![damaged(random, &made), made.into_bytes()];
+    let cells = cells();
+    for step in 0..CELLS {
+        texts.push(crossed::text(random, cells[(seed as usize * CELLS + step) % cells.len()]));
+    }
+    texts.into_iter().flat_map(|text| about_text(random, text)).collect()
+}
+
+/// Read into buffers of just the length, longer ones, and each too short by one, or empty; and reported.
+fn about_text(random: &mut Random, text: Vec<u8>) -> Vec<Question> {
+    let lengths = [6 * VERTEX_LIMIT, 2 * EDGE_LIMIT, 3 * TRIANGLE_LIMIT];
+    let short = random.below(3);
+    let mut short_of = lengths.map(|length| length + random.below(9));
+    short_of[short] = random.pick(&[lengths[short] - 1, lengths[short] - 1, 0]);
+    let longer = lengths.map(|length| length + random.below(100));
+    let read = |[positions, edges, triangles]: [usize; 3]| {
+        let lent = Lent {
+            positions: marks_of_16(positions).into_iter().map(|n| n as i32 * 30_011).collect(),
+            edges: marks_of_16(edges),
+            triangles: marks_of_16(triangles),
+            text: text.clone(),
+            counts: vec![u64::MAX - 1, 77, 1 << 40],
+            ..Lent::default()
+        };
+        Question::new(Call::ReadScene, lent)
+    };
+    let reported = Lent { text: text.clone(), report: marks(65_536), ..Lent::default() };
+    vec![read(lengths), read(longer), read(short_of), Question::new(Call::WriteReport, reported)]
+}

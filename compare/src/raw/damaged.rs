@@ -1,0 +1,284 @@
+//! Answers that are wrong in one respect each, so that the comparison can be seen to fail.
+
+use super::expected::{self, Expecting};
+use super::harm::{of_asked, of_scene, SCENE_CHECKS};
+use super::question::*;
+use crate::listing;
+use crate::refusal::*;
+use crate::scene::{Kind, Pair};
+
+/// Changes a right answer, or leaves it.
+type Change = Box<dyn Fn(&Question, &mut Answer)>;
+
+pub struct Damage {
+    pub name: String,
+    pub change: Change,
+}
+
+fn damage(name: impl Into<String>, change: impl Fn(&Question, &mut Answer) + 'static) -> Damage {
+    Damage { name: name.into(), change: Box::new(change) }
+}
+
+pub fn all() -> Vec<Damage> {
+    let mut out = numbers();
+    out.extend(words());
+    out.extend(orders());
+    out.extend(rooms());
+    out.extend(texts());
+    out.extend(bytes());
+    out
+}
+
+/// What an answer is as one number.
+fn numbers() -> Vec<Damage> {
+    vec![
+        damage("a refusal without line or count carries 1", |_, answer| {
+            answer.number |= (answer.refusal() > 0 && answer.number as u32 == 0) as u64;
+        }),
+        damage("a refusal is its number alone", |_, answer| {
+            if answer.refusal() > 0 {
+                answer.number >>= 32;
+            }
+        }),
+        damage("an accepted scene is 1", |question, answer| answer.number |= (question.call == Call::CheckScene) as u64),
+        damage("a text that was read is the count of its vertices", |question, answer| {
+            if question.call == Call::ReadScene && answer.number == 0 {
+                answer.number = answer.buffers[COUNTS][MARGIN] as u64;
+            }
+        }),
+        damage("the count with the room in it", |question, answer| {
+            if question.call == Call::CountPairs && answer.refusal() == 0 {
+                answer.number *= 3;
+            }
+        }),
+    ]
+}
+
+fn renamed(name: &str, from: u64, to: u64, which: fn(Call) -> bool) -> Damage {
+    damage(name, move |question: &Question, answer: &mut Answer| {
+        if which(question.call) && answer.number == from {
+            answer.number = to;
+        }
+    })
+}
+
+/// What is said of a pair or a piece.
+fn words() -> Vec<Damage> {
+    let mut out = Vec::new();
+    for asked in ASKED {
+        let (three, four) = (Call::Judge(asked), Call::Settle(asked));
+        for (call, from, to) in [(three, 0, 1), (three, 1, 2), (three, 2, 3), (four, 3, 2), (four, 4, 3), (four, 1, 0)] {
+            out.push(damage(format!("{} says {to} for {from}", call.name()), move |question: &Question, answer: &mut Answer| {
+                if question.call == call && answer.number == from {
+                    answer.number = to;
+                }
+            }));
+        }
+    }
+    out.push(renamed("touch is 2", 3, 2, |call| matches!(call, Call::Settle(_))));
+    out.push(damage("a pair that is not listed is a miss", |question, answer| {
+        let Some(asked) = question.call.asked().filter(|_| answer.refusal() == 0) else { return };
+        let scene = expected::scene(&question.lent).unwrap();
+        let pair = Pair { kind: asked.kind(), first: question.asked[0] as usize, second: question.asked[1] as usize };
+        if !listing::is_listed(&scene, pair) {
+            answer.number = 1;
+        }
+    }));
+    out.push(another("pieces go by the order in which two edges are asked for", |question| {
+        let turned = question.call.asked() == Some(Asked::EePiece) && question.asked[0] > question.asked[1];
+        turned.then(|| [question.asked[0], question.asked[1], [0, 2, 1, 3].get(question.asked[2] as usize).map_or(9, |&p| p)])
+    }));
+    out.push(another("piece 0 for every piece", |question| {
+        let there = question.call.asked().is_some_and(Asked::piece) && question.asked[2] < 3;
+        there.then(|| [question.asked[0], question.asked[1], 0])
+    }));
+    for (name, bits) in [("16", 16), ("32", 32)] {
+        let cut = move |question: &Question| question.call.asked().map(|_| question.asked.map(|n| n & ((1 << bits) - 1)));
+        out.push(another(&format!("only {name} bits of a place are looked at"), cut));
+    }
+    out
+}
+
+/// The right answer to another question.
+fn another(name: &str, asked: impl Fn(&Question) -> Option<[u64; 3]> + 'static) -> Damage {
+    damage(name, move |question, answer| {
+        if let Some(asked) = asked(question) {
+            *answer = Expecting::default().answer(&Question { asked, ..question.clone() });
+        }
+    })
+}
+
+fn faults(question: &Question) -> Vec<(u64, &'static str)> {
+    let mut faults = of_scene(&question.lent);
+    faults.extend(question.call.asked().map(|asked| of_asked(question, asked)).unwrap_or_default());
+    faults
+}
+
+/// Which refusal is given where there are two; and one that is never given.
+fn orders() -> Vec<Damage> {
+    let mut out = Vec::new();
+    let numbers = [&SCENE_CHECKS[..], &[NOT_THERE, SHARES_A_VERTEX]].concat();
+    for (i, &lower) in numbers.iter().enumerate() {
+        for &higher in &numbers[i + 1..] {
+            out.push(damage(format!("{higher} before {lower}"), move |question: &Question, answer: &mut Answer| {
+                let scene_call = question.call.takes_a_scene();
+                if scene_call && answer.refusal() == lower && faults(question).iter().any(|fault| fault.0 == higher) {
+                    answer.number = higher << 32;
+                }
+            }));
+        }
+    }
+    for fault in ["vertex", "triangle", "first edge", "second edge", "piece", "with itself", "the same edge again"] {
+        out.push(damage(format!("answers where refused for: {fault}"), move |question: &Question, answer: &mut Answer| {
+            let first = faults(question).first().filter(|_| question.call.takes_a_scene()).map(|first| first.1);
+            if first == Some(fault) {
+                answer.number = 1;
+            }
+        }));
+    }
+    out.push(damage("7 before the scene is looked at", |question, answer| {
+        if question.call.lists() && question.lent.list.is_empty() && answer.refusal() > 0 {
+            answer.number = NO_ROOM << 32;
+        }
+    }));
+    out
+}
+
+fn lists(question: &Question, answer: &Answer) -> bool {
+    question.call.lists() && answer.refusal() == 0
+}
+
+/// Room, and what is written where there is none, or behind the end.
+fn rooms() -> Vec<Damage> {
+    vec![
+        damage("7 with the room and not the count", |question, answer| {
+            if question.call.lists() && answer.refusal() == NO_ROOM {
+                answer.number = (NO_ROOM << 32) + question.lent.list.len() as u64 / 3;
+            }
+        }),
+        damage("a list filled up to its room, and refused after", |question, answer| {
+            if question.call.lists() && answer.refusal() == NO_ROOM && question.lent.list.len() >= 3 {
+                answer.buffers[LIST][MARGIN..MARGIN + 2].copy_from_slice(&[0, 0]);
+            }
+        }),
+        damage("words filled up to their room, and refused after", |question, answer| {
+            if question.call.lists() && answer.refusal() == NO_ROOM && !question.lent.words.is_empty() {
+                answer.buffers[WORDS][MARGIN] = 0;
+            }
+        }),
+        damage("a number behind the list is 0", |question, answer| {
+            let end = MARGIN + 6 * answer.number as usize;
+            if lists(question, answer) && question.lent.list.len() > 3 * answer.number as usize {
+                answer.buffers[LIST][end..end + 2].copy_from_slice(&[0, 0]);
+            }
+        }),
+        damage("a byte behind the words is 0", |question, answer| {
+            if lists(question, answer) && question.lent.words.len() > answer.number as usize {
+                answer.buffers[WORDS][MARGIN + answer.number as usize] = 0;
+            }
+        }),
+        damage("just the room is refused", |question, answer| {
+            if lists(question, answer) && question.lent.list.len() / 3 == answer.number as usize && answer.number > 0 {
+                answer.number += NO_ROOM << 32;
+            }
+        }),
+        damage("only the list's room counts", |question, answer| {
+            let count = answer.number as u32 as usize;
+            if question.call == Call::JudgeScene && answer.refusal() == NO_ROOM && question.lent.list.len() / 3 >= count {
+                answer.number = count as u64;
+            }
+        }),
+        damage("only the words' room counts", |question, answer| {
+            let count = answer.number as u32 as usize;
+            if question.call == Call::JudgeScene && answer.refusal() == NO_ROOM && question.lent.words.len() >= count {
+                answer.number = count as u64;
+            }
+        }),
+        damage("room is rounded up", |question, answer| {
+            let count = answer.number as u32 as usize;
+            if question.call == Call::ListPairs && answer.refusal() == NO_ROOM && question.lent.list.len().div_ceil(3) >= count {
+                answer.number = count as u64;
+            }
+        }),
+        damage("the last entry's edges change places", |question, answer| {
+            let last = MARGIN + 6 * (answer.number as usize).saturating_sub(1);
+            if lists(question, answer) && answer.number > 0 && answer.buffers[LIST][last] == Kind::EdgeEdge as u8 {
+                answer.buffers[LIST][last + 2..last + 6].rotate_left(2);
+            }
+        }),
+        damage("the words of a list in three", |question, answer| {
+            if question.call == Call::JudgeScene && answer.refusal() == 0 {
+                let words = &mut answer.buffers[WORDS][MARGIN..MARGIN + answer.number as usize];
+                words.iter_mut().for_each(|word| *word = (*word).min(2));
+            }
+        }),
+    ]
+}
+
+fn texts() -> Vec<Damage> {
+    let read = |question: &Question, answer: &Answer| question.call == Call::ReadScene && answer.refusal() == 0;
+    vec![
+        damage("lines from 0", |question, answer| {
+            if question.call == Call::ReadScene && answer.number as u32 > 0 {
+                answer.number -= 1;
+            }
+        }),
+        damage("counts are 0 after a refusal", |question, answer| {
+            if question.call == Call::ReadScene && answer.refusal() > 0 {
+                answer.buffers[COUNTS][MARGIN..MARGIN + 24].fill(0);
+            }
+        }),
+        damage("the third count stays", move |question, answer| {
+            if read(question, answer) {
+                answer.buffers[COUNTS][MARGIN + 16..MARGIN + 24].copy_from_slice(&question.lent.counts[2].to_le_bytes());
+            }
+        }),
+        damage("what lies behind the positions is 0", move |question, answer| {
+            if read(question, answer) {
+                let last = answer.buffers[POSITIONS].len() - MARGIN;
+                answer.buffers[POSITIONS][last - 4..last].fill(0);
+            }
+        }),
+        damage("the first line's numbers stay after a refusal", |question, answer| {
+            if question.call == Call::ReadScene && answer.refusal() > 0 && question.lent.positions.len() > 6 {
+                answer.buffers[POSITIONS][MARGIN..MARGIN + 24].fill(0);
+            }
+        }),
+        damage("8 before 12", |question, answer| {
+            if question.call == Call::ReadScene && question.lent.text.len() > 32_768 {
+                answer.number = TEXT_TOO_LONG << 32;
+            }
+        }),
+        damage("triangle buffers may be short", |question, answer| {
+            if answer.refusal() == LENT_TOO_SHORT && question.lent.triangles.len() < 1_536 {
+                answer.number = 0;
+            }
+        }),
+        damage("12 with a line", |_, answer| answer.number |= (answer.refusal() == LENT_TOO_SHORT) as u64),
+        damage("the report is one byte longer", |question, answer| answer.number += (question.call == Call::WriteReport) as u64),
+        damage("the report ends with a 0", |question, answer| {
+            if question.call == Call::WriteReport {
+                answer.buffers[REPORT][MARGIN + answer.number as usize] = 0;
+            }
+        }),
+    ]
+}
+
+/// A byte of what is only read, and the bytes beside each buffer.
+fn bytes() -> Vec<Damage> {
+    let mut out = vec![damage("the ends of an edge are put in order", |question, answer| {
+        if question.call.takes_a_scene() && question.lent.edges.len() > 1 && question.lent.edges[0] > question.lent.edges[1] {
+            answer.buffers[EDGES][MARGIN..MARGIN + 4].rotate_left(2);
+        }
+    })];
+    for (place, buffer) in BUFFERS.iter().enumerate() {
+        out.push(damage(format!("the byte in front of {buffer} changes"), move |_: &Question, answer: &mut Answer| {
+            answer.buffers[place][MARGIN - 1] ^= 1;
+        }));
+        out.push(damage(format!("the byte behind {buffer} changes"), move |_: &Question, answer: &mut Answer| {
+            let behind = answer.buffers[place].len() - MARGIN;
+            answer.buffers[place][behind] ^= 1;
+        }));
+    }
+    out
+}

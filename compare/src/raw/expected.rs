@@ -1,0 +1,124 @@
+//! What each call must answer, and what it must leave in every buffer, by document 01 and docs/DECISIONS.md, D13, D15 and D25.
+
+use super::question::*;
+use crate::refusal::{Refusal, NO_ROOM};
+use crate::scene::*;
+use crate::settled::{self, Settled};
+use crate::slices::{self, Slices};
+use crate::verdict::{self, Verdict};
+use crate::{listing, report, text};
+use std::collections::HashMap;
+
+/// Remembers the words of the last scene's pieces, which take their time.
+#[derive(Default)]
+pub struct Expecting {
+    scene: Scene,
+    words: HashMap<Pair, Vec<Settled>>,
+}
+
+fn number_of(verdict: Verdict) -> u64 {
+    match verdict {
+        Verdict::Hit => 0,
+        Verdict::Miss => 1,
+        Verdict::Degenerate => 2,
+    }
+}
+
+impl Expecting {
+    pub fn answer(&mut self, question: &Question) -> Answer {
+        let mut lent = question.lent.clone();
+        let number = match self.called(question, &mut lent) {
+            Ok(value) => value,
+            Err(Refusal { number, third }) => (number << 32) + third,
+        };
+        Answer { number, buffers: lent.bytes() }
+    }
+
+    fn called(&mut self, question: &Question, lent: &mut Lent) -> Result<u64, Refusal> {
+        match question.call {
+            Call::CheckScene => scene(lent).map(|_| 0),
+            Call::CountPairs => scene(lent).map(|scene| listing::listed(&scene).len() as u64),
+            Call::ListPairs => {
+                let room = lent.list.len() / 3;
+                listed(lent, room).map(|(_, pairs)| pairs.len() as u64)
+            }
+            Call::JudgeScene => {
+                let room = (lent.list.len() / 3).min(lent.words.len());
+                let (scene, pairs) = listed(lent, room)?;
+                for (word, &pair) in lent.words.iter_mut().zip(&pairs) {
+                    *word = settled::joined(self.words(&scene, pair)).byte();
+                }
+                Ok(pairs.len() as u64)
+            }
+            Call::Judge(asked) => {
+                let words = self.words_asked(question, asked)?;
+                let verdicts: Vec<Verdict> = words.iter().map(|word| word.verdict()).collect();
+                Ok(number_of(verdict::joined(&verdicts)))
+            }
+            Call::Settle(asked) => Ok(settled::joined(&self.words_asked(question, asked)?).byte() as u64),
+            Call::ReadScene => read(lent),
+            Call::WriteReport => Ok(write(lent)),
+        }
+    }
+
+    /// The words of the pieces that are asked about: all of a pair, or one.
+    fn words_asked(&mut self, question: &Question, asked: Asked) -> Result<Vec<Settled>, Refusal> {
+        let [first, second, piece] = question.asked;
+        if asked.piece() {
+            let (scene, pair, piece) =
+                with_slices(&question.lent, |slices| slices::a_piece(slices, asked.kind(), first, second, piece))?;
+            Ok(vec![self.words(&scene, pair)[piece]])
+        } else {
+            let (scene, pair) = with_slices(&question.lent, |slices| slices::a_pair(slices, asked.kind(), first, second))?;
+            Ok(self.words(&scene, pair).to_vec())
+        }
+    }
+
+    fn words(&mut self, scene: &Scene, pair: Pair) -> &[Settled] {
+        if self.scene != *scene {
+            *self = Expecting { scene: scene.clone(), words: HashMap::new() };
+        }
+        self.words.entry(pair).or_insert_with(|| settled::of_pieces(scene, pair))
+    }
+}
+
+fn with_slices<T>(lent: &Lent, then: impl FnOnce(Slices) -> T) -> T {
+    let wide = |numbers: &[u16]| numbers.iter().map(|&n| n as u64).collect::<Vec<u64>>();
+    let positions: Vec<i64> = lent.positions.iter().map(|&n| n as i64).collect();
+    let (edges, triangles) = (wide(&lent.edges), wide(&lent.triangles));
+    then(Slices { positions: &positions, edges: &edges, triangles: &triangles })
+}
+
+pub fn scene(lent: &Lent) -> Result<Scene, Refusal> {
+    with_slices(lent, slices::scene)
+}
+
+/// The list in front of its buffer, where there is room.
+fn listed(lent: &mut Lent, room: usize) -> Result<(Scene, Vec<Pair>), Refusal> {
+    let scene = scene(lent)?;
+    let pairs = listing::listed(&scene);
+    if pairs.len() > room {
+        return Err(Refusal::new(NO_ROOM, pairs.len() as u64));
+    }
+    for (entry, pair) in lent.list.chunks_exact_mut(3).zip(&pairs) {
+        let kind = (pair.kind == Kind::EdgeEdge) as u16;
+        entry.copy_from_slice(&[kind, pair.first as u16, pair.second as u16]);
+    }
+    Ok((scene, pairs))
+}
+
+fn read(lent: &mut Lent) -> Result<u64, Refusal> {
+    let scene = text::read_lent(&lent.text, lent.positions.len(), lent.edges.len(), lent.triangles.len())?;
+    let read = Lent::of_scene(&scene);
+    lent.positions[..read.positions.len()].copy_from_slice(&read.positions);
+    lent.edges[..read.edges.len()].copy_from_slice(&read.edges);
+    lent.triangles[..read.triangles.len()].copy_from_slice(&read.triangles);
+    lent.counts = [scene.vertices.len(), scene.edges.len(), scene.triangles.len()].map(|count| count as u64).to_vec();
+    Ok(0)
+}
+
+fn write(lent: &mut Lent) -> u64 {
+    let report = report::report(&lent.text, REPORT_ROOM);
+    lent.report[..report.len()].copy_from_slice(report.as_bytes());
+    report.len() as u64
+}

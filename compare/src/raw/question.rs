@@ -1,0 +1,234 @@
+//! A call of the library with everything that it is lent, and its answer; in the form in which driver.c takes and gives them.
+
+use crate::scene::{Kind, Scene};
+use crate::slices;
+
+/// The calls in the order of driver.c.
+#[derive(Clone, Copy, Debug, PartialEq, Eq, PartialOrd, Ord)]
+pub enum Call {
+    CheckScene,
+    CountPairs,
+    ListPairs,
+    JudgeScene,
+    /// In three words, of a pair or of a piece.
+    Judge(Asked),
+    /// In four.
+    Settle(Asked),
+    ReadScene,
+    WriteReport,
+}
+
+/// Of a pair, or of a piece of one.
+#[derive(Clone, Copy, Debug, PartialEq, Eq, PartialOrd, Ord)]
+pub enum Asked {
+    Pt,
+    Ee,
+    PtPiece,
+    EePiece,
+}
+
+pub const ASKED: [Asked; 4] = [Asked::Pt, Asked::Ee, Asked::PtPiece, Asked::EePiece];
+
+impl Asked {
+    pub fn of(kind: Kind, piece: bool) -> Asked {
+        match (kind, piece) {
+            (Kind::PointTriangle, false) => Asked::Pt,
+            (Kind::EdgeEdge, false) => Asked::Ee,
+            (Kind::PointTriangle, true) => Asked::PtPiece,
+            (Kind::EdgeEdge, true) => Asked::EePiece,
+        }
+    }
+
+    pub fn kind(self) -> Kind {
+        match self {
+            Asked::Pt | Asked::PtPiece => Kind::PointTriangle,
+            Asked::Ee | Asked::EePiece => Kind::EdgeEdge,
+        }
+    }
+
+    pub fn piece(self) -> bool {
+        matches!(self, Asked::PtPiece | Asked::EePiece)
+    }
+}
+
+pub fn calls() -> Vec<Call> {
+    let mut out = vec![Call::CheckScene, Call::CountPairs, Call::ListPairs, Call::JudgeScene];
+    out.extend(ASKED.map(Call::Judge));
+    out.extend(ASKED.map(Call::Settle));
+    out.extend([Call::ReadScene, Call::WriteReport]);
+    out
+}
+
+impl Call {
+    pub fn asked(self) -> Option<Asked> {
+        match self {
+            Call::Judge(asked) | Call::Settle(asked) => Some(asked),
+            _ => None,
+        }
+    }
+
+    /// Whether it takes a scene as slices.
+    pub fn takes_a_scene(self) -> bool {
+        !matches!(self, Call::ReadScene | Call::WriteReport)
+    }
+
+    pub fn lists(self) -> bool {
+        matches!(self, Call::ListPairs | Call::JudgeScene)
+    }
+
+    pub fn name(self) -> String {
+        let of = |asked: Asked| ["pt", "ee", "pt_piece", "ee_piece"][ASKED.iter().position(|&a| a == asked).unwrap()];
+        match self {
+            Call::CheckScene => "check_scene".into(),
+            Call::CountPairs => "count_pairs".into(),
+            Call::ListPairs => "list_pairs".into(),
+            Call::JudgeScene => "judge_scene".into(),
+            Call::Judge(asked) => format!("judge_{}", of(asked)),
+            Call::Settle(asked) => format!("settle_{}", of(asked)),
+            Call::ReadScene => "read_scene".into(),
+            Call::WriteReport => "write_report".into(),
+        }
+    }
+}
+
+/// What is lent. A buffer that the call does not take is empty.
+#[derive(Clone, Debug, Default, PartialEq, Eq)]
+pub struct Lent {
+    pub positions: Vec<i32>,
+    pub edges: Vec<u16>,
+    pub triangles: Vec<u16>,
+    pub list: Vec<u16>,
+    pub words: Vec<u8>,
+    pub text: Vec<u8>,
+    pub counts: Vec<u64>,
+    pub report: Vec<u8>,
+}
+
+pub const BUFFERS: [&str; 8] = ["positions", "edges", "triangles", "list", "words", "text", "counts", "report"];
+
+/// The places of some buffers.
+pub const POSITIONS: usize = 0;
+pub const EDGES: usize = 1;
+pub const LIST: usize = 3;
+pub const WORDS: usize = 4;
+pub const COUNTS: usize = 6;
+pub const REPORT: usize = 7;
+
+/// Bytes in front of what is lent, and behind it.
+pub const MARGIN: usize = 24;
+
+impl Lent {
+    pub fn of_scene(scene: &Scene) -> Lent {
+        let (positions, edges, triangles) = slices::flat(scene);
+        Lent {
+            positions: positions.into_iter().map(|n| n as i32).collect(),
+            edges: edges.into_iter().map(|n| n as u16).collect(),
+            triangles: triangles.into_iter().map(|n| n as u16).collect(),
+            ..Lent::default()
+        }
+    }
+
+    fn lengths(&self) -> [usize; 8] {
+        [
+            self.positions.len(),
+            self.edges.len(),
+            self.triangles.len(),
+            self.list.len(),
+            self.words.len(),
+            self.text.len(),
+            self.counts.len(),
+            self.report.len(),
+        ]
+    }
+
+    /// Each buffer between its margins.
+    pub fn bytes(&self) -> [Vec<u8>; 8] {
+        let short = |numbers: &[u16]| numbers.iter().flat_map(|n| n.to_le_bytes()).collect::<Vec<u8>>();
+        let inside = [
+            self.positions.iter().flat_map(|n| n.to_le_bytes()).collect(),
+            short(&self.edges),
+            short(&self.triangles),
+            short(&self.list),
+            self.words.clone(),
+            self.text.clone(),
+            self.counts.iter().flat_map(|n| n.to_le_bytes()).collect(),
+            self.report.clone(),
+        ];
+        inside.map(|inside| [marks(MARGIN), inside, marks(MARGIN)].concat())
+    }
+}
+
+/// Bytes that no call is likely to write, no two alike that stand near each other.
+pub fn marks(length: usize) -> Vec<u8> {
+    (0..length).map(|i| (i * 37 + 165) as u8).collect()
+}
+
+pub fn marks_of_16(length: usize) -> Vec<u16> {
+    (0..length).map(|i| (i * 4_099 + 50_001) as u16).collect()
+}
+
+#[derive(Clone, Debug)]
+pub struct Question {
+    pub call: Call,
+    /// The two places, and the piece.
+    pub asked: [u64; 3],
+    pub lent: Lent,
+}
+
+impl Question {
+    pub fn new(call: Call, lent: Lent) -> Question {
+        Question { call, asked: [0; 3], lent }
+    }
+
+    /// As driver.c takes it.
+    pub fn written(&self) -> Vec<u8> {
+        let call = calls().iter().position(|&call| call == self.call).unwrap() as u64;
+        let lengths = self.lent.lengths().map(|length| length as u64);
+        let numbers = std::iter::once(call).chain(self.asked).chain(lengths);
+        let head: Vec<u8> = numbers.flat_map(u64::to_le_bytes).collect();
+        [head, self.lent.bytes().concat()].concat()
+    }
+
+    pub fn in_words(&self) -> String {
+        let lengths = BUFFERS.iter().zip(self.lent.lengths()).filter(|(_, length)| *length > 0);
+        let lengths: Vec<String> = lengths.map(|(buffer, length)| format!("{length} {buffer}")).collect();
+        format!("{} {:?} of {}", self.call.name(), self.asked, lengths.join(", "))
+    }
+}
+
+#[derive(Clone, Debug, PartialEq, Eq)]
+pub struct Answer {
+    pub number: u64,
+    /// Each buffer between its margins.
+    pub buffers: [Vec<u8>; 8],
+}
+
+impl Answer {
+    pub fn refusal(&self) -> u64 {
+        self.number >> 32
+    }
+
+    /// As driver.c gives it.
+    pub fn read(question: &Question, from: &mut impl std::io::Read) -> std::io::Result<Answer> {
+        let mut number = [0; 8];
+        from.read_exact(&mut number)?;
+        let mut buffers = question.lent.bytes();
+        for buffer in &mut buffers {
+            from.read_exact(buffer)?;
+        }
+        Ok(Answer { number: u64::from_le_bytes(number), buffers })
+    }
+
+    /// Where it is not what it should be.
+    pub fn difference(&self, wanted: &Answer) -> Option<String> {
+        if self.number != wanted.number {
+            let shown = |answer: &Answer| format!("{} (refusal {}, {})", answer.number, answer.refusal(), answer.number as u32);
+            return Some(format!("answers {}, and should answer {}", shown(self), shown(wanted)));
+        }
+        let place = (0..BUFFERS.len()).find(|&i| self.buffers[i] != wanted.buffers[i])?;
+        let (given, wanted) = (&self.buffers[place], &wanted.buffers[place]);
+        let byte = given.iter().zip(wanted).position(|(a, b)| a != b)?;
+        let at = byte as i64 - MARGIN as i64;
+        Some(format!("leaves {} at byte {at} of {}, which should be {}", given[byte], BUFFERS[place], wanted[byte]))
+    }
+}

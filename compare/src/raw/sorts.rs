@@ -1,0 +1,217 @@
+//! What was asked, counted by sort. A comparison that never asked some sort has not compared it.
+
+use super::expected;
+use super::harm::*;
+use super::question::*;
+use crate::faults::{self, Cell};
+use crate::listing;
+use crate::refusal::*;
+use crate::scene::*;
+use std::collections::BTreeMap;
+
+pub type Sorts = BTreeMap<String, usize>;
+
+/// Every sort, asked for no time.
+pub fn none_yet() -> Sorts {
+    let mut out = Vec::new();
+    for call in calls() {
+        let name = call.name();
+        if call.takes_a_scene() {
+            out.extend([format!("{name}: answered"), format!("{name}: a scene of full size")]);
+            out.extend(of_scenes(call));
+        }
+        if let Some(asked) = call.asked() {
+            out.extend(of_pairs(call, asked));
+        }
+        if call.lists() {
+            out.extend(
+                ["just the room", "room left over", "one too few", "no room at all"].map(|room| format!("{name}: {room}")),
+            );
+        }
+    }
+    out.extend(["the list too short", "the words too short", "both too short"].map(|which| format!("judge_scene: {which}")));
+    out.extend(SCENE_FAULTS.map(|(number, fault)| alone(number, fault)));
+    out.extend(of_texts());
+    out.into_iter().map(|sort| (sort, 0)).collect()
+}
+
+/// Each refusal of a scene, and each two at once.
+fn of_scenes(call: Call) -> Vec<String> {
+    let name = call.name();
+    let later: &[u64] = match call {
+        _ if call.lists() => &[NO_ROOM],
+        _ if call.asked().is_some() => &[NOT_THERE, SHARES_A_VERTEX],
+        _ => &[],
+    };
+    let mut out = Vec::new();
+    for (i, number) in SCENE_CHECKS.iter().enumerate() {
+        out.push(format!("{name}: refused {number}"));
+        let others = SCENE_CHECKS[i + 1..].iter().chain(later);
+        out.extend(others.map(|other| format!("{name}: {number} before {other}")));
+    }
+    out
+}
+
+/// Each word of each piece, listed or not, in either order; each bound; each shared vertex.
+fn of_pairs(call: Call, asked: Asked) -> Vec<String> {
+    let name = call.name();
+    let edges = asked.kind() == Kind::EdgeEdge;
+    let pieces = if edges { 4 } else { 3 };
+    let words: &[u64] = if matches!(call, Call::Judge(_)) { &[0, 1, 2] } else { &[0, 1, 3, 4] };
+    let mut out = vec![format!("{name}: listed"), format!("{name}: not listed")];
+    // without a piece, what is not there shares nothing
+    out.extend(asked.piece().then(|| format!("{name}: 5 before 6")));
+    for word in words {
+        let of_word = |piece: u64| told(call, piece, *word);
+        out.extend((0..if asked.piece() { pieces } else { 1 }).map(of_word));
+    }
+    if edges {
+        out.extend(["lower edge first", "higher edge first"].map(|order| format!("{name}: {order}")));
+    }
+    let faults: &[(u64, &str)] = if edges { &EE_FAULTS } else { &PT_FAULTS };
+    let faults = faults.iter().filter(|(_, fault)| *fault != "piece" || asked.piece());
+    out.extend(faults.map(|(number, fault)| asked_for(call, *number, fault)));
+    out
+}
+
+/// Each cell of the table of faults in texts, and short buffers.
+fn of_texts() -> Vec<String> {
+    let mut out = vec!["read_scene: answered".into(), "write_report: pairs listed".into(), "read_scene: 12 before 8".into()];
+    out.extend(["positions", "edges", "triangles"].map(|buffer| format!("read_scene: 12, {buffer}")));
+    out.push("read_scene: 12 before a line".into());
+    for call in [Call::ReadScene, Call::WriteReport] {
+        out.extend(faults::cells().into_iter().filter(|&cell| can_be_given(call, cell)).map(|cell| in_cell(call, cell)));
+    }
+    out
+}
+
+fn alone(number: u64, fault: &str) -> String {
+    format!("{number} alone: {fault}")
+}
+
+fn asked_for(call: Call, number: u64, fault: &str) -> String {
+    format!("{}: {number}, {fault}", call.name())
+}
+
+fn told(call: Call, piece: u64, word: u64) -> String {
+    let word = ["hit", "miss", "degenerate", "touch", "apart"][word as usize];
+    match call.asked().is_some_and(Asked::piece) {
+        true => format!("{}: piece {piece} {word}", call.name()),
+        false => format!("{}: {word}", call.name()),
+    }
+}
+
+fn in_cell(call: Call, cell: Cell) -> String {
+    format!("{}: {cell:?}", call.name())
+}
+
+/// Whoever reads a text only does not list pairs.
+fn can_be_given(call: Call, cell: Cell) -> bool {
+    let lists = matches!(cell, Cell::Given(NO_ROOM) | Cell::InTheWhole(_, NO_ROOM));
+    call == Call::WriteReport || !lists
+}
+
+/// The sorts of a question whose right answer this is.
+pub fn of(question: &Question, answer: &Answer) -> Vec<String> {
+    match question.call {
+        Call::ReadScene => of_reading(question, answer),
+        Call::WriteReport => {
+            let mut out = texts_cells(question);
+            let report = &answer.buffers[REPORT][MARGIN..];
+            out.extend((report.starts_with(b"pt") || report.starts_with(b"ee")).then(|| "write_report: pairs listed".into()));
+            out
+        }
+        _ => of_slices(question, answer),
+    }
+}
+
+fn texts_cells(question: &Question) -> Vec<String> {
+    let cells = faults::reached(&question.lent.text).into_iter();
+    cells.filter(|&cell| can_be_given(question.call, cell)).map(|cell| in_cell(question.call, cell)).collect()
+}
+
+fn of_reading(question: &Question, answer: &Answer) -> Vec<String> {
+    let lent = &question.lent;
+    if answer.number == 0 {
+        return vec!["read_scene: answered".into()];
+    }
+    if answer.refusal() != LENT_TOO_SHORT {
+        return texts_cells(question);
+    }
+    let short = [lent.positions.len() < 3_072, lent.edges.len() < 2_048, lent.triangles.len() < 1_536];
+    let short = ["positions", "edges", "triangles"].into_iter().zip(short).filter(|(_, short)| *short);
+    let mut out: Vec<String> = short.map(|(buffer, _)| format!("read_scene: 12, {buffer}")).collect();
+    match crate::text::read(&lent.text).map_err(|refusal| refusal.number) {
+        Err(TEXT_TOO_LONG) => out.push("read_scene: 12 before 8".into()),
+        Err(_) => out.push("read_scene: 12 before a line".into()),
+        Ok(_) => {}
+    }
+    out
+}
+
+fn of_slices(question: &Question, answer: &Answer) -> Vec<String> {
+    let call = question.call;
+    let mut faults = of_scene(&question.lent);
+    faults.extend(call.asked().map(|asked| of_asked(question, asked)).unwrap_or_default());
+    let no_room = call.lists() && (question.lent.list.len() < 3 || (call == Call::JudgeScene && question.lent.words.is_empty()));
+    let mut out = Vec::new();
+    let given = answer.refusal();
+    if SCENE_CHECKS.contains(&given) {
+        out.push(format!("{}: refused {given}", call.name()));
+        faults.extend(no_room.then_some((NO_ROOM, "no room")));
+    }
+    let others = faults.iter().filter(|fault| given != 0 && given != NO_ROOM && fault.0 > given);
+    out.extend(others.map(|(other, _)| format!("{}: {given} before {other}", call.name())));
+    if let [(number, fault)] = faults[..] {
+        out.push(if number < NOT_THERE { alone(number, fault) } else { asked_for(call, number, fault) });
+    } else if let Some((number, fault)) = faults.first().filter(|fault| fault.0 >= NOT_THERE && fault.0 < NO_ROOM) {
+        out.push(asked_for(call, *number, fault));
+    }
+    let sizes = [question.lent.positions.len(), question.lent.edges.len(), question.lent.triangles.len()];
+    if given == 0 || given == NO_ROOM {
+        let full = sizes == [6 * VERTEX_LIMIT, 2 * EDGE_LIMIT, 3 * TRIANGLE_LIMIT];
+        out.extend(full.then(|| format!("{}: a scene of full size", call.name())));
+    }
+    if given == 0 {
+        out.push(format!("{}: answered", call.name()));
+        out.extend(call.asked().map(|asked| of_told(question, asked, answer)).unwrap_or_default());
+    }
+    if call.lists() && (given == 0 || given == NO_ROOM) {
+        out.extend(of_room(question, answer.number as u32 as usize));
+    }
+    out.sort();
+    out.dedup();
+    out
+}
+
+fn of_told(question: &Question, asked: Asked, answer: &Answer) -> Vec<String> {
+    let [first, second, piece] = question.asked;
+    let name = question.call.name();
+    let scene = expected::scene(&question.lent).expect("an answered scene is one");
+    let pair = Pair { kind: asked.kind(), first: first as usize, second: second as usize };
+    let listed = if listing::is_listed(&scene, pair) { "listed" } else { "not listed" };
+    let mut out = vec![format!("{name}: {listed}"), told(question.call, piece, answer.number)];
+    if asked.kind() == Kind::EdgeEdge {
+        out.push(format!("{name}: {} edge first", if first < second { "lower" } else { "higher" }));
+    }
+    out
+}
+
+fn of_room(question: &Question, count: usize) -> Vec<String> {
+    let name = question.call.name();
+    let (list, words) = (question.lent.list.len() / 3, question.lent.words.len());
+    let judges = question.call == Call::JudgeScene;
+    let room = if judges { list.min(words) } else { list };
+    let mut out = Vec::new();
+    let mut add = |holds: bool, sort: &str| out.extend(holds.then(|| format!("{name}: {sort}")));
+    add(room == count && count > 0, "just the room");
+    add(room > count && count > 0, "room left over");
+    add(room + 1 == count, "one too few");
+    add(room == 0 && count > 0, "no room at all");
+    if judges {
+        add(list < count && words >= count, "the list too short");
+        add(words < count && list >= count, "the words too short");
+        add(words < count && list < count, "both too short");
+    }
+    out
+}
