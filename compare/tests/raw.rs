@@ -1,6 +1,6 @@
 //! Whether the comparison of the functions for C can fail: each answer that is wrong in one respect is noticed, and right ones pass.
 
-use compare::raw::asking::seeded;
+use compare::raw::asking::{fixed, seeded};
 use compare::raw::damaged;
 use compare::raw::expected::Expecting;
 use compare::raw::question::{Answer, Question};
@@ -13,7 +13,7 @@ const SEEDS: u64 = 40;
 fn each_damage_is_noticed() {
     let mut unnoticed = damaged::all();
     let mut expecting = Expecting::default();
-    for question in (0..SEEDS).flat_map(seeded) {
+    for question in fixed().into_iter().chain((0..SEEDS).flat_map(seeded)) {
         let right = expecting.answer(&question);
         assert_eq!(right.difference(&right), None);
         unnoticed.retain(|damage| {
@@ -34,7 +34,7 @@ fn each_damage_is_noticed() {
 fn each_sort_is_asked() {
     let mut asked = sorts::none_yet();
     let (mut expecting, wanted) = (Expecting::default(), asked.len());
-    for question in (0..SEEDS).flat_map(seeded) {
+    for question in fixed().into_iter().chain((0..SEEDS).flat_map(seeded)) {
         for sort in sorts::of(&question, &expecting.answer(&question)) {
             *asked.entry(sort).or_default() += 1;
         }

@@ -14,7 +14,8 @@ use std::sync::mpsc::{channel, Sender};
 
 const MOST_SHOWN: usize = 5;
 
-type Asked = (u64, Question);
+/// Where a question comes from, and the question.
+type Asked = (String, Question);
 
 fn main() {
     let mut words: Vec<String> = std::env::args().skip(1).collect();
@@ -32,11 +33,11 @@ fn main() {
     let asking = std::thread::spawn(move || ask(seeds, input, sender));
     let mut comparison = Comparison::default();
     let mut output = BufReader::with_capacity(1 << 16, output);
-    for (seed, question) in asked {
+    for (source, question) in asked {
         match Answer::read(&question, &mut output) {
-            Ok(answer) => comparison.hold(seed, &question, &answer),
+            Ok(answer) => comparison.hold(&source, &question, &answer),
             Err(error) => {
-                println!("raw: seed {seed}: {}: the driver gives no answer: {error}", question.in_words());
+                println!("raw: {source}: {}: the driver gives no answer: {error}", question.in_words());
                 exit(1);
             }
         }
@@ -57,15 +58,16 @@ fn usage() -> ! {
 /// Questions go ahead of their answers by as much as the pipes hold.
 fn ask(seeds: u64, input: ChildStdin, asked: Sender<Asked>) -> std::io::Result<()> {
     let mut input = BufWriter::with_capacity(1 << 16, input);
-    for seed in 0..seeds {
-        for question in asking::seeded(seed) {
-            let written = question.written();
-            // whoever compares may have stopped at a difference
-            if asked.send((seed, question)).is_err() {
-                return Ok(());
-            }
-            input.write_all(&written)?;
+    let fixed = asking::fixed().into_iter().map(|question| ("fixed".to_string(), question));
+    let seeded =
+        (0..seeds).flat_map(|seed| asking::seeded(seed).into_iter().map(move |question| (format!("seed {seed}"), question)));
+    for (source, question) in fixed.chain(seeded) {
+        let written = question.written();
+        // whoever compares may have stopped at a difference
+        if asked.send((source, question)).is_err() {
+            return Ok(());
         }
+        input.write_all(&written)?;
     }
     input.flush()
 }
@@ -85,7 +87,7 @@ impl Default for Comparison {
 }
 
 impl Comparison {
-    fn hold(&mut self, seed: u64, question: &Question, answer: &Answer) {
+    fn hold(&mut self, source: &str, question: &Question, answer: &Answer) {
         let wanted = self.expecting.answer(question);
         *self.calls.get_mut(&question.call.name()).unwrap() += 1;
         for sort in sorts::of(question, &wanted) {
@@ -93,7 +95,7 @@ impl Comparison {
         }
         let Some(difference) = answer.difference(&wanted) else { return };
         self.differences += 1;
-        println!("raw: seed {seed}: {}: it {difference}", question.in_words());
+        println!("raw: {source}: {}: it {difference}", question.in_words());
         if self.differences == MOST_SHOWN {
             println!("raw: {MOST_SHOWN} differences, and nothing further is asked");
             exit(1);

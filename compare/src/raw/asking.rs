@@ -2,13 +2,12 @@
 
 use super::harm::{harm, SCENE_CHECKS};
 use super::question::*;
-use crate::cases::PRINTED_SCENE;
 use crate::damage::damaged;
 use crate::faults::cells;
 use crate::random::Random;
 use crate::scene::*;
 use crate::text::{self, write};
-use crate::{crossed, generate, listing};
+use crate::{cases, crossed, generate, listing, trials};
 
 /// Pairs that are asked about in one scene, and cells of the table of faults in texts that a seed takes.
 const MOST_PAIRS: usize = 24;
@@ -18,12 +17,24 @@ const LONGEST_JUDGED: usize = 2_500;
 /// A scene of full size comes with one seed in so many.
 const SELDOM: u64 = 40;
 
+/// The twelve shown cases, and each text at an edge of the rules.
+pub fn fixed() -> Vec<Question> {
+    let mut random = Random::new(0);
+    let mut out = Vec::new();
+    for case in cases::shown() {
+        out.extend(whole(&mut random, &case.scene));
+        out.extend(about(&case.scene, case.pair));
+    }
+    out.extend(trials::fixed().into_iter().flat_map(|trial| about_text(&mut random, trial.text)));
+    out
+}
+
 pub fn seeded(seed: u64) -> Vec<Question> {
     let mut random = Random::new(seed ^ 0x5eed);
     let scene = generate::scene(seed);
     let mut out = whole(&mut random, &scene);
     out.extend(pairs(&mut random, &scene));
-    let small = if fit_to_harm(&scene) { scene.clone() } else { text::read(PRINTED_SCENE.as_bytes()).unwrap() };
+    let small = if fit_to_harm(&scene) { scene.clone() } else { text::read(cases::PRINTED_SCENE.as_bytes()).unwrap() };
     out.extend(asked_for_wrongly(&mut random, &small));
     out.extend(harmed(&mut random, &small));
     out.extend(texts(&mut random, &scene, seed));
@@ -114,7 +125,7 @@ fn pairs(random: &mut Random, scene: &Scene) -> Vec<Question> {
 /// A number that is not below the count, also where a program would look at some of its bits only.
 fn beyond(random: &mut Random, count: usize) -> u64 {
     let count = count as u64;
-    random.pick(&[count, count, count + 1, 1 << 16, 1 << 32, 1 << 63, u64::MAX, (1 << 32) + count.saturating_sub(1)]).max(count)
+    random.pick(&[count + 1, 1 << 16, 1 << 32, 1 << 63, u64::MAX, (1 << 32) + count.saturating_sub(1)]).max(count)
 }
 
 /// Places and pieces beyond each bound, and pairs that share each vertex.
@@ -130,9 +141,13 @@ fn asked_for_wrongly(random: &mut Random, scene: &Scene) -> Vec<Question> {
             out.push(Question { call, asked: [first, second, piece], lent: Lent::of_scene(scene) });
         };
         let inside = [firsts, seconds, pieces].map(|count| random.below(count) as u64);
-        ask(beyond(random, firsts), inside[1], inside[2]);
-        ask(inside[0], beyond(random, seconds), inside[2]);
-        ask(inside[0], inside[1], beyond(random, pieces));
+        for place in 0..3 {
+            let mut just = inside;
+            just[place] = [firsts, seconds, pieces][place] as u64;
+            let mut far = inside;
+            far[place] = beyond(random, [firsts, seconds, pieces][place]);
+            [just, far].iter().for_each(|&[first, second, piece]| ask(first, second, piece));
+        }
         for (first, second) in sharing(random, scene, asked.kind()) {
             ask(first, second, random.below(pieces) as u64);
             ask(first, second, beyond(random, pieces));

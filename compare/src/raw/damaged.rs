@@ -24,7 +24,9 @@ pub fn all() -> Vec<Damage> {
     out.extend(words());
     out.extend(orders());
     out.extend(rooms());
+    out.extend(counts());
     out.extend(texts());
+    out.extend(buffers());
     out.extend(bytes());
     out
 }
@@ -114,6 +116,23 @@ fn faults(question: &Question) -> Vec<(u64, &'static str)> {
     faults
 }
 
+/// The one fault that a question about a scene has.
+fn sole(question: &Question) -> Option<&'static str> {
+    match faults(question)[..] {
+        [(_, fault)] if question.call.takes_a_scene() => Some(fault),
+        _ => None,
+    }
+}
+
+/// A miss, where it should be a refusal.
+fn answered(name: String, which: impl Fn(&Question) -> bool + 'static) -> Damage {
+    damage(name, move |question, answer| {
+        if which(question) {
+            answer.number = 1;
+        }
+    })
+}
+
 /// Which refusal is given where there are two; and one that is never given.
 fn orders() -> Vec<Damage> {
     let mut out = Vec::new();
@@ -128,12 +147,21 @@ fn orders() -> Vec<Damage> {
             }));
         }
     }
-    for fault in ["vertex", "triangle", "first edge", "second edge", "piece", "with itself", "the same edge again"] {
-        out.push(damage(format!("answers where refused for: {fault}"), move |question: &Question, answer: &mut Answer| {
-            let first = faults(question).first().filter(|_| question.call.takes_a_scene()).map(|first| first.1);
-            if first == Some(fault) {
-                answer.number = 1;
-            }
+    for fault in
+        ["with itself", "the same edge again", "lowest corner", "highest corner", "lower with higher", "higher with lower"]
+    {
+        out.push(answered(format!("answers where refused for: {fault}"), move |question| sole(question) == Some(fault)));
+    }
+    for (fault, place) in [("vertex", 0), ("triangle", 1), ("first edge", 0), ("second edge", 1), ("piece", 2)] {
+        out.push(answered(format!("a {fault} just at its bound is answered"), move |question| {
+            let lent = &question.lent;
+            let (vertices, edges, triangles) = (lent.positions.len() / 6, lent.edges.len() / 2, lent.triangles.len() / 3);
+            let bounds = if matches!(question.call.asked(), Some(Asked::Ee | Asked::EePiece)) {
+                [edges, edges, 4]
+            } else {
+                [vertices, triangles, 3]
+            };
+            sole(question) == Some(fault) && question.asked[place] == bounds[place] as u64
         }));
     }
     out.push(damage("7 before the scene is looked at", |question, answer| {
@@ -177,6 +205,12 @@ fn rooms() -> Vec<Damage> {
                 answer.buffers[WORDS][MARGIN + answer.number as usize] = 0;
             }
         }),
+    ]
+}
+
+/// Which room counts, and what the list and the words are.
+fn counts() -> Vec<Damage> {
+    vec![
         damage("just the room is refused", |question, answer| {
             if lists(question, answer) && question.lent.list.len() / 3 == answer.number as usize && answer.number > 0 {
                 answer.number += NO_ROOM << 32;
@@ -244,6 +278,12 @@ fn texts() -> Vec<Damage> {
                 answer.buffers[POSITIONS][MARGIN..MARGIN + 24].fill(0);
             }
         }),
+    ]
+}
+
+/// Short buffers, and the report.
+fn buffers() -> Vec<Damage> {
+    vec![
         damage("8 before 12", |question, answer| {
             if question.call == Call::ReadScene && question.lent.text.len() > 32_768 {
                 answer.number = TEXT_TOO_LONG << 32;
