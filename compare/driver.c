@@ -2,9 +2,9 @@
  * Answers questions from another program with what the library answers, number for number: one question after the other on
  * standard input, one answer after the other on standard output, until the input ends. compare/raw runs it.
  *
- * A question is `struct question`, then each of the eight buffers in the order of `enum`: as many numbers as its length says, with
- * MARGIN bytes in front of them and MARGIN behind, which are not lent. An answer is the number that the call gave, then all those
- * bytes as the call left them.
+ * A question is `struct question`, then each of the eight buffers in the order of the `enum`: as many numbers as its length
+ * says, with MARGIN bytes in front of them and MARGIN behind, which are not lent. An answer is the number that the call gave,
+ * then all those bytes as the call left them.
  */
 #include "makhnodri.h"
 

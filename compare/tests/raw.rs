@@ -1,4 +1,4 @@
-//! Whether the comparison of the functions for C can fail: each answer that is wrong in one respect is noticed, and right ones pass.
+//! Whether the comparison of the functions for C can fail: answers that are wrong in one respect are noticed, right ones pass.
 
 use compare::raw::asking::{fixed, seeded};
 use compare::raw::damaged;

@@ -1,7 +1,7 @@
 //! usage: raw [--table] SEEDS DRIVER [WORDS...]
-//! Asks the driver (driver.c, and in front of it whatever starts it) questions from so many seeds, and holds every answer, and every byte
-//! of every buffer and of its margins, to what document 01 says. Ends with status 1 on a difference, on a driver that fails, and where
-//! some sort of question was never asked; `--table` shows how often each was.
+//! Asks the driver (driver.c, and in front of it whatever starts it) fixed questions and those of so many seeds, and holds
+//! every answer, and every byte of every buffer and beside it, to what document 01 says. Ends with status 1 on a difference,
+//! on a driver that fails, and where some sort of question was never asked; `--table` shows how often each was.
 
 use compare::raw::asking;
 use compare::raw::expected::Expecting;
@@ -109,12 +109,9 @@ impl Comparison {
         self.calls.iter().for_each(|(call, count)| println!("{count:>8} questions to {call}"));
         let never: Vec<&String> = self.sorts.iter().filter(|(_, count)| **count == 0).map(|(sort, _)| sort).collect();
         never.iter().for_each(|sort| println!("raw: never asked: {sort}"));
-        let questions: usize = self.calls.values().sum();
-        let (differences, sorts) = (self.differences, self.sorts.len());
-        println!(
-            "raw: {questions} questions of {seeds} seeds, {sorts} sorts of them ({} never asked), every answer and every lent byte: {differences} differences",
-            never.len()
-        );
+        let (questions, sorts, unasked) = (self.calls.values().sum::<usize>(), self.sorts.len(), never.len());
+        let (differences, asked) = (self.differences, format!("{questions} questions of {sorts} sorts ({unasked} never asked)"));
+        println!("raw: {asked}, {seeds} seeds; each answer and every lent byte compared: {differences} differences");
         exit((differences > 0 || !never.is_empty()) as i32);
     }
 }
