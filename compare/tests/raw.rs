@@ -12,6 +12,7 @@ const SEEDS: u64 = 40;
 #[test]
 fn each_damage_is_noticed() {
     let mut unnoticed = damaged::all();
+    println!("{} damages", unnoticed.len());
     let mut expecting = Expecting::default();
     for question in fixed().into_iter().chain((0..SEEDS).flat_map(seeded)) {
         let right = expecting.answer(&question);
