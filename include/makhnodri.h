@@ -94,7 +94,7 @@ enum {
     MAKHNODRI_MISS = 1,       /* a piece: its six equations have one solution, and one of its weights is negative */
     MAKHNODRI_DEGENERATE = 2, /* a piece: its six equations are singular, and nothing more is said of it; in three words only */
     MAKHNODRI_TOUCH = 3,      /* a piece: its six equations are singular, and weights that solve them exist, none negative */
-    MAKHNODRI_APART = 4       /* a piece: its six equations are singular, and none exist */
+    MAKHNODRI_APART = 4       /* a piece: its six equations are singular, and no such weights exist */
 };
 /*
  * A pair in three words: a hit if any of its pieces is; else degenerate if any is; else a miss.

@@ -10,53 +10,26 @@ ghost use Rattle.verdicts.specs.Ready.{PointReady, EdgesReady};
 use meaning::Corners;
 use meaning::Ends;
 use meaning::Verdict;
+use signs::judge_edges;
+use signs::judge_point;
 
 // Point p against piece k of a triangle: the base is p.
 pub fn point_piece(positions: &[i32], p: usize, c: Corners, k: usize) -> Verdict
     requires { ⌜ PointReady (now positions) p c ⌝ }
     ensures { λ r. ⌜ ((e t : List ℕ) → PieceIs (record { first = movingPoint (sceneOf (now (positions .entry)) e t) p; second = movingTriangle (sceneOf (now (positions .entry)) e t) c k }) r) ⌝ }
 {
-    let base = 6 * p;
+    let from = 6 * p;
+    let to = from + 3;
     let low = 6 * c.low;
-    let middle = 6 * c.middle;
+    let mid = 6 * c.middle;
     let high = 6 * c.high;
     if k == 0 {
-        return signs::judge_point(
-            positions,
-            low,
-            base,
-            middle,
-            base,
-            high,
-            base,
-            high + 3,
-            base + 3,
-        );
+        return judge_point(positions, low, from, mid, from, high, from, high + 3, to);
     }
     if k == 1 {
-        return signs::judge_point(
-            positions,
-            low,
-            base,
-            middle,
-            base,
-            middle + 3,
-            base + 3,
-            high + 3,
-            base + 3,
-        );
+        return judge_point(positions, low, from, mid, from, mid + 3, to, high + 3, to);
     }
-    signs::judge_point(
-        positions,
-        low,
-        base,
-        low + 3,
-        base + 3,
-        middle + 3,
-        base + 3,
-        high + 3,
-        base + 3,
-    )
+    judge_point(positions, low, from, low + 3, to, mid + 3, to, high + 3, to)
 }
 
 // Piece A (0) or B (1) of the first edge against that of the second. The base is the vertex that the first edge's piece holds at both
@@ -66,38 +39,54 @@ pub fn edges_piece(positions: &[i32], e: Ends, i: usize, f: Ends, j: usize) -> V
     ensures { λ r. ⌜ ((es ts : List ℕ) → PieceIs (record { first = movingEdge (sceneOf (now (positions .entry)) es ts) e i; second = movingEdge (sceneOf (now (positions .entry)) es ts) f j }) r) ⌝ }
 {
     if i == 0 {
-        first_a(positions, e, f, j)
+        if j == 0 {
+            both_a(positions, e, f)
+        } else {
+            a_against_b(positions, e, f)
+        }
     } else {
-        first_b(positions, e, f, j)
+        if j == 0 {
+            b_against_a(positions, e, f)
+        } else {
+            both_b(positions, e, f)
+        }
     }
 }
 
-fn first_a(positions: &[i32], e: Ends, f: Ends, j: usize) -> Verdict
+fn both_a(positions: &[i32], e: Ends, f: Ends) -> Verdict
     requires { ⌜ EdgesReady (now positions) e f ⌝ }
-    ensures { λ r. ⌜ ((es ts : List ℕ) → PieceIs (record { first = movingEdge (sceneOf (now (positions .entry)) es ts) e 0; second = movingEdge (sceneOf (now (positions .entry)) es ts) f j }) r) ⌝ }
+    ensures { λ r. ⌜ ((es ts : List ℕ) → PieceIs (record { first = movingEdge (sceneOf (now (positions .entry)) es ts) e 0; second = movingEdge (sceneOf (now (positions .entry)) es ts) f 0 }) r) ⌝ }
 {
     let base = 6 * e.high;
     let other = 6 * e.low;
     let low = 6 * f.low;
     let high = 6 * f.high;
-    if j == 0 {
-        return signs::judge_edges(
-            positions,
-            other,
-            base,
-            false,
-            low,
-            base,
-            false,
-            high,
-            base,
-            false,
-            high + 3,
-            base + 3,
-            true,
-        );
-    }
-    signs::judge_edges(
+    judge_edges(
+        positions,
+        other,
+        base,
+        false,
+        low,
+        base,
+        false,
+        high,
+        base,
+        false,
+        high + 3,
+        base + 3,
+        true,
+    )
+}
+
+fn a_against_b(positions: &[i32], e: Ends, f: Ends) -> Verdict
+    requires { ⌜ EdgesReady (now positions) e f ⌝ }
+    ensures { λ r. ⌜ ((es ts : List ℕ) → PieceIs (record { first = movingEdge (sceneOf (now (positions .entry)) es ts) e 0; second = movingEdge (sceneOf (now (positions .entry)) es ts) f 1 }) r) ⌝ }
+{
+    let base = 6 * e.high;
+    let other = 6 * e.low;
+    let low = 6 * f.low;
+    let high = 6 * f.high;
+    judge_edges(
         positions,
         other,
         base,
@@ -114,32 +103,40 @@ fn first_a(positions: &[i32], e: Ends, f: Ends, j: usize) -> Verdict
     )
 }
 
-fn first_b(positions: &[i32], e: Ends, f: Ends, j: usize) -> Verdict
+fn b_against_a(positions: &[i32], e: Ends, f: Ends) -> Verdict
     requires { ⌜ EdgesReady (now positions) e f ⌝ }
-    ensures { λ r. ⌜ ((es ts : List ℕ) → PieceIs (record { first = movingEdge (sceneOf (now (positions .entry)) es ts) e 1; second = movingEdge (sceneOf (now (positions .entry)) es ts) f j }) r) ⌝ }
+    ensures { λ r. ⌜ ((es ts : List ℕ) → PieceIs (record { first = movingEdge (sceneOf (now (positions .entry)) es ts) e 1; second = movingEdge (sceneOf (now (positions .entry)) es ts) f 0 }) r) ⌝ }
 {
     let base = 6 * e.low;
     let other = 6 * e.high;
     let low = 6 * f.low;
     let high = 6 * f.high;
-    if j == 0 {
-        return signs::judge_edges(
-            positions,
-            other + 3,
-            base + 3,
-            true,
-            low,
-            base,
-            false,
-            high,
-            base,
-            false,
-            high + 3,
-            base + 3,
-            true,
-        );
-    }
-    signs::judge_edges(
+    judge_edges(
+        positions,
+        other + 3,
+        base + 3,
+        true,
+        low,
+        base,
+        false,
+        high,
+        base,
+        false,
+        high + 3,
+        base + 3,
+        true,
+    )
+}
+
+fn both_b(positions: &[i32], e: Ends, f: Ends) -> Verdict
+    requires { ⌜ EdgesReady (now positions) e f ⌝ }
+    ensures { λ r. ⌜ ((es ts : List ℕ) → PieceIs (record { first = movingEdge (sceneOf (now (positions .entry)) es ts) e 1; second = movingEdge (sceneOf (now (positions .entry)) es ts) f 1 }) r) ⌝ }
+{
+    let base = 6 * e.low;
+    let other = 6 * e.high;
+    let low = 6 * f.low;
+    let high = 6 * f.high;
+    judge_edges(
         positions,
         other + 3,
         base + 3,
