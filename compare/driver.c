@@ -41,7 +41,7 @@ static uint64_t answer(const struct question *q) {
     case 0: return makhnodri_check_scene(SCENE);
     case 1: return makhnodri_count_pairs(SCENE);
     case 2: return makhnodri_list_pairs(SCENE, lent(LIST), q->length[LIST]);
-    case 3: return makhnodri_judge_scene(SCENE, lent(LIST), q->length[LIST], lent(WORDS), q->length[WORDS]);
+    case 3: return makhnodri_settle_scene(SCENE, lent(LIST), q->length[LIST], lent(WORDS), q->length[WORDS]);
     case 4: return makhnodri_judge_pt(PAIR);
     case 5: return makhnodri_judge_ee(PAIR);
     case 6: return makhnodri_judge_pt_piece(PAIR, q->asked[2]);

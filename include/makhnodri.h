@@ -64,7 +64,7 @@ extern "C" {
  *     check_scene         120      judge_pt, judge_pt_piece       504
  *     count_pairs      49,400      judge_ee, judge_ee_piece       584
  *     list_pairs       49,512      settle_pt, settle_pt_piece   2,528
- *     judge_scene      50,024      settle_ee, settle_ee_piece   2,352
+ *     settle_scene      50,024      settle_ee, settle_ee_piece   2,352
  *     read_scene          680      write_report                83,864
  *
  * ---- An answer ----
@@ -87,7 +87,7 @@ static inline uint32_t makhnodri_value(makhnodri_answer answer) { return (uint32
  *
  * Three words, HIT, MISS and DEGENERATE, are the answers of makhnodri_judge_pt, _judge_ee, _judge_pt_piece and _judge_ee_piece.
  * Four words, HIT, MISS, TOUCH and APART, are the answers of makhnodri_settle_pt, _settle_ee, _settle_pt_piece and
- * _settle_ee_piece, the bytes that makhnodri_judge_scene writes, and the words of the report.
+ * _settle_ee_piece, the bytes that makhnodri_settle_scene writes, and the words of the report.
  */
 enum {
     MAKHNODRI_HIT = 0,        /* a piece: its six equations have one solution, and its weights are not negative; one that is 0 counts */
@@ -152,7 +152,7 @@ makhnodri_answer makhnodri_list_pairs(const int32_t *positions, size_t positions
  * list_length / 3 and verdicts_length. The answer is the count, and the rest of both buffers is unchanged; or 7, with the count
  * needed.
  */
-makhnodri_answer makhnodri_judge_scene(const int32_t *positions, size_t positions_length, const uint16_t *edges,
+makhnodri_answer makhnodri_settle_scene(const int32_t *positions, size_t positions_length, const uint16_t *edges,
                                        size_t edges_length, const uint16_t *triangles, size_t triangles_length,
                                        uint16_t *list, size_t list_length, uint8_t *verdicts, size_t verdicts_length);
 

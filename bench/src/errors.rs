@@ -117,7 +117,7 @@ fn by_cubic(slices: &Slices, kind: Kind, tolerance: f64) -> bool {
 /// What is not listed is no hit.
 fn by_library(slices: &Slices, product: &Product) -> bool {
     let (mut list, mut words) = ([0; 3], [0]);
-    product.judge_scene(slices, &mut list, &mut words) == Ok(1) && words[0] == product::HIT
+    product.settle_scene(slices, &mut list, &mut words) == Ok(1) && words[0] == product::HIT
 }
 
 /// A pair whose parts only shift, or nothing where it does not fit in the range.

@@ -77,7 +77,7 @@ impl Bench {
         let (mut made, mut words, mut made_alone) = (vec![0; list.len()], vec![0; count], vec![0; list.len()]);
         let mut ways = baselines(slices, list);
         if let Some(product) = &self.product {
-            ways.push(Way::new(OURS, || product.judge_scene(slices, &mut made, &mut words).expect("there is room") as u64));
+            ways.push(Way::new(OURS, || product.settle_scene(slices, &mut made, &mut words).expect("there is room") as u64));
             ways.push(Way::new("its list", || product.list(slices, &mut made_alone).expect("there is room") as u64));
         }
         let mut times = shortest(ways, self.rounds);

@@ -140,7 +140,7 @@ impl Six<'_> {
 }
 
 /// What the library's call does for a whole scene: lists, and settles each pair.
-pub fn judge_scene(slices: &Slices, list: &mut [u16], words: &mut [u8]) -> usize {
+pub fn settle_scene(slices: &Slices, list: &mut [u16], words: &mut [u8]) -> usize {
     let count = crate::plain::list(slices, list);
     for (entry, word) in list.chunks_exact(3).zip(words).take(count) {
         *word = settle(slices, entry).byte();

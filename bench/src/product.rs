@@ -5,7 +5,7 @@
 //!
 //! | function | takes | gives |
 //! |---|---|---|
-//! | makhnodri_judge_scene | positions i32, edges u16, triangles u16, list u16, words u8 | an answer; the list's entries, and for each its word: 0 hit, 1 miss, 3 touch, 4 apart |
+//! | makhnodri_settle_scene | positions i32, edges u16, triangles u16, list u16, words u8 | an answer; the list's entries, and for each its word: 0 hit, 1 miss, 3 touch, 4 apart |
 //! | makhnodri_list_pairs | positions i32, edges u16, triangles u16, list u16 | an answer; the list's entries |
 //! | makhnodri_settle_pt, makhnodri_settle_ee | positions i32, edges u16, triangles u16, two places | an answer: the pair's word |
 //! | makhnodri_settle_pt_piece, makhnodri_settle_ee_piece | positions i32, edges u16, triangles u16, two places, a piece | an answer: the piece's word |
@@ -33,7 +33,7 @@ mod linked {
     use crate::slices::Slices;
 
     extern "C" {
-        fn makhnodri_judge_scene(
+        fn makhnodri_settle_scene(
             positions: *const i32,
             positions_len: usize,
             edges: *const u16,
@@ -114,10 +114,10 @@ mod linked {
             Some(Product)
         }
 
-        pub fn judge_scene(&self, s: &Slices, list: &mut [u16], words: &mut [u8]) -> Answer {
+        pub fn settle_scene(&self, s: &Slices, list: &mut [u16], words: &mut [u8]) -> Answer {
             // SAFETY: each pointer comes with the length of its own slice, and no two overlap
             answer(unsafe {
-                makhnodri_judge_scene(
+                makhnodri_settle_scene(
                     s.positions.as_ptr(),
                     s.positions.len(),
                     s.edges.as_ptr(),
@@ -205,7 +205,7 @@ mod missing {
             None
         }
 
-        pub fn judge_scene(&self, _: &Slices, _: &mut [u16], _: &mut [u8]) -> Answer {
+        pub fn settle_scene(&self, _: &Slices, _: &mut [u16], _: &mut [u8]) -> Answer {
             match *self {}
         }
 

@@ -1,6 +1,6 @@
 //! Full-size scenes at rest over the same scenes moving: what deciding every listed pair costs.
 
-use crate::plain_rest::judge_scene;
+use crate::plain_rest::settle_scene;
 use crate::product::Product;
 use crate::scenes::RESTING;
 use crate::slices::Slices;
@@ -25,11 +25,11 @@ impl Lent {
     }
 
     fn plain(&mut self) -> u64 {
-        judge_scene(&self.slices, &mut self.list, &mut self.words) as u64
+        settle_scene(&self.slices, &mut self.list, &mut self.words) as u64
     }
 
     fn library(&mut self, product: &Product) -> u64 {
-        product.judge_scene(&self.slices, &mut self.list, &mut self.words).expect("there is room") as u64
+        product.settle_scene(&self.slices, &mut self.list, &mut self.words).expect("there is room") as u64
     }
 
     fn said(&self) -> String {

@@ -40,7 +40,7 @@ fn a_full_size_scene_at_rest_is_at_rest() {
         let slices = Slices::of(&rest);
         let right = listed(&rest);
         let (mut list, mut words) = (vec![0; 3 * right.len()], vec![0; right.len()]);
-        assert_eq!(plain_rest::judge_scene(&slices, &mut list, &mut words), right.len());
+        assert_eq!(plain_rest::settle_scene(&slices, &mut list, &mut words), right.len());
         for (&pair, &word) in right.iter().zip(&words).step_by(1 + right.len() / 2_000) {
             assert_eq!(word, settled::of_pair(&rest, pair).byte(), "{name}, {pair:?}");
             assert!(word >= settled::Settled::Touch.byte());

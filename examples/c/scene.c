@@ -48,7 +48,7 @@ int main(void) {
     uint8_t *verdicts = malloc(room + 1);
     if (!list || !verdicts) return 1;
 
-    makhnodri_answer count = makhnodri_judge_scene(positions, p, edges, e, triangles, t, list, 3 * room, verdicts, room);
+    makhnodri_answer count = makhnodri_settle_scene(positions, p, edges, e, triangles, t, list, 3 * room, verdicts, room);
     for (size_t i = 0; i < count; i++) {
         const uint16_t *entry = list + 3 * i;
         int pt = entry[0] == MAKHNODRI_PT;

@@ -33,7 +33,7 @@ static uint16_t read_edges[MAKHNODRI_EDGES_LENGTH], read_triangles[MAKHNODRI_TRI
 static void check(void) { makhnodri_check_scene(SCENE); }
 static void count(void) { makhnodri_count_pairs(SCENE); }
 static void make_list(void) { makhnodri_list_pairs(SCENE, list, sizeof list / sizeof list[0]); }
-static void judge_scene(void) { makhnodri_judge_scene(SCENE, list, sizeof list / sizeof list[0], verdicts, sizeof verdicts); }
+static void settle_scene(void) { makhnodri_settle_scene(SCENE, list, sizeof list / sizeof list[0], verdicts, sizeof verdicts); }
 static void judge_pt(void) { makhnodri_judge_pt(SCENE, place, place / 3); }
 static void judge_ee(void) { makhnodri_judge_ee(SCENE, place, place / 3); }
 static void judge_pt_piece(void) { makhnodri_judge_pt_piece(SCENE, place, place / 3, place % 3); }
@@ -113,7 +113,7 @@ static const struct {
     {"check_scene", check, 4},
     {"count_pairs", count, 4},
     {"list_pairs", make_list, 4},
-    {"judge_scene", judge_scene, 4},
+    {"settle_scene", settle_scene, 4},
     {"judge_pt", judge_pt, 400},
     {"judge_ee", judge_ee, 400},
     {"judge_pt_piece", judge_pt_piece, 400},

@@ -41,7 +41,7 @@ impl Scene<'_> {
     /// Makes the list and judges it: `words[i]` is 0, 1, 3 or 4, for hit, miss, touch or apart, of entry i.
     pub fn judge_listed(self, list: &mut [u16], words: &mut [u8]) -> Result<usize, ListRefusal> {
         let (l, w) = ((list.as_mut_ptr(), list.len()), (words.as_mut_ptr(), words.len()));
-        heard(ask!(self, makhnodri_judge_scene, l.0, l.1, w.0, w.1)).map_err(list_refusal)
+        heard(ask!(self, makhnodri_settle_scene, l.0, l.1, w.0, w.1)).map_err(list_refusal)
     }
 
     /// The verdict of a pair, listed or not. Two edges may be asked for in either order.

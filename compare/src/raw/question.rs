@@ -82,7 +82,7 @@ impl Call {
             Call::CheckScene => "check_scene".into(),
             Call::CountPairs => "count_pairs".into(),
             Call::ListPairs => "list_pairs".into(),
-            Call::JudgeScene => "judge_scene".into(),
+            Call::JudgeScene => "settle_scene".into(),
             Call::Judge(asked) => format!("judge_{}", of(asked)),
             Call::Settle(asked) => format!("settle_{}", of(asked)),
             Call::ReadScene => "read_scene".into(),

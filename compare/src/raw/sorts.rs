@@ -29,7 +29,7 @@ pub fn none_yet() -> Sorts {
             );
         }
     }
-    out.extend(["the list too short", "the words too short", "both too short"].map(|which| format!("judge_scene: {which}")));
+    out.extend(["the list too short", "the words too short", "both too short"].map(|which| format!("settle_scene: {which}")));
     out.extend(SCENE_FAULTS.map(|(number, fault)| alone(number, fault)));
     out.extend(of_texts());
     out.into_iter().map(|sort| (sort, 0)).collect()

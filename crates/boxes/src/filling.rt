@@ -5,7 +5,7 @@ ghost use mathlib.Core.List.{[]};
 ghost use mathlib.Core.Bool.{false};
 ghost use mathlib.Core.Path.{_≡_};
 ghost use lib.ListN.{length};
-ghost use Rattle.meaning.specs.Scene.{sceneOf, Accepted, vertexCount, edgeCount, triangleCount, unknownIn};
+ghost use Rattle.meaning.specs.Scene.{sceneIn, sceneAtEntry, sceneOf, Accepted, vertexCount, edgeCount, triangleCount, unknownIn};
 ghost use Rattle.scenes.specs.Alone.{onlyPositions, onlyEdges, onlyTriangles};
 ghost use Rattle.boxes.specs.Kept.{edgePlace, trianglePlace, edgeBox, triangleBox, VerticesIn, EdgesIn, boxNumbers};
 ghost use Rattle.boxes.specs.Storing.{BoxStored};
@@ -46,9 +46,9 @@ fn store_edge(positions: &[i32], edges: &[u16], j: usize, boxes: &mut [i32])
 
 // The box of triangle j, in its place behind those of the edges: first the joint box of two corners.
 fn store_triangle(positions: &[i32], edges: &[u16], triangles: &[u16], j: usize, boxes: &mut [i32])
-    requires { ⌜ j < triangleCount (sceneOf (now positions) (now edges) (now triangles)) ⌝ }
-    requires { ⌜ Ready (sceneOf (now positions) (now edges) (now triangles)) (now triangles) (now boxes) (trianglePlace (sceneOf (now positions) (now edges) (now triangles)) j) ⌝ }
-    ensures { λ _. ⌜ BoxStored (now (boxes .entry)) (trianglePlace (sceneOf (now (positions .entry)) (now (edges .entry)) (now (triangles .entry))) j) (triangleBox (sceneOf (now (positions .entry)) (now (edges .entry)) (now (triangles .entry))) j) (now (boxes .exit)) ⌝ }
+    requires { ⌜ j < triangleCount (sceneIn positions edges triangles) ⌝ }
+    requires { ⌜ Ready (sceneIn positions edges triangles) (now triangles) (now boxes) (trianglePlace (sceneIn positions edges triangles) j) ⌝ }
+    ensures { λ _. ⌜ BoxStored (now (boxes .entry)) (trianglePlace (sceneAtEntry positions edges triangles) j) (triangleBox (sceneAtEntry positions edges triangles) j) (now (boxes .exit)) ⌝ }
 {
     let place = vertex_count(positions) + edge_count(edges) + j;
     let third = corner(triangles, j, 2);
@@ -79,7 +79,7 @@ fn fill_triangles(positions: &[i32], edges: &[u16], triangles: &[u16], boxes: &m
     requires { ⌜ unknownIn (vertexCount (onlyPositions (now positions))) (now triangles) ≡ false ⌝ }
     requires { ⌜ 6 * trianglePlace (sceneOf (now positions) (now edges) []) (triangleCount (onlyTriangles (now triangles))) ≤ length (now boxes) ⌝ }
     requires { ⌜ VerticesIn (onlyPositions (now positions)) (now boxes) × EdgesIn (sceneOf (now positions) (now edges) []) (now boxes) ⌝ }
-    ensures { λ _. ⌜ Filled (sceneOf (now (positions .entry)) (now (edges .entry)) (now (triangles .entry))) (now (boxes .entry)) (now (boxes .exit)) ⌝ }
+    ensures { λ _. ⌜ Filled (sceneAtEntry positions edges triangles) (now (boxes .entry)) (now (boxes .exit)) ⌝ }
 {
     let count = triangle_count(triangles);
     let mut j = 0;
@@ -91,8 +91,8 @@ fn fill_triangles(positions: &[i32], edges: &[u16], triangles: &[u16], boxes: &m
 
 // The boxes of all vertices, then of all edges, then of all triangles of an accepted scene.
 pub fn fill(positions: &[i32], edges: &[u16], triangles: &[u16], boxes: &mut [i32])
-    requires { ⌜ Accepted (sceneOf (now positions) (now edges) (now triangles)) × (boxNumbers ≤ length (now boxes)) ⌝ }
-    ensures { λ _. ⌜ Filled (sceneOf (now (positions .entry)) (now (edges .entry)) (now (triangles .entry))) (now (boxes .entry)) (now (boxes .exit)) ⌝ }
+    requires { ⌜ Accepted (sceneIn positions edges triangles) × (boxNumbers ≤ length (now boxes)) ⌝ }
+    ensures { λ _. ⌜ Filled (sceneAtEntry positions edges triangles) (now (boxes .entry)) (now (boxes .exit)) ⌝ }
 {
     fill_vertices(positions, boxes);
     fill_edges(positions, edges, boxes);

@@ -16,7 +16,7 @@ use Rattle.meaning.specs.Refusals.{Outcome, given, refused, Answers, notThere, 
 use Rattle.meaning.specs.Resting.{PairDecided, PieceDecided}
 use Rattle.meaning.specs.Boxes.{xAxis, yAxis, zAxis, boxesMeet}
 use Rattle.meaning.specs.List.{Pair, pairs, entries, roomOf, listSays, listChecks, leaves, Counted, Listing}
-use Rattle.meaning.specs.Judging.{byteOf, AllJudged, JudgedScene}
+use Rattle.meaning.specs.SceneWords.{byteOf, AllSettled, SettledScene}
 use Rattle.meaning.specs.declared.Kind.{Kind}
 use Rattle.meaning.specs.declared.Kind.the-variants.{PointTriangle, EdgeEdge}
 use Rattle.meaning.specs.declared.Settled.{Settled}
@@ -176,8 +176,8 @@ module _ {s t : Scene} (h : Rewritten s t) where
 
   -- each pair of the list has the word that it has in the other scene
   words-alike : (ps : List Pair) → ((p : Pair) → List·Memᴰ p ps → WellMade s (p .kind) (p .first) (p .second)) → (ws : List Settled)
-      → AllJudged t ps ws → AllJudged s ps ws
-  unfolding AllJudged
+      → AllSettled t ps ws → AllSettled s ps ws
+  unfolding AllSettled
   words-alike [] made [] j = tt
   words-alike [] made (w ∷ ws) j = absurd j
   words-alike (p ∷ ps) made [] j = absurd j
@@ -187,14 +187,14 @@ module _ {s t : Scene} (h : Rewritten s t) where
   )
 
   -- so the words of both lists are the same
-  one-words : Accepted s → (vs ws : List Settled) → AllJudged s (pairs s) vs → AllJudged t (pairs t) ws → vs ≡ ws
+  one-words : Accepted s → (vs ws : List Settled) → AllSettled s (pairs s) vs → AllSettled t (pairs t) ws → vs ≡ ws
   one-words a vs ws j k =
       all-judged-one s (pairs s) vs ws j
       (words-alike (pairs s) (λ p m. well-made a (p .kind) (p .first) (p .second) (list-is s .stands p .0 m .there)) ws
-      (subst (λ (ps : List Pair). AllJudged t ps ws) (rewritten-list h) k))
+      (subst (λ (ps : List Pair). AllSettled t ps ws) (rewritten-list h) k))
 
   -- and of two calls that list and judge, with the same two lent buffers
-  pub judging-as-written : (o o′ o″ b b′ b″ : List ℕ) (r r′ : ListAnswer) → JudgedScene s o o′ b b′ r → JudgedScene t o o″ b b″ r′
+  pub judging-as-written : (o o′ o″ b b′ b″ : List ℕ) (r r′ : ListAnswer) → SettledScene s o o′ b b′ r → SettledScene t o o″ b b″ r′
       → (r ≡ r′) × (o′ ≡ o″) × (b′ ≡ b″)
   judging-as-written o o′ o″ b b′ b″ r r′ p q =
       let list : pairs s ≡ pairs t = sym (rewritten-list h) in

@@ -30,7 +30,7 @@ use Rattle.meaning.specs.declared.SettledAnswer.the-variants.{Decided}
 use Rattle.meaning.specs.declared.ListAnswer as ListAnswers
 use Rattle.meaning.specs.declared.ListAnswer.{ListAnswer}
 use Rattle.theory.specs.Bounds.{Every, every-imp}
-use Rattle.resting.specs.Decided.{verdictOfWord}
+use Rattle.corner_search.specs.Decided.{verdictOfWord}
 use Rattle.scenes.specs.Speaking.{scene-says-one, pair-says-one}
 use Rattle.listing.specs.Once.{list-says-one}
 use Rattle.demands.specs.Demand1.{demand1-scene, demand1-pair, demand1-piece, demand1-settled-pair, demand1-settled-piece, demand1-listing}

@@ -14,7 +14,7 @@ use Rattle.meaning.specs.Pieces.{pieceCount}
 use Rattle.meaning.specs.Refusals.{given, numberOf, shares}
 use Rattle.meaning.specs.Boxes.{meetOn}
 use Rattle.meaning.specs.List.{pair, pairs, entry, entries, kindNumber, listSays, leaves, Listing}
-use Rattle.meaning.specs.Judging.{byteOf, AllJudged, JudgedScene}
+use Rattle.meaning.specs.SceneWords.{byteOf, AllSettled, SettledScene}
 use Rattle.meaning.specs.Text.{coordinates}
 use Rattle.meaning.specs.declared.Kind.the-variants.{PointTriangle}
 use Rattle.meaning.specs.declared.Settled.the-variants.{Hit, Miss}
@@ -23,7 +23,7 @@ use Rattle.meaning.specs.declared.ListAnswer.{ListAnswer}
 use Rattle.meaning.specs.declared.ListAnswer.the-variants.{Listed, Refused}
 use Rattle.theory.specs.Reading.{verdictOf, agreeing}
 use Rattle.theory.specs.Computed.{pieceVerdict, pointDifferences, joined, joinedBelow}
-use Rattle.resting.specs.Decided.{settledBy, pairWord, pair-word-is}
+use Rattle.corner_search.specs.Decided.{settledBy, pairWord, pair-word-is}
 use Rattle.listing.specs.Once.{list-says-one}
 use Rattle.demands.specs.Demand1.{demand1-listing, demand1-judging}
 use Rattle.demands.specs.Unchanged.{listing-unchanged}
@@ -73,12 +73,12 @@ two-pairs : pairs twoPoints ≡ pair PointTriangle 3 0 ∷ pair PointTriangle 4 
 unfolding pairs gather over times shares meetOn
 two-pairs = refl
 
-hit-then-miss : AllJudged twoPoints (pairs twoPoints) (Hit ∷ Miss ∷ [])
-unfolding AllJudged pieceCount pieceVerdict joinedBelow joined pointDifferences volume verdictOf agreeing pairWord settledBy
+hit-then-miss : AllSettled twoPoints (pairs twoPoints) (Hit ∷ Miss ∷ [])
+unfolding AllSettled pieceCount pieceVerdict joinedBelow joined pointDifferences volume verdictOf agreeing pairWord settledBy
 hit-then-miss = rw two-pairs (pair-word-is twoPoints PointTriangle 3 0 Hit .1 refl, (pair-word-is twoPoints PointTriangle 4 0 Miss .1 refl, tt))
 
 -- the bytes of a hit and of a miss
-pub verdicts-written : (o o′ b′ : List ℕ) (r : ListAnswer) → length o ≡ 6 → JudgedScene twoPoints o o′ (9 ∷ 9 ∷ []) b′ r → b′ ≡ 0 ∷ 1 ∷ []
+pub verdicts-written : (o o′ b′ : List ℕ) (r : ListAnswer) → length o ≡ 6 → SettledScene twoPoints o o′ (9 ∷ 9 ∷ []) b′ r → b′ ≡ 0 ∷ 1 ∷ []
 unfolding leaves byteOf
 verdicts-written o o′ b′ r long p =
     let says : listSays r ≡ given 2 =

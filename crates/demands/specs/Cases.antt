@@ -17,7 +17,7 @@ use Rattle.meaning.specs.Verdicts.{PairIs, SomePiece}
 use Rattle.meaning.specs.Resting.{SomeSettled, PairSettled}
 use Rattle.meaning.specs.Refusals.{notThere, shares}
 use Rattle.meaning.specs.Boxes.{meetOn, listed}
-use Rattle.meaning.specs.Judging.{byteOf}
+use Rattle.meaning.specs.SceneWords.{byteOf}
 use Rattle.meaning.specs.declared.Kind.{Kind}
 use Rattle.meaning.specs.declared.Kind.the-variants.{PointTriangle}
 use Rattle.meaning.specs.declared.Settled.{Settled}
@@ -25,14 +25,14 @@ use Rattle.meaning.specs.declared.Settled.the-variants.{Hit, Miss, Touch, Apart
 use Rattle.theory.specs.Bounds.{Every}
 use Rattle.theory.specs.Reading.{verdictOf, agreeing}
 use Rattle.theory.specs.Computed.{pieceVerdict, joined, joinedBelow, pointDifferences, edgeDifferences, startSum, endSum}
-use Rattle.signs.specs.BySigns.{keep}
-use Rattle.signs.specs.OneWay.{oneWay}
-use Rattle.resting.specs.First.{firstOf}
-use Rattle.resting.specs.Others.{skip}
-use Rattle.resting.specs.Filled.{slot, next}
-use Rattle.resting.specs.Answer.{baseOf, judgedBy, turnOf, otherwise, leafOf}
-use Rattle.resting.specs.Sixes.{pointSix, edgesSix, sixOf}
-use Rattle.resting.specs.Decided.{byLeaf, touching, settledBy, verdictOfWord, pieceWord, isTouch, pairWord, piece-word-is, word-verdict, some-hit, pair-word-is}
+use Rattle.sign_sums.specs.BySigns.{keep}
+use Rattle.sign_sums.specs.OneWay.{oneWay}
+use Rattle.corner_search.specs.First.{firstOf}
+use Rattle.corner_search.specs.Others.{skip}
+use Rattle.corner_search.specs.Filled.{slot, next}
+use Rattle.corner_search.specs.Answer.{baseOf, judgedBy, turnOf, otherwise, leafOf}
+use Rattle.corner_search.specs.Sixes.{pointSix, edgesSix, sixOf}
+use Rattle.corner_search.specs.Decided.{byLeaf, touching, settledBy, verdictOfWord, pieceWord, isTouch, pairWord, piece-word-is, word-verdict, some-hit, pair-word-is}
 use Rattle.scenes.specs.Below.{or-left, or-rest, none-passes}
 use Rattle.demands.specs.Standing.{stands-is}
 use Rattle.demands.specs.Table.{Case, cases, numbered, StandsIf, IsRight}

@@ -14,14 +14,14 @@ use Rattle.meaning.specs.Verdicts.{PieceIs, PairIs}
 use Rattle.meaning.specs.Refusals.{Outcome, given, refused, Check, Answers, sceneSays, pairSays, sceneChecks, notThere, shares, SceneChecked, PairJudged, PieceJudged}
 use Rattle.meaning.specs.Resting.{PieceSettled, PairSettled, settledSays, PairDecided, PieceDecided}
 use Rattle.meaning.specs.List.{pairs, roomOf, listSays, listChecks, Counted, Listing}
-use Rattle.meaning.specs.Judging.{JudgedScene}
+use Rattle.meaning.specs.SceneWords.{SettledScene}
 use Rattle.meaning.specs.declared.Kind.{Kind}
 use Rattle.meaning.specs.declared.SceneAnswer.{SceneAnswer}
 use Rattle.meaning.specs.declared.PairAnswer.{PairAnswer}
 use Rattle.meaning.specs.declared.SettledAnswer.{SettledAnswer}
 use Rattle.meaning.specs.declared.ListAnswer.{ListAnswer}
 use Rattle.theory.specs.OneVerdict.{one-piece-verdict, one-pair-verdict}
-use Rattle.resting.specs.Decided.{one-piece-word, one-pair-word}
+use Rattle.corner_search.specs.Decided.{one-piece-word, one-pair-word}
 use Rattle.demands.specs.Deciding.{Refuses, carriedBy, NoneHolds, absent, distinct, refused-exactly, carries-only, number-known, gives-exactly}
 
 -- ---- 1, 2, 3, 4, each over the whole scene before the next
@@ -162,7 +162,7 @@ demand1-list s room o p =
 pub demand1-listing : (s : Scene) (o o′ : List ℕ) (r : ListAnswer) → Listing s o o′ r → ListTable s (roomOf o) (listSays r)
 demand1-listing s o o′ r p = demand1-list s (roomOf o) (listSays r) (p .answer)
 
-pub demand1-judging : (s : Scene) (o o′ b b′ : List ℕ) (r : ListAnswer) → JudgedScene s o o′ b b′ r → ListTable s (min (roomOf o) (length b)) (listSays r)
+pub demand1-judging : (s : Scene) (o o′ b b′ : List ℕ) (r : ListAnswer) → SettledScene s o o′ b b′ r → ListTable s (min (roomOf o) (length b)) (listSays r)
 demand1-judging s o o′ b b′ r p = demand1-list s (min (roomOf o) (length b)) (listSays r) (p .answer)
 
 -- counting lends no room, and is refused by 1 to 4 alone

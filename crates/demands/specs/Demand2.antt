@@ -28,7 +28,7 @@ use Rattle.theory.specs.OneVerdict.{piece-is, judged-pair, pair-is}
 use Rattle.theory.specs.Computed.{pieceVerdict, pairVerdict}
 use Rattle.theory.specs.SevenPieces.{judged-piece}
 use Rattle.theory.specs.Cull.{culled-apart, culled-apart-in-motion, culled-never-meets}
-use Rattle.resting.specs.Decided.{pieceWord, pairWord, settled-piece, piece-word-is, settled-pair, pair-word-is, some-hit}
+use Rattle.corner_search.specs.Decided.{pieceWord, pairWord, settled-piece, piece-word-is, settled-pair, pair-word-is, some-hit}
 use Rattle.listing.specs.InOrder.{Earlier, ToList, list-is, list-only, list-once}
 
 -- one of the three, or of the four, and no other

@@ -10,7 +10,7 @@ use Rattle.meaning.specs.Verdicts.{PieceIs, PairIs}
 use Rattle.meaning.specs.Refusals.{Check, Answers, pairSays, sceneChecks, pairChecks, pieceChecks, SceneChecked, PairJudged, PieceJudged}
 use Rattle.meaning.specs.Resting.{PieceSettled, PairSettled, settledSays, PairDecided, PieceDecided}
 use Rattle.meaning.specs.List.{Pair, pairs, entries, roomOf, listSays, listChecks, leaves, Counted, Listing}
-use Rattle.meaning.specs.Judging.{byteOf, AllJudged, JudgedScene}
+use Rattle.meaning.specs.SceneWords.{byteOf, AllSettled, SettledScene}
 use Rattle.meaning.specs.declared.Kind.{Kind}
 use Rattle.meaning.specs.declared.Settled.{Settled}
 use Rattle.meaning.specs.declared.SceneAnswer.{SceneAnswer}
@@ -19,7 +19,7 @@ use Rattle.meaning.specs.declared.SettledAnswer as SettledAnswers
 use Rattle.meaning.specs.declared.SettledAnswer.{SettledAnswer}
 use Rattle.meaning.specs.declared.ListAnswer.{ListAnswer}
 use Rattle.theory.specs.OneVerdict.{one-piece-verdict, one-pair-verdict}
-use Rattle.resting.specs.Decided.{one-piece-word, one-pair-word}
+use Rattle.corner_search.specs.Decided.{one-piece-word, one-pair-word}
 use Rattle.scenes.specs.Answering.{one-answer}
 use Rattle.scenes.specs.Speaking.{one-number, pair-says-one, one-scene-answer}
 use Rattle.listing.specs.Once.{list-says-one}
@@ -70,8 +70,8 @@ one-listing s o o′ o″ r r′ p q =
     let same : r ≡ r′ = one-count s (listChecks s (roomOf o)) r r′ (p .answer) (q .answer) in
     (same, p .buffer ∙ ap (λ (a : ListAnswer). leaves (listSays a) (entries (pairs s)) o) same ∙ sym (q .buffer))
 
-pub all-judged-one : (s : Scene) (ps : List Pair) (vs ws : List Settled) → AllJudged s ps vs → AllJudged s ps ws → vs ≡ ws
-unfolding AllJudged
+pub all-judged-one : (s : Scene) (ps : List Pair) (vs ws : List Settled) → AllSettled s ps vs → AllSettled s ps ws → vs ≡ ws
+unfolding AllSettled
 all-judged-one s [] [] [] h k = refl
 all-judged-one s [] [] (w ∷ ws) h k = absurd k
 all-judged-one s [] (v ∷ vs) ws h k = absurd h
@@ -82,7 +82,7 @@ all-judged-one s (p ∷ ps) (v ∷ vs) (w ∷ ws) h k =
     let f = all-judged-one s ps vs ws (h .1) (k .1) in
     λ i. e i ∷ f i
 
-pub one-judging : (s : Scene) (o o′ o″ b b′ b″ : List ℕ) (r r′ : ListAnswer) → JudgedScene s o o′ b b′ r → JudgedScene s o o″ b b″ r′ → (r ≡ r′) × (o′ ≡ o″) × (b′ ≡ b″)
+pub one-judging : (s : Scene) (o o′ o″ b b′ b″ : List ℕ) (r r′ : ListAnswer) → SettledScene s o o′ b b′ r → SettledScene s o o″ b b″ r′ → (r ≡ r′) × (o′ ≡ o″) × (b′ ≡ b″)
 one-judging s o o′ o″ b b′ b″ r r′ p q =
     let same : r ≡ r′ = one-count s (listChecks s (min (roomOf o) (length b))) r r′ (p .answer) (q .answer) in
     let words : p .words ≡ q .words = all-judged-one s (pairs s) (p .words) (q .words) (p .right) (q .right) in (

@@ -8,7 +8,7 @@ use Rattle.sequences.specs.Wrote.{written}
 use Rattle.meaning.specs.Scene.{Scene}
 use Rattle.meaning.specs.Refusals.{given, refused}
 use Rattle.meaning.specs.List.{pairs}
-use Rattle.meaning.specs.Judging.{AllJudged}
+use Rattle.meaning.specs.SceneWords.{AllSettled}
 use Rattle.meaning.specs.Text.{Holds, FaultyAt, TextIs, TextRead}
 use Rattle.meaning.specs.Report.{refusedLine, pairLines, totalLine, ReportOf, tooLong, faulty, noRoom, judged, Reported}
 use Rattle.meaning.specs.declared.Settled.{Settled}
@@ -41,10 +41,10 @@ faulty-one {text} {n} {line} {m} {place} f g =
     let b : line ≡ place = cc in
     λ i. refusedLine (a i) (b i)
 
-judged-one : {s t : Scene} (vs ws : List Settled) → s ≡ t → AllJudged s (pairs s) vs → AllJudged t (pairs t) ws
+judged-one : {s t : Scene} (vs ws : List Settled) → s ≡ t → AllSettled s (pairs s) vs → AllSettled t (pairs t) ws
     → pairLines (pairs s) vs ++ totalLine vs ≡ pairLines (pairs t) ws ++ totalLine ws
 judged-one {s} {t} vs ws e h k =
-    let h′ : AllJudged t (pairs t) vs = rw e at h in
+    let h′ : AllSettled t (pairs t) vs = rw e at h in
     let f : vs ≡ ws = all-judged-one t (pairs t) vs ws h′ k in
     λ i. pairLines (pairs (e i)) (f i) ++ totalLine (f i)
 

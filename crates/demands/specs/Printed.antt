@@ -18,13 +18,13 @@ use Rattle.meaning.specs.Refusals.{Answers, shares}
 use Rattle.meaning.specs.Boxes.{meetOn}
 use Rattle.meaning.specs.List.{pair, pairs}
 use Rattle.meaning.specs.Text.{Entry, vertex, edge, triangle, letterOf, numbersOf, numeral, further, lineOf, Short, late, excess, far, unknown, twice, counted, Sound, coordinatesIn, endsIn, cornersIn, sceneFrom, Holds}
-use Rattle.meaning.specs.Judging.{byteOf, AllJudged}
+use Rattle.meaning.specs.SceneWords.{byteOf, AllSettled}
 use Rattle.meaning.specs.Report.{kindWord, verdictWord, pairLines, isOne, howMany, totalLine, ReportOf, judged}
 use Rattle.meaning.specs.declared.Kind.the-variants.{PointTriangle, EdgeEdge}
 use Rattle.meaning.specs.declared.Settled.the-variants.{Hit}
 use Rattle.theory.specs.Reading.{verdictOf, agreeing}
 use Rattle.theory.specs.Computed.{pieceVerdict, pointDifferences, edgeDifferences, startSum, endSum, joined, joinedBelow}
-use Rattle.resting.specs.Decided.{settledBy, pairWord, pair-word-is}
+use Rattle.corner_search.specs.Decided.{settledBy, pairWord, pair-word-is}
 use Rattle.scene_text.specs.Accepted.{text-accepted}
 use Rattle.demands.specs.OneText.{one-report}
 use Rattle.demands.specs.Table.{at, neg}
@@ -66,8 +66,8 @@ printed-pairs = refl
 
 -- ---- the report
 
-both-hit : AllJudged printedScene (pairs printedScene) (Hit ∷ Hit ∷ [])
-unfolding AllJudged records printedScene flatMap coordinatesIn endsIn cornersIn pieceCount pieceVerdict joinedBelow joined pointDifferences edgeDifferences startSum endSum volume verdictOf agreeing pairWord settledBy
+both-hit : AllSettled printedScene (pairs printedScene) (Hit ∷ Hit ∷ [])
+unfolding AllSettled records printedScene flatMap coordinatesIn endsIn cornersIn pieceCount pieceVerdict joinedBelow joined pointDifferences edgeDifferences startSum endSum volume verdictOf agreeing pairWord settledBy
 both-hit =
     rw printed-pairs (pair-word-is printedScene PointTriangle 3 0 Hit .1 refl, (pair-word-is printedScene EdgeEdge 0 1 Hit .1 refl, tt))
 

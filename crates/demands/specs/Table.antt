@@ -17,7 +17,7 @@ use Rattle.meaning.specs.declared.Kind.{Kind}
 use Rattle.meaning.specs.declared.Kind.the-variants.{PointTriangle, EdgeEdge}
 use Rattle.meaning.specs.declared.Settled.{Settled}
 use Rattle.meaning.specs.declared.Settled.the-variants.{Hit, Miss, Touch, Apart}
-use Rattle.resting.specs.Decided.{verdictOfWord}
+use Rattle.corner_search.specs.Decided.{verdictOfWord}
 use Rattle.demands.specs.Standing.{Stands}
 
 -- a row: the pair, the words of its pieces, its own word, and whether it stands in the list

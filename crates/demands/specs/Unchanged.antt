@@ -13,7 +13,7 @@ use Rattle.meaning.specs.Limits.{vertexLimit, edgeLimit, triangleLimit}
 use Rattle.meaning.specs.Scene.{Scene, vertexCount, edgeCount, triangleCount}
 use Rattle.meaning.specs.Refusals.{Outcome, given, refused}
 use Rattle.meaning.specs.List.{Pair, pairs, entry, entries, listSays, leaves, Listing}
-use Rattle.meaning.specs.Judging.{byteOf, JudgedScene}
+use Rattle.meaning.specs.SceneWords.{byteOf, SettledScene}
 use Rattle.meaning.specs.Text.{Holds, shortBuffer, countsOf, countsTold, textSays, filled, TextRead}
 use Rattle.meaning.specs.declared.SceneCounts.{SceneCounts}
 use Rattle.meaning.specs.declared.ListAnswer.{ListAnswer}
@@ -38,7 +38,7 @@ filled-refused (refused m place) lent n line e = refl
 pub listing-unchanged : (s : Scene) (o o′ : List ℕ) (r : ListAnswer) → Listing s o o′ r → (n c : ℕ) → listSays r ≡ refused n c → o′ ≡ o
 listing-unchanged s o o′ r p n c e = p .buffer ∙ leaves-refused (listSays r) (entries (pairs s)) o n c e
 
-pub judging-unchanged : (s : Scene) (o o′ b b′ : List ℕ) (r : ListAnswer) → JudgedScene s o o′ b b′ r → (n c : ℕ) → listSays r ≡ refused n c → (o′ ≡ o) × (b′ ≡ b)
+pub judging-unchanged : (s : Scene) (o o′ b b′ : List ℕ) (r : ListAnswer) → SettledScene s o o′ b b′ r → (n c : ℕ) → listSays r ≡ refused n c → (o′ ≡ o) × (b′ ≡ b)
 judging-unchanged s o o′ b b′ r p n c e = (
   p .list ∙ leaves-refused (listSays r) (entries (pairs s)) o n c e,
   p .bytes ∙ leaves-refused (listSays r) (map byteOf (p .words)) b n c e,

@@ -3,7 +3,7 @@
 ghost use Prim.Native.Nat.{_≤_};
 ghost use mathlib.Core.Path.{_≡_};
 ghost use lib.ListN.{length};
-ghost use Rattle.meaning.specs.Scene.{sceneOf, Accepted};
+ghost use Rattle.meaning.specs.Scene.{sceneIn, sceneAtEntry, Accepted};
 ghost use Rattle.meaning.specs.List.{pairs, roomOf};
 ghost use Rattle.listing.specs.Answering.{ListedIn};
 use super::counting::count_all;
@@ -15,8 +15,8 @@ use meaning::Made;
 use meaning::Refusal;
 
 pub fn count_accepted(positions: &[i32], edges: &[u16], triangles: &[u16]) -> usize
-    requires { ⌜ Accepted (sceneOf (now positions) (now edges) (now triangles)) ⌝ }
-    ensures { λ r. ⌜ r ≡ length (pairs (sceneOf (now (positions .entry)) (now (edges .entry)) (now (triangles .entry)))) ⌝ }
+    requires { ⌜ Accepted (sceneIn positions edges triangles) ⌝ }
+    ensures { λ r. ⌜ r ≡ length (pairs (sceneAtEntry positions edges triangles)) ⌝ }
 {
     let mut boxes = [0i32; BOX_NUMBERS];
     fill(positions, edges, triangles, &mut boxes);
@@ -31,8 +31,8 @@ pub fn list_accepted(
     list: &mut [u16],
     room: usize,
 ) -> ListAnswer
-    requires { ⌜ Accepted (sceneOf (now positions) (now edges) (now triangles)) × (room ≤ roomOf (now list)) ⌝ }
-    ensures { λ r. ⌜ ListedIn (sceneOf (now (positions .entry)) (now (edges .entry)) (now (triangles .entry))) room (now (list .entry)) (now (list .exit)) r ⌝ }
+    requires { ⌜ Accepted (sceneIn positions edges triangles) × (room ≤ roomOf (now list)) ⌝ }
+    ensures { λ r. ⌜ ListedIn (sceneAtEntry positions edges triangles) room (now (list .entry)) (now (list .exit)) r ⌝ }
 {
     let mut boxes = [0i32; BOX_NUMBERS];
     fill(positions, edges, triangles, &mut boxes);

@@ -2,7 +2,7 @@
 
 ghost use Prim.Native.Nat.{_<_};
 ghost use mathlib.Core.Path.{_≡_};
-ghost use Rattle.meaning.specs.Scene.{sceneOf, vertexCount, edgeCount, triangleCount};
+ghost use Rattle.meaning.specs.Scene.{sceneIn, sceneAtEntry, vertexCount, edgeCount, triangleCount};
 ghost use Rattle.meaning.specs.Boxes.{listed};
 ghost use Rattle.meaning.specs.declared.Kind.the-variants.{PointTriangle, EdgeEdge};
 ghost use Rattle.boxes.specs.Kept.{Boxed};
@@ -24,8 +24,8 @@ fn listed_pt(
     v: usize,
     j: usize,
 ) -> bool
-    requires { ⌜ Boxed (sceneOf (now positions) (now edges) (now triangles)) (now boxes) × (v < vertexCount (sceneOf (now positions) (now edges) (now triangles))) × (j < triangleCount (sceneOf (now positions) (now edges) (now triangles))) ⌝ }
-    ensures { λ r. ⌜ r ≡ listed (sceneOf (now (positions .entry)) (now (edges .entry)) (now (triangles .entry))) PointTriangle v j ⌝ }
+    requires { ⌜ Boxed (sceneIn positions edges triangles) (now boxes) × (v < vertexCount (sceneIn positions edges triangles)) × (j < triangleCount (sceneIn positions edges triangles)) ⌝ }
+    ensures { λ r. ⌜ r ≡ listed (sceneAtEntry positions edges triangles) PointTriangle v j ⌝ }
 {
     let place = vertex_count(positions) + edge_count(edges) + j;
     if boxes_meet(boxes, v, place) {
@@ -43,8 +43,8 @@ fn listed_ee(
     i: usize,
     j: usize,
 ) -> bool
-    requires { ⌜ Boxed (sceneOf (now positions) (now edges) (now triangles)) (now boxes) × (i < edgeCount (sceneOf (now positions) (now edges) (now triangles))) × (j < edgeCount (sceneOf (now positions) (now edges) (now triangles))) ⌝ }
-    ensures { λ r. ⌜ r ≡ listed (sceneOf (now (positions .entry)) (now (edges .entry)) (now (triangles .entry))) EdgeEdge i j ⌝ }
+    requires { ⌜ Boxed (sceneIn positions edges triangles) (now boxes) × (i < edgeCount (sceneIn positions edges triangles)) × (j < edgeCount (sceneIn positions edges triangles)) ⌝ }
+    ensures { λ r. ⌜ r ≡ listed (sceneAtEntry positions edges triangles) EdgeEdge i j ⌝ }
 {
     let first = vertex_count(positions);
     if boxes_meet(boxes, first + i, first + j) {
@@ -64,8 +64,8 @@ pub fn is_listed(
     i: usize,
     j: usize,
 ) -> bool
-    requires { ⌜ Boxed (sceneOf (now positions) (now edges) (now triangles)) (now boxes) × (i < firstCount (sceneOf (now positions) (now edges) (now triangles)) kind) × (j < secondCount (sceneOf (now positions) (now edges) (now triangles)) kind) ⌝ }
-    ensures { λ r. ⌜ r ≡ listed (sceneOf (now (positions .entry)) (now (edges .entry)) (now (triangles .entry))) kind i j ⌝ }
+    requires { ⌜ Boxed (sceneIn positions edges triangles) (now boxes) × (i < firstCount (sceneIn positions edges triangles) kind) × (j < secondCount (sceneIn positions edges triangles) kind) ⌝ }
+    ensures { λ r. ⌜ r ≡ listed (sceneAtEntry positions edges triangles) kind i j ⌝ }
 {
     match kind {
         Kind::PointTriangle => listed_pt(positions, edges, triangles, boxes, i, j),
@@ -75,7 +75,7 @@ pub fn is_listed(
 
 // How many first places there are, and how many second places.
 pub fn first_count(positions: &[i32], edges: &[u16], triangles: &[u16], kind: Kind) -> usize
-    ensures { λ r. ⌜ r ≡ firstCount (sceneOf (now (positions .entry)) (now (edges .entry)) (now (triangles .entry))) kind ⌝ }
+    ensures { λ r. ⌜ r ≡ firstCount (sceneAtEntry positions edges triangles) kind ⌝ }
 {
     match kind {
         Kind::PointTriangle => vertex_count(positions),
@@ -84,7 +84,7 @@ pub fn first_count(positions: &[i32], edges: &[u16], triangles: &[u16], kind: Ki
 }
 
 pub fn second_count(positions: &[i32], edges: &[u16], triangles: &[u16], kind: Kind) -> usize
-    ensures { λ r. ⌜ r ≡ secondCount (sceneOf (now (positions .entry)) (now (edges .entry)) (now (triangles .entry))) kind ⌝ }
+    ensures { λ r. ⌜ r ≡ secondCount (sceneAtEntry positions edges triangles) kind ⌝ }
 {
     match kind {
         Kind::PointTriangle => triangle_count(triangles),

@@ -3,7 +3,7 @@
 ghost use Prim.Native.Nat.{_<_};
 ghost use mathlib.Core.Path.{_≡_};
 ghost use lib.ListN.{length};
-ghost use Rattle.meaning.specs.Scene.{sceneOf};
+ghost use Rattle.meaning.specs.Scene.{sceneIn, sceneAtEntry};
 ghost use Rattle.meaning.specs.List.{pairs};
 ghost use Rattle.listing.specs.Rows.{firstCount, secondCount, candidate, rowOf, rowsOf};
 ghost use Rattle.listing.specs.Meeting.{Prepared};
@@ -22,8 +22,8 @@ fn count_one(
     i: usize,
     j: usize,
 ) -> usize
-    requires { ⌜ Prepared (sceneOf (now positions) (now edges) (now triangles)) (now boxes) × (i < firstCount (sceneOf (now positions) (now edges) (now triangles)) kind) × (j < secondCount (sceneOf (now positions) (now edges) (now triangles)) kind) ⌝ }
-    ensures { λ r. ⌜ r ≡ length (candidate (sceneOf (now (positions .entry)) (now (edges .entry)) (now (triangles .entry))) kind i j) ⌝ }
+    requires { ⌜ Prepared (sceneIn positions edges triangles) (now boxes) × (i < firstCount (sceneIn positions edges triangles) kind) × (j < secondCount (sceneIn positions edges triangles) kind) ⌝ }
+    ensures { λ r. ⌜ r ≡ length (candidate (sceneAtEntry positions edges triangles) kind i j) ⌝ }
 {
     if is_listed(positions, edges, triangles, boxes, kind, i, j) {
         1
@@ -40,8 +40,8 @@ fn count_row(
     kind: Kind,
     i: usize,
 ) -> usize
-    requires { ⌜ Prepared (sceneOf (now positions) (now edges) (now triangles)) (now boxes) × (i < firstCount (sceneOf (now positions) (now edges) (now triangles)) kind) ⌝ }
-    ensures { λ r. ⌜ r ≡ length (rowOf (sceneOf (now (positions .entry)) (now (edges .entry)) (now (triangles .entry))) kind i) ⌝ }
+    requires { ⌜ Prepared (sceneIn positions edges triangles) (now boxes) × (i < firstCount (sceneIn positions edges triangles) kind) ⌝ }
+    ensures { λ r. ⌜ r ≡ length (rowOf (sceneAtEntry positions edges triangles) kind i) ⌝ }
 {
     let end = second_count(positions, edges, triangles, kind);
     let mut count = 0;
@@ -60,8 +60,8 @@ fn count_rows(
     boxes: &[i32],
     kind: Kind,
 ) -> usize
-    requires { ⌜ Prepared (sceneOf (now positions) (now edges) (now triangles)) (now boxes) ⌝ }
-    ensures { λ r. ⌜ r ≡ length (rowsOf (sceneOf (now (positions .entry)) (now (edges .entry)) (now (triangles .entry))) kind) ⌝ }
+    requires { ⌜ Prepared (sceneIn positions edges triangles) (now boxes) ⌝ }
+    ensures { λ r. ⌜ r ≡ length (rowsOf (sceneAtEntry positions edges triangles) kind) ⌝ }
 {
     let end = first_count(positions, edges, triangles, kind);
     let mut count = 0;
@@ -74,8 +74,8 @@ fn count_rows(
 }
 
 pub fn count_all(positions: &[i32], edges: &[u16], triangles: &[u16], boxes: &[i32]) -> usize
-    requires { ⌜ Prepared (sceneOf (now positions) (now edges) (now triangles)) (now boxes) ⌝ }
-    ensures { λ r. ⌜ r ≡ length (pairs (sceneOf (now (positions .entry)) (now (edges .entry)) (now (triangles .entry)))) ⌝ }
+    requires { ⌜ Prepared (sceneIn positions edges triangles) (now boxes) ⌝ }
+    ensures { λ r. ⌜ r ≡ length (pairs (sceneAtEntry positions edges triangles)) ⌝ }
 {
     count_rows(positions, edges, triangles, boxes, Kind::PointTriangle)
         + count_rows(positions, edges, triangles, boxes, Kind::EdgeEdge)

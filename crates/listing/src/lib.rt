@@ -6,7 +6,7 @@ pub mod entries; // entries.rt: an entry in a buffer, and room for entries
 mod writing; // writing.rt: the listed pairs, entered
 pub mod accepted; // accepted.rt: the list of a scene that is accepted
 
-ghost use Rattle.meaning.specs.Scene.{sceneOf};
+ghost use Rattle.meaning.specs.Scene.{sceneAtEntry};
 ghost use Rattle.meaning.specs.List.{Counted, Listing};
 use accepted::count_accepted;
 use accepted::list_accepted;
@@ -18,7 +18,7 @@ use scenes::check_scene;
 
 // How many pairs are listed.
 pub fn count_pairs(positions: &[i32], edges: &[u16], triangles: &[u16]) -> ListAnswer
-    ensures { λ r. ⌜ Counted (sceneOf (now (positions .entry)) (now (edges .entry)) (now (triangles .entry))) r ⌝ }
+    ensures { λ r. ⌜ Counted (sceneAtEntry positions edges triangles) r ⌝ }
 {
     match check_scene(positions, edges, triangles) {
         SceneAnswer::Refused(why) => ListAnswer::Refused(why, 0),
@@ -35,7 +35,7 @@ pub fn list_pairs(
     triangles: &[u16],
     list: &mut [u16],
 ) -> ListAnswer
-    ensures { λ r. ⌜ Listing (sceneOf (now (positions .entry)) (now (edges .entry)) (now (triangles .entry))) (now (list .entry)) (now (list .exit)) r ⌝ }
+    ensures { λ r. ⌜ Listing (sceneAtEntry positions edges triangles) (now (list .entry)) (now (list .exit)) r ⌝ }
 {
     match check_scene(positions, edges, triangles) {
         SceneAnswer::Refused(why) => ListAnswer::Refused(why, 0),

@@ -4,7 +4,7 @@ ghost use Prim.Native.Nat.{_+_, _*_, _≤_, _<_};
 ghost use mathlib.Core.Path.{_≡_};
 ghost use lib.ListN.{length};
 ghost use Rattle.sequences.specs.Wrote.{written};
-ghost use Rattle.meaning.specs.Scene.{sceneOf};
+ghost use Rattle.meaning.specs.Scene.{sceneIn, sceneAtEntry};
 ghost use Rattle.meaning.specs.List.{pairs, entries};
 ghost use Rattle.listing.specs.Rows.{firstCount, secondCount, candidate, rowOf, rowsOf};
 ghost use Rattle.listing.specs.Meeting.{Prepared};
@@ -27,9 +27,9 @@ fn write_one(
     list: &mut [u16],
     from: usize,
 ) -> usize
-    requires { ⌜ Prepared (sceneOf (now positions) (now edges) (now triangles)) (now boxes) × (i < firstCount (sceneOf (now positions) (now edges) (now triangles)) kind) × (j < secondCount (sceneOf (now positions) (now edges) (now triangles)) kind) ⌝ }
-    requires { ⌜ RoomFor (now list) from (candidate (sceneOf (now positions) (now edges) (now triangles)) kind i j) ⌝ }
-    ensures { λ r. ⌜ Entered (now (list .entry)) from (candidate (sceneOf (now (positions .entry)) (now (edges .entry)) (now (triangles .entry))) kind i j) (now (list .exit)) r ⌝ }
+    requires { ⌜ Prepared (sceneIn positions edges triangles) (now boxes) × (i < firstCount (sceneIn positions edges triangles) kind) × (j < secondCount (sceneIn positions edges triangles) kind) ⌝ }
+    requires { ⌜ RoomFor (now list) from (candidate (sceneIn positions edges triangles) kind i j) ⌝ }
+    ensures { λ r. ⌜ Entered (now (list .entry)) from (candidate (sceneAtEntry positions edges triangles) kind i j) (now (list .exit)) r ⌝ }
 {
     if is_listed(positions, edges, triangles, boxes, kind, i, j) {
         put(list, from, kind, i, j);
@@ -49,9 +49,9 @@ fn write_row(
     list: &mut [u16],
     from: usize,
 ) -> usize
-    requires { ⌜ Prepared (sceneOf (now positions) (now edges) (now triangles)) (now boxes) × (i < firstCount (sceneOf (now positions) (now edges) (now triangles)) kind) ⌝ }
-    requires { ⌜ RoomFor (now list) from (rowOf (sceneOf (now positions) (now edges) (now triangles)) kind i) ⌝ }
-    ensures { λ r. ⌜ Entered (now (list .entry)) from (rowOf (sceneOf (now (positions .entry)) (now (edges .entry)) (now (triangles .entry))) kind i) (now (list .exit)) r ⌝ }
+    requires { ⌜ Prepared (sceneIn positions edges triangles) (now boxes) × (i < firstCount (sceneIn positions edges triangles) kind) ⌝ }
+    requires { ⌜ RoomFor (now list) from (rowOf (sceneIn positions edges triangles) kind i) ⌝ }
+    ensures { λ r. ⌜ Entered (now (list .entry)) from (rowOf (sceneAtEntry positions edges triangles) kind i) (now (list .exit)) r ⌝ }
 {
     let end = second_count(positions, edges, triangles, kind);
     let mut k = from;
@@ -72,9 +72,9 @@ fn write_rows(
     list: &mut [u16],
     from: usize,
 ) -> usize
-    requires { ⌜ Prepared (sceneOf (now positions) (now edges) (now triangles)) (now boxes) ⌝ }
-    requires { ⌜ RoomFor (now list) from (rowsOf (sceneOf (now positions) (now edges) (now triangles)) kind) ⌝ }
-    ensures { λ r. ⌜ Entered (now (list .entry)) from (rowsOf (sceneOf (now (positions .entry)) (now (edges .entry)) (now (triangles .entry))) kind) (now (list .exit)) r ⌝ }
+    requires { ⌜ Prepared (sceneIn positions edges triangles) (now boxes) ⌝ }
+    requires { ⌜ RoomFor (now list) from (rowsOf (sceneIn positions edges triangles) kind) ⌝ }
+    ensures { λ r. ⌜ Entered (now (list .entry)) from (rowsOf (sceneAtEntry positions edges triangles) kind) (now (list .exit)) r ⌝ }
 {
     let end = first_count(positions, edges, triangles, kind);
     let mut k = from;
@@ -94,9 +94,9 @@ pub fn write_all(
     boxes: &[i32],
     list: &mut [u16],
 )
-    requires { ⌜ Prepared (sceneOf (now positions) (now edges) (now triangles)) (now boxes) ⌝ }
-    requires { ⌜ RoomFor (now list) 0 (pairs (sceneOf (now positions) (now edges) (now triangles))) ⌝ }
-    ensures { λ _. ⌜ now (list .exit) ≡ written (entries (pairs (sceneOf (now (positions .entry)) (now (edges .entry)) (now (triangles .entry))))) (now (list .entry)) ⌝ }
+    requires { ⌜ Prepared (sceneIn positions edges triangles) (now boxes) ⌝ }
+    requires { ⌜ RoomFor (now list) 0 (pairs (sceneIn positions edges triangles)) ⌝ }
+    ensures { λ _. ⌜ now (list .exit) ≡ written (entries (pairs (sceneAtEntry positions edges triangles))) (now (list .entry)) ⌝ }
 {
     let k = write_rows(
         positions,

@@ -11,7 +11,7 @@ use borrow.Author.Tests.{lt-ltb, le-ltb}
 use Rattle.meaning.specs.Refusals.{Outcome, given, refused, sceneSays, pairSays}
 use Rattle.meaning.specs.List.{listSays}
 use Rattle.meaning.specs.Resting.{settledSays}
-use Rattle.meaning.specs.Judging.{byteOf}
+use Rattle.meaning.specs.SceneWords.{byteOf}
 use Rattle.meaning.specs.Text.{textSays}
 use Rattle.meaning.specs.declared.SceneCounts.{SceneCounts}
 use Rattle.meaning.specs.declared.Verdict.{Verdict}
@@ -29,7 +29,7 @@ use Rattle.meaning.specs.declared.ListAnswer.{ListAnswer}
 use Rattle.meaning.specs.declared.TextAnswer as TextAnswers
 use Rattle.meaning.specs.declared.TextAnswer.{TextAnswer}
 use Rattle.scenes.specs.Speaking.{scene-says-one, pair-says-one}
-use Rattle.judging.specs.Listed.{wordOfByte, byte-back, byte-small}
+use Rattle.scene_words.specs.Listed.{wordOfByte, byte-back, byte-small}
 use Rattle.listing.specs.Once.{list-says-one}
 use Rattle.demands.specs.OneAnswer.{settled-says-one}
 use Rattle.scene_text.specs.Using.{text-says-one}

@@ -6,7 +6,7 @@ use Rattle.meaning.specs.Scene.{Scene}
 use Rattle.meaning.specs.Refusals.{Outcome, given, refused, sceneSays, pairSays}
 use Rattle.meaning.specs.List.{listSays}
 use Rattle.meaning.specs.Resting.{settledSays}
-use Rattle.meaning.specs.Judging.{byteOf}
+use Rattle.meaning.specs.SceneWords.{byteOf}
 use Rattle.meaning.specs.Text.{textSays, TextRead}
 use Rattle.meaning.specs.declared.SceneAnswer.{SceneAnswer}
 use Rattle.meaning.specs.declared.Verdict.{Verdict}

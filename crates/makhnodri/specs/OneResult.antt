@@ -10,13 +10,13 @@ use Rattle.meaning.specs.Verdicts.{PieceIs, PairIs}
 use Rattle.meaning.specs.Refusals.{given, refused, Answers, sceneChecks, pairChecks, pieceChecks, SceneChecked, PairJudged, PieceJudged}
 use Rattle.meaning.specs.Resting.{PieceSettled, PairSettled, PairDecided, PieceDecided}
 use Rattle.meaning.specs.List.{pairs, entries, roomOf, listChecks, leaves, Counted, Listing}
-use Rattle.meaning.specs.Judging.{byteOf, JudgedScene}
+use Rattle.meaning.specs.SceneWords.{byteOf, SettledScene}
 use Rattle.meaning.specs.Text.{textSays}
 use Rattle.meaning.specs.declared.Kind.{Kind}
 use Rattle.meaning.specs.declared.SceneCounts.{SceneCounts}
 use Rattle.meaning.specs.declared.TextAnswer.{TextAnswer}
 use Rattle.meaning.specs.declared.TextAnswer.the-variants.{Read, Refused}
-use Rattle.judging.specs.Listed.{wordOfByte}
+use Rattle.scene_words.specs.Listed.{wordOfByte}
 use Rattle.demands.specs.OneAnswer.{one-scene, one-pair, one-piece, one-settled-pair, one-settled-piece, one-counted, one-listing, one-judging}
 use Rattle.demands.specs.OneText.{one-reading}
 use Rattle.demands.specs.TextTable.{TextRows, demand1-text}
@@ -52,8 +52,8 @@ one-list-told s o o′ o″ r r′ p q =
     let (same, list) = one-listing s o o′ o″ (p .answer) (q .answer) (p .right) (q .right) in
     (one-number p q same, list)
 
-pub one-judging-told : (s : Scene) (o o′ o″ b b′ b″ : List ℕ) (r r′ : ℕ) → Told listNumber (JudgedScene s o o′ b b′) r
-    → Told listNumber (JudgedScene s o o″ b b″) r′ → (r ≡ r′) × (o′ ≡ o″) × (b′ ≡ b″)
+pub one-judging-told : (s : Scene) (o o′ o″ b b′ b″ : List ℕ) (r r′ : ℕ) → Told listNumber (SettledScene s o o′ b b′) r
+    → Told listNumber (SettledScene s o o″ b b″) r′ → (r ≡ r′) × (o′ ≡ o″) × (b′ ≡ b″)
 one-judging-told s o o′ o″ b b′ b″ r r′ p q =
     let (same, list, bytes) = one-judging s o o′ o″ b b′ b″ (p .answer) (q .answer) (p .right) (q .right) in
     (one-number p q same, list, bytes)
@@ -92,7 +92,7 @@ pub list-told-heard : (s : Scene) (o o′ : List ℕ) (r : ℕ) → Told listNum
     → Answers (listChecks s (roomOf o)) (λ n. n ≡ length (pairs s)) (heard count r) × (o′ ≡ leaves (heard count r) (entries (pairs s)) o)
 list-told-heard s o o′ r p = rw (p .is, list-heard (p .answer) (listing-small (p .right))) (p .right .answer, p .right .buffer)
 
-pub judging-told-heard : (s : Scene) (o o′ b b′ : List ℕ) (r : ℕ) → (p : Told listNumber (JudgedScene s o o′ b b′) r)
+pub judging-told-heard : (s : Scene) (o o′ b b′ : List ℕ) (r : ℕ) → (p : Told listNumber (SettledScene s o o′ b b′) r)
     → Answers (listChecks s (min (roomOf o) (length b))) (λ n. n ≡ length (pairs s)) (heard count r)
     × (o′ ≡ leaves (heard count r) (entries (pairs s)) o)
     × (b′ ≡ leaves (heard count r) (map byteOf (p .right .words)) b)

@@ -11,7 +11,7 @@ use Rattle.meaning.specs.Limits.{textLimit}
 use Rattle.meaning.specs.Scene.{Scene, Accepted}
 use Rattle.meaning.specs.Refusals.{Outcome, given, refused, Check, Answers, numberOf, sceneChecks}
 use Rattle.meaning.specs.List.{pairs, roomOf, listSays, listChecks, Counted, Listing}
-use Rattle.meaning.specs.Judging.{JudgedScene}
+use Rattle.meaning.specs.SceneWords.{SettledScene}
 use Rattle.meaning.specs.Text.{Entry, lineOf, textOf, FaultyAt, TextIs, shortBuffer, longText, TextOutcome, countsTold, textSays, TextRead}
 use Rattle.meaning.specs.declared.Refusal.{Refusal}
 use Rattle.meaning.specs.declared.Refusal.the-variants.{Shape, Coordinate, UnknownVertex, RepeatedVertex, NotThere, SharedVertex, NoRoom, LongText, BadLine, LateRecord, TooMany, ShortBuffer}
@@ -99,7 +99,7 @@ pub listing-small : {s : Scene} {o o′ : List ℕ} {r : ListAnswer} → Listing
 unfolding IsCount
 listing-small {s} {o} {o′} {r} p = listed-small s (roomOf o) (listSays r) (p .answer)
 
-pub judging-small : {s : Scene} {o o′ b b′ : List ℕ} {r : ListAnswer} → JudgedScene s o o′ b b′ r → toldIn (listSays r) < upper
+pub judging-small : {s : Scene} {o o′ b b′ : List ℕ} {r : ListAnswer} → SettledScene s o o′ b b′ r → toldIn (listSays r) < upper
 unfolding IsCount
 judging-small {s} {o} {o′} {b} {b′} {r} p = listed-small s (min (roomOf o) (length b)) (listSays r) (p .answer)
 

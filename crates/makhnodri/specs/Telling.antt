@@ -7,7 +7,7 @@ use Rattle.meaning.specs.Scene.{Scene}
 use Rattle.meaning.specs.Refusals.{numberOf, sceneSays, pairSays}
 use Rattle.meaning.specs.List.{listSays}
 use Rattle.meaning.specs.Resting.{settledSays}
-use Rattle.meaning.specs.Judging.{byteOf}
+use Rattle.meaning.specs.SceneWords.{byteOf}
 use Rattle.meaning.specs.Text.{textSays, TextRead}
 use Rattle.meaning.specs.declared.Refusal.{Refusal}
 use Rattle.meaning.specs.declared.Verdict.{Verdict}

@@ -3,11 +3,11 @@
 ghost use Prim.Native.Nat.{_+_, _*_, _<_};
 ghost use mathlib.Core.List.{[], _∷_};
 ghost use mathlib.Core.Path.{_≡_};
-ghost use Rattle.meaning.specs.Scene.{sceneOf};
+ghost use Rattle.meaning.specs.Scene.{sceneAtEntry, sceneAtExit};
 ghost use Rattle.meaning.specs.Refusals.{numberOf, SceneChecked, PairJudged, PieceJudged};
 ghost use Rattle.meaning.specs.Resting.{PairDecided, PieceDecided};
 ghost use Rattle.meaning.specs.List.{listSays, Counted, Listing};
-ghost use Rattle.meaning.specs.Judging.{JudgedScene};
+ghost use Rattle.meaning.specs.SceneWords.{SettledScene};
 ghost use Rattle.meaning.specs.declared.Kind.the-variants.{PointTriangle, EdgeEdge};
 ghost use Rattle.meaning.specs.Report.{Reported};
 ghost use Rattle.makhnodri.specs.Numbers.{upper, verdictNumber, sceneNumber, pairNumber, settledNumber, listNumber, textNumber, ReadInto, Told};
@@ -41,7 +41,7 @@ fn scene_number(answer: SceneAnswer) -> u64
     }
 }
 
-// The three-case verdict has numbers of its own; judging::byte_of numbers the four words.
+// The three-case verdict has numbers of its own; scene_words::byte_of numbers the four words.
 fn verdict_number(verdict: Verdict) -> u64
     ensures { λ r. ⌜ r ≡ verdictNumber verdict ⌝ }
 {
@@ -65,7 +65,7 @@ fn settled_number(answer: SettledAnswer) -> u64
     ensures { λ r. ⌜ r ≡ settledNumber answer ⌝ }
 {
     match answer {
-        SettledAnswer::Decided(word) => judging::byte_of(word) as u64,
+        SettledAnswer::Decided(word) => scene_words::byte_of(word) as u64,
         SettledAnswer::Refused(why) => refused(why, 0),
     }
 }
@@ -91,7 +91,7 @@ fn put_counts(counts: &mut [usize; 3], c: SceneCounts)
 // May this scene be used?
 #[no_mangle]
 pub extern "C" fn makhnodri_check_scene(positions: &[i32], edges: &[u16], triangles: &[u16]) -> u64
-    ensures { λ r. ⌜ Told sceneNumber (SceneChecked (sceneOf (now (positions .entry)) (now (edges .entry)) (now (triangles .entry)))) r ⌝ }
+    ensures { λ r. ⌜ Told sceneNumber (SceneChecked (sceneAtEntry positions edges triangles)) r ⌝ }
 {
     scene_number(scenes::check_scene(positions, edges, triangles))
 }
@@ -99,7 +99,7 @@ pub extern "C" fn makhnodri_check_scene(positions: &[i32], edges: &[u16], triang
 // How many pairs are listed.
 #[no_mangle]
 pub extern "C" fn makhnodri_count_pairs(positions: &[i32], edges: &[u16], triangles: &[u16]) -> u64
-    ensures { λ r. ⌜ Told listNumber (Counted (sceneOf (now (positions .entry)) (now (edges .entry)) (now (triangles .entry)))) r ⌝ }
+    ensures { λ r. ⌜ Told listNumber (Counted (sceneAtEntry positions edges triangles)) r ⌝ }
 {
     list_number(listing::count_pairs(positions, edges, triangles))
 }
@@ -112,23 +112,23 @@ pub extern "C" fn makhnodri_list_pairs(
     triangles: &[u16],
     list: &mut [u16],
 ) -> u64
-    ensures { λ r. ⌜ Told listNumber (Listing (sceneOf (now (positions .entry)) (now (edges .entry)) (now (triangles .entry))) (now (list .entry)) (now (list .exit))) r ⌝ }
+    ensures { λ r. ⌜ Told listNumber (Listing (sceneAtEntry positions edges triangles) (now (list .entry)) (now (list .exit))) r ⌝ }
 {
     list_number(listing::list_pairs(positions, edges, triangles, list))
 }
 
 // The list, and the word of each listed pair as a byte: hit, miss, touch or apart.
 #[no_mangle]
-pub extern "C" fn makhnodri_judge_scene(
+pub extern "C" fn makhnodri_settle_scene(
     positions: &[i32],
     edges: &[u16],
     triangles: &[u16],
     list: &mut [u16],
     verdicts: &mut [u8],
 ) -> u64
-    ensures { λ r. ⌜ Told listNumber (JudgedScene (sceneOf (now (positions .entry)) (now (edges .entry)) (now (triangles .entry))) (now (list .entry)) (now (list .exit)) (now (verdicts .entry)) (now (verdicts .exit))) r ⌝ }
+    ensures { λ r. ⌜ Told listNumber (SettledScene (sceneAtEntry positions edges triangles) (now (list .entry)) (now (list .exit)) (now (verdicts .entry)) (now (verdicts .exit))) r ⌝ }
 {
-    list_number(judging::judge_scene(positions, edges, triangles, list, verdicts))
+    list_number(scene_words::settle_scene(positions, edges, triangles, list, verdicts))
 }
 
 // ---- the verdict of a pair and of a piece: hit, miss or degenerate. A kind has functions of its own, so that no bad kind can be asked for
@@ -141,9 +141,9 @@ pub extern "C" fn makhnodri_judge_pt(
     vertex: usize,
     triangle: usize,
 ) -> u64
-    ensures { λ r. ⌜ Told pairNumber (PairJudged (sceneOf (now (positions .entry)) (now (edges .entry)) (now (triangles .entry))) PointTriangle vertex triangle) r ⌝ }
+    ensures { λ r. ⌜ Told pairNumber (PairJudged (sceneAtEntry positions edges triangles) PointTriangle vertex triangle) r ⌝ }
 {
-    pair_number(verdicts::judge_pair(
+    pair_number(three_words::judge_pair(
         positions,
         edges,
         triangles,
@@ -161,9 +161,9 @@ pub extern "C" fn makhnodri_judge_ee(
     first: usize,
     second: usize,
 ) -> u64
-    ensures { λ r. ⌜ Told pairNumber (PairJudged (sceneOf (now (positions .entry)) (now (edges .entry)) (now (triangles .entry))) EdgeEdge first second) r ⌝ }
+    ensures { λ r. ⌜ Told pairNumber (PairJudged (sceneAtEntry positions edges triangles) EdgeEdge first second) r ⌝ }
 {
-    pair_number(verdicts::judge_pair(positions, edges, triangles, Kind::EdgeEdge, first, second))
+    pair_number(three_words::judge_pair(positions, edges, triangles, Kind::EdgeEdge, first, second))
 }
 
 #[no_mangle]
@@ -175,9 +175,9 @@ pub extern "C" fn makhnodri_judge_pt_piece(
     triangle: usize,
     piece: usize,
 ) -> u64
-    ensures { λ r. ⌜ Told pairNumber (PieceJudged (sceneOf (now (positions .entry)) (now (edges .entry)) (now (triangles .entry))) PointTriangle vertex triangle piece) r ⌝ }
+    ensures { λ r. ⌜ Told pairNumber (PieceJudged (sceneAtEntry positions edges triangles) PointTriangle vertex triangle piece) r ⌝ }
 {
-    pair_number(verdicts::judge_piece(
+    pair_number(three_words::judge_piece(
         positions,
         edges,
         triangles,
@@ -197,9 +197,9 @@ pub extern "C" fn makhnodri_judge_ee_piece(
     second: usize,
     piece: usize,
 ) -> u64
-    ensures { λ r. ⌜ Told pairNumber (PieceJudged (sceneOf (now (positions .entry)) (now (edges .entry)) (now (triangles .entry))) EdgeEdge first second piece) r ⌝ }
+    ensures { λ r. ⌜ Told pairNumber (PieceJudged (sceneAtEntry positions edges triangles) EdgeEdge first second piece) r ⌝ }
 {
-    pair_number(verdicts::judge_piece(
+    pair_number(three_words::judge_piece(
         positions,
         edges,
         triangles,
@@ -220,9 +220,9 @@ pub extern "C" fn makhnodri_settle_pt(
     vertex: usize,
     triangle: usize,
 ) -> u64
-    ensures { λ r. ⌜ Told settledNumber (PairDecided (sceneOf (now (positions .entry)) (now (edges .entry)) (now (triangles .entry))) PointTriangle vertex triangle) r ⌝ }
+    ensures { λ r. ⌜ Told settledNumber (PairDecided (sceneAtEntry positions edges triangles) PointTriangle vertex triangle) r ⌝ }
 {
-    settled_number(settling::settle_pair(
+    settled_number(four_words::settle_pair(
         positions,
         edges,
         triangles,
@@ -240,9 +240,9 @@ pub extern "C" fn makhnodri_settle_ee(
     first: usize,
     second: usize,
 ) -> u64
-    ensures { λ r. ⌜ Told settledNumber (PairDecided (sceneOf (now (positions .entry)) (now (edges .entry)) (now (triangles .entry))) EdgeEdge first second) r ⌝ }
+    ensures { λ r. ⌜ Told settledNumber (PairDecided (sceneAtEntry positions edges triangles) EdgeEdge first second) r ⌝ }
 {
-    settled_number(settling::settle_pair(
+    settled_number(four_words::settle_pair(
         positions,
         edges,
         triangles,
@@ -261,9 +261,9 @@ pub extern "C" fn makhnodri_settle_pt_piece(
     triangle: usize,
     piece: usize,
 ) -> u64
-    ensures { λ r. ⌜ Told settledNumber (PieceDecided (sceneOf (now (positions .entry)) (now (edges .entry)) (now (triangles .entry))) PointTriangle vertex triangle piece) r ⌝ }
+    ensures { λ r. ⌜ Told settledNumber (PieceDecided (sceneAtEntry positions edges triangles) PointTriangle vertex triangle piece) r ⌝ }
 {
-    settled_number(settling::settle_piece(
+    settled_number(four_words::settle_piece(
         positions,
         edges,
         triangles,
@@ -283,9 +283,9 @@ pub extern "C" fn makhnodri_settle_ee_piece(
     second: usize,
     piece: usize,
 ) -> u64
-    ensures { λ r. ⌜ Told settledNumber (PieceDecided (sceneOf (now (positions .entry)) (now (edges .entry)) (now (triangles .entry))) EdgeEdge first second piece) r ⌝ }
+    ensures { λ r. ⌜ Told settledNumber (PieceDecided (sceneAtEntry positions edges triangles) EdgeEdge first second piece) r ⌝ }
 {
-    settled_number(settling::settle_piece(
+    settled_number(four_words::settle_piece(
         positions,
         edges,
         triangles,
@@ -307,7 +307,7 @@ pub extern "C" fn makhnodri_read_scene(
     triangles: &mut [u16],
     counts: &mut [usize; 3],
 ) -> u64
-    ensures { λ r. ⌜ Told textNumber (ReadInto (now (text .entry)) (sceneOf (now (positions .entry)) (now (edges .entry)) (now (triangles .entry))) (sceneOf (now (positions .exit)) (now (edges .exit)) (now (triangles .exit))) (now (counts .entry)) (now (counts .exit))) r ⌝ }
+    ensures { λ r. ⌜ Told textNumber (ReadInto (now (text .entry)) (sceneAtEntry positions edges triangles) (sceneAtExit positions edges triangles) (now (counts .entry)) (now (counts .exit))) r ⌝ }
 {
     match scene_text::read_scene(text, positions, edges, triangles) {
         TextAnswer::Read(c) => {

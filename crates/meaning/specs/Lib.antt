@@ -9,6 +9,6 @@ pub mod Refusals
 pub mod Boxes
 pub mod Motion
 pub mod List
-pub mod Judging
+pub mod SceneWords
 pub mod Text
 pub mod Report

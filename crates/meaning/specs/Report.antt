@@ -10,7 +10,7 @@ use Rattle.sequences.specs.Wrote.{written}
 use Rattle.meaning.specs.Limits.{textLimit, reportRoom}
 use Rattle.meaning.specs.Scene.{Scene}
 use Rattle.meaning.specs.List.{Pair, pairs}
-use Rattle.meaning.specs.Judging.{byteOf, AllJudged}
+use Rattle.meaning.specs.SceneWords.{byteOf, AllSettled}
 use Rattle.meaning.specs.Text.{Holds, FaultyAt, tab, lineFeed, further}
 use Rattle.meaning.specs.declared.Kind.{Kind}
 use Rattle.meaning.specs.declared.Kind.the-variants.{PointTriangle, EdgeEdge}
@@ -73,7 +73,7 @@ pub data ReportOf (text : List ℕ) : List ℕ → Type 0 where
   noRoom : (s : Scene) → length text ≤ textLimit → Holds text s → reportRoom < length (pairs s)
       → ReportOf text (refusedLine 7 (length (pairs s)))
   judged : (s : Scene) (ws : List Settled) → length text ≤ textLimit → Holds text s → length (pairs s) ≤ reportRoom
-      → AllJudged s (pairs s) ws
+      → AllSettled s (pairs s) ws
       → ReportOf text (pairLines (pairs s) ws ++ totalLine ws)
 
 -- the report stands in front of the buffer that held o and holds o′, n bytes long, and the rest is unchanged

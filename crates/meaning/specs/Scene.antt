@@ -7,6 +7,8 @@ use mathlib.Core.Path.{_≡_}
 use lib.Dec.{leb, ltb, eqb}
 use lib.IntN.{ℤ, pos, natAbs}
 use lib.ListN.{length, getD}
+use denote.Ref.{RefT}
+use denote.Triple.Both.{Both}
 use Rattle.whole.specs.Vector.{Vector}
 use Rattle.meaning.specs.Limits.{coordinateLimit, vertexLimit, edgeLimit, triangleLimit}
 use Rattle.meaning.specs.declared.Ends.{Ends}
@@ -20,6 +22,19 @@ pub record Scene : Type 0 where
 
 abbrev pub sceneOf : List ℤ → List ℕ → List ℕ → Scene
 sceneOf p e t = record { positions = p; edges = e; triangles = t }
+
+-- the scene of a call, as a promise names it: the lists in the lent slices; in a promise of what is returned, as they were when the
+-- call began and as they are when it ends
+abbrev pub sceneIn : RefT (List ℤ) → RefT (List ℕ) → RefT (List ℕ) → Scene
+sceneIn p e t = sceneOf (p .now) (e .now) (t .now)
+
+abbrev pub sceneAtEntry : {X Y Z : Type 0} → Both (RefT (List ℤ)) X → Both (RefT (List ℕ)) Y → Both (RefT (List ℕ)) Z
+    → Scene
+sceneAtEntry p e t = sceneIn (p .entry) (e .entry) (t .entry)
+
+abbrev pub sceneAtExit : {X Y Z : Type 0} → Both X (RefT (List ℤ)) → Both Y (RefT (List ℕ)) → Both Z (RefT (List ℕ))
+    → Scene
+sceneAtExit p e t = sceneIn (p .exit) (e .exit) (t .exit)
 
 abbrev pub vertexCount : Scene → ℕ
 vertexCount s = length (s .positions) / 6

@@ -2,7 +2,7 @@
 // lent buffers.
 ghost use Prim.Native.Nat.{_+_};
 ghost use mathlib.Core.Path.{_≡_};
-ghost use Rattle.meaning.specs.Scene.{sceneOf};
+ghost use Rattle.meaning.specs.Scene.{sceneIn, sceneAtEntry, sceneAtExit};
 ghost use Rattle.meaning.specs.Text.{TextRead};
 ghost use Rattle.scene_text.specs.Filling.{HoldsOne, Filled};
 ghost use Rattle.scene_text.specs.Inspecting.{Inspected};
@@ -64,8 +64,8 @@ fn inspect(text: &[u8]) -> TextAnswer
 // The second pass, over a text without a faulty line: the buffers then hold its scene in front.
 fn fill(text: &[u8], positions: &mut [i32], edges: &mut [u16], triangles: &mut [u16])
     requires { ⌜ HoldsOne (now text) ⌝ }
-    requires { ⌜ Roomy (sceneOf (now positions) (now edges) (now triangles)) ⌝ }
-    ensures { λ _. ⌜ Filled (now (text .entry)) (sceneOf (now (positions .entry)) (now (edges .entry)) (now (triangles .entry))) (sceneOf (now (positions .exit)) (now (edges .exit)) (now (triangles .exit))) ⌝ }
+    requires { ⌜ Roomy (sceneIn positions edges triangles) ⌝ }
+    ensures { λ _. ⌜ Filled (now (text .entry)) (sceneAtEntry positions edges triangles) (sceneAtExit positions edges triangles) ⌝ }
 {
     let mut sizes = [0u64; 6];
     let mut minus = [false; 6];
@@ -97,7 +97,7 @@ pub fn read_scene(
     edges: &mut [u16],
     triangles: &mut [u16],
 ) -> TextAnswer
-    ensures { λ r. ⌜ TextRead (now (text .entry)) (sceneOf (now (positions .entry)) (now (edges .entry)) (now (triangles .entry))) (sceneOf (now (positions .exit)) (now (edges .exit)) (now (triangles .exit))) r ⌝ }
+    ensures { λ r. ⌜ TextRead (now (text .entry)) (sceneAtEntry positions edges triangles) (sceneAtExit positions edges triangles) r ⌝ }
 {
     let few = positions.len() < 6 * VERTEX_LIMIT;
     if few | (edges.len() < 2 * EDGE_LIMIT) | (triangles.len() < 3 * TRIANGLE_LIMIT) {

@@ -5,7 +5,7 @@ ghost use mathlib.Core.List.{[], _∷_};
 ghost use mathlib.Core.Path.{_≡_};
 ghost use Rattle.sequences.specs.Wrote.{Wrote};
 ghost use Rattle.meaning.specs.Limits.{coordinateLimit};
-ghost use Rattle.meaning.specs.Scene.{sceneOf};
+ghost use Rattle.meaning.specs.Scene.{sceneIn, sceneAtEntry, sceneAtExit};
 ghost use Rattle.scene_text.specs.Putting.{signedOf, pointFrom, vertexFrom, Near, Ready, Roomy, Put};
 use crate::line::Sort;
 use meaning::SceneCounts;
@@ -75,8 +75,8 @@ pub(crate) fn put(
     triangles: &mut [u16],
 )
     requires { ⌜ Ready sort c (now sizes) (now minus) ⌝ }
-    requires { ⌜ Roomy (sceneOf (now positions) (now edges) (now triangles)) ⌝ }
-    ensures { λ _. ⌜ Put sort c (now (sizes .entry)) (now (minus .entry)) (sceneOf (now (positions .entry)) (now (edges .entry)) (now (triangles .entry))) (sceneOf (now (positions .exit)) (now (edges .exit)) (now (triangles .exit))) ⌝ }
+    requires { ⌜ Roomy (sceneIn positions edges triangles) ⌝ }
+    ensures { λ _. ⌜ Put sort c (now (sizes .entry)) (now (minus .entry)) (sceneAtEntry positions edges triangles) (sceneAtExit positions edges triangles) ⌝ }
 {
     match sort {
         Sort::Vertex => put_vertex(positions, 6 * c.vertices, sizes, minus),

@@ -6,7 +6,7 @@ ghost use mathlib.Core.Path.{_≡_};
 ghost use lib.Dec.{leb};
 ghost use lib.IntN.{pos};
 ghost use lib.ListN.{length, getD};
-ghost use Rattle.meaning.specs.Scene.{sceneOf, edgeCount, triangleCount, someBelow, wrongShape, outside, outOfRange, unknownIn, unknownVertex, twiceInEdge, twiceInTriangle, repeatedVertex};
+ghost use Rattle.meaning.specs.Scene.{sceneAtEntry, sceneOf, edgeCount, triangleCount, someBelow, wrongShape, outside, outOfRange, unknownIn, unknownVertex, twiceInEdge, twiceInTriangle, repeatedVertex};
 ghost use Rattle.scenes.specs.Alone.{onlyPositions, onlyEdges, onlyTriangles};
 use super::written::corner;
 use super::written::edge_end;
@@ -22,7 +22,7 @@ const TRIANGLE_LIMIT: usize = 512;
 
 // 1: a length that is no multiple, or a count over its size.
 pub fn wrong_shape(positions: &[i32], edges: &[u16], triangles: &[u16]) -> bool
-    ensures { λ r. ⌜ r ≡ wrongShape (sceneOf (now (positions .entry)) (now (edges .entry)) (now (triangles .entry))) ⌝ }
+    ensures { λ r. ⌜ r ≡ wrongShape (sceneAtEntry positions edges triangles) ⌝ }
 {
     (positions.len() % 6 != 0)
         | (edges.len() % 2 != 0)
@@ -74,7 +74,7 @@ fn unknown_in(list: &[u16], count: usize) -> bool
 }
 
 pub fn unknown_vertex(positions: &[i32], edges: &[u16], triangles: &[u16]) -> bool
-    ensures { λ r. ⌜ r ≡ unknownVertex (sceneOf (now (positions .entry)) (now (edges .entry)) (now (triangles .entry))) ⌝ }
+    ensures { λ r. ⌜ r ≡ unknownVertex (sceneAtEntry positions edges triangles) ⌝ }
 {
     let count = positions.len() / 6;
     unknown_in(edges, count) | unknown_in(triangles, count)

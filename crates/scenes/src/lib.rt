@@ -4,7 +4,7 @@ pub mod written; // written.rt: ends and corners as the scene writes them, and i
 mod faults; // faults.rt: what each of the four checks asks
 pub mod parts; // parts.rt: counts, the ends of an edge, the corners of a triangle, and what they share
 
-ghost use Rattle.meaning.specs.Scene.{sceneOf};
+ghost use Rattle.meaning.specs.Scene.{sceneAtEntry};
 ghost use Rattle.meaning.specs.Refusals.{SceneChecked};
 use faults::out_of_range;
 use faults::repeated_vertex;
@@ -15,7 +15,7 @@ use meaning::SceneAnswer;
 
 // May this scene be used? The shape comes first, so that the other checks read no more than the sizes allow.
 pub fn check_scene(positions: &[i32], edges: &[u16], triangles: &[u16]) -> SceneAnswer
-    ensures { λ r. ⌜ SceneChecked (sceneOf (now (positions .entry)) (now (edges .entry)) (now (triangles .entry))) r ⌝ }
+    ensures { λ r. ⌜ SceneChecked (sceneAtEntry positions edges triangles) r ⌝ }
 {
     if wrong_shape(positions, edges, triangles) {
         return SceneAnswer::Refused(Refusal::Shape);

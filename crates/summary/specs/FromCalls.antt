@@ -26,8 +26,8 @@ use Rattle.meaning.specs.declared.ListAnswer.{ListAnswer}
 use Rattle.meaning.specs.declared.TextAnswer as TextAnswers
 use Rattle.scenes.specs.Answering.{is-refused, is-past}
 use Rattle.listing.specs.Answering.{roomChecks, IsCount, ListedIn}
-use Rattle.judging.specs.Listed.{ListStands, bytesOf, bytes-length, word-in-front}
-use Rattle.judging.specs.Answering.{JudgedIn, MadeList, made-list, made-stands}
+use Rattle.scene_words.specs.Listed.{ListStands, bytesOf, bytes-length, word-in-front}
+use Rattle.scene_words.specs.Answering.{SettledIn, MadeList, made-list, made-stands}
 use Rattle.scene_text.specs.Using.{Came, byBuffers, byLength, byLines, came, read-refusal-of, FewOf, read-counts-few, frontOf, read-scene-of}
 use Rattle.summary.specs.Sizes.{Held}
 
@@ -44,7 +44,7 @@ pub record JudgedList (s : Scene) (o′ b b′ : List ℕ) (n : ℕ) : Type 0 wh
   pub held : Held o′ b′ n
 
 pub judged-list : {s : Scene} {room : ℕ} {o o′ b b′ : List ℕ} {r : ListAnswer} {m : Made} → room ≤ roomOf o → room ≤ reportRoom
-    → JudgedIn s room o o′ b b′ r → r ≡ ListAnswers.the-variants.Listed m → JudgedList s o′ b b′ (m .count)
+    → SettledIn s room o o′ b b′ r → r ≡ ListAnswers.the-variants.Listed m → JudgedList s o′ b b′ (m .count)
 unfolding listSays leaves
 judged-list {s} {room} {o} {o′} {b} {b′} {r} {m} h k j e =
     let l : MadeList s room o o′ (m .count) = made-list (j .list) e in
@@ -67,7 +67,7 @@ judged-list {s} {room} {o} {o′} {b} {b′} {r} {m} h k j e =
     }
 
 -- a list that had no room
-pub no-room : {s : Scene} {room : ℕ} {o o′ b b′ : List ℕ} {r : ListAnswer} {x : Refusal} {n : ℕ} → JudgedIn s room o o′ b b′ r
+pub no-room : {s : Scene} {room : ℕ} {o o′ b b′ : List ℕ} {r : ListAnswer} {x : Refusal} {n : ℕ} → SettledIn s room o o′ b b′ r
     → r ≡ ListAnswers.the-variants.Refused x n → (n ≡ length (pairs s)) × (room < length (pairs s))
 unfolding listSays Answers
 no-room {s} {room} {x} {n} j e = by-test (either (ltb room (length (pairs s))))

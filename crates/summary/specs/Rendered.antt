@@ -13,7 +13,7 @@ use Rattle.meaning.specs.Report.{pairLine, pairLines}
 use Rattle.meaning.specs.declared.Settled.{Settled}
 use Rattle.meaning.specs.declared.Settled.the-variants.{Hit}
 use Rattle.listing.specs.Entries.{pairAt}
-use Rattle.judging.specs.Listed.{wordOfByte, noPair}
+use Rattle.scene_words.specs.Listed.{wordOfByte, noPair}
 use Rattle.wording.specs.Lines.{pair-line-short}
 
 abbrev pub verdictAt : List ℕ → ℕ → Settled

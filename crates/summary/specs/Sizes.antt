@@ -4,7 +4,7 @@ use mathlib.Core.List.{List}
 use lib.ListN.{length, getD}
 use Rattle.meaning.specs.Limits.{reportRoom}
 use Rattle.meaning.specs.List.{roomOf}
-use Rattle.judging.specs.Listed.{WordByte}
+use Rattle.scene_words.specs.Listed.{WordByte}
 
 abbrev pub reportLength : ℕ
 reportLength = 65_536

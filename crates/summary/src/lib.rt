@@ -4,7 +4,7 @@ mod pairs; // pairs.rt: the lines of a list and its totals
 
 ghost use mathlib.Core.Path.{_≡_};
 ghost use lib.ListN.{length};
-ghost use Rattle.meaning.specs.Scene.{sceneOf, Accepted};
+ghost use Rattle.meaning.specs.Scene.{sceneIn, sceneAtEntry, Accepted};
 ghost use Rattle.meaning.specs.Report.{Reported};
 ghost use Rattle.summary.specs.Sizes.{reportLength};
 ghost use Rattle.summary.specs.Whole.{SceneReported};
@@ -16,12 +16,12 @@ use wording::number_of;
 
 // The report of a scene that is accepted: 7 is found before anything is written.
 fn scene_report(positions: &[i32], edges: &[u16], triangles: &[u16], out: &mut [u8]) -> usize
-    requires { ⌜ Accepted (sceneOf (now positions) (now edges) (now triangles)) × (length (now out) ≡ reportLength) ⌝ }
-    ensures { λ r. ⌜ SceneReported (sceneOf (now (positions .entry)) (now (edges .entry)) (now (triangles .entry))) (now (out .entry)) (now (out .exit)) r ⌝ }
+    requires { ⌜ Accepted (sceneIn positions edges triangles) × (length (now out) ≡ reportLength) ⌝ }
+    ensures { λ r. ⌜ SceneReported (sceneAtEntry positions edges triangles) (now (out .entry)) (now (out .exit)) r ⌝ }
 {
     let mut list = [0u16; 6144];
     let mut verdicts = [0u8; 2048];
-    match judging::judge_accepted(positions, edges, triangles, &mut list, &mut verdicts) {
+    match scene_words::settle_accepted(positions, edges, triangles, &mut list, &mut verdicts) {
         ListAnswer::Listed(made) => pairs_report(&list, &verdicts, made.count, out),
         ListAnswer::Refused(_, needed) => refused_line(out, 0, 7, needed as u64),
     }

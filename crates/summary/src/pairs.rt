@@ -9,7 +9,7 @@ ghost use Rattle.sequences.specs.Wrote.{Wrote};
 ghost use Rattle.meaning.specs.Limits.{reportRoom};
 ghost use Rattle.meaning.specs.List.{roomOf};
 ghost use Rattle.meaning.specs.Report.{totalLine};
-ghost use Rattle.judging.specs.Listed.{WordByte};
+ghost use Rattle.scene_words.specs.Listed.{WordByte};
 ghost use Rattle.wording.specs.Counted.{TallyOf};
 ghost use Rattle.summary.specs.Rendered.{lineAt, verdictsIn};
 ghost use Rattle.summary.specs.Sizes.{reportLength, Words, Held};
@@ -25,7 +25,7 @@ fn entry_line(list: &[u16], verdicts: &[u8], k: usize, out: &mut [u8], at: usize
     let kind = listing::entries::entry_kind(list, k);
     let first = listing::entries::entry_first(list, k);
     let second = listing::entries::entry_second(list, k);
-    let verdict = judging::word_of(verdicts[k]);
+    let verdict = scene_words::word_of(verdicts[k]);
     pair_line(out, at, kind, first as u64, second as u64, verdict)
 }
 
@@ -57,7 +57,7 @@ fn tally_of(verdicts: &[u8], count: usize) -> Tally
     };
     let mut k = 0;
     while k < count {
-        tally = tally.add(judging::word_of(verdicts[k]));
+        tally = tally.add(scene_words::word_of(verdicts[k]));
         k += 1;
     }
     tally

@@ -7,21 +7,21 @@ use Rattle.summary.proofs.scene_report.Statement.{statement}
 use Rattle.summary.proofs.scene_report.Tie as tie
 use Rattle.summary.proofs.scene_report.Reads as reads
 use Rattle.summary.proofs.scene_report.Lts as lts
-use Rattle.judging.proofs.judge_accepted.Reads as judge-accepted-reads
+use Rattle.scene_words.proofs.settle_accepted.Reads as settle-accepted-reads
 use Rattle.wording.proofs.lines.refused_line.Reads as refused-line-reads
 use Rattle.summary.proofs.pairs.pairs_report.Reads as pairs-report-reads
 
 -- src/lib.rt:49:64
-slice-aggregate-judge-accepted : tie.Need-slice-aggregate-judge-accepted
-slice-aggregate-judge-accepted c = search needs
+slice-aggregate-settle-accepted : tie.Need-slice-aggregate-settle-accepted
+slice-aggregate-settle-accepted c = search needs
 
 -- src/lib.rt:49:75
-slice-aggregate-judge-accepted-2 : tie.Need-slice-aggregate-judge-accepted-2
-slice-aggregate-judge-accepted-2 c = search needs
+slice-aggregate-settle-accepted-2 : tie.Need-slice-aggregate-settle-accepted-2
+slice-aggregate-settle-accepted-2 c = search needs
 
 -- src/lib.rt:49:11
-judge-accepted-requires : tie.Need-judge-accepted-requires
-judge-accepted-requires c κs = search needs
+settle-accepted-requires : tie.Need-settle-accepted-requires
+settle-accepted-requires c κs = search needs
 
 -- src/lib.rt:50:28
 enum-known-made : tie.Need-enum-known-made
@@ -37,7 +37,7 @@ slice-aggregate-pairs-report-2 c = search needs
 
 -- src/lib.rt:50:37
 pairs-report-requires : tie.Need-pairs-report-requires
-pairs-report-requires c κs = ((judged-list {m = c .before .before .before .before .made .given .0 .0} (omega arith) (omega (arith, own-room)) (c .before .before .before .before .before .before .before .before .judge-accepted .ensures) (search)) .held, c .before .before .before .before .before .before .before .before .before .before .before .before .before .before .pre .1)
+pairs-report-requires c κs = ((judged-list {m = c .before .before .before .before .made .given .0 .0} (omega arith) (omega (arith, own-room)) (c .before .before .before .before .before .before .before .before .settle-accepted .ensures) (search)) .held, c .before .before .before .before .before .before .before .before .before .before .before .before .before .before .pre .1)
 
 -- src/lib.rt:51:32
 enum-known-needed : tie.Need-enum-known-needed
@@ -54,7 +54,7 @@ same-length c = search needs
 -- src/lib.rt:43:1
 returns : tie.Need-returns
 returns c =
-    let j = (judged-list {m = c .before .before .before .before .before .before .before .made .given .0 .0} (omega arith) (omega (arith, own-room)) (c .before .before .before .before .before .before .before .before .before .before .before .judge-accepted .ensures) (search)) in
+    let j = (judged-list {m = c .before .before .before .before .before .before .before .made .given .0 .0} (omega arith) (omega (arith, own-room)) (c .before .before .before .before .before .before .before .before .before .before .before .settle-accepted .ensures) (search)) in
     report-stands (sceneOf (c .before .before .before .before .before .before .before .before .before .before .before .before .before .before .before .before .before .args .positions .now) (c .before .before .before .before .before .before .before .before .before .before .before .before .before .before .before .before .before .args .edges .now) (c .before .before .before .before .before .before .before .before .before .before .before .before .before .before .before .before .before .args .triangles .now)) _ (j .stands) (j .bytes) (j .counts) (j .few) (c .before .before .pairs-report .ensures)
 
 -- src/lib.rt:43:1
@@ -64,16 +64,16 @@ same-length-2 c = search needs
 -- src/lib.rt:43:1
 returns-2 : tie.Need-returns-2
 returns-2 c =
-    let n = no-room {x = c .before .before .before .before .before .needed .given .0 .0} {n = c .before .before .before .before .before .needed .given .0 .1 .0} (c .before .before .before .before .before .before .before .before .before .judge-accepted .ensures) (search) in
+    let n = no-room {x = c .before .before .before .before .before .needed .given .0 .0} {n = c .before .before .before .before .before .needed .given .0 .1 .0} (c .before .before .before .before .before .before .before .before .before .settle-accepted .ensures) (search) in
     room-refused (sceneOf (c .before .before .before .before .before .before .before .before .before .before .before .before .before .before .before .args .positions .now) (c .before .before .before .before .before .before .before .before .before .before .before .before .before .before .before .args .edges .now) (c .before .before .before .before .before .before .before .before .before .before .before .before .before .before .before .args .triangles .now)) (n .0) (n .1) (c .before .before .refused-line .ensures)
 
 pub scene-report-spec : {M : Type 1} → statement M
 scene-report-spec =
     tie.close
     (tie.spec
-    slice-aggregate-judge-accepted
-    slice-aggregate-judge-accepted-2
-    judge-accepted-requires
+    slice-aggregate-settle-accepted
+    slice-aggregate-settle-accepted-2
+    settle-accepted-requires
     enum-known-made
     slice-aggregate-pairs-report
     slice-aggregate-pairs-report-2

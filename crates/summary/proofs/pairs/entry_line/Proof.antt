@@ -1,13 +1,13 @@
 use borrow.Author.Needs.{needs}
 use Rattle.meaning.specs.List.{pair}
 use Rattle.meaning.specs.Report.{pairLine}
-use Rattle.judging.specs.Listed.{word-of-its-byte}
+use Rattle.scene_words.specs.Listed.{word-of-its-byte}
 use Rattle.wording.specs.Lines.{wrote-as}
 use Rattle.summary.proofs.pairs.entry_line.Statement.{statement}
 use Rattle.summary.proofs.pairs.entry_line.Tie as tie
 use Rattle.summary.proofs.pairs.entry_line.Reads as reads
 use Rattle.summary.proofs.pairs.entry_line.Lts as lts
-use Rattle.judging.proofs.word_of.Reads as word-of-reads
+use Rattle.scene_words.proofs.word_of.Reads as word-of-reads
 use Rattle.listing.proofs.entries.entry_first.Reads as entry-first-reads
 use Rattle.listing.proofs.entries.entry_kind.Reads as entry-kind-reads
 use Rattle.listing.proofs.entries.entry_second.Reads as entry-second-reads

@@ -4,14 +4,14 @@ use mathlib.Core.Path.{_≡_}
 use native.Mathlib.Omega.{arith}
 use borrow.Author.Needs.{needs}
 use Rattle.sequences.specs.Gather.{gather-none, gather-last}
-use Rattle.judging.specs.Listed.{word-of-its-byte}
+use Rattle.scene_words.specs.Listed.{word-of-its-byte}
 use Rattle.summary.specs.Rendered.{verdictAt, verdictsIn, verdicts-short}
 use Rattle.wording.specs.Counted.{TallyOf, tally-starts, tally-goes}
 use Rattle.summary.proofs.pairs.tally_of.Statement.{statement}
 use Rattle.summary.proofs.pairs.tally_of.Tie as tie
 use Rattle.summary.proofs.pairs.tally_of.Reads as reads
 use Rattle.summary.proofs.pairs.tally_of.Lts as lts
-use Rattle.judging.proofs.word_of.Reads as word-of-reads
+use Rattle.scene_words.proofs.word_of.Reads as word-of-reads
 use Rattle.wording.proofs.tally.Tally.add.Reads as add-reads
 
 abbrev Inv-loop : tie.InvT-loop

@@ -1,0 +1,93 @@
+// Leaving corners out: one step tries every corner of the first simplex, the other every corner of the second, and each hands over to the
+// other. A step whose own corners are tried also hands over the points as they are, since the corner to leave out may be the other's.
+
+ghost use mathlib.Core.Bool.{false, cond};
+ghost use mathlib.Core.Path.{_≡_};
+ghost use Prim.Native.Nat.{_<_};
+ghost use lib.ListN.{set};
+ghost use Rattle.corner_search.specs.Points.{SixIn};
+ghost use Rattle.corner_search.specs.Answer.{leafOf};
+ghost use Rattle.corner_search.specs.Says.{isYes, Says};
+use super::SixPoints;
+use super::leaf::Leaf;
+use super::leaf::ask;
+
+fn is_yes(answer: Leaf) -> bool
+    ensures { λ r. ⌜ r ≡ isYes answer ⌝ }
+{
+    match answer {
+        Leaf::Yes => true,
+        Leaf::No => false,
+        Leaf::Open => false,
+    }
+}
+
+// Points that were handed over unchanged were open: they are not asked again.
+fn ask_once(positions: &[i32], six: SixPoints, left: [bool; 6], tried: bool) -> Leaf
+    requires { ⌜ SixIn (now positions) six ⌝ }
+    ensures { λ r. ⌜ r ≡ cond tried Leaf.Open (leafOf (now (positions .entry)) six left) ⌝ }
+{
+    if tried {
+        Leaf::Open
+    } else {
+        ask(positions, six, left)
+    }
+}
+
+fn without(left: [bool; 6], i: usize) -> [bool; 6]
+    requires { ⌜ i < 6 ⌝ }
+    ensures { λ r. ⌜ r ≡ set left i false ⌝ }
+{
+    let mut less = left;
+    less[i] = false;
+    less
+}
+
+// Are there weights for the points left? Tries the corners of the first simplex.
+pub(crate) fn first(positions: &[i32], six: SixPoints, left: [bool; 6], tried: bool) -> bool
+    requires { ⌜ SixIn (now positions) six ⌝ }
+    ensures { λ r. ⌜ Says (now (positions .entry)) six left 0 (six .first) tried r ⌝ }
+{
+    let answer = ask_once(positions, six, left, tried);
+    let Leaf::Open = answer else {
+        return is_yes(answer);
+    };
+    let end = six.first;
+    let mut i = 0;
+    while i < end {
+        if left[i] {
+            if second(positions, six, without(left, i), false) {
+                return true;
+            }
+        }
+        i += 1;
+    }
+    if tried {
+        return false;
+    }
+    second(positions, six, left, true)
+}
+
+// The same, trying the corners of the second simplex.
+pub(crate) fn second(positions: &[i32], six: SixPoints, left: [bool; 6], tried: bool) -> bool
+    requires { ⌜ SixIn (now positions) six ⌝ }
+    ensures { λ r. ⌜ Says (now (positions .entry)) six left (six .first) 6 tried r ⌝ }
+{
+    let answer = ask_once(positions, six, left, tried);
+    let Leaf::Open = answer else {
+        return is_yes(answer);
+    };
+    let mut i = six.first;
+    while i < 6 {
+        if left[i] {
+            if first(positions, six, without(left, i), false) {
+                return true;
+            }
+        }
+        i += 1;
+    }
+    if tried {
+        return false;
+    }
+    first(positions, six, left, true)
+}

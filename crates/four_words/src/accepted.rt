@@ -1,0 +1,127 @@
+// Pieces and pairs of a scene that was checked already: what the list and the report call for each pair, without checking again.
+
+ghost use mathlib.Core.Path.{_≡_};
+ghost use mathlib.Core.Bool.{false};
+ghost use Rattle.meaning.specs.Scene.{sceneIn, sceneAtEntry, Accepted};
+ghost use Rattle.meaning.specs.Pieces.{pieceOf};
+ghost use Rattle.meaning.specs.Refusals.{notThere};
+ghost use Rattle.meaning.specs.Verdicts.{PieceIs, PairIs};
+ghost use Rattle.meaning.specs.Resting.{PieceSettled, PairSettled};
+ghost use Rattle.four_words.specs.Words.{TouchSaid};
+use super::six::edges_six;
+use super::six::point_six;
+use meaning::Kind;
+use meaning::Settled;
+use meaning::Verdict;
+use three_words::accepted::larger;
+use three_words::accepted::smaller;
+
+// The word of a piece, from its verdict.
+pub(crate) fn piece_word(
+    positions: &[i32],
+    edges: &[u16],
+    triangles: &[u16],
+    kind: Kind,
+    i: usize,
+    j: usize,
+    k: usize,
+    verdict: Verdict,
+) -> Settled
+    requires { ⌜ Accepted (sceneIn positions edges triangles) × (notThere (sceneIn positions edges triangles) kind i j ≡ false) × PieceIs (pieceOf (sceneIn positions edges triangles) kind i j k) verdict ⌝ }
+    ensures { λ r. ⌜ PieceSettled (pieceOf (sceneAtEntry positions edges triangles) kind i j k) r ⌝ }
+{
+    match kind {
+        Kind::PointTriangle => {
+            let six = point_six(i, scenes::parts::corners_of(triangles, j), k);
+            corner_search::settle_piece(positions, six, verdict)
+        }
+        Kind::EdgeEdge => {
+            let first = scenes::parts::ends_of(edges, smaller(i, j));
+            let second = scenes::parts::ends_of(edges, larger(i, j));
+            corner_search::settle_piece(positions, edges_six(first, k / 2, second, k % 2), verdict)
+        }
+    }
+}
+
+// One piece of a pair.
+pub fn piece(
+    positions: &[i32],
+    edges: &[u16],
+    triangles: &[u16],
+    kind: Kind,
+    i: usize,
+    j: usize,
+    k: usize,
+) -> Settled
+    requires { ⌜ Accepted (sceneIn positions edges triangles) × (notThere (sceneIn positions edges triangles) kind i j ≡ false) ⌝ }
+    ensures { λ r. ⌜ PieceSettled (pieceOf (sceneAtEntry positions edges triangles) kind i j k) r ⌝ }
+{
+    let verdict = three_words::accepted::piece(positions, edges, triangles, kind, i, j, k);
+    piece_word(positions, edges, triangles, kind, i, j, k, verdict)
+}
+
+// Does some piece of the pair touch?
+fn touches(
+    positions: &[i32],
+    edges: &[u16],
+    triangles: &[u16],
+    kind: Kind,
+    i: usize,
+    j: usize,
+) -> bool
+    requires { ⌜ Accepted (sceneIn positions edges triangles) × (notThere (sceneIn positions edges triangles) kind i j ≡ false) ⌝ }
+    ensures { λ r. ⌜ TouchSaid (sceneAtEntry positions edges triangles) kind i j r ⌝ }
+{
+    let count = three_words::accepted::piece_count(kind);
+    let mut k = 0;
+    while k < count {
+        let word = piece(positions, edges, triangles, kind, i, j, k);
+        if let Settled::Touch = word {
+            return true;
+        }
+        k += 1;
+    }
+    false
+}
+
+// The word of a pair, from its verdict: only where that is degenerate are its pieces looked at again.
+pub(crate) fn pair_word(
+    positions: &[i32],
+    edges: &[u16],
+    triangles: &[u16],
+    kind: Kind,
+    i: usize,
+    j: usize,
+    verdict: Verdict,
+) -> Settled
+    requires { ⌜ Accepted (sceneIn positions edges triangles) × (notThere (sceneIn positions edges triangles) kind i j ≡ false) × PairIs (sceneIn positions edges triangles) kind i j verdict ⌝ }
+    ensures { λ r. ⌜ PairSettled (sceneAtEntry positions edges triangles) kind i j r ⌝ }
+{
+    match verdict {
+        Verdict::Hit => Settled::Hit,
+        Verdict::Miss => Settled::Miss,
+        Verdict::Degenerate => {
+            if touches(positions, edges, triangles, kind, i, j) {
+                Settled::Touch
+            } else {
+                Settled::Apart
+            }
+        }
+    }
+}
+
+// A pair.
+pub fn pair(
+    positions: &[i32],
+    edges: &[u16],
+    triangles: &[u16],
+    kind: Kind,
+    i: usize,
+    j: usize,
+) -> Settled
+    requires { ⌜ Accepted (sceneIn positions edges triangles) × (notThere (sceneIn positions edges triangles) kind i j ≡ false) ⌝ }
+    ensures { λ r. ⌜ PairSettled (sceneAtEntry positions edges triangles) kind i j r ⌝ }
+{
+    let verdict = three_words::accepted::pair(positions, edges, triangles, kind, i, j);
+    pair_word(positions, edges, triangles, kind, i, j, verdict)
+}

@@ -1,0 +1,70 @@
+// What a piece and a pair of a scene are in the four words: hit, miss, touch or apart. Only the degenerate goes on to the search.
+
+mod six; // six.rt: the six points of a piece, as the search takes them
+pub mod accepted; // accepted.rt: pieces and pairs of a scene that was checked already
+
+ghost use Rattle.meaning.specs.Scene.{sceneAtEntry};
+ghost use Rattle.meaning.specs.Resting.{PairDecided, PieceDecided};
+use meaning::Kind;
+use meaning::PairAnswer;
+use meaning::SettledAnswer;
+
+// The word of a pair, for a scene that may be anything. The refusals are those of its verdict.
+pub fn settle_pair(
+    positions: &[i32],
+    edges: &[u16],
+    triangles: &[u16],
+    kind: Kind,
+    first: usize,
+    second: usize,
+) -> SettledAnswer
+    ensures { λ r. ⌜ PairDecided (sceneAtEntry positions edges triangles) kind first second r ⌝ }
+{
+    let judged = three_words::judge_pair(positions, edges, triangles, kind, first, second);
+    match judged {
+        PairAnswer::Judged(verdict) => {
+            let word = accepted::pair_word(
+                positions,
+                edges,
+                triangles,
+                kind,
+                first,
+                second,
+                verdict,
+            );
+            SettledAnswer::Decided(word)
+        }
+        PairAnswer::Refused(refusal) => SettledAnswer::Refused(refusal),
+    }
+}
+
+// The word of one piece of a pair.
+pub fn settle_piece(
+    positions: &[i32],
+    edges: &[u16],
+    triangles: &[u16],
+    kind: Kind,
+    first: usize,
+    second: usize,
+    piece: usize,
+) -> SettledAnswer
+    ensures { λ r. ⌜ PieceDecided (sceneAtEntry positions edges triangles) kind first second piece r ⌝ }
+{
+    let judged = three_words::judge_piece(positions, edges, triangles, kind, first, second, piece);
+    match judged {
+        PairAnswer::Judged(verdict) => {
+            let word = accepted::piece_word(
+                positions,
+                edges,
+                triangles,
+                kind,
+                first,
+                second,
+                piece,
+                verdict,
+            );
+            SettledAnswer::Decided(word)
+        }
+        PairAnswer::Refused(refusal) => SettledAnswer::Refused(refusal),
+    }
+}

@@ -1,0 +1,84 @@
+-- From the list that was made and the verdicts that were found to the answer of the whole call.
+use Prim.Native.Nat.{ℕ, min, _≤_}
+use mathlib.Core.List.{List, [], _∷_, map}
+use mathlib.Core.Path.{_≡_, refl, sym, ap, _∙_, subst}
+use lib.ListN.{length}
+use Rattle.sequences.specs.Wrote.{written}
+use Rattle.meaning.specs.Scene.{Scene, Accepted}
+use Rattle.meaning.specs.Refusals.{SceneChecked, Answers, Outcome, given, refused, numberOf}
+use Rattle.meaning.specs.List.{pairs, entries, roomOf, listSays, listChecks, leaves}
+use Rattle.meaning.specs.SceneWords.{byteOf, SettledScene}
+use Rattle.meaning.specs.declared.Refusal.{Refusal}
+use Rattle.meaning.specs.declared.SceneAnswer as SceneAnswers
+use Rattle.meaning.specs.declared.SceneAnswer.{SceneAnswer}
+use Rattle.meaning.specs.declared.ListAnswer as ListAnswers
+use Rattle.meaning.specs.declared.ListAnswer.{ListAnswer}
+use Rattle.scenes.specs.Accepting.{after-accepted, after-refused}
+use Rattle.listing.specs.Answering.{roomChecks, IsCount, ListedIn}
+use Rattle.scene_words.specs.Listed.{wordsOf, bytesOf, all-judged, ListStands, noPair}
+use Rattle.meaning.specs.declared.Made.{Made}
+use Rattle.listing.specs.Entries.{written-at, written-room}
+use Rattle.scenes.specs.Answering.{is-given}
+use borrow.Author.Tests.{ltb-false}
+use native.Mathlib.Nat.{le-trans}
+
+-- the list of an accepted scene was made and judged, if there is room for it
+pub record SettledIn (s : Scene) (room : ℕ) (o o′ b b′ : List ℕ) (r : ListAnswer) : Type 0 where
+  pub list : ListedIn s room o o′ r
+  pub bytes : b′ ≡ leaves (listSays r) (bytesOf s (pairs s)) b
+
+pub judged-refused : (s : Scene) {checked : SceneAnswer} (x : Refusal) (o b : List ℕ) → SceneChecked s checked
+    → checked ≡ SceneAnswers.the-variants.Refused x → SettledScene s o o b b (ListAnswers.the-variants.Refused x 0)
+unfolding listSays leaves
+judged-refused s x o b p e =
+    record {
+      answer = after-refused s (roomChecks s (min (roomOf o) (length b))) (IsCount s) e p;
+      list = refl;
+      words = wordsOf s (pairs s);
+      right = all-judged s (pairs s);
+      bytes = refl;
+    }
+
+pub judged-accepted : (s : Scene) {o o′ b b′ : List ℕ} {r : ListAnswer} → Accepted s
+    → SettledIn s (min (roomOf o) (length b)) o o′ b b′ r → SettledScene s o o′ b b′ r
+judged-accepted s {o} {o′} {b} {b′} {r} a j =
+    record {
+      answer = after-accepted s (roomChecks s (min (roomOf o) (length b))) (IsCount s) (listSays r) a (j .list .answer);
+      list = j .list .buffer;
+      words = wordsOf s (pairs s);
+      right = all-judged s (pairs s);
+      bytes = j .bytes;
+    }
+
+-- ---- what a made list says
+
+pub record MadeList (s : Scene) (room : ℕ) (o o′ : List ℕ) (n : ℕ) : Type 0 where
+  pub counts : n ≡ length (pairs s)
+  pub fits : length (pairs s) ≤ room
+  pub front : o′ ≡ written (entries (pairs s)) o
+
+module _ {s : Scene} {room : ℕ} {o o′ : List ℕ} {r : ListAnswer} (l : ListedIn s room o o′ r) where
+  pub made-list : {m : Made} → r ≡ ListAnswers.the-variants.Listed m → MadeList s room o o′ (m .count)
+  unfolding listSays leaves Answers
+  made-list {m} e =
+      let a : Answers (roomChecks s room) (IsCount s) (given (m .count)) = rw e at (l .answer) in
+      let (small, counted) = is-given (IsCount s) _ [] (m .count) a in
+      record { counts = counted; fits = ltb-false room (length (pairs s)) small; front = rw e at (l .buffer) }
+
+  pub judged-made : {m : Made} {b b′ : List ℕ} → r ≡ ListAnswers.the-variants.Listed m → b′ ≡ written (bytesOf s (pairs s)) b
+      → SettledIn s room o o′ b b′ (ListAnswers.the-variants.Listed m)
+  unfolding listSays leaves
+  judged-made e h = record { list = rw e at l; bytes = h }
+
+  pub judged-without-room : {x : Refusal} {n : ℕ} {b : List ℕ} → r ≡ ListAnswers.the-variants.Refused x n
+      → SettledIn s room o o′ b b (ListAnswers.the-variants.Refused x n)
+  unfolding listSays leaves
+  judged-without-room e = record { list = rw e at l; bytes = refl }
+
+pub made-stands : {s : Scene} {room : ℕ} {o o′ : List ℕ} {n : ℕ} → room ≤ roomOf o → MadeList s room o o′ n → ListStands s o′
+made-stands {s} {o} h m =
+    rw (m .front)
+    (record {
+      room = written-room (pairs s) o (le-trans (m .fits) h);
+      at = λ k below. written-at (pairs s) o k noPair below;
+    })

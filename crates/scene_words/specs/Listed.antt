@@ -1,0 +1,129 @@
+-- The words of listed pairs, as code finds them one by one.
+use Prim.Native.Nat.{ℕ, zero, suc, _≤_, _<_}
+use mathlib.Core.Bool.{cond, false}
+use mathlib.Core.List.{List, [], _∷_, map}
+use mathlib.Core.Path.{_≡_, refl, sym, ap, _∙_, subst}
+use native.Mathlib.Nat.{not-suc-le-zero, le-of-suc-le-suc}
+use native.Mathlib.Omega.{arith}
+use lib.Dec.{eqb}
+use lib.ListN.{length, getD, length-map}
+use Rattle.sequences.specs.Rising.{at-place}
+use Rattle.sequences.specs.Wrote.{written, written-in-front}
+use Rattle.meaning.specs.Scene.{Scene}
+use Rattle.meaning.specs.Refusals.{notThere}
+use Rattle.meaning.specs.Resting.{PairSettled}
+use Rattle.meaning.specs.List.{Pair, pair, pairs, entries, roomOf}
+use Rattle.meaning.specs.SceneWords.{byteOf, AllSettled}
+use Rattle.meaning.specs.declared.Kind.the-variants.{PointTriangle}
+use Rattle.meaning.specs.declared.Settled.{Settled}
+use Rattle.meaning.specs.declared.Settled.the-variants.{Hit, Miss, Touch, Apart}
+use Rattle.corner_search.specs.Decided.{pairWord, pair-word-is, settled-pair}
+use Rattle.listing.specs.InOrder.{ToList, list-is}
+use Rattle.listing.specs.Entries.{pairAt}
+
+abbrev pub wordOfPair : Scene → Pair → Settled
+wordOfPair s p = pairWord s (p .kind) (p .first) (p .second)
+
+abbrev pub wordsOf : Scene → List Pair → List Settled
+wordsOf s ps = map (wordOfPair s) ps
+
+abbrev pub bytesOf : Scene → List Pair → List ℕ
+bytesOf s ps = map byteOf (wordsOf s ps)
+
+pub all-judged : (s : Scene) (ps : List Pair) → AllSettled s ps (wordsOf s ps)
+unfolding AllSettled
+all-judged s [] = tt
+all-judged s (p ∷ ps) = (settled-pair s (p .kind) (p .first) (p .second), all-judged s ps)
+
+pub bytes-length : (s : Scene) (ps : List Pair) → length (bytesOf s ps) ≡ length ps
+bytes-length s ps = length-map (wordsOf s ps) byteOf ∙ length-map ps (wordOfPair s)
+
+-- the pair that is read where none stands
+abbrev pub noPair : Pair
+noPair = pair PointTriangle 0 0
+
+pub bytes-at : (s : Scene) (ps : List Pair) (k : ℕ) → k < length ps → getD (bytesOf s ps) k 0 ≡ byteOf (wordOfPair s (getD ps k noPair))
+bytes-at s [] k h = absurd (not-suc-le-zero h)
+bytes-at s (p ∷ ps) zero h = refl
+bytes-at s (p ∷ ps) (suc k) h = bytes-at s ps k (le-of-suc-le-suc h)
+
+-- a buffer in whose front the list of a scene stands
+pub record ListStands (s : Scene) (l : List ℕ) : Type 0 where
+  pub room : length (pairs s) ≤ roomOf l
+  pub at : (k : ℕ) → k < length (pairs s) → pairAt l k ≡ getD (pairs s) k noPair
+
+-- a listed pair is there
+pub listed-there : (s : Scene) (k : ℕ) → k < length (pairs s)
+    → notThere s (getD (pairs s) k noPair .kind) (getD (pairs s) k noPair .first) (getD (pairs s) k noPair .second) ≡ false
+listed-there s k h = list-is s .stands (getD (pairs s) k noPair) .0 (at-place (pairs s) k noPair h) .there
+
+-- an entry that was read is the pair in that place of the list
+module _ {s : Scene} {l : List ℕ} (stands : ListStands s l) (k : ℕ) (h : k < length (pairs s)) (p : Pair)
+    (kind : p .kind ≡ pairAt l k .kind) (first : p .first ≡ pairAt l k .first) (second : p .second ≡ pairAt l k .second) where
+  same-pair : p ≡ getD (pairs s) k noPair
+  same-pair = (λ t. record { kind = kind t; first = first t; second = second t }) ∙ stands .at k h
+
+  pub entry-there : notThere s (p .kind) (p .first) (p .second) ≡ false
+  entry-there =
+      subst (λ (q : Pair). notThere s (q .kind) (q .first) (q .second) ≡ false) (sym same-pair) (listed-there s k h)
+
+  pub entry-byte : (w : Settled) → PairSettled s (p .kind) (p .first) (p .second) w → byteOf w ≡ getD (bytesOf s (pairs s)) k 0
+  entry-byte w is =
+      ap byteOf (pair-word-is s (p .kind) (p .first) (p .second) w .0 is ∙ ap (wordOfPair s) same-pair)
+      ∙ sym (bytes-at s (pairs s) k h)
+
+-- ---- bytes and words
+
+-- a byte that stands for a word
+pub record WordByte (b : ℕ) : Type 0 where
+  pub word : Settled
+  pub stands : byteOf word ≡ b
+
+-- a byte back to its word. It is asked of a word's byte alone; for any other number the answer says nothing
+unfoldable pub wordOfByte : ℕ → Settled
+wordOfByte b = cond (eqb b 0) Hit (cond (eqb b 1) Miss (cond (eqb b 3) Touch Apart))
+
+pub byte-back : (w : Settled) → wordOfByte (byteOf w) ≡ w
+unfolding wordOfByte byteOf
+byte-back Hit = refl
+byte-back Miss = refl
+byte-back Touch = refl
+byte-back Apart = refl
+
+-- whose byte it is, that is its word
+pub word-of-its-byte : {b : ℕ} (w : Settled) → byteOf w ≡ b → w ≡ wordOfByte b
+word-of-its-byte w e = sym (byte-back w) ∙ ap wordOfByte e
+
+-- two words never have one byte
+pub byte-one : (v w : Settled) → byteOf v ≡ byteOf w → v ≡ w
+byte-one v w e = word-of-its-byte v e ∙ byte-back w
+
+-- a word's byte that is not hit's, miss's or touch's is apart's
+pub else-apart : {b : ℕ} → WordByte b → ¬ (b ≡ 0) → ¬ (b ≡ 1) → ¬ (b ≡ 3) → byteOf Apart ≡ b
+unfolding byteOf
+else-apart {b} p hit miss touch = by-word (p .word) (p .stands)
+  where
+    by-word : (w : Settled) → byteOf w ≡ b → byteOf Apart ≡ b
+    by-word Hit e = absurd (hit (sym e))
+    by-word Miss e = absurd (miss (sym e))
+    by-word Touch e = absurd (touch (sym e))
+    by-word Apart e = e
+
+pub byte-small : (w : Settled) → byteOf w ≤ 4
+unfolding byteOf
+byte-small Hit = omega arith
+byte-small Miss = omega arith
+byte-small Touch = omega arith
+byte-small Apart = omega arith
+
+-- where the bytes of the listed pairs stand in front of a buffer, each is its pair's
+module _ (s : Scene) {b : List ℕ} (b₀ : List ℕ) (bytes : b ≡ written (bytesOf s (pairs s)) b₀) (k : ℕ) (h : k < length (pairs s)) where
+  pub byte-in-front : byteOf (wordOfPair s (getD (pairs s) k noPair)) ≡ getD b k 0
+  byte-in-front =
+      sym
+      (ap (λ (c : List ℕ). getD c k 0) bytes
+      ∙ written-in-front (bytesOf s (pairs s)) b₀ k 0 (rw (bytes-length s (pairs s)) h)
+      ∙ bytes-at s (pairs s) k h)
+
+  pub word-in-front : WordByte (getD b k 0)
+  word-in-front = record { word = wordOfPair s (getD (pairs s) k noPair); stands = byte-in-front }

@@ -1,0 +1,116 @@
+// List a scene and judge each listed pair in the four words, in one call that checks the scene once.
+
+ghost use Prim.Native.Nat.{_≤_, _<_, min};
+ghost use mathlib.Core.Path.{_≡_};
+ghost use lib.ListN.{length, getD};
+ghost use Rattle.sequences.specs.Wrote.{written};
+ghost use Rattle.meaning.specs.Scene.{sceneIn, sceneAtEntry, Accepted};
+ghost use Rattle.meaning.specs.List.{pairs, roomOf};
+ghost use Rattle.meaning.specs.SceneWords.{byteOf, SettledScene};
+ghost use Rattle.scene_words.specs.Listed.{bytesOf, ListStands, WordByte};
+ghost use Rattle.scene_words.specs.Answering.{SettledIn};
+use meaning::ListAnswer;
+use meaning::SceneAnswer;
+use meaning::Settled;
+
+// A word as the byte that stands for it in a lent buffer. No byte is 2, the number of degenerate: a number never stands for two words.
+pub fn byte_of(w: Settled) -> u8
+    ensures { λ r. ⌜ r ≡ byteOf w ⌝ }
+{
+    match w {
+        Settled::Hit => 0,
+        Settled::Miss => 1,
+        Settled::Touch => 3,
+        Settled::Apart => 4,
+    }
+}
+
+// And back, from a byte that stands for a word.
+pub fn word_of(byte: u8) -> Settled
+    requires { ⌜ WordByte byte ⌝ }
+    ensures { λ r. ⌜ byteOf r ≡ byte ⌝ }
+{
+    if byte == 0 {
+        return Settled::Hit;
+    }
+    if byte == 1 {
+        return Settled::Miss;
+    }
+    if byte == 3 {
+        return Settled::Touch;
+    }
+    Settled::Apart
+}
+
+// The k-th entry of the list, judged.
+fn settle_entry(positions: &[i32], edges: &[u16], triangles: &[u16], list: &[u16], k: usize) -> u8
+    requires { ⌜ Accepted (sceneIn positions edges triangles) × ListStands (sceneIn positions edges triangles) (now list) × (k < length (pairs (sceneIn positions edges triangles))) ⌝ }
+    ensures { λ r. ⌜ r ≡ getD (bytesOf (sceneAtEntry positions edges triangles) (pairs (sceneAtEntry positions edges triangles))) k 0 ⌝ }
+{
+    let kind = listing::entries::entry_kind(list, k);
+    let first = listing::entries::entry_first(list, k);
+    let second = listing::entries::entry_second(list, k);
+    byte_of(four_words::accepted::pair(positions, edges, triangles, kind, first, second))
+}
+
+// Each entry in turn.
+fn settle_entries(
+    positions: &[i32],
+    edges: &[u16],
+    triangles: &[u16],
+    list: &[u16],
+    out: &mut [u8],
+    count: usize,
+)
+    requires { ⌜ Accepted (sceneIn positions edges triangles) × ListStands (sceneIn positions edges triangles) (now list) × (count ≡ length (pairs (sceneIn positions edges triangles))) × (count ≤ length (now out)) ⌝ }
+    ensures { λ _. ⌜ now (out .exit) ≡ written (bytesOf (sceneAtEntry positions edges triangles) (pairs (sceneAtEntry positions edges triangles))) (now (out .entry)) ⌝ }
+{
+    let mut k = 0;
+    while k < count {
+        out[k] = settle_entry(positions, edges, triangles, list, k);
+        k += 1;
+    }
+}
+
+fn smaller(a: usize, b: usize) -> usize
+    ensures { λ r. ⌜ r ≡ min a b ⌝ }
+{
+    if a < b { a } else { b }
+}
+
+// For a scene that was checked already.
+pub fn settle_accepted(
+    positions: &[i32],
+    edges: &[u16],
+    triangles: &[u16],
+    list: &mut [u16],
+    out: &mut [u8],
+) -> ListAnswer
+    requires { ⌜ Accepted (sceneIn positions edges triangles) ⌝ }
+    ensures { λ r. ⌜ SettledIn (sceneAtEntry positions edges triangles) (min (roomOf (now (list .entry))) (length (now (out .entry)))) (now (list .entry)) (now (list .exit)) (now (out .entry)) (now (out .exit)) r ⌝ }
+{
+    let room = smaller(listing::entries::room(list), out.len());
+    match listing::accepted::list_accepted(positions, edges, triangles, list, room) {
+        ListAnswer::Listed(made) => {
+            settle_entries(positions, edges, triangles, list, out, made.count);
+            ListAnswer::Listed(made)
+        }
+        ListAnswer::Refused(refusal, needed) => ListAnswer::Refused(refusal, needed),
+    }
+}
+
+// For a scene that may be anything.
+pub fn settle_scene(
+    positions: &[i32],
+    edges: &[u16],
+    triangles: &[u16],
+    list: &mut [u16],
+    out: &mut [u8],
+) -> ListAnswer
+    ensures { λ r. ⌜ SettledScene (sceneAtEntry positions edges triangles) (now (list .entry)) (now (list .exit)) (now (out .entry)) (now (out .exit)) r ⌝ }
+{
+    if let SceneAnswer::Refused(refusal) = scenes::check_scene(positions, edges, triangles) {
+        return ListAnswer::Refused(refusal, 0);
+    }
+    settle_accepted(positions, edges, triangles, list, out)
+}

@@ -1,0 +1,17 @@
+-- The sum of those that count.
+use borrow.Author.Needs.{needs}
+use mathlib.Core.Path.{ap}
+use mir.Syntax.{w64}
+use Rattle.whole.specs.Sizes.{is-equal, back}
+use Rattle.sign_sums.specs.BySigns.{sum}
+use Rattle.exact.specs.Volumes.{holds-small, holds-same}
+use Rattle.sign_sums.proofs.sum_where.Statement.{statement}
+use Rattle.sign_sums.proofs.sum_where.Tie as tie
+
+pub sum-where-spec : {M : Type 1} → statement M
+sum-where-spec =
+    tie.close
+    (tie.spec
+    (λ c κs. search needs)
+    (λ c κs. holds-small (c .keep-where .ensures))
+    (λ c. back w64 (is-equal (ap sum (holds-same (c .before .keep-where .ensures))) (c .sum-of .ensures)) tt))

@@ -1,0 +1,27 @@
+use borrow.Author.Needs.{needs}
+use Rattle.meaning.specs.Refusals.{notThere}
+use Rattle.three_words.proofs.accepted.not_there.Statement.{statement}
+use Rattle.three_words.proofs.accepted.not_there.Tie as tie
+use Rattle.three_words.proofs.accepted.not_there.Reads as reads
+use Rattle.three_words.proofs.accepted.not_there.Lts as lts
+
+-- src/accepted.rt:25:33
+enum-told : tie.Need-enum-told
+enum-told c = search needs
+
+-- src/accepted.rt:26:28
+enum-told-2 : tie.Need-enum-told-2
+enum-told-2 c = search needs
+
+-- src/accepted.rt:21:1
+returns : tie.Need-returns
+unfolding notThere
+returns c = rw (c .enum-told .given .1)
+
+-- src/accepted.rt:21:1
+returns-2 : tie.Need-returns-2
+unfolding notThere
+returns-2 c = rw (c .enum-told2 .given .1)
+
+pub not-there-spec : {M : Type 1} → statement M
+not-there-spec = tie.close (tie.spec enum-told enum-told-2 returns returns-2)

@@ -1,0 +1,30 @@
+use native.Mathlib.Omega.{arith}
+use borrow.Author.Needs.{needs}
+use Rattle.meaning.specs.Scene.{Scene, sceneOf}
+use Rattle.theory.specs.Computed.{edgeDifferences}
+use Rattle.three_words.specs.Right.{flags, edges-right}
+use Rattle.three_words.proofs.pieces.a_against_b.Statement.{statement}
+use Rattle.three_words.proofs.pieces.a_against_b.Tie as tie
+
+returns : tie.Need-returns
+unfolding flags edgeDifferences
+returns c =
+    let a = c .before .before .before .before .before .args in
+    λ es ts.
+    let s : Scene = sceneOf (a .positions .now) es ts in
+    edges-right s (a .e) 0 (a .f) 1 (c .judge-edges .result) (c .judge-edges .ensures)
+
+pub a-against-b-spec : {M : Type 1} → statement M
+a-against-b-spec =
+    tie.close
+    (tie.spec
+    (λ c. search needs)
+    (λ c. search needs)
+    (λ c. search needs)
+    (λ c. search needs)
+    (λ c. search needs)
+    (λ c. search needs)
+    (λ c. search needs)
+    (λ c. search needs)
+    (λ c κs. (omega arith, c .before .before .before .before .pre .bounded))
+    returns)

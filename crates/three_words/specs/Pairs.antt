@@ -1,0 +1,73 @@
+-- The verdict of a pair, from those of its pieces.
+use Prim.Native.Nat.{ℕ, zero, suc, _/_, _%_, min, max, _<_, _≤_}
+use mathlib.Core.Path.{_≡_, refl, sym, ap, subst, _∙_}
+use mathlib.Core.Bool.{Bool, true, false, _||_}
+use native.Mathlib.Omega.{arith}
+use lib.Dec.{leb}
+use borrow.Author.Tests.{leb-false}
+use Rattle.meaning.specs.Scene.{Scene, vertexCount, edgeCount, triangleCount, endsOf, cornersOf, Accepted}
+use Rattle.three_words.specs.Ready.{PointReady, EdgesReady, point-ready, edges-ready}
+use Rattle.meaning.specs.Pieces.{Piece, pieceOf, pieceCount, movingPoint, movingTriangle, movingEdge}
+use Rattle.meaning.specs.Refusals.{notThere}
+use Rattle.meaning.specs.Verdicts.{PieceIs, PairIs}
+use Rattle.meaning.specs.declared.Kind.{Kind}
+use Rattle.meaning.specs.declared.Kind.the-variants.{PointTriangle, EdgeEdge}
+use Rattle.meaning.specs.declared.Verdict.{Verdict}
+use Rattle.meaning.specs.declared.Verdict.the-variants.{Hit, Miss, Degenerate}
+use Rattle.scenes.specs.Below.{or-left, or-rest}
+use Rattle.theory.specs.Computed.{joined, joinedBelow, pieceVerdict, pairVerdict}
+use Rattle.theory.specs.OneVerdict.{piece-is, pair-is}
+
+-- a miss adds nothing
+joined-miss : (v : Verdict) → joined v Miss ≡ v
+unfolding joined
+joined-miss Hit = refl
+joined-miss Miss = refl
+joined-miss Degenerate = refl
+
+module _ (s : Scene) (i j : ℕ) where
+  pub of-three : (a b c : Verdict) → PieceIs (pieceOf s PointTriangle i j 0) a → PieceIs (pieceOf s PointTriangle i j 1) b
+      → PieceIs (pieceOf s PointTriangle i j 2) c → PairIs s PointTriangle i j (joined a (joined b c))
+  unfolding joinedBelow pieceCount
+  of-three a b c p q r =
+      pair-is s PointTriangle i j (joined a (joined b c)) .1
+      (rw (piece-is s PointTriangle i j 0 a .0 p, piece-is s PointTriangle i j 1 b .0 q, piece-is s PointTriangle i j 2 c .0 r)
+      (rw joined-miss refl))
+
+  pub of-four : (a b c d : Verdict) → PieceIs (pieceOf s EdgeEdge i j 0) a → PieceIs (pieceOf s EdgeEdge i j 1) b
+      → PieceIs (pieceOf s EdgeEdge i j 2) c → PieceIs (pieceOf s EdgeEdge i j 3) d
+      → PairIs s EdgeEdge i j (joined a (joined b (joined c d)))
+  unfolding joinedBelow pieceCount
+  of-four a b c d p q r t =
+      pair-is s EdgeEdge i j (joined a (joined b (joined c d))) .1
+      (rw (piece-is s EdgeEdge i j 0 a .0 p, piece-is s EdgeEdge i j 1 b .0 q, piece-is s EdgeEdge i j 2 c .0 r, piece-is s EdgeEdge i j 3 d .0 t)
+      (rw joined-miss refl))
+
+  -- what is there, in numbers
+  pub pt-there : notThere s PointTriangle i j ≡ false → (i < vertexCount s) × (j < triangleCount s)
+  unfolding notThere
+  pt-there e = (
+    leb-false (vertexCount s) i (or-left (leb (vertexCount s) i) (leb (triangleCount s) j) e),
+    leb-false (triangleCount s) j (or-rest (leb (vertexCount s) i) (leb (triangleCount s) j) e),
+  )
+
+  pub ee-there : notThere s EdgeEdge i j ≡ false → (i < edgeCount s) × (j < edgeCount s)
+  unfolding notThere
+  ee-there e = (
+    leb-false (edgeCount s) i (or-left (leb (edgeCount s) i) (leb (edgeCount s) j) e),
+    leb-false (edgeCount s) j (or-rest (leb (edgeCount s) i) (leb (edgeCount s) j) e),
+  )
+
+  pub ee-smaller-there : notThere s EdgeEdge i j ≡ false → min i j < edgeCount s
+  ee-smaller-there e = omega (arith, ee-there e)
+
+  pub ee-larger-there : notThere s EdgeEdge i j ≡ false → max i j < edgeCount s
+  ee-larger-there e = omega (arith, ee-there e)
+
+  -- what the verdict asks is there
+  pub pt-ready : Accepted s → notThere s PointTriangle i j ≡ false → PointReady (s .positions) i (cornersOf s j)
+  pt-ready a e = point-ready a i j (pt-there e .0) (pt-there e .1)
+
+  pub ee-ready : Accepted s → notThere s EdgeEdge i j ≡ false
+      → EdgesReady (s .positions) (endsOf s (min i j)) (endsOf s (max i j))
+  ee-ready a e = edges-ready a (min i j) (max i j) (ee-smaller-there e) (ee-larger-there e)

@@ -1,0 +1,61 @@
+// What a piece and a pair of a scene are: hit, miss or degenerate; and the refusals 5 and 6 of a pair that is asked for.
+
+mod pieces; // pieces.rt: the verdict of one piece, from the positions of its corners
+pub mod accepted; // accepted.rt: pieces and pairs of a scene that was checked already
+
+ghost use Rattle.meaning.specs.Scene.{sceneAtEntry};
+ghost use Rattle.meaning.specs.Refusals.{PairJudged, PieceJudged};
+use meaning::Kind;
+use meaning::PairAnswer;
+use meaning::Refusal;
+use meaning::SceneAnswer;
+
+// The verdict of a pair, for a scene that may be anything.
+pub fn judge_pair(
+    positions: &[i32],
+    edges: &[u16],
+    triangles: &[u16],
+    kind: Kind,
+    first: usize,
+    second: usize,
+) -> PairAnswer
+    ensures { λ r. ⌜ PairJudged (sceneAtEntry positions edges triangles) kind first second r ⌝ }
+{
+    if let SceneAnswer::Refused(refusal) = scenes::check_scene(positions, edges, triangles) {
+        return PairAnswer::Refused(refusal);
+    }
+    if accepted::not_there(positions, edges, triangles, kind, first, second) {
+        return PairAnswer::Refused(Refusal::NotThere);
+    }
+    if accepted::shares_vertex(positions, edges, triangles, kind, first, second) {
+        return PairAnswer::Refused(Refusal::SharedVertex);
+    }
+    PairAnswer::Judged(accepted::pair(positions, edges, triangles, kind, first, second))
+}
+
+// The verdict of one piece of a pair.
+pub fn judge_piece(
+    positions: &[i32],
+    edges: &[u16],
+    triangles: &[u16],
+    kind: Kind,
+    first: usize,
+    second: usize,
+    piece: usize,
+) -> PairAnswer
+    ensures { λ r. ⌜ PieceJudged (sceneAtEntry positions edges triangles) kind first second piece r ⌝ }
+{
+    if let SceneAnswer::Refused(refusal) = scenes::check_scene(positions, edges, triangles) {
+        return PairAnswer::Refused(refusal);
+    }
+    if accepted::not_there(positions, edges, triangles, kind, first, second) {
+        return PairAnswer::Refused(Refusal::NotThere);
+    }
+    if accepted::piece_count(kind) <= piece {
+        return PairAnswer::Refused(Refusal::NotThere);
+    }
+    if accepted::shares_vertex(positions, edges, triangles, kind, first, second) {
+        return PairAnswer::Refused(Refusal::SharedVertex);
+    }
+    PairAnswer::Judged(accepted::piece(positions, edges, triangles, kind, first, second, piece))
+}
