@@ -1,5 +1,5 @@
 -- 'Sizes' of document 01. Each limit stands here once, and everything else names it.
-use Prim.Native.Nat.{ℕ}
+use Prim.Native.Nat.{ℕ, _^_}
 
 abbrev pub coordinateLimit : ℕ
 coordinateLimit = 262_143
@@ -23,3 +23,10 @@ digitLimit = 9
 -- the pairs that the report program has room for
 abbrev pub reportRoom : ℕ
 reportRoom = 2_048
+
+-- 'a weight is one to thirteen digits', and 'at most 2^40'
+abbrev pub weightDigits : ℕ
+weightDigits = 13
+
+abbrev pub weightLimit : ℕ
+weightLimit = 2 ^ 40

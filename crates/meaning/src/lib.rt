@@ -92,3 +92,10 @@ pub enum TextAnswer {
     Read(SceneCounts),
     Refused(Refusal, usize),
 }
+
+// The answer to "check these claims": how many were answered, or a refusal with its line, or with the count needed where it is NoRoom
+// (0 where it has neither).
+pub enum ClaimsAnswer {
+    Answered(usize),
+    Refused(Refusal, usize),
+}
