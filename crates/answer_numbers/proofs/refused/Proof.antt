@@ -1,9 +1,9 @@
 -- A refusal's number is at most 12, so nothing wraps.
 use borrow.Author.Needs.{needs}
 use native.Mathlib.Omega.{arith}
-use Rattle.makhnodri.specs.Small.{number-in-table}
-use Rattle.makhnodri.proofs.refused.Statement.{statement}
-use Rattle.makhnodri.proofs.refused.Tie as tie
+use Rattle.answer_numbers.specs.Small.{number-in-table}
+use Rattle.answer_numbers.proofs.refused.Statement.{statement}
+use Rattle.answer_numbers.proofs.refused.Tie as tie
 
 mul-result : tie.Need-mul-result
 mul-result c = omega (arith, number-in-table (c .before .args .why))

@@ -33,8 +33,8 @@ use Rattle.scene_words.specs.Listed.{wordOfByte, byte-back, byte-small}
 use Rattle.listing.specs.Once.{list-says-one}
 use Rattle.demands.specs.OneAnswer.{settled-says-one}
 use Rattle.scene_text.specs.Using.{text-says-one}
-use Rattle.makhnodri.specs.Numbers.{upper, numberFor, verdictNumber, sceneNumber, pairNumber, settledNumber, listNumber, textNumber, countsLeft}
-use Rattle.makhnodri.specs.Small.{toldIn, lineIn, number-in-table}
+use Rattle.answer_numbers.specs.Numbers.{upper, numberFor, verdictNumber, sceneNumber, pairNumber, settledNumber, listNumber, textNumber, countsLeft}
+use Rattle.answer_numbers.specs.Small.{toldIn, lineIn, number-in-table}
 
 -- what is heard in a number, where a value is known by its own number
 unfoldable pub heard : {A : Type 0} → (ℕ → A) → ℕ → Outcome A

@@ -24,8 +24,8 @@ use Rattle.meaning.specs.declared.ListAnswer as ListAnswers
 use Rattle.meaning.specs.declared.ListAnswer.{ListAnswer}
 use Rattle.meaning.specs.declared.TextAnswer as TextAnswers
 use Rattle.meaning.specs.declared.TextAnswer.{TextAnswer}
-use Rattle.makhnodri.specs.Numbers.{upper, numberFor, verdictNumber, sceneNumber, pairNumber, settledNumber, listNumber, textNumber, countsLeft, ReadInto, Told}
-use Rattle.makhnodri.specs.Small.{toldIn, lineIn, line-small}
+use Rattle.answer_numbers.specs.Numbers.{upper, numberFor, verdictNumber, sceneNumber, pairNumber, settledNumber, listNumber, textNumber, countsLeft, ReadInto, Told}
+use Rattle.answer_numbers.specs.Small.{toldIn, lineIn, line-small}
 
 -- the number of a refusal
 abbrev RefusalNumber : Refusal → ℕ → ℕ → Type 0

@@ -1,9 +1,9 @@
 use borrow.Author.Needs.{needs}
 use Rattle.meaning.specs.Refusals.{sceneSays}
-use Rattle.makhnodri.specs.Numbers.{numberFor, sceneNumber}
-use Rattle.makhnodri.specs.Telling.{scene-refused}
-use Rattle.makhnodri.proofs.scene_number.Statement.{statement}
-use Rattle.makhnodri.proofs.scene_number.Tie as tie
+use Rattle.answer_numbers.specs.Numbers.{numberFor, sceneNumber}
+use Rattle.answer_numbers.specs.Telling.{scene-refused}
+use Rattle.answer_numbers.proofs.scene_number.Statement.{statement}
+use Rattle.answer_numbers.proofs.scene_number.Tie as tie
 
 accepted : tie.Need-returns
 unfolding sceneNumber sceneSays numberFor

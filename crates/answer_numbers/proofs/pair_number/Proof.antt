@@ -1,7 +1,7 @@
 use borrow.Author.Needs.{needs}
-use Rattle.makhnodri.specs.Telling.{pair-judged, pair-refused}
-use Rattle.makhnodri.proofs.pair_number.Statement.{statement}
-use Rattle.makhnodri.proofs.pair_number.Tie as tie
+use Rattle.answer_numbers.specs.Telling.{pair-judged, pair-refused}
+use Rattle.answer_numbers.proofs.pair_number.Statement.{statement}
+use Rattle.answer_numbers.proofs.pair_number.Tie as tie
 
 pub pair-number-spec : {M : Type 1} → statement M
 pair-number-spec =

@@ -1,7 +1,7 @@
 use borrow.Author.Needs.{needs}
-use Rattle.makhnodri.specs.Numbers.{verdictNumber}
-use Rattle.makhnodri.proofs.verdict_number.Statement.{statement}
-use Rattle.makhnodri.proofs.verdict_number.Tie as tie
+use Rattle.answer_numbers.specs.Numbers.{verdictNumber}
+use Rattle.answer_numbers.proofs.verdict_number.Statement.{statement}
+use Rattle.answer_numbers.proofs.verdict_number.Tie as tie
 
 hit : tie.Need-returns
 unfolding verdictNumber

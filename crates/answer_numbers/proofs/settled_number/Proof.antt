@@ -1,7 +1,7 @@
 use borrow.Author.Needs.{needs}
-use Rattle.makhnodri.specs.Telling.{settled-decided, settled-refused}
-use Rattle.makhnodri.proofs.settled_number.Statement.{statement}
-use Rattle.makhnodri.proofs.settled_number.Tie as tie
+use Rattle.answer_numbers.specs.Telling.{settled-decided, settled-refused}
+use Rattle.answer_numbers.proofs.settled_number.Statement.{statement}
+use Rattle.answer_numbers.proofs.settled_number.Tie as tie
 
 pub settled-number-spec : {M : Type 1} → statement M
 settled-number-spec =

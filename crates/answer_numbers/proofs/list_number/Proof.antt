@@ -1,8 +1,8 @@
 use borrow.Author.Needs.{needs}
 use mathlib.Core.Path.{refl}
-use Rattle.makhnodri.specs.Telling.{list-made, list-carried, list-refused}
-use Rattle.makhnodri.proofs.list_number.Statement.{statement}
-use Rattle.makhnodri.proofs.list_number.Tie as tie
+use Rattle.answer_numbers.specs.Telling.{list-made, list-carried, list-refused}
+use Rattle.answer_numbers.proofs.list_number.Statement.{statement}
+use Rattle.answer_numbers.proofs.list_number.Tie as tie
 
 pub list-number-spec : {M : Type 1} → statement M
 list-number-spec =

@@ -21,7 +21,7 @@ use Rattle.scenes.specs.Answering.{is-refused, is-past}
 use Rattle.listing.specs.Sizes.{few-pairs}
 use Rattle.scene_text.specs.Inspecting.{line-some}
 use Rattle.demands.specs.Deciding.{holds-or-not}
-use Rattle.makhnodri.specs.Numbers.{upper}
+use Rattle.answer_numbers.specs.Numbers.{upper}
 
 -- the value that is given, or what the refusal carries
 unfoldable pub toldIn : Outcome ℕ → ℕ
