@@ -11,9 +11,9 @@ use Rattle.meaning.specs.Pieces.{Event}
 use Rattle.meaning.specs.Equations.{total}
 use Rattle.meaning.specs.Claims.{weightAt, ofFirstSimplex, ofSecondSimplex}
 use Rattle.theory.specs.Totals.{total-append}
-use Rattle.corner_search.specs.declared.SixPoints.{SixPoints}
-use Rattle.corner_search.specs.Slots.{eventIn}
-use Rattle.corner_search.specs.Points.{eventAt, sixEvents, pieceAt, first-long}
+use Rattle.corner_leaf.specs.declared.SixPoints.{SixPoints}
+use Rattle.corner_laws.specs.Slots.{eventIn}
+use Rattle.corner_leaf.specs.Points.{eventAt, sixEvents, pieceAt, first-long}
 use Rattle.claim_sums.specs.Sums.{reading, from-to, side}
 
 -- one point more

@@ -13,8 +13,8 @@ use Rattle.meaning.specs.Equations.{one, xOf, yOf, zOf, timeOf, total}
 use Rattle.meaning.specs.Claims.{weightAt}
 use Rattle.exact.specs.Places.{placeAt}
 use Rattle.sign_sums.specs.BySignsLaws.{clock}
-use Rattle.corner_search.specs.declared.SixPoints.{SixPoints}
-use Rattle.corner_search.specs.Points.{sixEvents}
+use Rattle.corner_leaf.specs.declared.SixPoints.{SixPoints}
+use Rattle.corner_leaf.specs.Points.{sixEvents}
 
 -- a weight times a coordinate, and six of these; a time and the number one are no larger than a coordinate can be
 abbrev pub shareLimit : ℕ

@@ -8,9 +8,9 @@ ghost use Rattle.whole.specs.Sizes.{Is};
 ghost use Rattle.meaning.specs.Limits.{coordinateLimit};
 ghost use Rattle.meaning.specs.Claims.{weightAt, AnswerIs};
 ghost use Rattle.exact.specs.Places.{Bounded};
-ghost use Rattle.corner_search.specs.Points.{eventAt, pieceAt, SixIn};
+ghost use Rattle.corner_leaf.specs.Points.{eventAt, pieceAt, SixIn};
 ghost use Rattle.claim_sums.specs.Sums.{shareLimit, sideLimit, heavy, Light, reading, pointAt, side, agrees, passes};
-use corner_search::SixPoints;
+use corner_leaf::SixPoints;
 
 const WEIGHT_LIMIT: u64 = 1099511627776;
 

@@ -2,7 +2,7 @@
 use borrow.Author.Needs.{needs}
 use mathlib.Core.Path.{sym, subst, _∙_}
 use Rattle.meaning.specs.Claims.{AnswerIs}
-use Rattle.corner_search.specs.Points.{pieceAt}
+use Rattle.corner_leaf.specs.Points.{pieceAt}
 use Rattle.claim_sums.specs.Decides.{light, heavy-no, decides}
 use Rattle.claim_sums.proofs.borne_out.Statement.{statement}
 use Rattle.claim_sums.proofs.borne_out.Tie as tie

@@ -9,9 +9,9 @@ use mir.Syntax.{w64}
 use mir.Val.{toZ}
 use borrow.Author.Needs.{needs}
 use Rattle.whole.specs.Sizes.{Is, is-exact, is-add, is-equal, is-wider, held, fits, back}
-use Rattle.corner_search.specs.declared.SixPoints.{SixPoints}
+use Rattle.corner_leaf.specs.declared.SixPoints.{SixPoints}
 use Rattle.meaning.specs.Claims.{weightAt}
-use Rattle.corner_search.specs.Points.{eventAt}
+use Rattle.corner_leaf.specs.Points.{eventAt}
 use Rattle.claim_sums.specs.Sums.{shareLimit, sideLimit, reading, side}
 use Rattle.claim_sums.specs.Sides.{side-none, side-next}
 use Rattle.claim_sums.proofs.side.Statement.{statement}
