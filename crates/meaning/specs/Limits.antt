@@ -30,3 +30,7 @@ weightDigits = 13
 
 abbrev pub weightLimit : ℕ
 weightLimit = 2 ^ 40
+
+-- the answers that the program of claims has room for
+abbrev pub claimRoom : ℕ
+claimRoom = 2_048
