@@ -1,12 +1,10 @@
 //! Reports, and texts read and judged, held against the independent program; every byte behind a report is unchanged.
 
-mod common;
-
-use common::*;
 use compare::report::report;
 use compare::scene::REPORT_ROOM;
 use compare::trials::{fixed, seeded, Trial};
 use makhnodri::{OwnedScene, REPORT_LENGTH};
+use makhnodri_tests::*;
 
 fn hold(Trial { name, text }: &Trial) {
     let mut out: Box<[u8; REPORT_LENGTH]> = painted(REPORT_LENGTH).try_into().unwrap();
@@ -25,7 +23,7 @@ fn hold_reading(Trial { name, text }: &Trial) {
         (Ok(got), Ok(wanted)) => {
             let wanted = Flat::of(wanted);
             assert_eq!(got.as_scene(), wanted.scene(), "{name}");
-            assert_eq!(got.as_scene().check(), Ok(()), "{name}");
+            assert_eq!(got.as_scene().check_scene(), Ok(()), "{name}");
         }
         _ => assert_eq!(got.map(drop), wanted.map(drop), "{name}"),
     }

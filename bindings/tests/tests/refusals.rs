@@ -1,12 +1,10 @@
 //! The refusals that the report program never prints: 1, 5, 6 and 12, each with all its causes, and in their place in the order.
 //! Each is asked of every function that can give it, and leaves every buffer as it was.
 
-mod common;
-
-use common::*;
 use compare::cases::PRINTED_SCENE;
 use compare::text::read;
 use makhnodri::{Kind, Refusal, TextRefusal};
+use makhnodri_tests::*;
 
 /// Five vertices, three edges, two triangles, and pairs of both kinds that share nothing.
 fn good() -> Flat {
@@ -70,10 +68,10 @@ fn the_sizes_themselves_are_taken() {
     full.positions.resize(6 * 512, 9);
     full.edges.extend([0, 1].repeat(1_021));
     full.triangles.extend([0, 1, 2].repeat(510));
-    assert_eq!(full.scene().check(), Ok(()));
-    assert_eq!(good().scene().check(), Ok(()));
-    assert_eq!(Flat::default().scene().check(), Ok(()));
-    assert_eq!(Flat::default().scene().judged(), Ok(vec![]));
+    assert_eq!(full.scene().check_scene(), Ok(()));
+    assert_eq!(good().scene().check_scene(), Ok(()));
+    assert_eq!(Flat::default().scene().check_scene(), Ok(()));
+    assert_eq!(Flat::default().scene().settled(), Ok(vec![]));
 }
 
 // ---- 2, 3, 4 of slices, each over the whole scene before the next
@@ -108,7 +106,7 @@ fn the_four_checks_go_in_order_over_the_whole_scene() {
     }
     twice.iter().for_each(|fault| refused_by_all(&with(fault), 4));
     for edge in [262_143, -262_143] {
-        assert_eq!(with(|flat| flat.positions[0] = edge).scene().check(), Ok(()));
+        assert_eq!(with(|flat| flat.positions[0] = edge).scene().check_scene(), Ok(()));
     }
 }
 
@@ -214,7 +212,7 @@ fn each_shared_end_is_refused_and_an_edge_with_itself() {
 /// A pair that shares a vertex is in no list either, however its boxes lie.
 #[test]
 fn no_listed_pair_shares_a_vertex() {
-    for pair in good().scene().pairs().unwrap() {
+    for pair in good().scene().listed().unwrap() {
         assert!(good().scene().judge_pair(pair.kind, pair.first, pair.second).is_ok());
     }
 }
@@ -229,14 +227,14 @@ fn room_is_the_smaller_of_the_two_and_the_last_check() {
     for room in 0..count {
         for spare in 0..3 {
             assert_eq!(listed(&flat, room, spare), Err((7, count as u64)));
-            assert_eq!(judged(&flat, room, spare, count + 5), Err((7, count as u64)));
+            assert_eq!(settled(&flat, room, spare, count + 5), Err((7, count as u64)));
         }
-        assert_eq!(judged(&flat, count + 5, 1, room), Err((7, count as u64)));
+        assert_eq!(settled(&flat, count + 5, 1, room), Err((7, count as u64)));
     }
-    assert!(listed(&flat, count, 0).is_ok() && judged(&flat, count, 0, count).is_ok());
+    assert!(listed(&flat, count, 0).is_ok() && settled(&flat, count, 0, count).is_ok());
     let bad = with(|flat| flat.triangles[3] = flat.triangles[4]);
     assert_eq!(listed(&bad, 0, 0), Err((4, 0)));
-    assert_eq!(judged(&bad, 0, 0, 0), Err((4, 0)));
+    assert_eq!(settled(&bad, 0, 0, 0), Err((4, 0)));
 }
 
 // ---- 12

@@ -1,7 +1,5 @@
 //! Scenes as the numbers that are lent, asked of the library and of the independent program, answers in document 01's numbers.
 
-#![allow(dead_code)]
-
 use compare::scene::{self, all_pairs};
 use compare::slices::{self, Slices};
 use compare::{settled, verdict};
@@ -94,10 +92,10 @@ pub fn listed(flat: &Flat, room: usize, spare: usize) -> Answer<Vec<[u16; 3]>> {
 }
 
 /// The same of the list with its words.
-pub fn judged(flat: &Flat, room: usize, spare: usize, bytes: usize) -> Answer<(Vec<[u16; 3]>, Vec<u8>)> {
+pub fn settled(flat: &Flat, room: usize, spare: usize, bytes: usize) -> Answer<(Vec<[u16; 3]>, Vec<u8>)> {
     let (mut list, mut words): (Vec<u16>, Vec<u8>) = (painted(3 * room + spare), painted(bytes));
     let before = (list.clone(), words.clone());
-    let answer = flat.scene().judge_listed(&mut list, &mut words).map_err(of_list);
+    let answer = flat.scene().settle_scene(&mut list, &mut words).map_err(of_list);
     let count = answer.unwrap_or(0);
     assert!(3 * count <= list.len() && count <= bytes);
     assert_eq!(list[3 * count..], before.0[3 * count..], "behind the list");
@@ -113,10 +111,10 @@ fn entries(list: &[u16]) -> Vec<[u16; 3]> {
 pub fn every_answer(flat: &Flat) -> Vec<(&'static str, Answer<()>)> {
     let scene = flat.scene();
     let mut out = vec![
-        ("check", scene.check().map_err(bare)),
+        ("check", scene.check_scene().map_err(bare)),
         ("count", scene.count_pairs().map(drop).map_err(bare)),
         ("list", listed(flat, 40, 2).map(drop)),
-        ("judge", judged(flat, 40, 1, 50).map(drop)),
+        ("settle", settled(flat, 40, 1, 50).map(drop)),
     ];
     for kind in KINDS {
         out.push(("pair", scene.judge_pair(kind, 0, 1).map(drop).map_err(bare)));

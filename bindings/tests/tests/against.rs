@@ -1,9 +1,6 @@
 //! The library held against the independent program of compare/ on scenes from seeds: every pair and every piece, listed or not, in
 //! three words and in four, and the lists; the same under demand 3's maps; damaged scenes; and full-size scenes.
 
-mod common;
-
-use common::*;
 use compare::affine::Affine;
 use compare::generate::{self, rewritten, KINDS as SCENES};
 use compare::random::Random;
@@ -11,6 +8,7 @@ use compare::refusal::{NOT_THERE, SHARES_A_VERTEX};
 use compare::scene::{in_range, Kind, Scene};
 use compare::{settled, slices, verdict};
 use makhnodri::{Refusal, Settled, Verdict};
+use makhnodri_tests::*;
 
 /// The crowded kind is left out where every pair is looked at.
 fn small_scenes(rounds: u64) -> impl Iterator<Item = (u64, Scene)> {
@@ -78,11 +76,11 @@ fn hold_list(scene: &Scene) -> usize {
         let kind = KINDS[entry[0] as usize];
         flat.scene().settle_pair(kind, entry[1].into(), entry[2].into()).unwrap() as u8
     });
-    assert_eq!(judged(&flat, count + 1, 1, count + 3), Ok((wanted.clone(), pairs.collect())));
+    assert_eq!(settled(&flat, count + 1, 1, count + 3), Ok((wanted.clone(), pairs.collect())));
     if count > 0 {
         assert_eq!(listed(&flat, count - 1, 2), Err((7, count as u64)));
-        assert_eq!(judged(&flat, count - 1, 2, count), Err((7, count as u64)));
-        assert_eq!(judged(&flat, count, 2, count - 1), Err((7, count as u64)));
+        assert_eq!(settled(&flat, count - 1, 2, count), Err((7, count as u64)));
+        assert_eq!(settled(&flat, count, 2, count - 1), Err((7, count as u64)));
     }
     count
 }
@@ -122,7 +120,7 @@ fn the_twelve_shown_cases() {
             let got = flat.scene().settle_piece(kind, case.pair.first, case.pair.second, piece);
             assert_eq!(got, Ok(settled_of(wanted)));
         }
-        let pairs = flat.scene().pairs().unwrap();
+        let pairs = flat.scene().listed().unwrap();
         assert_eq!(pairs.iter().any(|p| (p.kind, p.first, p.second) == (kind, case.pair.first, case.pair.second)), case.listed);
     }
 }
@@ -157,7 +155,7 @@ fn damaged_scenes_are_refused_alike() {
             damage(&mut random, &mut flat);
         }
         let wanted = flat.independent(slices::scene);
-        assert_eq!(flat.scene().check().map_err(bare), wanted.as_ref().map(|_| ()).map_err(|&r| r), "seed {seed}");
+        assert_eq!(flat.scene().check_scene().map_err(bare), wanted.as_ref().map(|_| ()).map_err(|&r| r), "seed {seed}");
         assert_eq!(listed(&flat, 5, 1), flat.independent(|s| slices::list(s, 5)), "seed {seed}");
         let (first, second, piece) = (random.below(9), random.below(9), random.below(6));
         for kind in KINDS {
@@ -219,7 +217,7 @@ fn full_size_scenes() {
         scene.triangles = (0..512).map(|i| [(i + 1) % 512, i, (i + 2 + i % 3) % 512]).collect();
         let flat = Flat::of(&scene);
         let wanted = flat.independent(|slices| slices::list(slices, usize::MAX)).unwrap();
-        let (list, bytes) = judged(&flat, wanted.len(), 2, wanted.len()).unwrap();
+        let (list, bytes) = settled(&flat, wanted.len(), 2, wanted.len()).unwrap();
         assert_eq!(list, wanted);
         assert!(list.len() <= makhnodri::PAIR_LIMIT);
         for (entry, byte) in list.iter().zip(bytes).step_by(1 + list.len() / 2_000) {
