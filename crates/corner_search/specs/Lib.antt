@@ -1,6 +1,7 @@
 -- Cloth at rest: when a degenerate piece touches.
 pub mod Level
 pub mod Left
+pub mod AtMostOne
 pub mod Tightest
 pub mod Leave
 pub mod Others
