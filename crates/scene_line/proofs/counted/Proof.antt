@@ -1,8 +1,8 @@
--- `scene_text::line::counted` meets its contract: each arm is the case of the definition, and no count can pass its size by more than one.
+-- `scene_line::counted` meets its contract: each arm is the case of the definition, and no count can pass its size by more than one.
 use borrow.Author.Needs.{needs}
-use Rattle.scene_text.specs.Stepping.{countedBy}
-use Rattle.scene_text.proofs.line.counted.Statement.{statement}
-use Rattle.scene_text.proofs.line.counted.Tie as tie
+use Rattle.scene_line.specs.Stepping.{countedBy}
+use Rattle.scene_line.proofs.counted.Statement.{statement}
+use Rattle.scene_line.proofs.counted.Tie as tie
 
 returns : tie.Need-returns
 unfolding countedBy

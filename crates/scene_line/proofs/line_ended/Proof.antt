@@ -1,8 +1,8 @@
--- `scene_text::line::line_ended` meets its contract: each arm is the case of the definition.
+-- `scene_line::line_ended` meets its contract: each arm is the case of the definition.
 use borrow.Author.Needs.{needs}
-use Rattle.scene_text.specs.Reading.{lineEnded}
-use Rattle.scene_text.proofs.line.line_ended.Statement.{statement}
-use Rattle.scene_text.proofs.line.line_ended.Tie as tie
+use Rattle.scene_line.specs.Reading.{lineEnded}
+use Rattle.scene_line.proofs.line_ended.Statement.{statement}
+use Rattle.scene_line.proofs.line_ended.Tie as tie
 
 returns : tie.Need-returns
 unfolding lineEnded

@@ -1,10 +1,10 @@
--- `scene_text::line::read_line` meets its contract: the letter says which row to read, and without one of the three there is no record.
+-- `scene_line::read_line` meets its contract: the letter says which row to read, and without one of the three there is no record.
 use mathlib.Core.Path.{_∙_}
 use borrow.Author.Needs.{needs}
-use Rattle.scene_text.specs.Reading.{letter, many, formOf, LineRead, line-got, line-other}
-use Rattle.scene_text.specs.declared.line.Sort.the-variants.{Vertex, Edge, Triangle}
-use Rattle.scene_text.proofs.line.read_line.Statement.{statement}
-use Rattle.scene_text.proofs.line.read_line.Tie as tie
+use Rattle.scene_line.specs.Reading.{letter, many, formOf, LineRead, line-got, line-other}
+use Rattle.scene_line.specs.declared.Sort.the-variants.{Vertex, Edge, Triangle}
+use Rattle.scene_line.proofs.read_line.Statement.{statement}
+use Rattle.scene_line.proofs.read_line.Tie as tie
 
 returns : tie.Need-returns
 unfolding letter many formOf

@@ -13,11 +13,11 @@ use Rattle.meaning.specs.Limits.{coordinateLimit, vertexLimit, edgeLimit, trian
 use Rattle.meaning.specs.Refusals.{Outcome, given, refused, Check, Answers, numberOf}
 use Rattle.meaning.specs.Text.{Entry, vertex, edge, triangle, coordinates, numbersOf, EntryJudged, late, excess, far, unknown, twice}
 use Rattle.meaning.specs.declared.SceneCounts.{SceneCounts}
-use Rattle.scene_text.specs.Reading.{sortOf}
-use Rattle.scene_text.specs.declared.line.Sort.{Sort}
-use Rattle.scene_text.specs.declared.line.Sort.the-variants.{Vertex, Edge, Triangle}
-use Rattle.scene_text.specs.declared.line.Judged.{Judged}
-use Rattle.scene_text.specs.declared.line.Judged.the-variants.{Good, Fault}
+use Rattle.scene_line.specs.Reading.{sortOf}
+use Rattle.scene_line.specs.declared.Sort.{Sort}
+use Rattle.scene_line.specs.declared.Sort.the-variants.{Vertex, Edge, Triangle}
+use Rattle.scene_line.specs.declared.Judged.{Judged}
+use Rattle.scene_line.specs.declared.Judged.the-variants.{Good, Fault}
 
 unfoldable pub judgedSays : Judged → Outcome (Unit {0})
 judgedSays Good = given tt

@@ -12,21 +12,22 @@ use Rattle.sequences.specs.Stands.{stands-from}
 use Rattle.scenes.specs.Answering.{is-given}
 use Rattle.meaning.specs.Limits.{vertexLimit, edgeLimit, triangleLimit}
 use Rattle.meaning.specs.Refusals.{given, refused, numberOf}
+use Rattle.meaning.specs.Lines.{unformed, misplaced}
 use Rattle.meaning.specs.Text as Text
 use Rattle.meaning.specs.Text.{Entry, vertex, edge, triangle, numbersOf, lineOf, EntryJudged, counted, late, excess, far, unknown, twice}
 use Rattle.meaning.specs.declared.Refusal.{Refusal}
 use Rattle.meaning.specs.declared.Refusal.the-variants.{BadLine}
 use Rattle.meaning.specs.declared.SceneCounts.{SceneCounts}
-use Rattle.scene_text.specs.Reading.{sortOf, LineGot, LineRead}
-use Rattle.scene_text.specs.Judging.{Judging, judgedSays, entry-judged}
-use Rattle.scene_text.specs.declared.line.Sort.{Sort}
-use Rattle.scene_text.specs.declared.line.Sort.the-variants.{Vertex, Edge, Triangle}
-use Rattle.scene_text.specs.declared.line.Line as Lines
-use Rattle.scene_text.specs.declared.line.Line.{Line}
-use Rattle.scene_text.specs.declared.line.Judged as Judgements
-use Rattle.scene_text.specs.declared.line.Judged.{Judged}
-use Rattle.scene_text.specs.declared.line.Step.{Step}
-use Rattle.scene_text.specs.declared.line.Step.the-variants.{Fault, Taken}
+use Rattle.scene_line.specs.Reading.{sortOf, LineGot, LineRead}
+use Rattle.scene_line.specs.Judging.{Judging, judgedSays, entry-judged}
+use Rattle.scene_line.specs.declared.Sort.{Sort}
+use Rattle.scene_line.specs.declared.Sort.the-variants.{Vertex, Edge, Triangle}
+use Rattle.scene_line.specs.declared.Line as Lines
+use Rattle.scene_line.specs.declared.Line.{Line}
+use Rattle.scene_line.specs.declared.Judged as Judgements
+use Rattle.scene_line.specs.declared.Judged.{Judged}
+use Rattle.scene_line.specs.declared.Step.{Step}
+use Rattle.scene_line.specs.declared.Step.the-variants.{Fault, Taken}
 
 -- no more records than their sizes
 pub record Bounded (c : SceneCounts) : Type 0 where
@@ -95,7 +96,7 @@ module _ (text : List ℕ) (at : ℕ) (c : SceneCounts) (sizes : List ℕ) (minu
   unfolding Stepped LineRead numberOf
   step-bad {l} h a e =
       let none : LineRead text at sizes minus Lines.the-variants.Bad = rw e at a in
-      Text.unformed refl (some-left text at h) (λ r rest short q. none r _ short (stands-from text at (lineOf r) rest q))
+      unformed refl (some-left text at h) (λ r rest short q. none r _ short (stands-from text at (lineOf r) rest q))
 
   pub step-fault : {l : Line} {j : Judged} {sort : Sort} {next : ℕ} {f : Refusal} → LineRead text at sizes minus l → l ≡ Lines.the-variants.Of sort next
       → Judging sort c sizes (judgedSays j) → j ≡ Judgements.the-variants.Fault f → Stepped text at c sizes minus (Fault f)
@@ -103,7 +104,7 @@ module _ (text : List ℕ) (at : ℕ) (c : SceneCounts) (sizes : List ℕ) (minu
   step-fault {sort} {next} {f} a e b d =
       let got : LineRead text at sizes minus (Lines.the-variants.Of sort next) = rw e at a in
       let judged : Judging sort c sizes (judgedSays (Judgements.the-variants.Fault f)) = rw d at b in
-      Text.misplaced (got .entry) (drop next text) (got .short) (got .stands .here)
+      misplaced (got .entry) (drop next text) (got .short) (got .stands .here)
       (entry-judged c sizes (refused (numberOf f) 0) (got .entry) (got .sorted) (got .front .sized) judged)
 
   pub step-good : {l : Line} {j : Judged} {sort : Sort} {next : ℕ} {after : SceneCounts} → LineRead text at sizes minus l → l ≡ Lines.the-variants.Of sort next

@@ -2,21 +2,24 @@
 ghost use Prim.Native.Nat.{_≤_, _<_};
 ghost use lib.ListN.{length};
 ghost use mathlib.Core.Path.{_≡_};
-ghost use Rattle.scene_text.specs.Judging.{FaultIs, judgedSays, farIn, Judging};
-ghost use Rattle.scene_text.specs.Reading.{lineEnded, LineRead};
-ghost use Rattle.scene_text.specs.Stepping.{Bounded, countedBy, Stepped};
-use crate::EDGE_LIMIT;
-use crate::TRIANGLE_LIMIT;
-use crate::VERTEX_LIMIT;
+ghost use Rattle.scene_line.specs.Judging.{FaultIs, judgedSays, farIn, Judging};
+ghost use Rattle.scene_line.specs.Reading.{lineEnded, LineRead};
+ghost use Rattle.scene_line.specs.Stepping.{Bounded, countedBy, Stepped};
 use fields::Ending;
 use fields::Form;
+use meaning::COORDINATE_LIMIT;
+use meaning::DIGIT_LIMIT;
+use meaning::EDGE_LIMIT;
 use meaning::Refusal;
 use meaning::SceneCounts;
+use meaning::TRIANGLE_LIMIT;
+use meaning::VERTEX_LIMIT;
 
-const COORDINATE_LIMIT: u64 = 262143;
+// The largest size of a coordinate, as sizes are held.
+const LARGEST: u64 = COORDINATE_LIMIT as u64;
 
 // The three kinds of record.
-pub(crate) enum Sort {
+pub enum Sort {
     Vertex,
     Edge,
     Triangle,
@@ -49,7 +52,7 @@ fn read_line(text: &[u8], at: usize, sizes: &mut [u64], minus: &mut [bool]) -> L
         let form = Form {
             separator: b'\t',
             signed: true,
-            most: 9,
+            most: DIGIT_LIMIT,
         };
         return line_ended(
             Sort::Vertex,
@@ -59,7 +62,7 @@ fn read_line(text: &[u8], at: usize, sizes: &mut [u64], minus: &mut [bool]) -> L
     let form = Form {
         separator: b'\t',
         signed: false,
-        most: 9,
+        most: DIGIT_LIMIT,
     };
     if letter == b'e' {
         return line_ended(
@@ -109,12 +112,12 @@ fn far(sizes: &[u64]) -> bool
     requires { ⌜ 6 ≤ length (now sizes) ⌝ }
     ensures { λ r. ⌜ r ≡ farIn (now (sizes .entry)) ⌝ }
 {
-    (COORDINATE_LIMIT < sizes[0])
-        | (COORDINATE_LIMIT < sizes[1])
-        | (COORDINATE_LIMIT < sizes[2])
-        | (COORDINATE_LIMIT < sizes[3])
-        | (COORDINATE_LIMIT < sizes[4])
-        | (COORDINATE_LIMIT < sizes[5])
+    (LARGEST < sizes[0])
+        | (LARGEST < sizes[1])
+        | (LARGEST < sizes[2])
+        | (LARGEST < sizes[3])
+        | (LARGEST < sizes[4])
+        | (LARGEST < sizes[5])
 }
 
 // The judgement of a record whose numbers have these sizes, below so many records.
@@ -152,7 +155,7 @@ fn judge(sort: Sort, c: SceneCounts, sizes: &[u64]) -> Judged
 }
 
 // What looking at a line gives: its fault; or its kind, the counts with it, and the place of the next line.
-pub(crate) enum Step {
+pub enum Step {
     Fault(Refusal),
     Taken(Sort, SceneCounts, usize),
 }
@@ -181,7 +184,7 @@ fn counted(c: SceneCounts, sort: Sort) -> SceneCounts
 }
 
 // One line, below so many records. Both passes go by it.
-pub(crate) fn next_line(
+pub fn next_line(
     text: &[u8],
     at: usize,
     c: SceneCounts,

@@ -1,8 +1,8 @@
--- `scene_text::line::next_line` meets its contract: a line that is no record's, a record at fault, or a record that is not.
+-- `scene_line::next_line` meets its contract: a line that is no record's, a record at fault, or a record that is not.
 use borrow.Author.Needs.{needs}
-use Rattle.scene_text.specs.Stepping.{step-bad, step-fault, step-good}
-use Rattle.scene_text.proofs.line.next_line.Statement.{statement}
-use Rattle.scene_text.proofs.line.next_line.Tie as tie
+use Rattle.scene_line.specs.Stepping.{step-bad, step-fault, step-good}
+use Rattle.scene_line.proofs.next_line.Statement.{statement}
+use Rattle.scene_line.proofs.next_line.Tie as tie
 
 returns : tie.Need-returns
 returns c =

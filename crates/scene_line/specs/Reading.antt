@@ -18,11 +18,11 @@ use Rattle.fields.specs.declared.Ending.{Ending}
 use Rattle.fields.specs.declared.Ending.the-variants.{At, Nowhere}
 use Rattle.meaning.specs.Limits.{digitLimit}
 use Rattle.meaning.specs.Text.{Entry, vertex, edge, triangle, coordinates, letterOf, numbersOf, lineOf, Short, tab, lineFeed}
-use Rattle.scene_text.specs.Lines.{coordinateForm, numberForm, tab-parts, line-ends}
-use Rattle.scene_text.specs.declared.line.Sort.{Sort}
-use Rattle.scene_text.specs.declared.line.Sort.the-variants.{Vertex, Edge, Triangle}
-use Rattle.scene_text.specs.declared.line.Line.{Line}
-use Rattle.scene_text.specs.declared.line.Line.the-variants.{Of, Bad}
+use Rattle.scene_line.specs.Rendered.{coordinateForm, numberForm, tab-parts, line-ends}
+use Rattle.scene_line.specs.declared.Sort.{Sort}
+use Rattle.scene_line.specs.declared.Sort.the-variants.{Vertex, Edge, Triangle}
+use Rattle.scene_line.specs.declared.Line.{Line}
+use Rattle.scene_line.specs.declared.Line.the-variants.{Of, Bad}
 
 -- ---- the three kinds
 

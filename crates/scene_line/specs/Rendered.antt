@@ -1,7 +1,6 @@
 -- Rendering is one-to-one: a text begins with the line of one record at most.
 use mathlib.Core.Bool.{true, false}
-use mathlib.Core.List.{List, [], _∷_, _++_, append-assoc, nil≢cons, head-eq-of-cons-eq, tail-eq-of-cons-eq, List·Memᴰ, List·Memᴰ·head, List·Memᴰ·tail}
-use mathlib.Core.Logic.{_≢_}
+use mathlib.Core.List.{List, [], _∷_, _++_, append-assoc, head-eq-of-cons-eq, tail-eq-of-cons-eq, List·Memᴰ, List·Memᴰ·head, List·Memᴰ·tail}
 use mathlib.Core.Path.{_≡_, refl, sym, ap, _∙_}
 use Prim.Native.Nat.{ℕ, suc}
 use native.Mathlib.Omega.{arith}
@@ -15,7 +14,9 @@ use Rattle.fields.specs.Numerals.{Ends}
 use Rattle.fields.specs.Rows.{rowOf, row-cancel}
 use Rattle.fields.specs.declared.Form.{Form}
 use Rattle.meaning.specs.Limits.{digitLimit}
-use Rattle.meaning.specs.Text.{Entry, vertex, edge, triangle, coordinates, letterOf, numbersOf, numeral, further, rendered, lineOf, tab, lineFeed}
+use Rattle.meaning.specs.Text.{Entry, vertex, edge, triangle, coordinates, letterOf, numbersOf, numeral, further, rendered, lineOf, tab, lineFeed, sceneLines}
+use Rattle.lines.specs.Unique.{Readable}
+use Rattle.lines.specs.Feed.{NoFeed, feed-append, Bodies}
 
 -- coordinates may have a minus, vertex numbers not
 abbrev pub coordinateForm : Form
@@ -89,16 +90,12 @@ line-cancel (triangle a b c) (triangle d f g) x y e =
     let (same, rest) = numbers-cancel (triangle a b c) (triangle d f g) x y refl e in
     (three a b c d f g same, rest)
 
+-- a text of such lines means one thing
+pub scene-readable : Readable sceneLines
+unfolding lineOf
+scene-readable = record { cancel = λ r q x y short short′ e. line-cancel r q x y e; some = λ r. omega arith }
+
 -- ---- a record stands in one line
-
-unfoldable pub NoFeed : List ℕ → Type 0
-NoFeed [] = Unit
-NoFeed (b ∷ l) = (b ≢ lineFeed) × NoFeed l
-
-feed-append : (l k : List ℕ) → NoFeed l → NoFeed k → NoFeed (l ++ k)
-unfolding NoFeed
-feed-append [] k s t = t
-feed-append (b ∷ l) k s t = (s .0, feed-append l k (s .1) t)
 
 digits-feed : (l : List ℕ) → ((b : ℕ) → List·Memᴰ b l → IsDigit b) → NoFeed l
 unfolding NoFeed
@@ -116,34 +113,13 @@ unfolding further NoFeed
 row-feed [] = tt
 row-feed (z ∷ zs) = (λ e. omega (arith, e), feed-append (numeral z) (rowOf numberForm zs) (numeral-feed z) (row-feed zs))
 
-pub rendered-feed : (r : Entry) → NoFeed (rendered r)
+rendered-feed : (r : Entry) → NoFeed (rendered r)
 unfolding letterOf NoFeed
 rendered-feed (vertex p q) = (λ e. omega (arith, e), row-feed (numbersOf (vertex p q)))
 rendered-feed (edge a b) = (λ e. omega (arith, e), row-feed (numbersOf (edge a b)))
 rendered-feed (triangle a b c) = (λ e. omega (arith, e), row-feed (numbersOf (triangle a b c)))
 
-feed-cancel : (l k x y : List ℕ) → NoFeed l → NoFeed k → l ++ (lineFeed ∷ x) ≡ k ++ (lineFeed ∷ y) → (l ≡ k) × (x ≡ y)
-unfolding NoFeed
-feed-cancel [] [] x y s t e = (refl, tail-eq-of-cons-eq e)
-feed-cancel [] (b ∷ k) x y s t e = absurd (t .0 (sym (head-eq-of-cons-eq e)))
-feed-cancel (a ∷ l) [] x y s t e = absurd (s .0 (head-eq-of-cons-eq e))
-feed-cancel (a ∷ l) (b ∷ k) x y s t e =
-    let (same, rest) = feed-cancel l k x y (s .1) (t .1) (tail-eq-of-cons-eq e) in
-    (λ i. head-eq-of-cons-eq e i ∷ same i, rest)
-
--- so a text begins with a record's line exactly when its first line, up to the first LF, is the record rendered
-pub first-line : (l x y : List ℕ) (r : Entry) → NoFeed l → l ++ (lineFeed ∷ x) ≡ lineOf r ++ y → (l ≡ rendered r) × (x ≡ y)
+-- so `lines/Feed.first-line` and `no-line` hold of it: its line ends at the first LF, and a text without LF begins with none
+pub scene-bodies : Bodies sceneLines
 unfolding lineOf
-first-line l x y r s e = feed-cancel l (rendered r) x y s (rendered-feed r) (e ∙ append-assoc (rendered r) (lineFeed ∷ []) y)
-
-feed-none : (l k y : List ℕ) → NoFeed l → l ≡ k ++ (lineFeed ∷ y) → ⊥
-unfolding NoFeed
-feed-none [] [] y s e = nil≢cons e
-feed-none [] (b ∷ k) y s e = nil≢cons e
-feed-none (a ∷ l) [] y s e = s .0 (head-eq-of-cons-eq e)
-feed-none (a ∷ l) (b ∷ k) y s e = feed-none l k y (s .1) (tail-eq-of-cons-eq e)
-
--- and a text without LF begins with none
-pub no-line : (l y : List ℕ) (r : Entry) → NoFeed l → l ≡ lineOf r ++ y → ⊥
-unfolding lineOf
-no-line l y r s e = feed-none l (rendered r) y s (e ∙ append-assoc (rendered r) (lineFeed ∷ []) y)
+scene-bodies = record { body = λ r. rendered r; ended = λ r. refl; unbroken = λ r short. rendered-feed r }

@@ -1,8 +1,8 @@
--- `scene_text::line::judge` meets its contract: each arm makes the tests of its kind of record.
+-- `scene_line::judge` meets its contract: each arm makes the tests of its kind of record.
 use borrow.Author.Needs.{needs}
-use Rattle.scene_text.specs.Judging.{judges-vertex, judges-edge, judges-triangle}
-use Rattle.scene_text.proofs.line.judge.Statement.{statement}
-use Rattle.scene_text.proofs.line.judge.Tie as tie
+use Rattle.scene_line.specs.Judging.{judges-vertex, judges-edge, judges-triangle}
+use Rattle.scene_line.proofs.judge.Statement.{statement}
+use Rattle.scene_line.proofs.judge.Tie as tie
 
 returns : tie.Need-returns
 returns c = rw (c .before .before .before .before .before .enum-told .given .1) (judges-vertex _ _ _ (c .before .far .ensures) (c .first-fault .ensures))

@@ -1,8 +1,8 @@
--- `scene_text::line::first_fault` meets its contract: the tests that led to a return are the checks that do not hold, and the one that does.
+-- `scene_line::first_fault` meets its contract: the tests that led to a return are the checks that do not hold, and the one that does.
 use Rattle.meaning.specs.Refusals.{Answers, numberOf}
-use Rattle.scene_text.specs.Judging.{judgedSays}
-use Rattle.scene_text.proofs.line.first_fault.Statement.{statement}
-use Rattle.scene_text.proofs.line.first_fault.Tie as tie
+use Rattle.scene_line.specs.Judging.{judgedSays}
+use Rattle.scene_line.proofs.first_fault.Statement.{statement}
+use Rattle.scene_line.proofs.first_fault.Tie as tie
 
 returns : tie.Need-returns
 unfolding Answers judgedSays numberOf
