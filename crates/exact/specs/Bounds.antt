@@ -2,27 +2,21 @@
 use mathlib.Core.List.{List}
 use Prim.Native.Nat.{ℕ, _*_, _^_, _<_}
 use native.Mathlib.Nat.{lt-of-le-of-lt}
-use lib.Dec.{lit<, lit≤}
+use lib.Dec.{lit<}
 use lib.IntN.{ℤ, natAbs, _+ℤ_}
 use Rattle.whole.specs.Vector.{Vector, volume}
-use Rattle.whole.specs.Sizes.{Within, within-add, within-sub, within-mul, within-wider}
+use Rattle.whole.specs.Sizes.{Within, within-add, within-sub}
 use Rattle.meaning.specs.Limits.{coordinateLimit}
 use Rattle.exact.specs.Limits.{differenceLimit, determinantLimit}
 use Rattle.exact.specs.Places.{Bounded, Short, apart}
+use Rattle.exact.specs.Largest.{largest}
 
 pub apart-short : {ps : List ℤ} → Bounded coordinateLimit ps → (o b : ℕ) → Short differenceLimit (apart ps o b)
 apart-short h o b =
     record { in-x = within-sub (h .at _) (h .at _); in-y = within-sub (h .at _) (h .at _); in-z = within-sub (h .at _) (h .at _) }
 
 pub volume-within : {a b c : Vector} → Short differenceLimit a → Short differenceLimit b → Short differenceLimit c → Within determinantLimit (volume a b c)
-unfolding volume
-volume-within p q r =
-    within-wider (lit≤ tt)
-    (within-add
-    (within-sub
-    (within-mul (p .in-x) (within-sub (within-mul (q .in-y) (r .in-z)) (within-mul (q .in-z) (r .in-y))))
-    (within-mul (p .in-y) (within-sub (within-mul (q .in-x) (r .in-z)) (within-mul (q .in-z) (r .in-x)))))
-    (within-mul (p .in-z) (within-sub (within-mul (q .in-x) (r .in-y)) (within-mul (q .in-y) (r .in-x)))))
+volume-within = largest differenceLimit
 
 pub determinant-small : {z : ℤ} → Within determinantLimit z → natAbs z < 6 * 2 ^ 57
 determinant-small h = lt-of-le-of-lt (h .size) (lit< tt)

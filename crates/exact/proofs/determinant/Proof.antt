@@ -1,13 +1,14 @@
 -- The determinant: every product and every sum has a bound that fits 64 bits.
 use mathlib.Core.Path.{refl}
-use Prim.Native.Nat.{_*_}
+use Prim.Native.Nat.{_*_, _^_}
 use lib.IntN.{ℤ, _-ℤ_, _*ℤ_}
 use mir.Syntax.{w64}
 use mir.Val.{SFits}
 use Rattle.whole.specs.Vector.{Vector, volume}
 use Rattle.whole.specs.Sizes.{Within, Is, is-exact, is-sub, is-mul, held, fits, back}
 use Rattle.whole.specs.Sized.{Sized, sized-is, sized-back, sized-sub, sized-add, fitting, meant}
-use Rattle.exact.specs.Limits.{differenceLimit}
+use Rattle.exact.specs.Limits.{differenceLimit, determinantLimit}
+use Rattle.exact.specs.Bounds.{volume-within}
 use Rattle.exact.specs.Places.{Short}
 use Rattle.exact.proofs.determinant.Statement.{statement}
 use Rattle.exact.proofs.determinant.Tie as tie
@@ -51,6 +52,10 @@ ruleset expansion = (cofactor, sized-back, sized-sub, sized-add)
 abbrev nine : {a b c : Vector} {v : ℤ} → Short differenceLimit a × Short differenceLimit b × Short differenceLimit c → (Near (a .x) → Near (a .y) → Near (a .z) → Near (b .x) → Near (b .y) → Near (b .z) → Near (c .x) → Near (c .y) → Near (c .z) → Sized v) → Sized v
 nine (a, b, c) k = k (a .in-x) (a .in-y) (a .in-z) (b .in-x) (b .in-y) (b .in-z) (c .in-x) (c .in-y) (c .in-z)
 
+-- what the products allow is wide enough to hold the number; the number itself is smaller
+bounded : {v z : ℤ} → Within determinantLimit z → Is (6 * differenceLimit ^ 3) v z → Is determinantLimit v z
+bounded h p = record { same = p .same; within = h }
+
 pub determinant-spec : {M : Type 1} → statement M
 unfolding volume
 determinant-spec =
@@ -70,4 +75,6 @@ determinant-spec =
     (λ c. search shapes)
     (λ c. search shapes)
     (λ c. fitting (nine (c .pre) (λ h₁ h₂ h₃ h₄ h₅ h₆ h₇ h₈ h₉. search expansion depth 6)) tt)
-    (λ c. meant (nine (c .pre) (λ h₁ h₂ h₃ h₄ h₅ h₆ h₇ h₈ h₉. search expansion depth 7)) refl tt))
+    (λ c.
+    let p = c .pre in
+    bounded (volume-within (p .0) (p .1) (p .2)) (meant (nine p (λ h₁ h₂ h₃ h₄ h₅ h₆ h₇ h₈ h₉. search expansion depth 7)) refl tt)))
