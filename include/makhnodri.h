@@ -27,7 +27,7 @@ extern "C" {
 
 /* ---- Sizes ---- */
 
-#define MAKHNODRI_COORDINATE_LIMIT 262143 /* coordinates run from -262143 to 262143 */
+#define MAKHNODRI_COORDINATE_LIMIT 524287 /* coordinates run from -524287 to 524287 */
 #define MAKHNODRI_VERTEX_LIMIT 512
 #define MAKHNODRI_EDGE_LIMIT 1024
 #define MAKHNODRI_TRIANGLE_LIMIT 512

@@ -52,7 +52,7 @@ pub use texts::{read_scene, report, write_report, Counts, OwnedScene};
 pub const VERSION: &str = env!("CARGO_PKG_VERSION");
 
 /// Coordinates run from minus this to this.
-pub const COORDINATE_LIMIT: i32 = 262_143;
+pub const COORDINATE_LIMIT: i32 = 524_287;
 pub const VERTEX_LIMIT: usize = 512;
 pub const EDGE_LIMIT: usize = 1_024;
 pub const TRIANGLE_LIMIT: usize = 512;

@@ -186,7 +186,7 @@ fn damage(random: &mut Random, flat: &mut Flat) {
         2 => triangles.push(random.below(vertices + 1) as u16),
         3 if !positions.is_empty() => {
             let place = random.below(positions.len());
-            positions[place] = random.pick(&[262_144, -262_144, i32::MAX, i32::MIN, 262_143]);
+            positions[place] = random.pick(&[524_288, -524_288, i32::MAX, i32::MIN, 524_287, 262_144]);
         }
         4 if !edges.is_empty() => {
             let place = random.below(edges.len());
@@ -204,10 +204,10 @@ fn damage(random: &mut Random, flat: &mut Flat) {
 /// 512 vertices, 1,024 edges and 512 triangles, near each other and far apart.
 #[test]
 fn full_size_scenes() {
-    for (seed, reach) in [(1, 3), (2, 40), (3, 262_143)] {
+    for (seed, reach) in [(1, 3), (2, 40), (3, 524_287)] {
         let mut random = Random::new(seed);
         let mut scene = Scene::default();
-        let near = |random: &mut Random, n: i64| (n + random.between(-9, 9)).clamp(-262_143, 262_143);
+        let near = |random: &mut Random, n: i64| (n + random.between(-9, 9)).clamp(-524_287, 524_287);
         for _ in 0..512 {
             let start = [0; 3].map(|_| random.between(-reach, reach));
             let end = start.map(|n| near(&mut random, n));

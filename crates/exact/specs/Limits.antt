@@ -8,7 +8,3 @@ differenceLimit = coordinateLimit + coordinateLimit
 -- a determinant of differences, by its value (`Largest.largest`): its six products, one by one, would allow 6 differenceLimit ^ 3
 abbrev pub determinantLimit : ℕ
 determinantLimit = 4 * differenceLimit ^ 3
-
--- four determinants
-abbrev pub sumLimit : ℕ
-sumLimit = 4 * determinantLimit

@@ -1,7 +1,7 @@
 // The types that every crate of the house shares. What they mean stands in specs/.
 
 // The sizes of document 01. specs/Limits.antt has the same numbers for promises and proofs.
-pub const COORDINATE_LIMIT: i32 = 262143;
+pub const COORDINATE_LIMIT: i32 = 524287;
 
 pub const VERTEX_LIMIT: usize = 512;
 
