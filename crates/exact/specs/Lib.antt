@@ -2,5 +2,7 @@
 pub mod Limits
 pub mod Places
 pub mod Bounds
+pub mod Minors
 pub mod Volumes
 pub mod Arrows
+pub mod Shared
