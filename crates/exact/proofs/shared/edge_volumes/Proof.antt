@@ -6,6 +6,31 @@ use Rattle.exact.specs.Shared.{at-start, at-end}
 use Rattle.exact.proofs.shared.edge_volumes.Statement.{statement}
 use Rattle.exact.proofs.shared.edge_volumes.Tie as tie
 
+returns : tie.Need-returns
+returns c =
+    record {
+      holds0 = held-in-turn (standing-first (c .before .before .before .before .before .before .before .before .before .before .before .before .before .before .before .volume-with .ensures) (c .before .before .before .before .before .before .before .before .before .before .before .before .before .before .before .before .before .minors-at3 .ensures))
+          (standing-first (c .before .before .before .before .before .before .before .before .before .before .before .before .before .before .volume-with2 .ensures) (c .before .before .before .before .before .before .before .before .before .before .before .before .before .before .before .before .before .minors-at3 .ensures))
+          (standing-last (c .before .before .before .before .before .before .before .before .before .before .before .before .before .volume-with3 .ensures) (c .before .before .before .before .before .before .before .before .before .before .before .before .before .before .before .before .before .before .before .minors-at .ensures))
+          (standing-last (c .before .before .before .before .before .before .before .before .before .before .before .before .volume-with4 .ensures) (c .before .before .before .before .before .before .before .before .before .before .before .before .before .before .before .before .before .before .before .minors-at .ensures))
+          (c .before .before .before .in-turn .ensures);
+      holds1 = held-in-turn (standing-first (c .before .before .before .before .before .before .before .before .before .before .before .volume-with5 .ensures) (c .before .before .before .before .before .before .before .before .before .before .before .before .before .before .before .before .minors-at4 .ensures))
+          (standing-first (c .before .before .before .before .before .before .before .before .before .before .volume-with6 .ensures) (c .before .before .before .before .before .before .before .before .before .before .before .before .before .before .before .before .minors-at4 .ensures))
+          (standing-last (c .before .before .before .before .before .before .before .before .before .before .before .before .before .volume-with3 .ensures) (c .before .before .before .before .before .before .before .before .before .before .before .before .before .before .before .before .before .before .before .minors-at .ensures))
+          (standing-last (c .before .before .before .before .before .before .before .before .before .volume-with7 .ensures) (c .before .before .before .before .before .before .before .before .before .before .before .before .before .before .before .before .before .before .before .minors-at .ensures))
+          (c .before .before .in-turn2 .ensures);
+      holds2 = held-in-turn (standing-first (c .before .before .before .before .before .before .before .before .before .before .before .before .before .before .before .volume-with .ensures) (c .before .before .before .before .before .before .before .before .before .before .before .before .before .before .before .before .before .minors-at3 .ensures))
+          (standing-first (c .before .before .before .before .before .before .before .before .volume-with8 .ensures) (c .before .before .before .before .before .before .before .before .before .before .before .before .before .before .before .before .before .minors-at3 .ensures))
+          (standing-last (c .before .before .before .before .before .before .before .volume-with9 .ensures) (c .before .before .before .before .before .before .before .before .before .before .before .before .before .before .before .before .before .before .minors-at2 .ensures))
+          (standing-last (c .before .before .before .before .before .before .volume-with10 .ensures) (c .before .before .before .before .before .before .before .before .before .before .before .before .before .before .before .before .before .before .minors-at2 .ensures))
+          (c .before .in-turn3 .ensures);
+      holds3 = held-in-turn (standing-first (c .before .before .before .before .before .before .before .before .before .before .before .volume-with5 .ensures) (c .before .before .before .before .before .before .before .before .before .before .before .before .before .before .before .before .minors-at4 .ensures))
+          (standing-first (c .before .before .before .before .before .volume-with11 .ensures) (c .before .before .before .before .before .before .before .before .before .before .before .before .before .before .before .before .minors-at4 .ensures))
+          (standing-last (c .before .before .before .before .before .before .before .volume-with9 .ensures) (c .before .before .before .before .before .before .before .before .before .before .before .before .before .before .before .before .before .before .minors-at2 .ensures))
+          (standing-last (c .before .before .before .before .volume-with12 .ensures) (c .before .before .before .before .before .before .before .before .before .before .before .before .before .before .before .before .before .before .minors-at2 .ensures))
+          (c .in-turn4 .ensures);
+    }
+
 pub edge-volumes-spec : {M : Type 1} → statement M
 edge-volumes-spec =
     tie.close
@@ -50,26 +75,4 @@ edge-volumes-spec =
     (standing-first (c .before .before .before .before .volume-with11 .ensures) (c .before .before .before .before .before .before .before .before .before .before .before .before .before .before .before .minors-at4 .ensures))
     (standing-last (c .before .before .before .before .before .before .volume-with9 .ensures) (c .before .before .before .before .before .before .before .before .before .before .before .before .before .before .before .before .before .minors-at2 .ensures))
     (standing-last (c .before .before .before .volume-with12 .ensures) (c .before .before .before .before .before .before .before .before .before .before .before .before .before .before .before .before .before .minors-at2 .ensures)))
-    (λ c.
-    record {
-      holds0 = held-in-turn (standing-first (c .before .before .before .before .before .before .before .before .before .before .before .before .before .before .before .volume-with .ensures) (c .before .before .before .before .before .before .before .before .before .before .before .before .before .before .before .before .before .minors-at3 .ensures))
-      (standing-first (c .before .before .before .before .before .before .before .before .before .before .before .before .before .before .volume-with2 .ensures) (c .before .before .before .before .before .before .before .before .before .before .before .before .before .before .before .before .before .minors-at3 .ensures))
-      (standing-last (c .before .before .before .before .before .before .before .before .before .before .before .before .before .volume-with3 .ensures) (c .before .before .before .before .before .before .before .before .before .before .before .before .before .before .before .before .before .before .before .minors-at .ensures))
-      (standing-last (c .before .before .before .before .before .before .before .before .before .before .before .before .volume-with4 .ensures) (c .before .before .before .before .before .before .before .before .before .before .before .before .before .before .before .before .before .before .before .minors-at .ensures))
-      (c .before .before .before .in-turn .ensures);
-      holds1 = held-in-turn (standing-first (c .before .before .before .before .before .before .before .before .before .before .before .volume-with5 .ensures) (c .before .before .before .before .before .before .before .before .before .before .before .before .before .before .before .before .minors-at4 .ensures))
-      (standing-first (c .before .before .before .before .before .before .before .before .before .before .volume-with6 .ensures) (c .before .before .before .before .before .before .before .before .before .before .before .before .before .before .before .before .minors-at4 .ensures))
-      (standing-last (c .before .before .before .before .before .before .before .before .before .before .before .before .before .volume-with3 .ensures) (c .before .before .before .before .before .before .before .before .before .before .before .before .before .before .before .before .before .before .before .minors-at .ensures))
-      (standing-last (c .before .before .before .before .before .before .before .before .before .volume-with7 .ensures) (c .before .before .before .before .before .before .before .before .before .before .before .before .before .before .before .before .before .before .before .minors-at .ensures))
-      (c .before .before .in-turn2 .ensures);
-      holds2 = held-in-turn (standing-first (c .before .before .before .before .before .before .before .before .before .before .before .before .before .before .before .volume-with .ensures) (c .before .before .before .before .before .before .before .before .before .before .before .before .before .before .before .before .before .minors-at3 .ensures))
-      (standing-first (c .before .before .before .before .before .before .before .before .volume-with8 .ensures) (c .before .before .before .before .before .before .before .before .before .before .before .before .before .before .before .before .before .minors-at3 .ensures))
-      (standing-last (c .before .before .before .before .before .before .before .volume-with9 .ensures) (c .before .before .before .before .before .before .before .before .before .before .before .before .before .before .before .before .before .before .minors-at2 .ensures))
-      (standing-last (c .before .before .before .before .before .before .volume-with10 .ensures) (c .before .before .before .before .before .before .before .before .before .before .before .before .before .before .before .before .before .before .minors-at2 .ensures))
-      (c .before .in-turn3 .ensures);
-      holds3 = held-in-turn (standing-first (c .before .before .before .before .before .before .before .before .before .before .before .volume-with5 .ensures) (c .before .before .before .before .before .before .before .before .before .before .before .before .before .before .before .before .minors-at4 .ensures))
-      (standing-first (c .before .before .before .before .before .volume-with11 .ensures) (c .before .before .before .before .before .before .before .before .before .before .before .before .before .before .before .before .minors-at4 .ensures))
-      (standing-last (c .before .before .before .before .before .before .before .volume-with9 .ensures) (c .before .before .before .before .before .before .before .before .before .before .before .before .before .before .before .before .before .before .minors-at2 .ensures))
-      (standing-last (c .before .before .before .before .volume-with12 .ensures) (c .before .before .before .before .before .before .before .before .before .before .before .before .before .before .before .before .before .before .minors-at2 .ensures))
-      (c .in-turn4 .ensures);
-    }))
+    returns)

@@ -6,6 +6,26 @@ use Rattle.exact.specs.Shared.{at-start, at-end}
 use Rattle.exact.proofs.shared.point_volumes.Statement.{statement}
 use Rattle.exact.proofs.shared.point_volumes.Tie as tie
 
+returns : tie.Need-returns
+returns c =
+    record {
+      holds0 = held-in-turn (standing-first (c .before .before .before .before .before .before .before .before .before .before .before .before .volume-with .ensures) (c .before .before .before .before .before .before .before .before .before .before .before .before .before .before .minors-at3 .ensures))
+          (standing-first (c .before .before .before .before .before .before .before .before .before .before .before .volume-with2 .ensures) (c .before .before .before .before .before .before .before .before .before .before .before .before .before .before .minors-at3 .ensures))
+          (standing-last (c .before .before .before .before .before .before .before .before .before .before .volume-with3 .ensures) (c .before .before .before .before .before .before .before .before .before .before .before .before .before .before .before .before .minors-at .ensures))
+          (standing-last (c .before .before .before .before .before .before .before .before .before .volume-with4 .ensures) (c .before .before .before .before .before .before .before .before .before .before .before .before .before .before .before .before .minors-at .ensures))
+          (c .before .before .in-turn .ensures);
+      holds1 = held-in-turn (standing-first (c .before .before .before .before .before .before .before .before .volume-with5 .ensures) (c .before .before .before .before .before .before .before .before .before .before .before .before .before .minors-at4 .ensures))
+          (standing-first (c .before .before .before .before .before .before .before .volume-with6 .ensures) (c .before .before .before .before .before .before .before .before .before .before .before .before .before .minors-at4 .ensures))
+          (standing-last (c .before .before .before .before .before .before .before .before .before .before .volume-with3 .ensures) (c .before .before .before .before .before .before .before .before .before .before .before .before .before .before .before .before .minors-at .ensures))
+          (standing-last (c .before .before .before .before .before .before .volume-with7 .ensures) (c .before .before .before .before .before .before .before .before .before .before .before .before .before .before .before .before .minors-at .ensures))
+          (c .before .in-turn2 .ensures);
+      holds2 = held-in-turn (standing-first (c .before .before .before .before .before .volume-with8 .ensures) (c .before .before .before .before .before .before .before .before .before .before .before .before .before .minors-at4 .ensures))
+          (standing-first (c .before .before .before .before .before .before .before .volume-with6 .ensures) (c .before .before .before .before .before .before .before .before .before .before .before .before .before .minors-at4 .ensures))
+          (standing-last (c .before .before .before .before .volume-with9 .ensures) (c .before .before .before .before .before .before .before .before .before .before .before .before .before .before .before .minors-at2 .ensures))
+          (standing-last (c .before .before .before .volume-with10 .ensures) (c .before .before .before .before .before .before .before .before .before .before .before .before .before .before .before .minors-at2 .ensures))
+          (c .in-turn3 .ensures);
+    }
+
 pub point-volumes-spec : {M : Type 1} → statement M
 point-volumes-spec =
     tie.close
@@ -43,21 +63,4 @@ point-volumes-spec =
     (standing-first (c .before .before .before .before .before .before .volume-with6 .ensures) (c .before .before .before .before .before .before .before .before .before .before .before .before .minors-at4 .ensures))
     (standing-last (c .before .before .before .volume-with9 .ensures) (c .before .before .before .before .before .before .before .before .before .before .before .before .before .before .minors-at2 .ensures))
     (standing-last (c .before .before .volume-with10 .ensures) (c .before .before .before .before .before .before .before .before .before .before .before .before .before .before .minors-at2 .ensures)))
-    (λ c.
-    record {
-      holds0 = held-in-turn (standing-first (c .before .before .before .before .before .before .before .before .before .before .before .before .volume-with .ensures) (c .before .before .before .before .before .before .before .before .before .before .before .before .before .before .minors-at3 .ensures))
-      (standing-first (c .before .before .before .before .before .before .before .before .before .before .before .volume-with2 .ensures) (c .before .before .before .before .before .before .before .before .before .before .before .before .before .before .minors-at3 .ensures))
-      (standing-last (c .before .before .before .before .before .before .before .before .before .before .volume-with3 .ensures) (c .before .before .before .before .before .before .before .before .before .before .before .before .before .before .before .before .minors-at .ensures))
-      (standing-last (c .before .before .before .before .before .before .before .before .before .volume-with4 .ensures) (c .before .before .before .before .before .before .before .before .before .before .before .before .before .before .before .before .minors-at .ensures))
-      (c .before .before .in-turn .ensures);
-      holds1 = held-in-turn (standing-first (c .before .before .before .before .before .before .before .before .volume-with5 .ensures) (c .before .before .before .before .before .before .before .before .before .before .before .before .before .minors-at4 .ensures))
-      (standing-first (c .before .before .before .before .before .before .before .volume-with6 .ensures) (c .before .before .before .before .before .before .before .before .before .before .before .before .before .minors-at4 .ensures))
-      (standing-last (c .before .before .before .before .before .before .before .before .before .before .volume-with3 .ensures) (c .before .before .before .before .before .before .before .before .before .before .before .before .before .before .before .before .minors-at .ensures))
-      (standing-last (c .before .before .before .before .before .before .volume-with7 .ensures) (c .before .before .before .before .before .before .before .before .before .before .before .before .before .before .before .before .minors-at .ensures))
-      (c .before .in-turn2 .ensures);
-      holds2 = held-in-turn (standing-first (c .before .before .before .before .before .volume-with8 .ensures) (c .before .before .before .before .before .before .before .before .before .before .before .before .before .minors-at4 .ensures))
-      (standing-first (c .before .before .before .before .before .before .before .volume-with6 .ensures) (c .before .before .before .before .before .before .before .before .before .before .before .before .before .minors-at4 .ensures))
-      (standing-last (c .before .before .before .before .volume-with9 .ensures) (c .before .before .before .before .before .before .before .before .before .before .before .before .before .before .before .minors-at2 .ensures))
-      (standing-last (c .before .before .before .volume-with10 .ensures) (c .before .before .before .before .before .before .before .before .before .before .before .before .before .before .before .minors-at2 .ensures))
-      (c .in-turn3 .ensures);
-    }))
+    returns)
