@@ -3,5 +3,7 @@ pub mod Limits
 pub mod Places
 pub mod Largest
 pub mod Bounds
+pub mod Minors
 pub mod Volumes
 pub mod Arrows
+pub mod Shared
