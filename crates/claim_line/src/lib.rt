@@ -9,6 +9,7 @@ use fields::Ending;
 use fields::Form;
 use meaning::Kind;
 use meaning::Refusal;
+use meaning::WEIGHT_DIGITS;
 use three_words::accepted;
 
 // A place or a piece has at most nine digits.
@@ -46,7 +47,7 @@ fn read_numbers(text: &[u8], at: usize, sizes: &mut [u64], minus: &mut [bool]) -
     let form = Form {
         separator: b'\t',
         signed: false,
-        most: 13,
+        most: WEIGHT_DIGITS,
     };
     let ending = fields::read_row(text, at, form, 9, sizes, minus);
     if wide(sizes) {

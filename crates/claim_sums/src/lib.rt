@@ -11,8 +11,7 @@ ghost use Rattle.exact.specs.Places.{Bounded};
 ghost use Rattle.corner_leaf.specs.Points.{eventAt, pieceAt, SixIn};
 ghost use Rattle.claim_sums.specs.Sums.{shareLimit, sideLimit, heavy, Light, reading, pointAt, side, agrees, passes};
 use corner_leaf::SixPoints;
-
-const WEIGHT_LIMIT: u64 = 1099511627776;
+use meaning::WEIGHT_LIMIT;
 
 // Rows of the equations: 0, 1, 2 are x, y, z.
 const TIME: usize = 3;

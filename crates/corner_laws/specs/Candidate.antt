@@ -22,6 +22,7 @@ use Rattle.theory.specs.Solved.{weights-there}
 use Rattle.theory.specs.Spread.{startShare, endShare}
 use Rattle.corner_laws.specs.Level.{Level, level-times, level-same}
 use Rattle.corner_laws.specs.Left.{TouchIn}
+use Rattle.corner_laws.specs.AtMostOne.{Allowed, AtMostOne, by-a-third}
 use Rattle.corner_laws.specs.Leave.{some-weight}
 use Rattle.corner_laws.specs.Signed.{sided, sided-zero, zero-sided, signed, signed-twice, nought-of, level-signed}
 use Rattle.corner_laws.specs.Others.{Stands, atFirst, atSecond, among, Numbers, Order}
@@ -190,6 +191,41 @@ module _ (a b : List Event) {left : ℕ → Bool} {s e : ℕ} {q : Four ℕ} (B 
   C-some : C (pick k₀ q) ≢ pos 0
   C-some h = some (sided-zero (side (pick k₀ q)) (sym (C-other k₀) ∙ h))
 
+  -- numbers that balance and are 0 for the corners left out are in one ratio with the candidate
+  in-ratio : {k : ℕ → ℤ} → Allowed a b left k → (i j : ℕ) → i < 6 → j < 6 → k i *ℤ C j ≡ k j *ℤ C i
+  in-ratio {k} h i j x y =
+      ap (λ z. z *ℤ C j) (sym (signed-twice (length a) k i))
+      ∙ both-sided (side i) (side j) (n i) (S .number j) (n j) (S .number i)
+      (in-proportion v n (S .number) (r .0) (S .remains) (I .alike (each n q) n-out ∙ r .1) (S .four) (B .order .stands i x) (B .order .stands j y))
+      ∙ ap (λ z. z *ℤ C i) (signed-twice (length a) k j)
+    where
+      n : ℕ → ℤ
+      n = signed (length a) k
+
+      r : Remains (a ++ b) s e q n × (weigh (each n q) (differencesIn (a ++ b) s e q) ≡ origin)
+      r = remains-flat B n (nought-of (h .level))
+
+      n-out : NoneOut (each left q) (each n q)
+      n-out = record {
+        out = λ k g.
+            pick-each n q k
+            ∙ ap (sided (side (pick k q))) (h .out (pick k q) (rw six (B .order .there k)) (sym (pick-each left q k) ∙ g))
+            ∙ zero-sided (side (pick k q));
+      }
+
+  -- so all are in one ratio
+  pub at-most-one : AtMostOne a b left
+  at-most-one = record {
+    ratio = λ k m h g i j x y.
+        by-a-third (C c) (k i) (k j) (k c) (m i) (m j) (m c) (C i) (C j) C-some (with-third h i x) (with-third h j y) (with-third g i x) (with-third g j y);
+  }
+    where
+      c : ℕ
+      c = pick k₀ q
+
+      with-third : {k : ℕ → ℤ} → Allowed a b left k → (i : ℕ) → i < length a + length b → k i *ℤ C c ≡ k c *ℤ C i
+      with-third h i x = in-ratio h i c (rw six at x) (B .order .there k₀)
+
   pub must-fit : TouchIn a b left → Fits (length a) (a ++ b) left s e q (volumes v)
   must-fit t = record {
     way = leZ (pos 0) (total one C a);
@@ -199,26 +235,8 @@ module _ (a b : List Event) {left : ℕ → Bool} {s e : ℕ} {q : Four ℕ} (B 
     others = λ k. rw (← C-other k) (way (pick k q) (B .order .there k));
   }
     where
-      n : ℕ → ℤ
-      n = signed (length a) (λ i. pos (t .w i))
-
-      r : Remains (a ++ b) s e q n × (weigh (each n q) (differencesIn (a ++ b) s e q) ≡ origin)
-      r = remains-flat B n (nought-of (t .level))
-
-      n-out : NoneOut (each left q) (each n q)
-      n-out = record {
-        out = λ k h.
-            pick-each n q k
-            ∙ ap (λ x. sided (side (pick k q)) (pos x)) (t .out (pick k q) (rw six (B .order .there k)) (sym (pick-each left q k) ∙ h))
-            ∙ zero-sided (side (pick k q));
-      }
-
       proportion : (i j : ℕ) → i < 6 → j < 6 → pos (t .w i) *ℤ C j ≡ pos (t .w j) *ℤ C i
-      proportion i j h k =
-          ap (λ z. z *ℤ C j) (sym (signed-twice (length a) (λ i. pos (t .w i)) i))
-          ∙ both-sided (side i) (side j) (n i) (S .number j) (n j) (S .number i)
-          (in-proportion v n (S .number) (r .0) (S .remains) (I .alike (each n q) n-out ∙ r .1) (S .four) (B .order .stands i h) (B .order .stands j k))
-          ∙ ap (λ z. z *ℤ C i) (signed-twice (length a) (λ i. pos (t .w i)) j)
+      proportion = in-ratio (record { level = t .level; out = λ i h g. ap pos (t .out i h g) })
 
       way : (i : ℕ) → i < 6 → pos 0 ≤ℤ sided (leZ (pos 0) (total one C a)) (C i)
       way = one-way a (t .w) C (omega (arith, six)) proportion (t .some) (pick k₀ q) (B .order .there k₀) C-some

@@ -5,7 +5,7 @@ use mathlib.Core.Logic.{_≢_, _⊎_, inl, inr, ⊎-elim}
 use mathlib.Core.List.{List, [], _∷_}
 use Prim.Native.Nat.{ℕ, zero, suc}
 use native.Mathlib.Omega.{arith}
-use lib.IntN.{ℤ, pos, negsuc, negℤ, natAbs, _+ℤ_, _-ℤ_, _*ℤ_, negℤ-negℤ, +ℤ-idr, zero-*ℤ}
+use lib.IntN.{ℤ, pos, negsuc, negℤ, natAbs, _+ℤ_, _-ℤ_, _*ℤ_, negℤ-negℤ, +ℤ-idr, +ℤ-idl, zero-*ℤ}
 use Rattle.whole.specs.Vector.{Vector, origin, plus, scale, volume, axis}
 use Rattle.whole.specs.VectorLaws.{vector-eq, coordinates, cross}
 use Rattle.whole.specs.Quote.{quotes, ring, combine, times}
@@ -106,6 +106,9 @@ still a p q r = vector-eq
 
 pub plus-none : (u v : Vector) → v ≡ origin → plus u v ≡ u
 plus-none u v h = rw h (vector-eq (+ℤ-idr (u .x)) (+ℤ-idr (u .y)) (+ℤ-idr (u .z)))
+
+pub none-plus : (u v : Vector) → u ≡ origin → plus u v ≡ v
+none-plus u v h = rw h (vector-eq (+ℤ-idl (v .x)) (+ℤ-idl (v .y)) (+ℤ-idl (v .z)))
 
 pub scale-none : (n : ℤ) (v : Vector) → n ≡ pos 0 → scale n v ≡ origin
 scale-none n v h = rw h (vector-eq (zero-*ℤ (v .x)) (zero-*ℤ (v .y)) (zero-*ℤ (v .z)))

@@ -1,6 +1,7 @@
 -- Weights of a piece where corners are left out.
 pub mod Level
 pub mod Left
+pub mod AtMostOne
 pub mod Tightest
 pub mod Leave
 pub mod Others

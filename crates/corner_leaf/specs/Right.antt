@@ -26,12 +26,13 @@ use Rattle.corner_laws.specs.Leave.{Leaves}
 use Rattle.corner_laws.specs.Others.{othersOf}
 use Rattle.corner_laws.specs.Slots.{eventIn, othersIn, differencesIn, pick-each}
 use Rattle.corner_laws.specs.Filled.{filled, NoneOut, same-weigh}
-use Rattle.corner_laws.specs.Candidate.{InPlace, Fits, must-fit, may-touch}
+use Rattle.corner_laws.specs.Candidate.{InPlace, Fits, must-fit, may-touch, at-most-one}
 use Rattle.corner_laws.specs.Dependent.{Some, Vanish}
 use Rattle.corner_laws.specs.Flat.{zero-or}
-use Rattle.corner_laws.specs.Opened.{open-leaves}
+use Rattle.corner_laws.specs.Opened.{open-leaves, open-not-one}
+use Rattle.corner_laws.specs.AtMostOne.{AtMostOne}
 use Rattle.corner_leaf.specs.Points.{offset, atEnd, isLeft, eventAt, pieceAt, TouchLeft, Timed, six-at, first-long}
-use Rattle.corner_leaf.specs.Answer.{sameBool, seenFrom, slotsAt, none, fitting, judgedBy, turnOf, otherwise, leafOf, baseOf}
+use Rattle.corner_leaf.specs.Answer.{sameBool, seenFrom, slotsAt, none, fitting, judgedBy, judged-open, turnOf, otherwise, leafOf, baseOf}
 use Rattle.corner_leaf.specs.Base.{base-is, based, preferred}
 use Rattle.corner_leaf.specs.Tests.{Along, along-is, zero-but-is}
 
@@ -66,6 +67,12 @@ some-of n e = go (zero-or (n .v0)) (zero-or (n .v1)) (zero-or (n .v2)) (zero-or 
     go (inl w) (inl x) (inr m) z = record { place = p2; is = m }
     go (inl w) (inl x) (inl y) (inr m) = record { place = p3; is = m }
     go (inl w) (inl x) (inl y) (inl z) = absurd (subst T e (zero-but-is none n .1 (record { out = λ k o. all-zero w x y z k })))
+
+yes-decides : Yes ≢ Open
+yes-decides e = let x : _≡_ {A = ℕ} 0 1 = cc in omega arith
+
+no-decides : No ≢ Open
+no-decides e = let x : _≡_ {A = ℕ} 0 1 = cc in omega arith
 
 or-left : (a b : Bool) → T a → T (a || b)
 or-left true b t = tt
@@ -204,16 +211,17 @@ module _ (ps : List ℤ) {six : SixPoints} (h : Timed six) (left : List Bool) wh
 
   -- ---- the three turns
 
+  turns : TurnIs 0 Open → TurnIs 1 Open → TurnIs 2 Open → (f : ℕ) → f < 3 → Vanish f (each (isLeft left) q) (differencesIn (a ++ b) s e q)
+  unfolding TurnIs
+  turns x y z zero k = x
+  turns x y z (suc zero) k = y
+  turns x y z (suc (suc zero)) k = z
+  turns x y z (suc (suc (suc f))) k = absurd (omega arith)
+
   pub leaf-is : LeafIs ps six left (leafOf ps six left)
   unfolding leafOf otherwise TurnIs LeafIs
   leaf-is = go (turnOf ps six left s e 0) (turnOf ps six left s e 1) (turnOf ps six left s e 2) (turn-is 0) (turn-is 1) (turn-is 2)
     where
-      turns : TurnIs 0 Open → TurnIs 1 Open → TurnIs 2 Open → (f : ℕ) → f < 3 → Vanish f (each (isLeft left) q) (differencesIn (a ++ b) s e q)
-      turns x y z zero k = x
-      turns x y z (suc zero) k = y
-      turns x y z (suc (suc zero)) k = z
-      turns x y z (suc (suc (suc f))) k = absurd (omega arith)
-
       go : (r₀ r₁ r₂ : Leaf) → TurnIs 0 r₀ → TurnIs 1 r₁ → TurnIs 2 r₂ → LeafIs ps six left (otherwise r₀ (otherwise r₁ r₂))
       go Yes r₁ r₂ x y z = x
       go No r₁ r₂ x y z = x
@@ -222,3 +230,33 @@ module _ (ps : List ℤ) {six : SixPoints} (h : Timed six) (left : List Bool) wh
       go Open Open Yes x y z = z
       go Open Open No x y z = z
       go Open Open Open x y z = λ t. open-leaves a b (based ps h left) (preferred ps h left) (turns x y z) (t .weights)
+
+  -- ---- it decides exactly where the corners left allow at most one solution
+
+  turn-one : (f : ℕ) → (turnOf ps six left s e f ≡ Open) ⊎ AtMostOne a b (isLeft left)
+  unfolding turnOf
+  turn-one f = go (zeroBut none n) refl
+    where
+      n : Four ℤ
+      n = volumes (slotsAt ps six left s e f)
+
+      go : (z : Bool) → zeroBut none n ≡ z → (judgedBy six left s e q n ≡ Open) ⊎ AtMostOne a b (isLeft left)
+      go true p = inl (sym (judged-open six left s e q n p))
+      go false p = let m = some-of n p in inr (at-most-one a b (based ps h left) (in-place f) (m .place) (m .is))
+
+  pub decided-at-most-one : leafOf ps six left ≢ Open → AtMostOne a b (isLeft left)
+  unfolding leafOf otherwise
+  decided-at-most-one decides = ⊎-elim (λ x. ⊎-elim (λ y. ⊎-elim (λ z. absurd (decides (λ i. otherwise (x i) (otherwise (y i) (z i))))) (λ o. o) (turn-one 2)) (λ o. o) (turn-one 1)) (λ o. o) (turn-one 0)
+
+  pub at-most-one-decided : AtMostOne a b (isLeft left) → leafOf ps six left ≢ Open
+  unfolding leafOf otherwise TurnIs
+  at-most-one-decided one = go (turnOf ps six left s e 0) (turnOf ps six left s e 1) (turnOf ps six left s e 2) (turn-is 0) (turn-is 1) (turn-is 2)
+    where
+      go : (r₀ r₁ r₂ : Leaf) → TurnIs 0 r₀ → TurnIs 1 r₁ → TurnIs 2 r₂ → otherwise r₀ (otherwise r₁ r₂) ≢ Open
+      go Yes r₁ r₂ x y z e = yes-decides e
+      go No r₁ r₂ x y z e = no-decides e
+      go Open Yes r₂ x y z e = yes-decides e
+      go Open No r₂ x y z e = no-decides e
+      go Open Open Yes x y z e = yes-decides e
+      go Open Open No x y z e = no-decides e
+      go Open Open Open x y z e = open-not-one a b (based ps h left) (preferred ps h left) (turns x y z) one

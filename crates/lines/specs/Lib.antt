@@ -3,4 +3,5 @@ pub mod Below
 pub mod Unique
 pub mod Going
 pub mod Ahead
+pub mod Last
 pub mod Feed

@@ -16,6 +16,7 @@ use answer_numbers::refused;
 use answer_numbers::scene_number;
 use answer_numbers::settled_number;
 use meaning::Kind;
+use meaning::REPORT_BYTES;
 use meaning::SceneCounts;
 use meaning::TextAnswer;
 
@@ -259,7 +260,7 @@ pub extern "C" fn makhnodri_read_scene(
 
 // The whole report of a text, in front of the lent array; its length is returned.
 #[no_mangle]
-pub extern "C" fn makhnodri_write_report(text: &[u8], out: &mut [u8; 65536]) -> usize
+pub extern "C" fn makhnodri_write_report(text: &[u8], out: &mut [u8; REPORT_BYTES]) -> usize
     ensures { λ r. ⌜ Reported (now (text .entry)) (now (out .entry)) (now (out .exit)) r ⌝ }
 {
     summary::write_report(text, out)

@@ -14,3 +14,4 @@ pub mod Lines
 pub mod Text
 pub mod Report
 pub mod Claims
+pub mod InMotion

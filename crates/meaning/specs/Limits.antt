@@ -1,8 +1,12 @@
--- 'Sizes' of document 01. Each limit stands here once, and everything else names it.
+-- 'Sizes' of document 01, the coordinates by document 02, §13. Each limit stands here once, and everything else names it.
 use Prim.Native.Nat.{ℕ, _^_}
 
 abbrev pub coordinateLimit : ℕ
-coordinateLimit = 262_143
+coordinateLimit = 524_287
+
+-- contacts are given in the range that coordinates had at first
+abbrev pub contactLimit : ℕ
+contactLimit = 262_143
 
 abbrev pub vertexLimit : ℕ
 vertexLimit = 512
@@ -24,7 +28,7 @@ digitLimit = 9
 abbrev pub reportRoom : ℕ
 reportRoom = 2_048
 
--- 'a weight is one to thirteen digits', and 'at most 2^40'
+-- a weight of a claim is one to thirteen digits, and at most 2^40
 abbrev pub weightDigits : ℕ
 weightDigits = 13
 
