@@ -5,6 +5,7 @@
 
 pub mod affine;
 pub mod cases;
+pub mod claims;
 pub mod cost;
 pub mod crossed;
 pub mod cubic;

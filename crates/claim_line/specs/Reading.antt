@@ -3,12 +3,11 @@ use mathlib.Core.Bool.{Bool, true, false, _||_, _&&_, true≢false}
 use mathlib.Core.List.{List, [], _∷_, _++_, map}
 use mathlib.Core.Path.{_≡_, refl, sym, ap, _∙_}
 use Prim.Native.Nat.{ℕ, zero, suc, _+_, _^_, _≤_, _<_}
-use native.Mathlib.Nat.{suc-inj, add-assoc}
+use native.Mathlib.Nat.{add-assoc}
 use native.Mathlib.Omega.{arith}
 use lib.Dec.{leb, eqb}
 use lib.IntN.{ℤ, pos, negsuc, natAbs}
-use lib.ListN.{length, getD, take, drop, List·getD-map, length-map}
-use lib.Seq.{getD-take}
+use lib.ListN.{length, getD, drop, length-map}
 use borrow.Author.Tests.{leb-false, lt-leb, eqb-true, eq-eqb}
 use Rattle.sequences.specs.Pick.{both}
 use Rattle.sequences.specs.Stands.{Stands, stands-one, stands-then, stands-apart}
@@ -21,13 +20,14 @@ use Rattle.fields.specs.Rows.{EachAllowed, rowOf, RowStands, row-cancel}
 use Rattle.fields.specs.Ended.{RowEnded, LineStands, InFront, row-ended, row-unended}
 use Rattle.fields.specs.declared.Ending.{Ending}
 use Rattle.fields.specs.declared.Ending.the-variants.{At, Nowhere}
+use Rattle.fields.specs.Tabbed.{tab-parts, line-ends, SizedAs, sized-at, first-of}
 use Rattle.meaning.specs.Limits.{digitLimit, weightDigits}
 use Rattle.meaning.specs.Text.{Short, tab, lineFeed}
 use Rattle.meaning.specs.Report.{kindWord}
 use Rattle.meaning.specs.Claims.{Claim, placesIn, weightsIn, claimLine, ClaimFormed}
 use Rattle.meaning.specs.declared.Kind.{Kind}
 use Rattle.meaning.specs.declared.Kind.the-variants.{PointTriangle, EdgeEdge}
-use Rattle.claim_line.specs.Rendered.{weightForm, numbersIn, tab-parts, line-ends, nine-numbers}
+use Rattle.claim_line.specs.Rendered.{weightForm, numbersIn, nine-numbers}
 use Rattle.claim_line.specs.declared.Line.{Line}
 use Rattle.claim_line.specs.declared.Line.the-variants.{Of, Bad}
 
@@ -58,9 +58,6 @@ unfoldable pub NumbersRead : List ℕ → ℕ → List ℕ → List Bool → End
 NumbersRead text at sizes minus (At next) = NumbersGot text at sizes minus next
 NumbersRead text at sizes minus Nowhere = NoNumbers text at
 
-pub sized-at : (zs : List ℤ) (l : List ℕ) (i : ℕ) → take (length zs) l ≡ map natAbs zs → i < length zs → getD l i 0 ≡ natAbs (getD zs i (pos 0))
-sized-at zs l i e h = sym (getD-take (length zs) l i 0 h) ∙ ap (λ (k : List ℕ). getD k i 0) e ∙ List·getD-map natAbs zs i (pos 0)
-
 -- numbers that stand in one place are the same
 numbers-one : {text : List ℕ} {at n m : ℕ} {zs ws : List ℤ} → LineStands text at weightForm zs n → LineStands text at weightForm ws m
     → length zs ≡ length ws → zs ≡ ws
@@ -72,7 +69,7 @@ numbers-one {text} {at} {n} {m} {zs} {ws} v w same =
     row-cancel weightForm tab-parts zs ws (lineFeed ∷ drop n text) (lineFeed ∷ drop m text) same (line-ends (drop n text)) (line-ends (drop m text))
     (sym here ∙ there) .0
 
-near-of : (zs : List ℤ) (l : List ℕ) → take (length zs) l ≡ map natAbs zs → length zs ≡ 9 → wideIn l ≡ false → Near zs
+near-of : (zs : List ℤ) (l : List ℕ) → SizedAs zs l → length zs ≡ 9 → wideIn l ≡ false → Near zs
 near-of zs l e n w = record { at = at }
   where
     at : (i : ℕ) → i < 3 → natAbs (getD zs i (pos 0)) < 10 ^ digitLimit
@@ -81,7 +78,7 @@ near-of zs l e n w = record { at = at }
     at (suc (suc zero)) h = rw (sized-at zs l 2 e (omega arith)) at (leb-false (10 ^ digitLimit) (getD l 2 0) (search (or-left, or-rest)))
     at (suc (suc (suc i))) h = absurd (omega arith)
 
-near-not-wide : (zs : List ℤ) (l : List ℕ) → take (length zs) l ≡ map natAbs zs → length zs ≡ 9 → Near zs → wideIn l ≡ false
+near-not-wide : (zs : List ℤ) (l : List ℕ) → SizedAs zs l → length zs ≡ 9 → Near zs → wideIn l ≡ false
 near-not-wide zs l e n h = rw (
   sized-at zs l 0 e (omega arith),
   sized-at zs l 1 e (omega arith),
@@ -129,10 +126,6 @@ module _ {text : List ℕ} {at : ℕ} {sizes sizes′ : List ℕ} {minus minus�
       by (At next) e = got row e w
 
 -- ---- numbers of the form make a claim, and a claim's are of the form
-
-first-of : (zs : List ℤ) (n : ℕ) → length zs ≡ suc n → (z : ℤ) × (ws : List ℤ) × (zs ≡ z ∷ ws) × (length ws ≡ n)
-first-of [] n e = absurd (omega arith)
-first-of (z ∷ zs) n e = (z, zs, refl, suc-inj e)
 
 unsigned : (z : ℤ) → Allowed weightForm z → pos (natAbs z) ≡ z
 unsigned (pos n) a = refl

@@ -6,8 +6,7 @@ use Prim.Native.Nat.{ℕ, _<_}
 use native.Mathlib.Omega.{arith}
 use lib.IntN.{ℤ, pos, natAbs}
 use lib.ListN.{length, length-map, length-append}
-use Rattle.decimals.specs.Byte.{IsDigit}
-use Rattle.fields.specs.Numerals.{Ends}
+use Rattle.fields.specs.Tabbed.{tab-parts, line-ends}
 use Rattle.fields.specs.Rows.{rowOf, row-cancel}
 use Rattle.fields.specs.declared.Form.{Form}
 use Rattle.meaning.specs.Limits.{weightDigits}
@@ -24,13 +23,6 @@ weightForm = record { separator = tab; signed = false; most = weightDigits }
 
 abbrev pub numbersIn : Claim → List ℤ
 numbersIn c = placesIn c ++ weightsIn c
-
-pub tab-parts : ¬ IsDigit tab
-tab-parts d = omega (arith, d .low)
-
-pub line-ends : (x : List ℕ) → Ends (lineFeed ∷ x)
-unfolding Ends
-line-ends x d = omega (arith, d .low)
 
 pub nine-numbers : (c : Claim) → ClaimFormed c → length (numbersIn c) ≡ 9
 nine-numbers c f = omega (arith, f .six, length-map (c .weights) pos)

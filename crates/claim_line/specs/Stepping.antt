@@ -9,6 +9,7 @@ use lib.Dec.{leb}
 use lib.ListN.{length, getD, drop, length-drop}
 use Rattle.sequences.specs.Stands.{stands-from}
 use Rattle.scenes.specs.Answering.{refuses, lets-pass, gives}
+use Rattle.fields.specs.Tabbed.{sized-at}
 use Rattle.meaning.specs.Scene.{Scene}
 use Rattle.meaning.specs.Pieces.{pieceCount}
 use Rattle.meaning.specs.Refusals.{Outcome, given, refused, numberOf, Answers, notThere, shares, pieceAsked}
@@ -19,7 +20,7 @@ use Rattle.meaning.specs.declared.Kind.{Kind}
 use Rattle.meaning.specs.declared.Refusal.{Refusal}
 use Rattle.meaning.specs.declared.Refusal.the-variants.{NotThere, SharedVertex, BadLine}
 use Rattle.claim_line.specs.Rendered.{numbersIn, nine-numbers}
-use Rattle.claim_line.specs.Reading.{ClaimGot, LineRead, sized-at}
+use Rattle.claim_line.specs.Reading.{ClaimGot, LineRead}
 use Rattle.claim_line.specs.declared.Line as Found
 use Rattle.claim_line.specs.declared.Line.{Line}
 use Rattle.claim_line.specs.declared.Judged as Judgements
