@@ -4,9 +4,10 @@ use mathlib.Core.List.{List, [], _∷_, _++_, map}
 use mathlib.Core.Path.{_≡_, refl, sym, ap, _∙_, subst}
 use Prim.Native.Nat.{ℕ, _≤_, _<_}
 use native.Mathlib.Omega.{arith}
+use lib.Dec.{ltb}
 use lib.ListN.{length}
-use borrow.Author.Tests.{lt-ltb, le-ltb}
-use Rattle.scenes.specs.Answering.{refuses, lets-pass, gives, one-answer}
+use borrow.Author.Tests.{lt-ltb, le-ltb, ltb-false}
+use Rattle.scenes.specs.Answering.{refuses, lets-pass, gives, is-given, one-answer}
 use Rattle.scenes.specs.Accepting.{after-accepted, after-refused}
 use Rattle.scenes.specs.Speaking.{one-number}
 use Rattle.meaning.specs.Limits.{textLimit}
@@ -177,6 +178,16 @@ module _ (s : Scene) (text : List ℕ) (room : ℕ) where
       let same : ds ≡ cs = records-unique (claims-readable s) k h in
       one-answer (AllAnswered s cs) (all-one s cs) (claimsLast room cs) o o′ a
       (subst (λ (l : List Claim). Answers (claimsLast room l) (AllAnswered s l) o′) same b)
+
+-- no more answers are given than there is room for
+pub few-told : (s : Scene) (text : List ℕ) (room : ℕ) (o : Outcome (List Bool)) (bs : List Bool) → ClaimsOutcome s text room o → o ≡ given bs → length bs ≤ room
+unfolding Answers
+few-told s text room o bs (before n c e p) q = let z : _≡_ {A = ℕ} 0 1 = cc in absurd (omega arith)
+few-told s text room o bs (faulty n line e p f) q = let z : _≡_ {A = ℕ} 0 1 = cc in absurd (omega arith)
+few-told s text room o bs (read cs p h a) q =
+    let given-so : Answers (claimsLast room cs) (AllAnswered s cs) (given bs) = subst (Answers (claimsLast room cs) (AllAnswered s cs)) q a in
+    let (test, right) = is-given (AllAnswered s cs) (record { number = 7; holds = ltb room (length cs); carries = length cs }) [] bs given-so in
+    omega (arith, ltb-false room (length cs) test, all-many s cs bs right)
 
 pub claims-say-one : (r r′ : ClaimsAnswer) → claimsSays r ≡ claimsSays r′ → r ≡ r′
 unfolding claimsSays

@@ -22,3 +22,4 @@ pub mod FivePoints
 pub mod Printed
 pub mod Barred
 pub mod BarredLists
+pub mod Claims

@@ -1,0 +1,10 @@
+-- As many bytes as were read are in front of the buffer.
+use Prim.Native.Nat.{ℕ, _≤_}
+use mathlib.Core.List.{List}
+use lib.ListN.{length}
+use Rattle.claims.specs.declared.FileRead.{FileRead}
+use Rattle.claims.specs.declared.FileRead.the-variants.{Bytes, Failed}
+
+unfoldable pub ReadInto : List ℕ → FileRead → Type 0
+ReadInto text (Bytes n) = n ≤ length text
+ReadInto text Failed = Unit {0}
