@@ -56,7 +56,11 @@ fn main() {
         return;
     };
     let mut out = [0u8; ANSWERS_BYTES];
-    let length = claim_report::write_answers(&scene[..scene_length], &claims[..claims_length], &mut out);
+    let length = claim_report::write_answers(
+        &scene[..scene_length],
+        &claims[..claims_length],
+        &mut out,
+    );
     if !io::write_all(STDOUT_FILENO, &out[..length]) {
         io::write_all(STDERR_FILENO, b"claims: the answers could not be written\n");
     }

@@ -282,7 +282,5 @@ pub extern "C" fn makhnodri_check_claims(
 ) -> u64
     ensures { λ r. ⌜ Told claimsNumber (ClaimsChecked (sceneAtEntry positions edges triangles) (now (claims .entry)) (now (answers .entry)) (now (answers .exit))) r ⌝ }
 {
-    claims_number(claim_answers::check_claims(
-        positions, edges, triangles, claims, answers,
-    ))
+    claims_number(claim_answers::check_claims(positions, edges, triangles, claims, answers))
 }

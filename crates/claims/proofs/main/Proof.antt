@@ -1,3 +1,12 @@
+-- The texts are in front of their buffers, and the answers in front of theirs.
+use Prim.Native.Nat.{ℕ, _≤_}
+use mathlib.Core.List.{List}
+use mathlib.Core.Path.{sym, ap}
+use native.Mathlib.Omega.{arith}
+use lib.ListN.{length, length-append}
+use lib.Seq.{length-take-le}
+use Rattle.meaning.specs.Claims.{AnswersReported}
+use Rattle.claims.specs.Files.{bytes-read}
 use borrow.Author.Needs.{needs}
 use Rattle.claims.proofs.main.Statement.{statement}
 use Rattle.claims.proofs.main.Tie as tie
@@ -7,6 +16,10 @@ use Rattle.claim_report.proofs.write_answers.Reads as write-answers-reads
 use Rattle.claims.proofs.read_file.Reads as read-file-reads
 use Rattle.io.proofs.write_all.Reads as write-all-reads
 use Rattle.os.proofs.arg_count.Reads as arg-count-reads
+
+-- the answers fit the buffer that they stand in
+fits : {sceneText text o o′ : List ℕ} {n : ℕ} → AnswersReported sceneText text o o′ n → n ≤ length o′
+fits r = omega (arith, r .length-is, simp length-append at (ap length (r .buffer)))
 
 -- src/main.rt:44:8
 arg-count-requires : tie.Need-arg-count-requires
@@ -82,19 +95,19 @@ returns-3 c = search needs
 
 -- src/main.rt:59:46
 array-share-prefix-scene : tie.Need-array-share-prefix-scene
-array-share-prefix-scene c = ?
+array-share-prefix-scene c = bytes-read _ (c .before .before .before .before .before .before .before .before .before .before .read-file .ensures) (c .before .before .before .before .before .before .before .scene-length .given .1)
 
 -- src/main.rt:59:46
 slice-aggregate-write-answers : tie.Need-slice-aggregate-write-answers
-slice-aggregate-write-answers c = ?
+slice-aggregate-write-answers c = sym (length-take-le _ _ (bytes-read _ (c .before .before .before .before .before .before .before .before .before .before .before .read-file .ensures) (c .before .before .before .before .before .before .before .before .scene-length .given .1)))
 
 -- src/main.rt:59:70
 array-share-prefix-claims : tie.Need-array-share-prefix-claims
-array-share-prefix-claims c = ?
+array-share-prefix-claims c = bytes-read _ (c .before .before .before .before .before .read-file2 .ensures) (c .before .before .claims-length .given .1)
 
 -- src/main.rt:59:70
 slice-aggregate-write-answers-2 : tie.Need-slice-aggregate-write-answers-2
-slice-aggregate-write-answers-2 c = ?
+slice-aggregate-write-answers-2 c = sym (length-take-le _ _ (bytes-read _ (c .before .before .before .before .before .before .read-file2 .ensures) (c .before .before .before .claims-length .given .1)))
 
 -- src/main.rt:59:9
 write-answers-requires : tie.Need-write-answers-requires
@@ -102,11 +115,11 @@ write-answers-requires c κs = search needs
 
 -- src/main.rt:60:38
 array-share-prefix-out : tie.Need-array-share-prefix-out
-array-share-prefix-out c = ?
+array-share-prefix-out c = fits (c .write-answers .ensures)
 
 -- src/main.rt:60:38
 slice-aggregate-write-all-4 : tie.Need-slice-aggregate-write-all-4
-slice-aggregate-write-all-4 c = ?
+slice-aggregate-write-all-4 c = sym (length-take-le _ _ (fits (c .before .write-answers .ensures)))
 
 -- src/main.rt:60:9
 write-all-requires-4 : tie.Need-write-all-requires-4

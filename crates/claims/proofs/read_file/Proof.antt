@@ -1,4 +1,5 @@
 use borrow.Author.Needs.{needs}
+use Rattle.claims.specs.Files.{ReadInto}
 use Rattle.claims.proofs.read_file.Statement.{statement}
 use Rattle.claims.proofs.read_file.Tie as tie
 use Rattle.claims.proofs.read_file.Reads as reads
@@ -36,7 +37,8 @@ open-read-requires c κs = search needs
 
 -- src/main.rt:31:9
 returns : tie.Need-returns
-returns c = ?
+unfolding ReadInto
+returns c = tt
 
 -- src/main.rt:33:9
 read-full-requires : tie.Need-read-full-requires
@@ -56,7 +58,8 @@ same-length c = search needs
 
 -- src/main.rt:24:1
 returns-2 : tie.Need-returns-2
-returns-2 c = ?
+unfolding ReadInto
+returns-2 c = c .before .before .before .before .before .read-full .ensures .0
 
 -- src/main.rt:24:1
 same-length-2 : tie.Need-same-length-2
@@ -64,7 +67,8 @@ same-length-2 c = search needs
 
 -- src/main.rt:24:1
 returns-3 : tie.Need-returns-3
-returns-3 c = ?
+unfolding ReadInto
+returns-3 c = tt
 
 pub read-file-spec : {M : Type 1} → statement M
 read-file-spec =
