@@ -194,10 +194,28 @@ pub fn fixed() -> Vec<Trial> {
         format!("{one}pt\t9\t0\t1\t2\t2\t2\t0\t1\t1\npt\t3\n"), format!("{one}pt\t3\n{one}pt\t9\t0\t1\t2\t2\t2\t0\t1\t1\n"),
         long(1_560, 8), long(1_560, 9), long(1_560, 0), "x".repeat(32_769), "pt\t0\t0\t0\t0\t0\t0\t0\t0\t0\n".repeat(1_560),
     ];
-    let scenes = [first, printed.to_string(), String::new(), "v\t0\n".into(), "x".repeat(32_769), "x".repeat(32_768)];
-    let mut out = Vec::new();
+    let one_vertex = "v\t0\t0\t0\t0\t0\t0\n";
+    let faulty = [
+        "v\t524288\t0\t0\t0\t0\t0\n".into(), format!("{one_vertex}e\t0\t1\n"), format!("{one_vertex}e\t0\t0\n"), "v\t0\n".into(),
+        format!("{one_vertex}{one_vertex}e\t0\t1\n{one_vertex}"), one_vertex.repeat(513), "x".repeat(32_769), "x".repeat(32_768),
+    ];
+    let scenes: Vec<String> = [first, printed.to_string(), String::new()].into_iter().chain(faulty).collect();
+    let mut out = vec![far_away()];
     for scene in &scenes {
         out.extend(texts.iter().map(|text| Trial { scene: scene.clone().into_bytes(), claims: text.clone().into_bytes() }));
     }
     out
+}
+
+/// Case 1 far from the origin, with weights as large as they may be, and with one of so many gone over to a corner four steps away: a sum in
+/// doubles does not see it.
+fn far_away() -> Trial {
+    let mut scene = cases::shown()[0].scene.clone();
+    for vertex in &mut scene.vertices {
+        vertex[0] += 520_000;
+        vertex[3] += 520_000;
+    }
+    let top = WEIGHT_LIMIT;
+    let claim = |moved: u64| Claim { pair: Pair::pt(3, 0), piece: 1, weights: [top, top, top - moved, moved, top / 2, top / 2] };
+    written(&scene, &[claim(0), claim(1)])
 }

@@ -90,7 +90,7 @@ module _ (s : Scene) (kind : Kind) (i j k : ℕ) (t : Touches (pieceOf s kind i 
 
 pub demand2-yes : (s : Scene) (kind : Kind) (i j k : ℕ) (ws : List ℕ) → AnswerIs (pieceOf s kind i j k) ws true → YesMeans s kind i j k
 unfolding AnswerIs
-demand2-yes s kind i j k ws yes = touching-means s kind i j k (borne-touches (pieceOf s kind i j k) ws yes)
+demand2-yes s kind i j k ws h = touching-means s kind i j k (borne-touches (pieceOf s kind i j k) ws h)
 
 -- 'Case 1, piece 1: weights 2, 2 against 2, 0, 1, 1.'
 pub weights-claimed : BorneOut (pieceOf (numbered 1 .scene) PointTriangle 3 0 1) (2 ∷ 2 ∷ 2 ∷ 0 ∷ 1 ∷ 1 ∷ [])
