@@ -4,6 +4,7 @@ use mathlib.Core.Bool.{Bool, true, false}
 use mathlib.Core.List.{List, [], _∷_, _++_, flatMap}
 use mathlib.Core.Path.{_≡_, refl, sym, ap, _∙_, subst}
 use native.Mathlib.Omega.{arith}
+use lib.Dec.{ltb}
 use lib.ListN.{length, length-append}
 use borrow.Author.Tests.{ltb-false}
 use Rattle.meaning.specs.Limits.{textLimit}
@@ -70,10 +71,13 @@ module _ (s : Scene) (text : List ℕ) (room : ℕ) where
       → toldIn (howManyTold o) < upper
   unfolding Answers toldIn howManyTold
   last-small cs few o p =
-      holds-or-not _
-      (λ h. let e = is-refused (AllAnswered s cs) _ [] o h p in rw e few)
-      (λ h. right o (is-past (AllAnswered s cs) _ [] o h p))
+      holds-or-not (ltb room (length cs))
+      (λ h. let e = is-refused (AllAnswered s cs) full [] o h p in rw e few)
+      (λ h. right o (is-past (AllAnswered s cs) full [] o h p))
     where
+      full : Check
+      full = record { number = 7; holds = ltb room (length cs); carries = length cs }
+
       right : (o : Outcome (List Bool)) → Answers [] (AllAnswered s cs) o → toldIn (howManyTold o) < upper
       right (given bs) q = omega (arith, all-many s cs bs q)
       right (refused n c) q = absurd q

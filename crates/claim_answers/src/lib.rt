@@ -42,9 +42,9 @@ fn inspect(positions: &[i32], edges: &[u16], triangles: &[u16], text: &[u8]) -> 
             Step::Fault(fault) => {
                 return ClaimsAnswer::Refused(fault, count + 1);
             }
-            Step::Taken(_, next) => {
+            Step::Taken(_, behind) => {
                 count += 1;
-                at = next;
+                at = behind;
             }
         }
     }

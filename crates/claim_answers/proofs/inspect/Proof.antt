@@ -40,14 +40,14 @@ loop-less c =
     let line = c .before .before .before .before .before in
     let i = line .before .before .before .before .loop .inv .0 in
     let last = line .next-claim .last .1 .1 .1 .1 .1 in
-    let on = inspect-goes i (last .0) (last .1 .0) (line .next-claim .ensures) (c .before .next .given .1) in
+    let on = inspect-goes i (last .0) (last .1 .0) (line .next-claim .ensures) (c .before .behind .given .1) in
     omega (arith, on .1, i .reached .within, on .0 .reached .within)
 
 loop-again : tie.Need-loop-again Inv-loop μ-loop
 loop-again c =
     let line = c .before .before .before .before .before in
     let i = line .before .before .before .before .loop .inv in (
-      inspect-goes (i .0) _ _ (line .next-claim .ensures) (c .before .next .given .1) .0,
+      inspect-goes (i .0) _ _ (line .next-claim .ensures) (c .before .behind .given .1) .0,
       line .next-claim .kept .1 .1 .1 .1 .1 .0 ∙ i .1,
       line .next-claim .kept .1 .1 .1 .1 .1 .1 .0 ∙ i .2,
     )
