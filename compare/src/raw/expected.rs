@@ -6,7 +6,7 @@ use crate::scene::*;
 use crate::settled::{self, Settled};
 use crate::slices::{self, Slices};
 use crate::verdict::{self, Verdict};
-use crate::{listing, report, text};
+use crate::{claims, listing, report, text};
 use std::collections::HashMap;
 
 /// Remembers the words of the last scene's pieces, which take their time.
@@ -58,6 +58,7 @@ impl Expecting {
             Call::Settle(asked) => Ok(settled::joined(&self.words_asked(question, asked)?).byte() as u64),
             Call::ReadScene => read(lent),
             Call::WriteReport => Ok(write(lent)),
+            Call::CheckClaims => check_claims(lent),
         }
     }
 
@@ -115,6 +116,13 @@ fn read(lent: &mut Lent) -> Result<u64, Refusal> {
     lent.triangles[..read.triangles.len()].copy_from_slice(&read.triangles);
     lent.counts = [scene.vertices.len(), scene.edges.len(), scene.triangles.len()].map(|count| count as u64).to_vec();
     Ok(0)
+}
+
+/// The answers in front of their buffer: 1 for yes, 0 for no.
+fn check_claims(lent: &mut Lent) -> Result<u64, Refusal> {
+    let answers = claims::answers(&scene(lent)?, &lent.text, lent.words.len())?;
+    lent.words.iter_mut().zip(&answers).for_each(|(byte, &yes)| *byte = yes as u8);
+    Ok(answers.len() as u64)
 }
 
 fn write(lent: &mut Lent) -> u64 {
