@@ -2,12 +2,12 @@
 
 use super::harm::{harm, SCENE_CHECKS};
 use super::question::*;
+use crate::claims::{self, making};
 use crate::damage::damaged;
 use crate::faults::cells;
 use crate::random::Random;
 use crate::scene::*;
 use crate::text::{self, write};
-use crate::claims::{self, making};
 use crate::{cases, crossed, generate, listing, trials};
 
 /// Pairs that are asked about in one scene, and cells of the table of faults in texts that a seed takes.
@@ -100,7 +100,8 @@ fn about_claims(random: &mut Random, scene: &Scene) -> Vec<Question> {
         Question::new(Call::CheckClaims, lent)
     };
     let more = made.len() + 1 + random.below(20);
-    let mut out: Vec<Question> = [made.len(), made.len().saturating_sub(1), 0, more].map(|room| ask(text.as_bytes(), room)).into();
+    let mut out: Vec<Question> =
+        [made.len(), made.len().saturating_sub(1), 0, more].map(|room| ask(text.as_bytes(), room)).into();
     for _ in 0..3 {
         out.push(ask(&making::damaged(random, &text), random.pick(&[0, more])));
     }

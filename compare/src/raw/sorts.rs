@@ -129,9 +129,10 @@ pub fn of(question: &Question, answer: &Answer) -> Vec<String> {
 
 /// Claims: each refusal, each of the scene's before the text's length, yes and no, each room.
 fn of_claim_calls() -> Vec<String> {
-    let mut out: Vec<String> = ["answered", "a scene of full size", "yes", "no", "just the room", "room left over", "one too few", "no room at all"]
-        .map(|sort| format!("check_claims: {sort}"))
-        .into();
+    let mut out: Vec<String> =
+        ["answered", "a scene of full size", "yes", "no", "just the room", "room left over", "one too few", "no room at all"]
+            .map(|sort| format!("check_claims: {sort}"))
+            .into();
     out.extend([1, 2, 3, 4, 5, 6, 7, 8, 9].map(|number| format!("check_claims: refused {number}")));
     for (i, number) in SCENE_CHECKS.iter().enumerate() {
         let others = SCENE_CHECKS[i + 1..].iter().chain(&[TEXT_TOO_LONG]);
