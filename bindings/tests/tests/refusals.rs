@@ -3,7 +3,7 @@
 
 use compare::cases::PRINTED_SCENE;
 use compare::text::read;
-use makhnodri::{Kind, Refusal, TextRefusal};
+use makhnodri::{ClaimsRefusal, Kind, Refusal, Scene, TextRefusal, TEXT_LIMIT};
 use makhnodri_tests::*;
 
 /// Five vertices, three edges, two triangles, and pairs of both kinds that share nothing.
@@ -303,4 +303,32 @@ fn refusals_tell_what_they_are() {
     let line = TextRefusal::Line { refusal: Refusal::BadLine, line: 3 };
     assert_eq!(line.to_string(), "line 3: refused 9: a line not of the form, or a last line without LF");
     assert_eq!(makhnodri::ListRefusal::NoRoom { needed: 2 }.to_string(), "refused 7: more listed pairs than room, 2 needed");
+}
+
+/// Claims: each refusal with what it carries, the answers, and what is left of the buffer.
+#[test]
+fn claims_are_answered_or_refused() {
+    let flat = Flat::of(&compare::cases::shown()[0].scene);
+    let scene = flat.scene();
+    let (one, other) = ("pt\t3\t0\t1\t2\t2\t2\t0\t1\t1\n", "pt\t3\t0\t1\t2\t2\t2\t0\t1\t2\n");
+    let two = format!("{one}{other}").into_bytes();
+    assert_eq!(scene.claims_answered(&two), Ok(vec![true, false]));
+    assert_eq!(scene.claims_answered(b""), Ok(vec![]));
+    let mut answers = [7; 4];
+    assert_eq!(scene.check_claims(&two, &mut answers), Ok(2));
+    assert_eq!(answers, [1, 0, 7, 7]);
+    for (text, wanted) in [
+        (format!("{one}pt\t3\n"), ClaimsRefusal::Line { refusal: Refusal::BadLine, line: 2 }),
+        (format!("{one}pt\t4\t0\t1\t2\t2\t2\t0\t1\t1\n"), ClaimsRefusal::Line { refusal: Refusal::NotThere, line: 2 }),
+        ("pt\t0\t0\t1\t2\t2\t2\t0\t1\t1\n".into(), ClaimsRefusal::Line { refusal: Refusal::SharedVertex, line: 1 }),
+        ("x".repeat(TEXT_LIMIT + 1), ClaimsRefusal::LongText),
+        (one.repeat(5), ClaimsRefusal::NoRoom { needed: 5 }),
+    ] {
+        let mut answers = [7; 4];
+        assert_eq!(scene.check_claims(text.as_bytes(), &mut answers), Err(wanted), "{text:.40}");
+        assert_eq!(answers, [7; 4]);
+        assert!(wanted.to_string().contains(&format!("refused {}", wanted.refusal().number())));
+    }
+    let half = Scene { positions: &scene.positions[..3], ..scene };
+    assert_eq!(half.check_claims(&two, &mut answers), Err(ClaimsRefusal::Scene(Refusal::Shape)));
 }
