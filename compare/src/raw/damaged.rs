@@ -5,7 +5,7 @@ use super::harm::{of_asked, of_scene, SCENE_CHECKS};
 use super::question::*;
 use crate::listing;
 use crate::refusal::*;
-use crate::scene::{Kind, Pair};
+use crate::scene::{Kind, Pair, COORDINATE_LIMIT, FIRST_COORDINATE_LIMIT};
 
 /// Changes a right answer, or leaves it.
 type Change = Box<dyn Fn(&Question, &mut Answer)>;
@@ -164,6 +164,17 @@ fn orders() -> Vec<Damage> {
             sole(question) == Some(fault) && question.asked[place] == bounds[place] as u64
         }));
     }
+    out.push(damage("a coordinate beyond the first range is refused in slices", |question, answer| {
+        let far = |&n: &i32| n.unsigned_abs() as i64 > FIRST_COORDINATE_LIMIT;
+        if question.call.takes_a_scene() && faults(question).is_empty() && question.lent.positions.iter().any(far) {
+            answer.number = OUT_OF_RANGE << 32;
+        }
+    }));
+    out.push(answered("a coordinate one step too far is taken".into(), |question| {
+        let far = |&n: &i32| n.unsigned_abs() as i64 > COORDINATE_LIMIT + 1;
+        let range = matches!(sole(question), Some("a coordinate too low" | "a coordinate too high"));
+        range && !question.lent.positions.iter().any(far)
+    }));
     out.push(damage("7 before the scene is looked at", |question, answer| {
         if question.call.lists() && question.lent.list.is_empty() && answer.refusal() > 0 {
             answer.number = NO_ROOM << 32;
@@ -218,13 +229,13 @@ fn counts() -> Vec<Damage> {
         }),
         damage("only the list's room counts", |question, answer| {
             let count = answer.number as u32 as usize;
-            if question.call == Call::JudgeScene && answer.refusal() == NO_ROOM && question.lent.list.len() / 3 >= count {
+            if question.call == Call::SettleScene && answer.refusal() == NO_ROOM && question.lent.list.len() / 3 >= count {
                 answer.number = count as u64;
             }
         }),
         damage("only the words' room counts", |question, answer| {
             let count = answer.number as u32 as usize;
-            if question.call == Call::JudgeScene && answer.refusal() == NO_ROOM && question.lent.words.len() >= count {
+            if question.call == Call::SettleScene && answer.refusal() == NO_ROOM && question.lent.words.len() >= count {
                 answer.number = count as u64;
             }
         }),
@@ -241,7 +252,7 @@ fn counts() -> Vec<Damage> {
             }
         }),
         damage("the words of a list in three", |question, answer| {
-            if question.call == Call::JudgeScene && answer.refusal() == 0 {
+            if question.call == Call::SettleScene && answer.refusal() == 0 {
                 let words = &mut answer.buffers[WORDS][MARGIN..MARGIN + answer.number as usize];
                 words.iter_mut().for_each(|word| *word = (*word).min(2));
             }

@@ -10,5 +10,7 @@ pub mod Boxes
 pub mod Motion
 pub mod List
 pub mod SceneWords
+pub mod Lines
 pub mod Text
 pub mod Report
+pub mod InMotion
