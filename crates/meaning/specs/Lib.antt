@@ -12,3 +12,4 @@ pub mod List
 pub mod SceneWords
 pub mod Text
 pub mod Report
+pub mod Contacts

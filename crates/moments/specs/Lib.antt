@@ -1,0 +1,3 @@
+-- When and where: the numbers of a contact follow from the determinants of its piece, and go with it through maps and shifts.
+pub mod Cuts
+pub mod Solving
