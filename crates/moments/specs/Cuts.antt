@@ -31,7 +31,7 @@ in-sizes : (S W P D : ℤ) → S *ℤ D ≡ W *ℤ P → natAbs P * natAbs W ≡
 in-sizes S W P D e =
     mul-comm (natAbs P) (natAbs W) ∙ sym (natAbs-mul W P) ∙ ap natAbs (sym e) ∙ natAbs-mul S D
 
-whole-number : (z : ℤ) → pos 0 ≤ℤ z → z ≡ pos (natAbs z)
+pub whole-number : (z : ℤ) → pos 0 ≤ℤ z → z ≡ pos (natAbs z)
 whole-number (pos n) h = refl
 whole-number (negsuc n) h =
     let a : 0 + suc n ≤ 0 + 0 = le-parts h in
@@ -47,7 +47,7 @@ positive-number z h =
         let b : 0 + 0 < 0 + 0 = lt-parts k in
         omega arith
 
-not-below : (z : ℤ) → pos 0 <ℤ z → pos 0 ≤ℤ z
+pub not-below : (z : ℤ) → pos 0 <ℤ z → pos 0 ≤ℤ z
 not-below z h =
     let a : 0 + M z < P z + 0 = lt-parts h in
     let b : 0 + M z ≤ P z + 0 = omega arith in
