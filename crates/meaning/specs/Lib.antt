@@ -13,3 +13,4 @@ pub mod SceneWords
 pub mod Text
 pub mod Report
 pub mod Contacts
+pub mod InMotion

@@ -1,20 +1,22 @@
 -- Demand 3: a scene sent through a whole-number 3 by 3 matrix of nonzero determinant, with one shift added to all start positions and another to all
 -- end positions, keeps the verdict of every piece and of every pair. A pair culled in either scene is hit in neither.
-use mathlib.Core.Path.{_≡_, sym, _∙_, ap}
+use mathlib.Core.Path.{_≡_, refl, sym, _∙_, ap}
 use mathlib.Core.Logic.{_≢_, _↔_, _⊎_, inl, inr}
 use mathlib.Core.Bool.{true}
 use mathlib.Core.List.{List}
 use Prim.Native.Nat.{ℕ, _+_, _*_, _<_}
+use native.Mathlib.Omega.{arith}
 use lib.IntN.{pos}
 use lib.ListN.{length, getD}
 use Rattle.whole.specs.Vector.{Vector, plus}
 use Rattle.whole.specs.VectorLaws.{Matrix, apply, det}
-use Rattle.meaning.specs.Scene.{Scene, vertexCount, startOf, endOf, endsOf, rising, among}
+use Rattle.meaning.specs.Scene.{Scene, sceneOf, vertexCount, startOf, endOf, endsOf, rising, among}
 use Rattle.meaning.specs.Pieces.{pieceOf}
 use Rattle.meaning.specs.Verdicts.{PieceIs, PairIs}
 use Rattle.meaning.specs.Resting.{PieceSettled, PairSettled}
 use Rattle.meaning.specs.Boxes.{culled}
 use Rattle.meaning.specs.Motion.{firstPart, secondPart}
+use Rattle.meaning.specs.Text.{coordinates}
 use Rattle.meaning.specs.declared.Kind.{Kind}
 use Rattle.meaning.specs.declared.Kind.the-variants.{PointTriangle, EdgeEdge}
 use Rattle.meaning.specs.declared.Verdict.{Verdict}
@@ -37,6 +39,18 @@ pub record Moves (m : Matrix) (a b : Vector) (s t : Scene) : Type 0 where
   pub edges : t .edges ≡ s .edges
   pub triangles : t .triangles ≡ s .triangles
   pub size : length (t .positions) ≡ length (s .positions)
+
+-- there are such scenes: one vertex, sent and shifted, whatever edges and triangles are beside it
+pub one-vertex : (m : Matrix) (a b p q : Vector) (e f : List ℕ) → det m ≢ pos 0
+    → Moves m a b (sceneOf (coordinates p q) e f) (sceneOf (coordinates (plus (apply m p) a) (plus (apply m q) b)) e f)
+one-vertex m a b p q e f nonzero = record {
+  nonzero = nonzero;
+  starts = λ v below. let first : v ≡ 0 = omega arith in rw first refl;
+  ends = λ v below. let first : v ≡ 0 = omega arith in rw first refl;
+  edges = refl;
+  triangles = refl;
+  size = refl;
+}
 
 -- every vertex of the pair's two parts is there
 pub record Known (s : Scene) (kind : Kind) (i j : ℕ) : Type 0 where

@@ -34,6 +34,17 @@ pub record Rewritten (s t : Scene) : Type 0 where
   pub edges : (j : ℕ) → j < edgeCount s → Rearranged (endsWritten s j) (endsWritten t j)
   pub triangles : (j : ℕ) → j < triangleCount s → Rearranged (cornersWritten s j) (cornersWritten t j)
 
+-- there are such scenes: one edge and one triangle, each in any order, over the same vertices
+pub one-of-each : (p : List ℤ) {a b c d e a′ b′ c′ d′ e′ : ℕ} → Rearranged (a ∷ b ∷ []) (a′ ∷ b′ ∷ []) → Rearranged (c ∷ d ∷ e ∷ []) (c′ ∷ d′ ∷ e′ ∷ [])
+    → Rewritten (sceneOf p (a ∷ b ∷ []) (c ∷ d ∷ e ∷ [])) (sceneOf p (a′ ∷ b′ ∷ []) (c′ ∷ d′ ∷ e′ ∷ []))
+one-of-each p edge triangle = record {
+  positions = refl;
+  edgesLong = refl;
+  trianglesLong = refl;
+  edges = λ j below. let first : j ≡ 0 = omega arith in rw first edge;
+  triangles = λ j below. let first : j ≡ 0 = omega arith in rw first triangle;
+}
+
 -- and s is t so
 pub rewritten-back : {s t : Scene} → Rewritten s t → Rewritten t s
 rewritten-back h = record {
