@@ -21,9 +21,9 @@ extern "C" {
 /* ---- Version: of this header and of the library that was installed with it; docs/CHANGES.md tells what changed ---- */
 
 #define MAKHNODRI_VERSION_MAJOR 0
-#define MAKHNODRI_VERSION_MINOR 2
+#define MAKHNODRI_VERSION_MINOR 3
 #define MAKHNODRI_VERSION_PATCH 0
-#define MAKHNODRI_VERSION "0.2.0"
+#define MAKHNODRI_VERSION "0.3.0"
 
 /* ---- Sizes ---- */
 
