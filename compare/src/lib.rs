@@ -4,6 +4,7 @@
 //! out. Nothing here is meant to be fast.
 
 pub mod affine;
+pub mod blame;
 pub mod cases;
 pub mod cost;
 pub mod crossed;
@@ -30,6 +31,7 @@ pub mod settled;
 pub mod signs;
 pub mod slices;
 pub mod still;
+pub mod streams;
 pub mod text;
 pub mod trials;
 pub mod verdict;
