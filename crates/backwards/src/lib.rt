@@ -1,1 +1,1 @@
-// A scene played backwards: what stays, in specs/, and the call that turns a scene round.
+// A scene played backwards: what stays, in specs/. No code stands here; the call that turns a scene round stands in `turning`.
