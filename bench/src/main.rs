@@ -17,7 +17,7 @@ mod wide;
 
 use compare::cubic;
 use compare::random::Random;
-use compare::scene::{Scene, REPORT_ROOM};
+use compare::scene::{Scene, EDGE_LIMIT, REPORT_ROOM, TRIANGLE_LIMIT, VERTEX_LIMIT};
 use compare::text::write;
 use product::Product;
 use slices::Slices;
@@ -114,9 +114,31 @@ impl Bench {
             ("points and triangles in layers", scenes::layers(&mut random, 4, 4, 1_000, false)),
             ("edges in layers", scenes::layers(&mut random, 3, 3, 1_000, true)),
         ];
+        for (name, scene) in &scenes {
+            self.read(name, write(scene).as_bytes());
+        }
         for (name, scene) in scenes {
             self.report(name, write(&scene).as_bytes());
         }
+    }
+
+    fn read(&self, name: &str, text: &[u8]) {
+        let mut ours = Slices::with_room(6 * VERTEX_LIMIT, 2 * EDGE_LIMIT, 3 * TRIANGLE_LIMIT);
+        let (mut plain, mut counts) = (Slices::default(), [0; 3]);
+        let mut ways = vec![Way::new("plain Rust, one pass", || {
+            plain = plain_report::read(text).unwrap_or_default();
+            plain.positions.len() as u64
+        })];
+        if let Some(product) = &self.product {
+            ways.push(Way::new(OURS, || product.read(text, &mut ours, &mut counts).expect("a scene") as u64));
+        }
+        let times = shortest(ways, self.rounds);
+        let [vertices, edges, triangles] = counts;
+        let same = plain.positions == ours.positions[..6 * vertices]
+            && plain.edges == ours.edges[..2 * edges]
+            && plain.triangles == ours.triangles[..3 * triangles];
+        assert!(self.product.is_none() || same, "the library reads what plain Rust reads");
+        table(&format!("reading alone, {name} ({} bytes)", text.len()), ("us", 1e6), &times);
     }
 
     fn report(&self, name: &str, text: &[u8]) {
@@ -169,7 +191,7 @@ fn baselines<'a>(slices: &'a Slices, list: &'a [u16]) -> Vec<Way<'a>> {
             pairs().for_each(|entry| floor_of(slices, entry));
             0
         }),
-        Way::new("the same way in plain Rust, 64 bits", move || {
+        Way::new("the same way in plain Rust, sharing too", move || {
             pairs().map(|entry| plain_rest::settle(slices, entry).byte() as u64).sum()
         }),
     ]

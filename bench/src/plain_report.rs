@@ -60,7 +60,8 @@ fn number(out: &mut Vec<u8>, mut n: u64, after: u8) {
     out.push(after);
 }
 
-fn read(text: &[u8]) -> Result<Slices, Refusal> {
+/// The scene of a text, in one pass.
+pub fn read(text: &[u8]) -> Result<Slices, Refusal> {
     if text.len() > TEXT_LIMIT {
         return Err(Refusal::bare(TEXT_TOO_LONG));
     }

@@ -42,10 +42,10 @@ fn touches(slices: &Slices, entry: &[u16]) -> bool {
     };
     if entry[0] == 0 {
         let corners = slices.corners(second);
-        point_verdicts(positions, first, corners).zip(point_pieces(first, corners)).any(|(v, six)| asked(v, six, 2))
+        point_verdicts(positions, first, corners).into_iter().zip(point_pieces(first, corners)).any(|(v, six)| asked(v, six, 2))
     } else {
         let (first, second) = (slices.ends(first), slices.ends(second));
-        edge_verdicts(positions, first, second).zip(edge_pieces(first, second)).any(|(v, six)| asked(v, six, 3))
+        edge_verdicts(positions, first, second).into_iter().zip(edge_pieces(first, second)).any(|(v, six)| asked(v, six, 3))
     }
 }
 

@@ -9,6 +9,7 @@
 //! | makhnodri_list_pairs | positions i32, edges u16, triangles u16, list u16 | an answer; the list's entries |
 //! | makhnodri_settle_pt, makhnodri_settle_ee | positions i32, edges u16, triangles u16, two places | an answer: the pair's word |
 //! | makhnodri_settle_pt_piece, makhnodri_settle_ee_piece | positions i32, edges u16, triangles u16, two places, a piece | an answer: the piece's word |
+//! | makhnodri_read_scene | text u8, positions i32, edges u16, triangles u16 of full size, three counts | an answer; the scene and its counts |
 //! | makhnodri_write_report | text u8, 65,536 bytes for the report | the length of the report |
 //!
 //! An answer is the count or the word in the lower 32 bits, or a refusal: its number above them and what it carries in them.
@@ -96,6 +97,17 @@ mod linked {
             triangles_len: usize,
             list: *mut u16,
             list_len: usize,
+        ) -> u64;
+        fn makhnodri_read_scene(
+            text: *const u8,
+            text_len: usize,
+            positions: *mut i32,
+            positions_len: usize,
+            edges: *mut u16,
+            edges_len: usize,
+            triangles: *mut u16,
+            triangles_len: usize,
+            counts: *mut usize,
         ) -> u64;
         fn makhnodri_write_report(text: *const u8, text_len: usize, report: *mut u8) -> usize;
     }
@@ -185,6 +197,24 @@ mod linked {
             })
         }
 
+        /// The scene of a text stands in front of the buffers, which are of full size.
+        pub fn read(&self, text: &[u8], s: &mut Slices, counts: &mut [usize; 3]) -> Answer {
+            // SAFETY: as above, and there are three counts
+            answer(unsafe {
+                makhnodri_read_scene(
+                    text.as_ptr(),
+                    text.len(),
+                    s.positions.as_mut_ptr(),
+                    s.positions.len(),
+                    s.edges.as_mut_ptr(),
+                    s.edges.len(),
+                    s.triangles.as_mut_ptr(),
+                    s.triangles.len(),
+                    counts.as_mut_ptr(),
+                )
+            })
+        }
+
         pub fn report(&self, text: &[u8], report: &mut [u8; REPORT_BYTES]) -> usize {
             // SAFETY: as above, and the report's array has its length
             unsafe { makhnodri_write_report(text.as_ptr(), text.len(), report.as_mut_ptr()) }
@@ -218,6 +248,10 @@ mod missing {
         }
 
         pub fn list(&self, _: &Slices, _: &mut [u16]) -> Answer {
+            match *self {}
+        }
+
+        pub fn read(&self, _: &[u8], _: &mut Slices, _: &mut [usize; 3]) -> Answer {
             match *self {}
         }
 

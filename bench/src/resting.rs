@@ -32,6 +32,14 @@ impl Lent {
         product.settle_scene(&self.slices, &mut self.list, &mut self.words).expect("there is room") as u64
     }
 
+    fn plain_list(&mut self) -> u64 {
+        plain::list(&self.slices, &mut self.list) as u64
+    }
+
+    fn library_list(&mut self, product: &Product) -> u64 {
+        product.list(&self.slices, &mut self.list).expect("there is room") as u64
+    }
+
     fn said(&self) -> String {
         let count = |word: Settled| self.words.iter().filter(|&&byte| byte == word.byte()).count();
         let counts = WORDS.map(|word| format!("{} {}", count(word), word.word()));
@@ -50,23 +58,31 @@ impl Bench {
     }
 
     fn at_rest_over_moving(&self, name: &str, mut moving: Lent, mut rest: Lent) {
+        let [mut listed, mut own_listed] = [copied(&rest), copied(&rest)];
         let ([mut own_moving, mut own_rest], mut ways) = ([copied(&moving), copied(&rest)], Vec::new());
         ways.push(Way::new("moving", || moving.plain()));
         ways.push(Way::new("at rest", || rest.plain()));
+        ways.push(Way::new("its list", || listed.plain_list()));
         if let Some(product) = &self.product {
             ways.push(Way::new("moving", || own_moving.library(product)));
             ways.push(Way::new("at rest", || own_rest.library(product)));
+            ways.push(Way::new("its list", || own_listed.library_list(product)));
         }
         let times = shortest(ways, self.rounds);
         println!("  {name}\n    moving, {}\n    at rest, {}", moving.said(), rest.said());
-        print_row("the same way in plain Rust", &times[..2]);
+        print_row("the same way in plain Rust", &times[..3]);
         if let Some(product) = &self.product {
             assert!(moving.words == own_moving.words && moving.list == own_moving.list, "the library's words are plain Rust's");
             assert!(rest.words == own_rest.words && rest.list == own_rest.list, "and so at rest");
             asked_alone(&rest, product);
-            print_row("the library", &times[2..]);
-            let [over_moving, over_rest] = [0, 1].map(|way| times[2 + way].1 / times[way].1);
-            println!("    {:<30} moving {over_moving:>13.2}      at rest {over_rest:>13.2}", "the library over plain Rust");
+            print_row("the library", &times[3..]);
+            let [over_moving, over_rest] = [0, 1].map(|way| times[3 + way].1 / times[way].1);
+            let searched = |times: &[Timed]| times[1].1 - times[2].1;
+            let over_search = searched(&times[3..]) / searched(&times[..3]);
+            println!(
+                "    {:<30} moving {over_moving:>13.2}      at rest {over_rest:>13.2}      without the list {over_search:>13.2}",
+                "the library over plain Rust"
+            );
         }
     }
 }
@@ -76,11 +92,12 @@ fn copied(lent: &Lent) -> Lent {
 }
 
 fn print_row(way: &str, times: &[Timed]) {
-    let (moving, rest) = (times[0].1, times[1].1);
+    let (moving, rest, list) = (times[0].1, times[1].1, times[2].1);
     println!(
-        "    {way:<30} moving {:>10.2} us      at rest {:>10.2} us      ratio {:>5.2}",
+        "    {way:<30} moving {:>10.2} us      at rest {:>10.2} us      without the list {:>10.2} us      at rest over moving {:>5.2}",
         1e6 * moving,
         1e6 * rest,
+        1e6 * (rest - list),
         rest / moving
     );
 }

@@ -25,6 +25,11 @@ impl Slices {
         }
     }
 
+    /// Zeros, as many as are asked for.
+    pub fn with_room(positions: usize, edges: usize, triangles: usize) -> Slices {
+        Slices { positions: vec![0; positions], edges: vec![0; edges], triangles: vec![0; triangles], ..Slices::default() }
+    }
+
     pub fn ends(&self, edge: usize) -> [usize; 2] {
         [0, 1].map(|i| self.edges[2 * edge + i] as usize)
     }

@@ -79,7 +79,7 @@ fn faulty(random: &mut Random, kind: usize, vertices: usize, faults: &[u64]) -> 
     let beside = (at + 1) % fields.len();
     for fault in faults {
         match *fault {
-            OUT_OF_RANGE => fields[at] = random.pick(&["262144", "-262144", "999999999"]).into(),
+            OUT_OF_RANGE => fields[at] = random.pick(&["524288", "-524288", "999999999"]).into(),
             NO_SUCH_VERTEX => fields[at] = random.pick(&[vertices, vertices + 1, 512, 65_536, 999_999_999]).to_string(),
             VERTEX_TWICE => fields[beside] = fields[at].clone(),
             _ => {}

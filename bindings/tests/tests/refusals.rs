@@ -56,7 +56,7 @@ fn a_wrong_shape_is_refused_before_all_else() {
             change(&mut flat);
             refused_by_all(&flat, 1);
         };
-        worse(&|flat| flat.positions[0] = 262_144);
+        worse(&|flat| flat.positions[0] = 524_288);
         worse(&|flat| flat.edges[0] = 60_000);
         worse(&|flat| flat.triangles[0] = flat.triangles[1]);
     }
@@ -79,8 +79,8 @@ fn the_sizes_themselves_are_taken() {
 #[test]
 fn the_four_checks_go_in_order_over_the_whole_scene() {
     let far: [fn(&mut Flat); 4] = [
-        |flat| flat.positions[0] = 262_144,
-        |flat| *flat.positions.last_mut().unwrap() = -262_144,
+        |flat| flat.positions[0] = 524_288,
+        |flat| *flat.positions.last_mut().unwrap() = -524_288,
         |flat| flat.positions[7] = i32::MAX,
         |flat| flat.positions[7] = i32::MIN,
     ];
@@ -105,7 +105,7 @@ fn the_four_checks_go_in_order_over_the_whole_scene() {
         twice.iter().for_each(|second| refused_by_all(&with(|flat| (second(flat), first(flat)).1), 3));
     }
     twice.iter().for_each(|fault| refused_by_all(&with(fault), 4));
-    for edge in [262_143, -262_143] {
+    for edge in [524_287, -524_287, 262_144, -262_144] {
         assert_eq!(with(|flat| flat.positions[0] = edge).scene().check_scene(), Ok(()));
     }
 }

@@ -8,7 +8,12 @@ ghost use Rattle.meaning.specs.Scene.{sceneIn, sceneAtEntry, Accepted};
 ghost use Rattle.meaning.specs.Report.{Reported};
 ghost use Rattle.summary.specs.Sizes.{reportLength};
 ghost use Rattle.summary.specs.Whole.{SceneReported};
+use meaning::EDGE_NUMBERS;
 use meaning::ListAnswer;
+use meaning::POSITION_NUMBERS;
+use meaning::REPORT_BYTES;
+use meaning::REPORT_ROOM;
+use meaning::TRIANGLE_NUMBERS;
 use meaning::TextAnswer;
 use pairs::pairs_report;
 use wording::lines::refused_line;
@@ -19,8 +24,8 @@ fn scene_report(positions: &[i32], edges: &[u16], triangles: &[u16], out: &mut [
     requires { ⌜ Accepted (sceneIn positions edges triangles) × (length (now out) ≡ reportLength) ⌝ }
     ensures { λ r. ⌜ SceneReported (sceneAtEntry positions edges triangles) (now (out .entry)) (now (out .exit)) r ⌝ }
 {
-    let mut list = [0u16; 6144];
-    let mut verdicts = [0u8; 2048];
+    let mut list = [0u16; 3 * REPORT_ROOM];
+    let mut verdicts = [0u8; REPORT_ROOM];
     match scene_words::settle_accepted(positions, edges, triangles, &mut list, &mut verdicts) {
         ListAnswer::Listed(made) => pairs_report(&list, &verdicts, made.count, out),
         ListAnswer::Refused(_, needed) => refused_line(out, 0, 7, needed as u64),
@@ -28,12 +33,12 @@ fn scene_report(positions: &[i32], edges: &[u16], triangles: &[u16], out: &mut [
 }
 
 // The whole report of a text.
-pub fn write_report(text: &[u8], out: &mut [u8; 65536]) -> usize
+pub fn write_report(text: &[u8], out: &mut [u8; REPORT_BYTES]) -> usize
     ensures { λ r. ⌜ Reported (now (text .entry)) (now (out .entry)) (now (out .exit)) r ⌝ }
 {
-    let mut positions = [0i32; 3072];
-    let mut edges = [0u16; 2048];
-    let mut triangles = [0u16; 1536];
+    let mut positions = [0i32; POSITION_NUMBERS];
+    let mut edges = [0u16; EDGE_NUMBERS];
+    let mut triangles = [0u16; TRIANGLE_NUMBERS];
     match scene_text::read_scene(text, &mut positions, &mut edges, &mut triangles) {
         TextAnswer::Read(counts) => {
             let p = 6 * counts.vertices;
