@@ -21,9 +21,9 @@ extern "C" {
 /* ---- Version: of this header and of the library that was installed with it; docs/CHANGES.md tells what changed ---- */
 
 #define MAKHNODRI_VERSION_MAJOR 0
-#define MAKHNODRI_VERSION_MINOR 2
+#define MAKHNODRI_VERSION_MINOR 3
 #define MAKHNODRI_VERSION_PATCH 0
-#define MAKHNODRI_VERSION "0.2.0"
+#define MAKHNODRI_VERSION "0.3.0"
 
 /* ---- Sizes ---- */
 
@@ -81,6 +81,7 @@ extern "C" {
  *     list_pairs       49,512      settle_pt, settle_pt_piece   2,528
  *     settle_scene     50,024      settle_ee, settle_ee_piece   2,352
  *     read_scene          680      write_report                83,864
+ *     turn_scene          200
  *
  * ---- An answer ----
  *
@@ -189,6 +190,16 @@ static inline const char *makhnodri_refusal_words(uint32_t refusal) {
 /* May this scene be used? 0, or a refusal. */
 makhnodri_answer makhnodri_check_scene(const int32_t *positions, size_t positions_length, const uint16_t *edges,
                                        size_t edges_length, const uint16_t *triangles, size_t triangles_length);
+
+/*
+ * Turns a scene round where it stands, so that a clip is played backwards: start and end are swapped, the vertices numbered from
+ * last to first, edges and triangles stay in their places. 0, or a refusal, after which nothing has changed. Turned twice it is
+ * the scene. It has the same contacts: pt v t of the one is pt (vertices - 1 - v) t of the other, and ee i j is ee i j; piece k of
+ * the one is piece 2 - k of a pt pair, and piece 3 - k of an ee pair, of the other. Vertices must be numbered anew because a face
+ * is cut by the order of its corners' numbers: with start and end swapped and nothing else, a verdict may change.
+ */
+makhnodri_answer makhnodri_turn_scene(int32_t *positions, size_t positions_length, uint16_t *edges, size_t edges_length,
+                                      uint16_t *triangles, size_t triangles_length);
 
 /* How many pairs are listed: those whose swept boxes meet, equal ends included, and that share no vertex. */
 makhnodri_answer makhnodri_count_pairs(const int32_t *positions, size_t positions_length, const uint16_t *edges,

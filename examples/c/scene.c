@@ -1,6 +1,6 @@
 /*
  * From a scene text on standard input to the word of each listed pair and of each of its pieces; then calls that are
- * refused, a point at rest in three words and in four, and the report.
+ * refused, a point at rest in three words and in four, the scene played backwards, and the report.
  *
  *     examples/c/run scene < scenes/printed.scene
  */
@@ -73,6 +73,15 @@ int main(void) {
         makhnodri_answer three = makhnodri_judge_pt(still, 30, edges, 0, corners, 3, vertex, 0);
         makhnodri_answer four = makhnodri_settle_pt(still, 30, edges, 0, corners, 3, vertex, 0);
         printf("at rest: judged %s, settled %s\n", word(three), word(four));
+    }
+
+    /* played backwards the same pairs have the same words, the pt pairs at their vertices' new numbers */
+    show("turned round", makhnodri_turn_scene(positions, p, edges, e, triangles, t));
+    count = makhnodri_settle_scene(positions, p, edges, e, triangles, t, list, 3 * room, words, room);
+    for (size_t i = 0; i < count; i++) {
+        const uint16_t *entry = list + 3 * i;
+        size_t first = entry[0] == MAKHNODRI_PT ? counts[0] - 1 - entry[1] : entry[1];
+        printf("%s %zu %u %s\n", entry[0] == MAKHNODRI_PT ? "pt" : "ee", first, entry[2], makhnodri_word(words[i]));
     }
 
     fwrite(report, 1, makhnodri_write_report(text, text_length, report), stdout);

@@ -45,7 +45,7 @@ mod scenes;
 mod texts;
 
 pub use answers::{Kind, ListRefusal, Pair, Refusal, Settled, TextRefusal, Verdict};
-pub use scenes::Scene;
+pub use scenes::{turn_scene, Scene};
 pub use texts::{read_scene, report, write_report, Counts, OwnedScene};
 
 /// The version of the wrapper, and of the header and library that it belongs to.

@@ -135,6 +135,32 @@ impl Scene<'_> {
     }
 }
 
+/// Turns a scene round where it stands, so that a clip is played backwards: start and end are swapped, the vertices numbered from last
+/// to first, edges and triangles stay in their places. A refusal is the scene's own, and changes nothing; turned twice it is the scene.
+///
+/// Every pair has its word under the numbers that it then has: pt `v`, `t` is pt `vertices - 1 - v`, `t`, and two edges keep theirs;
+/// piece k of a pt pair is piece 2 - k, of an ee pair 3 - k. Vertices are numbered anew because a face is cut by the order of its
+/// corners' numbers: with start and end swapped and nothing else, a word may change.
+///
+/// ```
+/// use makhnodri::{turn_scene, Kind, Scene};
+///
+/// let mut positions = vec![0, 0, 0, 0, 0, 0, 4, 0, 0, 4, 0, 0, 0, 4, 0, 0, 4, 0, 1, 1, 1, 1, 1, -1];
+/// let (mut edges, mut triangles) = (vec![], vec![0, 1, 2]);
+/// let word = Scene { positions: &positions, edges: &edges, triangles: &triangles }.settle_pair(Kind::PointTriangle, 3, 0);
+/// turn_scene(&mut positions, &mut edges, &mut triangles).unwrap();
+/// assert_eq!(triangles, [3, 2, 1]);
+/// let back = Scene { positions: &positions, edges: &edges, triangles: &triangles };
+/// assert_eq!(back.settle_pair(Kind::PointTriangle, 0, 0), word);
+/// ```
+pub fn turn_scene(positions: &mut [i32], edges: &mut [u16], triangles: &mut [u16]) -> Result<(), Refusal> {
+    let (p, e, t) = (positions.len(), edges.len(), triangles.len());
+    let (ps, es, ts) = (positions.as_mut_ptr(), edges.as_mut_ptr(), triangles.as_mut_ptr());
+    // SAFETY: each pointer goes with the length of its slice, and what is written is borrowed by `&mut`
+    let answer = unsafe { raw::makhnodri_turn_scene(ps, p, es, e, ts, t) };
+    heard(answer).map(drop).map_err(bare)
+}
+
 /// A refusal that carries nothing.
 fn bare((refusal, _): (Refusal, usize)) -> Refusal {
     refusal

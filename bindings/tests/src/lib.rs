@@ -3,7 +3,7 @@
 use compare::scene::{self, all_pairs};
 use compare::slices::{self, Slices};
 use compare::{settled, verdict};
-use makhnodri::{Kind, ListRefusal, Refusal, Scene, Settled, TextRefusal, Verdict};
+use makhnodri::{turn_scene, Kind, ListRefusal, Refusal, Scene, Settled, TextRefusal, Verdict};
 
 /// A value, or a refusal's number with the line, the needed count, or 0.
 pub type Answer<T> = Result<T, (u64, u64)>;
@@ -107,11 +107,20 @@ fn entries(list: &[u16]) -> Vec<[u16; 3]> {
     list.chunks(3).map(|entry| entry.try_into().unwrap()).collect()
 }
 
+/// The scene turned round, or a refusal, after which it stands as it was.
+pub fn turned(flat: &Flat) -> Answer<Flat> {
+    let mut turned = flat.clone();
+    let answer = turn_scene(&mut turned.positions, &mut turned.edges, &mut turned.triangles).map_err(bare);
+    assert!(answer.is_ok() || turned == *flat, "a refused scene was changed");
+    answer.map(|_| turned)
+}
+
 /// Every question that takes a scene, asked with plenty of room; what is asked of a pair is asked of places 0 and 1.
 pub fn every_answer(flat: &Flat) -> Vec<(&'static str, Answer<()>)> {
     let scene = flat.scene();
     let mut out = vec![
         ("check", scene.check_scene().map_err(bare)),
+        ("turn", turned(flat).map(drop)),
         ("count", scene.count_pairs().map(drop).map_err(bare)),
         ("list", listed(flat, 40, 2).map(drop)),
         ("settle", settled(flat, 40, 1, 50).map(drop)),

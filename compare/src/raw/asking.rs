@@ -7,7 +7,7 @@ use crate::faults::cells;
 use crate::random::Random;
 use crate::scene::*;
 use crate::text::{self, write};
-use crate::{cases, crossed, generate, listing, trials};
+use crate::{backwards, cases, crossed, generate, listing, trials};
 
 /// Pairs that are asked about in one scene, and cells of the table of faults in texts that a seed takes.
 const MOST_PAIRS: usize = 24;
@@ -66,10 +66,12 @@ fn with_room(call: Call, scene: &Scene, list: usize, words: usize) -> Question {
     Question::new(call, lent)
 }
 
-/// Questions about the scene as a whole: room that is just enough, one too little, none, more than enough.
+/// Questions about the scene as a whole: room that is just enough, one too little, none, more than enough; and, played backwards,
+/// room that is just enough again.
 fn whole(random: &mut Random, scene: &Scene) -> Vec<Question> {
     let count = listing::listed(scene).len();
-    let mut out = vec![with_room(Call::CheckScene, scene, 0, 0), with_room(Call::CountPairs, scene, 0, 0)];
+    let calls = [Call::CheckScene, Call::CountPairs, Call::TurnScene];
+    let mut out = calls.map(|call| with_room(call, scene, 0, 0)).to_vec();
     let more = 1 + random.below(40);
     let mut lists = vec![3 * count, 3 * count + 1, 3 * count + 2, 3 * count + more, 0];
     lists.extend([1, 2, 3].map(|less| (3 * count).saturating_sub(less)));
@@ -85,6 +87,9 @@ fn whole(random: &mut Random, scene: &Scene) -> Vec<Question> {
         ]);
     }
     out.extend(rooms.into_iter().map(|(list, words)| with_room(Call::SettleScene, scene, list, words)));
+    if count <= LONGEST_JUDGED {
+        out.push(with_room(Call::SettleScene, &backwards::turned(scene), 3 * count, count));
+    }
     out
 }
 

@@ -3,9 +3,10 @@
 use super::expected::{self, Expecting};
 use super::harm::{of_asked, of_scene, SCENE_CHECKS};
 use super::question::*;
+use crate::backwards;
 use crate::listing;
 use crate::refusal::*;
-use crate::scene::{Kind, Pair, COORDINATE_LIMIT, FIRST_COORDINATE_LIMIT};
+use crate::scene::{Kind, Pair, Scene, COORDINATE_LIMIT, FIRST_COORDINATE_LIMIT};
 
 /// Changes a right answer, or leaves it.
 type Change = Box<dyn Fn(&Question, &mut Answer)>;
@@ -28,6 +29,7 @@ pub fn all() -> Vec<Damage> {
     out.extend(texts());
     out.extend(buffers());
     out.extend(bytes());
+    out.extend(turning());
     out
 }
 
@@ -313,6 +315,46 @@ fn buffers() -> Vec<Damage> {
             }
         }),
     ]
+}
+
+fn accepted(question: &Question) -> Scene {
+    expected::scene(&question.lent).expect("a scene that was turned round is one")
+}
+
+/// A scene that is not, or not wholly, turned round.
+fn turning() -> Vec<Damage> {
+    let wrong = |name: &str, lend: fn(&Question) -> Lent| {
+        damage(name, move |question: &Question, answer: &mut Answer| {
+            if question.call == Call::TurnScene && answer.number == 0 {
+                answer.buffers = lend(question).bytes();
+            }
+        })
+    };
+    let mut out = vec![
+        wrong("a scene stays as it was", |question| question.lent.clone()),
+        wrong("vertices keep their numbers", |question| Lent::of_scene(&backwards::swapped(&accepted(question)))),
+        wrong("starts stay starts", |question| Lent::of_scene(&backwards::turned(&backwards::swapped(&accepted(question))))),
+        wrong("the edges' numbers stay", |question| Lent {
+            edges: question.lent.edges.clone(),
+            ..Lent::of_scene(&backwards::turned(&accepted(question)))
+        }),
+        wrong("the triangles' numbers stay", |question| Lent {
+            triangles: question.lent.triangles.clone(),
+            ..Lent::of_scene(&backwards::turned(&accepted(question)))
+        }),
+        wrong("x and z change places", |question| {
+            let mut lent = question.lent.clone();
+            lent.positions.reverse();
+            lent
+        }),
+    ];
+    out.push(damage("a refused scene is turned round", |question, answer| {
+        let halves = question.lent.positions.len() / 6 * 24;
+        if question.call == Call::TurnScene && answer.number > 0 && halves > 0 {
+            answer.buffers[POSITIONS][MARGIN..MARGIN + 24].rotate_left(12);
+        }
+    }));
+    out
 }
 
 /// A byte of what is only read, and the bytes beside each buffer.

@@ -6,7 +6,7 @@ use crate::scene::*;
 use crate::settled::{self, Settled};
 use crate::slices::{self, Slices};
 use crate::verdict::{self, Verdict};
-use crate::{listing, report, text};
+use crate::{backwards, listing, report, text};
 use std::collections::HashMap;
 
 /// Remembers the words of the last scene's pieces, which take their time.
@@ -58,6 +58,7 @@ impl Expecting {
             Call::Settle(asked) => Ok(settled::joined(&self.words_asked(question, asked)?).byte() as u64),
             Call::ReadScene => read(lent),
             Call::WriteReport => Ok(write(lent)),
+            Call::TurnScene => turn(lent),
         }
     }
 
@@ -114,6 +115,11 @@ fn read(lent: &mut Lent) -> Result<u64, Refusal> {
     lent.edges[..read.edges.len()].copy_from_slice(&read.edges);
     lent.triangles[..read.triangles.len()].copy_from_slice(&read.triangles);
     lent.counts = [scene.vertices.len(), scene.edges.len(), scene.triangles.len()].map(|count| count as u64).to_vec();
+    Ok(0)
+}
+
+fn turn(lent: &mut Lent) -> Result<u64, Refusal> {
+    *lent = Lent::of_scene(&backwards::turned(&scene(lent)?));
     Ok(0)
 }
 

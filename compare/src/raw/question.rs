@@ -16,6 +16,7 @@ pub enum Call {
     Settle(Asked),
     ReadScene,
     WriteReport,
+    TurnScene,
 }
 
 /// Of a pair, or of a piece of one.
@@ -55,7 +56,7 @@ pub fn calls() -> Vec<Call> {
     let mut out = vec![Call::CheckScene, Call::CountPairs, Call::ListPairs, Call::SettleScene];
     out.extend(ASKED.map(Call::Judge));
     out.extend(ASKED.map(Call::Settle));
-    out.extend([Call::ReadScene, Call::WriteReport]);
+    out.extend([Call::ReadScene, Call::WriteReport, Call::TurnScene]);
     out
 }
 
@@ -87,6 +88,7 @@ impl Call {
             Call::Settle(asked) => format!("settle_{}", of(asked)),
             Call::ReadScene => "read_scene".into(),
             Call::WriteReport => "write_report".into(),
+            Call::TurnScene => "turn_scene".into(),
         }
     }
 }

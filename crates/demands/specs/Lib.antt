@@ -16,6 +16,7 @@ pub mod OneText
 pub mod SameAnswer
 pub mod StillAccepted
 pub mod AnyWriting
+pub mod PlayedBackwards
 pub mod NoCracks
 pub mod Columns
 pub mod FivePoints

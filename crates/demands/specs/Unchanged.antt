@@ -11,12 +11,14 @@ use Rattle.sequences.specs.Flat.{flat-length}
 use Rattle.sequences.specs.Wrote.{Wrote, written, wrote-written}
 use Rattle.meaning.specs.Limits.{vertexLimit, edgeLimit, triangleLimit}
 use Rattle.meaning.specs.Scene.{Scene, vertexCount, edgeCount, triangleCount}
-use Rattle.meaning.specs.Refusals.{Outcome, given, refused}
+use Rattle.meaning.specs.Refusals.{Outcome, given, refused, sceneSays}
+use Rattle.meaning.specs.Backwards.{turnedRound, sceneLeft, Turning}
 use Rattle.meaning.specs.List.{Pair, pairs, entry, entries, listSays, leaves, Listing}
 use Rattle.meaning.specs.SceneWords.{byteOf, SettledScene}
 use Rattle.meaning.specs.Text.{Holds, shortBuffer, countsOf, countsTold, textSays, filled, TextRead}
 use Rattle.meaning.specs.declared.SceneCounts.{SceneCounts}
 use Rattle.meaning.specs.declared.ListAnswer.{ListAnswer}
+use Rattle.meaning.specs.declared.SceneAnswer.{SceneAnswer}
 use Rattle.meaning.specs.declared.TextAnswer.{TextAnswer}
 use Rattle.scenes.specs.Below.{or-left, or-rest}
 use Rattle.scenes.specs.Facts.{accepted-sized}
@@ -47,7 +49,16 @@ judging-unchanged s o o′ b b′ r p n c e = (
 pub reading-unchanged : (text : List ℕ) (lent left : Scene) (r : TextAnswer) → TextRead text lent left r → (n line : ℕ) → textSays r ≡ refused n line → left ≡ lent
 reading-unchanged text lent left r p n line e = p .leaves ∙ filled-refused (p .outcome) lent n line (sym (p .says) ∙ e)
 
+pub turning-unchanged : (s t : Scene) (r : SceneAnswer) → Turning s t r → (n c : ℕ) → sceneSays r ≡ refused n c → t ≡ s
+unfolding sceneLeft
+turning-unchanged s t r p n c e = p .scene ∙ ap (λ (x : Outcome (Unit {0})). sceneLeft x s) e
+
 -- ---- after success
+
+-- the scene turned round stands where the scene stood
+pub turning-holds : (s t : Scene) (r : SceneAnswer) → Turning s t r → sceneSays r ≡ given tt → t ≡ turnedRound s
+unfolding sceneLeft
+turning-holds s t r p e = p .scene ∙ ap (λ (x : Outcome (Unit {0})). sceneLeft x s) e
 
 entries-long : (ps : List Pair) → length (entries ps) ≡ length ps * 3
 unfolding entry

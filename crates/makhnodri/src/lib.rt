@@ -4,6 +4,7 @@ ghost use mathlib.Core.List.{[], _∷_};
 ghost use mathlib.Core.Path.{_≡_};
 ghost use Rattle.meaning.specs.Scene.{sceneAtEntry, sceneAtExit};
 ghost use Rattle.meaning.specs.Refusals.{SceneChecked, PairJudged, PieceJudged};
+ghost use Rattle.meaning.specs.Backwards.{Turning};
 ghost use Rattle.meaning.specs.Resting.{PairDecided, PieceDecided};
 ghost use Rattle.meaning.specs.List.{Counted, Listing};
 ghost use Rattle.meaning.specs.SceneWords.{SettledScene};
@@ -34,6 +35,18 @@ pub extern "C" fn makhnodri_check_scene(positions: &[i32], edges: &[u16], triang
     ensures { λ r. ⌜ Told sceneNumber (SceneChecked (sceneAtEntry positions edges triangles)) r ⌝ }
 {
     scene_number(scenes::check_scene(positions, edges, triangles))
+}
+
+// The scene turned round where it stands: start and end swapped, vertices numbered from last to first.
+#[no_mangle]
+pub extern "C" fn makhnodri_turn_scene(
+    positions: &mut [i32],
+    edges: &mut [u16],
+    triangles: &mut [u16],
+) -> u64
+    ensures { λ r. ⌜ Told sceneNumber (Turning (sceneAtEntry positions edges triangles) (sceneAtExit positions edges triangles)) r ⌝ }
+{
+    scene_number(turning::turn_scene(positions, edges, triangles))
 }
 
 // How many pairs are listed.

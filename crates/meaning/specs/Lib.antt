@@ -11,6 +11,8 @@ pub mod Motion
 pub mod List
 pub mod SceneWords
 pub mod Lines
+pub mod Backwards
 pub mod Text
 pub mod Report
+pub mod Contacts
 pub mod InMotion
