@@ -77,10 +77,12 @@ impl Bench {
             asked_alone(&rest, product);
             print_row("the library", &times[3..]);
             let [over_moving, over_rest] = [0, 1].map(|way| times[3 + way].1 / times[way].1);
-            let searched = |times: &[Timed]| times[1].1 - times[2].1;
-            let over_search = searched(&times[3..]) / searched(&times[..3]);
+            let over_search = match (searched(&times[3..]), searched(&times[..3])) {
+                (Some(ours), Some(plain)) => format!("{:.2}", ours / plain),
+                _ => "-".to_string(),
+            };
             println!(
-                "    {:<30} moving {over_moving:>13.2}      at rest {over_rest:>13.2}      without the list {over_search:>13.2}",
+                "    {:<30} moving {over_moving:>13.2}      at rest {over_rest:>13.2}      without the list {over_search:>13}",
                 "the library over plain Rust"
             );
         }
@@ -91,13 +93,19 @@ fn copied(lent: &Lent) -> Lent {
     Lent { slices: lent.slices.clone(), list: vec![0; lent.list.len()], words: vec![0; lent.words.len()] }
 }
 
+/// What a scene at rest takes beside its list, unless the list is nearly all of it: then the difference of two times says nothing.
+fn searched(times: &[Timed]) -> Option<f64> {
+    let (rest, list) = (times[1].1, times[2].1);
+    (rest > 1.25 * list).then_some(rest - list)
+}
+
 fn print_row(way: &str, times: &[Timed]) {
-    let (moving, rest, list) = (times[0].1, times[1].1, times[2].1);
+    let (moving, rest) = (times[0].1, times[1].1);
+    let search = searched(times).map_or("-".to_string(), |time| format!("{:.2}", 1e6 * time));
     println!(
-        "    {way:<30} moving {:>10.2} us      at rest {:>10.2} us      without the list {:>10.2} us      at rest over moving {:>5.2}",
+        "    {way:<30} moving {:>10.2} us      at rest {:>10.2} us      without the list {search:>10} us      at rest over moving {:>5.2}",
         1e6 * moving,
         1e6 * rest,
-        1e6 * (rest - list),
         rest / moving
     );
 }
