@@ -2,10 +2,12 @@
 
 mod pairs; // pairs.rt: the lines of a list and its totals
 
+ghost use Prim.Native.Nat.{_<_};
 ghost use mathlib.Core.Path.{_≡_};
 ghost use lib.ListN.{length};
 ghost use Rattle.meaning.specs.Scene.{sceneIn, sceneAtEntry, Accepted};
-ghost use Rattle.meaning.specs.Report.{Reported};
+ghost use Rattle.meaning.specs.Limits.{textLimit};
+ghost use Rattle.meaning.specs.Report.{Reported, ReportedRead};
 ghost use Rattle.summary.specs.Sizes.{reportLength};
 ghost use Rattle.summary.specs.Whole.{SceneReported};
 use meaning::ListAnswer;
@@ -43,4 +45,23 @@ pub fn write_report(text: &[u8], out: &mut [u8; 65536]) -> usize
         }
         TextAnswer::Refused(refusal, line) => refused_line(out, 0, number_of(refusal), line as u64),
     }
+}
+
+// The report of what was read of a text into a buffer that is longer than a text may be. Where it fills the buffer, the text is too long
+// however it goes on; else it is the text.
+fn front_report(read: &[u8], count: usize, out: &mut [u8; 65536]) -> usize
+    requires { ⌜ textLimit < length (now read) ⌝ }
+    ensures { λ r. ⌜ ReportedRead (now (read .entry)) count (now (out .entry)) (now (out .exit)) r ⌝ }
+{
+    if count < read.len() {
+        return write_report(&read[..count], out);
+    }
+    refused_line(out, 0, 8, 0)
+}
+
+// The report of what a program read: the first `count` bytes of a buffer that is one byte longer than a text may be.
+pub fn report_read(read: &[u8; 32769], count: usize, out: &mut [u8; 65536]) -> usize
+    ensures { λ r. ⌜ ReportedRead (now (read .entry)) count (now (out .entry)) (now (out .exit)) r ⌝ }
+{
+    front_report(read, count, out)
 }
