@@ -1,8 +1,9 @@
 /*
- * makhnodri.h: exact contact verdicts for a mesh that moves from a start to an end.
+ * makhnodri.h: exact contact verdicts for a mesh that moves from a start to an end. C99, or C++11.
  *
- * Link target/staticlib/libmakhnodri.a, which `rt staticlib makhnodri` proves and writes. What each function answers and
- * leaves behind is proved; the promises stand beside the functions in crates/makhnodri/src/lib.rt.
+ * Link libmakhnodri.a, for x86-64, which `./makhnodri install PREFIX` proves, builds and puts into PREFIX/lib, beside this header
+ * and a file for pkg-config. What each function answers and leaves behind is proved; the promises stand beside the functions in
+ * crates/makhnodri/src/lib.rt.
  *
  * A verdict speaks for the space-time pieces of a pair. A miss, and apart too, says nothing of straight motion; only the list
  * does: a pair that is not listed, and shares no vertex, meets neither in its pieces nor under straight motion.
@@ -16,6 +17,13 @@
 #ifdef __cplusplus
 extern "C" {
 #endif
+
+/* ---- Version: of this header and of the library that was installed with it; docs/CHANGES.md tells what changed ---- */
+
+#define MAKHNODRI_VERSION_MAJOR 0
+#define MAKHNODRI_VERSION_MINOR 2
+#define MAKHNODRI_VERSION_PATCH 0
+#define MAKHNODRI_VERSION "0.2.0"
 
 /* ---- Sizes ---- */
 
@@ -46,11 +54,18 @@ extern "C" {
  * triangles: three vertex numbers a triangle, from 0, in any order.
  * Zero of each is a scene.
  *
+ * ---- Places ----
+ *
+ * A place is the number of a part in its own kind, counted from 0: of a vertex among the vertices, of an edge among the edges, of
+ * a triangle among the triangles. The two places of a point and a triangle are the vertex's and the triangle's, so that pt 3 0
+ * is vertex 3 and triangle 0. Those of two edges are the two edges', so that ee 0 1 is edge 0 and edge 1.
+ *
  * ---- Pointers ----
  *
- * A slice goes as a pointer and a length, counted in numbers and not in bytes. A pointer is never null, not even where the
- * length is 0, and it is aligned for its type. A buffer that is written overlaps no other argument of the same call; one that
- * is only read (const) may overlap another such. No pointer is kept after the call.
+ * A slice goes as a pointer and a length, counted in numbers and not in bytes. Where the length is 0 the pointer may be null:
+ * nothing is read or written through it. Else it points to so many numbers, aligned for their type. A buffer that is written
+ * overlaps no other argument of the same call; one that is only read (const) may overlap another such. No pointer is kept after
+ * the call. That is the caller's part, and the proof takes it as given.
  *
  * ---- Threads and stack ----
  *
@@ -64,7 +79,7 @@ extern "C" {
  *     check_scene         120      judge_pt, judge_pt_piece       504
  *     count_pairs      49,400      judge_ee, judge_ee_piece       584
  *     list_pairs       49,512      settle_pt, settle_pt_piece   2,528
- *     settle_scene      50,024      settle_ee, settle_ee_piece   2,352
+ *     settle_scene     50,024      settle_ee, settle_ee_piece   2,352
  *     read_scene          680      write_report                83,864
  *
  * ---- An answer ----
@@ -81,6 +96,13 @@ static inline uint32_t makhnodri_refusal(makhnodri_answer answer) { return (uint
 
 /* the value; of a refusal, the line or the needed count. Look at makhnodri_refusal first: both may be 0 */
 static inline uint32_t makhnodri_value(makhnodri_answer answer) { return (uint32_t)answer; }
+
+/* an array parameter that is lent at least so many numbers: C has a word for it, C++ has none */
+#ifdef __cplusplus
+#define MAKHNODRI_AT_LEAST(length) length
+#else
+#define MAKHNODRI_AT_LEAST(length) static length
+#endif
 
 /*
  * Words: the answer of a question about a pair or a piece. No number stands for two of them.
@@ -128,7 +150,41 @@ enum {
 };
 /* A line is counted from 1. */
 
-/* ---- Scenes: each of these may refuse with 1, 2, 3, 4 ---- */
+/* ---- In words ---- */
+
+/* "hit" to "apart"; "no word" for a number that stands for none */
+static inline const char *makhnodri_word(uint32_t number) {
+    switch (number) {
+    case MAKHNODRI_HIT: return "hit";
+    case MAKHNODRI_MISS: return "miss";
+    case MAKHNODRI_DEGENERATE: return "degenerate";
+    case MAKHNODRI_TOUCH: return "touch";
+    case MAKHNODRI_APART: return "apart";
+    default: return "no word";
+    }
+}
+
+/* what a refusal says; "not refused" for 0, and "no refusal" for a number that is none */
+static inline const char *makhnodri_refusal_words(uint32_t refusal) {
+    switch (refusal) {
+    case 0: return "not refused";
+    case MAKHNODRI_SHAPE: return "positions not a multiple of 6 long, edges of 2, triangles of 3, or a count over its size";
+    case MAKHNODRI_COORDINATE: return "a coordinate outside its range";
+    case MAKHNODRI_UNKNOWN_VERTEX: return "a vertex number not below the vertex count";
+    case MAKHNODRI_REPEATED_VERTEX: return "a vertex twice in one edge or triangle";
+    case MAKHNODRI_NOT_THERE: return "a vertex, edge, triangle or piece asked for that isn't there";
+    case MAKHNODRI_SHARED_VERTEX: return "the pair asked for shares a vertex";
+    case MAKHNODRI_NO_ROOM: return "more listed pairs than room";
+    case MAKHNODRI_LONG_TEXT: return "text over 32,768 bytes";
+    case MAKHNODRI_BAD_LINE: return "a line not of the form, or a last line without LF";
+    case MAKHNODRI_LATE_RECORD: return "a record after one of a later kind";
+    case MAKHNODRI_TOO_MANY: return "one record more than its size";
+    case MAKHNODRI_SHORT_BUFFER: return "a lent scene buffer that is too short";
+    default: return "no refusal";
+    }
+}
+
+/* ---- Scenes: each of these checks the whole scene, and may refuse with 1, 2, 3, 4 ---- */
 
 /* May this scene be used? 0, or a refusal. */
 makhnodri_answer makhnodri_check_scene(const int32_t *positions, size_t positions_length, const uint16_t *edges,
@@ -148,15 +204,20 @@ makhnodri_answer makhnodri_list_pairs(const int32_t *positions, size_t positions
                                       uint16_t *list, size_t list_length);
 
 /*
- * Makes the list and judges each pair of it in four words: verdicts[i] is the word of entry i. Room is the smaller of
- * list_length / 3 and verdicts_length. The answer is the count, and the rest of both buffers is unchanged; or 7, with the count
+ * Makes the list and settles each pair of it, in four words: words[i] is the word of entry i. Room is the smaller of
+ * list_length / 3 and words_length. The answer is the count, and the rest of both buffers is unchanged; or 7, with the count
  * needed.
  */
 makhnodri_answer makhnodri_settle_scene(const int32_t *positions, size_t positions_length, const uint16_t *edges,
-                                       size_t edges_length, const uint16_t *triangles, size_t triangles_length,
-                                       uint16_t *list, size_t list_length, uint8_t *verdicts, size_t verdicts_length);
+                                        size_t edges_length, const uint16_t *triangles, size_t triangles_length,
+                                        uint16_t *list, size_t list_length, uint8_t *words, size_t words_length);
 
-/* ---- Pairs and pieces, listed or not: these may also refuse with 5 and 6; else the answer is one of three words ---- */
+/*
+ * ---- Pairs and pieces, listed or not: these may also refuse with 5 and 6; else the answer is one of three words ----
+ *
+ * Each call checks the whole scene first, 1, 2, 3, 4, however often it is called with the same one. Where many pairs are wanted,
+ * makhnodri_settle_scene checks once.
+ */
 
 makhnodri_answer makhnodri_judge_pt(const int32_t *positions, size_t positions_length, const uint16_t *edges,
                                     size_t edges_length, const uint16_t *triangles, size_t triangles_length,
@@ -206,13 +267,13 @@ makhnodri_answer makhnodri_settle_ee_piece(const int32_t *positions, size_t posi
  */
 makhnodri_answer makhnodri_read_scene(const uint8_t *text, size_t text_length, int32_t *positions, size_t positions_length,
                                       uint16_t *edges, size_t edges_length, uint16_t *triangles, size_t triangles_length,
-                                      size_t *counts);
+                                      size_t counts[MAKHNODRI_AT_LEAST(3)]);
 
 /*
  * Writes the whole report of a text, as the program prints it, into the MAKHNODRI_REPORT_LENGTH bytes of out: the lines of the
  * listed pairs and the totals, or the one line of a refusal. Returns its length; what lies behind is unchanged.
  */
-size_t makhnodri_write_report(const uint8_t *text, size_t text_length, uint8_t *out);
+size_t makhnodri_write_report(const uint8_t *text, size_t text_length, uint8_t out[MAKHNODRI_AT_LEAST(MAKHNODRI_REPORT_LENGTH)]);
 
 #ifdef __cplusplus
 }

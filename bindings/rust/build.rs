@@ -1,14 +1,52 @@
-//! Links the static library that `rt staticlib makhnodri` writes; MAKHNODRI_LIBRARY names its folder where it is elsewhere.
+//! Links the proved static library, libmakhnodri.a: the one in the folder that MAKHNODRI_LIBRARY names, else the one that
+//! `rt staticlib makhnodri` writes beside this wrapper in the repository. Where there is none, or it is for another processor, it says so.
 
-use std::path::PathBuf;
+use std::env;
+use std::path::{Path, PathBuf};
 
 fn main() {
-    let beside = || PathBuf::from(std::env::var_os("CARGO_MANIFEST_DIR").unwrap()).join("../../target/staticlib");
-    let folder = std::env::var_os("MAKHNODRI_LIBRARY").map_or_else(beside, PathBuf::from);
+    println!("cargo:rerun-if-env-changed=MAKHNODRI_LIBRARY");
+    let beside = || PathBuf::from(env::var_os("CARGO_MANIFEST_DIR").unwrap()).join("../../target/staticlib");
+    let folder = env::var_os("MAKHNODRI_LIBRARY").map_or_else(beside, PathBuf::from);
     let library = folder.join("libmakhnodri.a");
-    assert!(library.exists(), "{} is not there: run `rt staticlib makhnodri` first", library.display());
+    println!("cargo:rerun-if-changed={}", library.display());
+    let bytes = std::fs::read(&library).unwrap_or_else(|error| give_up(&not_there(&library, &error)));
+    let (made_for, built_for) = (processor_of(&bytes), env::var("CARGO_CFG_TARGET_ARCH").unwrap());
+    if made_for != built_for {
+        give_up(&another_processor(&library, &made_for, &built_for));
+    }
     println!("cargo:rustc-link-search=native={}", folder.display());
     println!("cargo:rustc-link-lib=static=makhnodri");
-    println!("cargo:rerun-if-changed={}", library.display());
-    println!("cargo:rerun-if-env-changed=MAKHNODRI_LIBRARY");
+}
+
+/// The processor of the archive's first object, in Rust's name for it.
+fn processor_of(archive: &[u8]) -> String {
+    let object = archive.windows(4).position(|four| four == b"\x7fELF").unwrap_or(archive.len());
+    match archive.get(object + 18..object + 20) {
+        Some([62, 0]) => "x86_64".into(),
+        Some([183, 0]) => "aarch64".into(),
+        Some(other) => format!("processor {}", u16::from_le_bytes([other[0], other[1]])),
+        None => "no processor".into(),
+    }
+}
+
+fn not_there(library: &Path, error: &std::io::Error) -> String {
+    format!(
+        "{} cannot be read ({error}). Run `rt staticlib makhnodri` in the repository, which proves it and writes target/staticlib, or \
+         `./makhnodri install PREFIX`, which puts it into PREFIX/lib; then name its folder by MAKHNODRI_LIBRARY.",
+        library.display()
+    )
+}
+
+fn another_processor(library: &Path, made_for: &str, built_for: &str) -> String {
+    format!(
+        "{} is for {made_for}, and this is built for {built_for}. Build for the library's processor, as with \
+         `cargo build --target {made_for}-unknown-linux-gnu` and a linker for it, and run the program there or under an emulator.",
+        library.display()
+    )
+}
+
+fn give_up(why: &str) -> ! {
+    eprintln!("makhnodri: {why}");
+    std::process::exit(1)
 }

@@ -110,8 +110,8 @@ impl Mistake {
 
 /// Every one of them, those of the training page first.
 pub fn all() -> Vec<Mistake> {
-    let mut out = scene_words::mistakes();
-    out.extend(four_words::mistakes());
+    let mut out = judging::mistakes();
+    out.extend(settling::mistakes());
     out.extend(listing::mistakes());
     out.extend(reading::mistakes());
     out

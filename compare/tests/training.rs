@@ -34,7 +34,7 @@ fn printed(command: &str) -> String {
     let room = |word: Option<&&str>| word.map_or(REPORT_ROOM, |word| word.parse().unwrap());
     let words: Vec<&str> = program.split(' ').collect();
     let whole = match words[..] {
-        ["./report"] => report(&text, REPORT_ROOM),
+        ["./makhnodri", "report"] => report(&text, REPORT_ROOM),
         ["compare/show", "exact", ..] => report(&text, room(words.get(2))),
         ["compare/show", "wrong", key, ..] => wrong(key, room(words.get(3)), &text),
         ["compare/show", "why"] => explained(&read(&text).unwrap()),

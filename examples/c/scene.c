@@ -17,20 +17,18 @@ static uint16_t edges[MAKHNODRI_EDGES_LENGTH];
 static uint16_t triangles[MAKHNODRI_TRIANGLES_LENGTH];
 static uint8_t report[MAKHNODRI_REPORT_LENGTH];
 
-static const char *const words[] = {
-    [MAKHNODRI_HIT] = "hit",     [MAKHNODRI_MISS] = "miss",   [MAKHNODRI_DEGENERATE] = "degenerate",
-    [MAKHNODRI_TOUCH] = "touch", [MAKHNODRI_APART] = "apart",
-};
-
 /* An answer that may be a refusal, and one that is a word. */
 static void show(const char *asked, makhnodri_answer answer) {
-    if (makhnodri_refusal(answer))
-        printf("%s: refused %" PRIu32 " %" PRIu32 "\n", asked, makhnodri_refusal(answer), makhnodri_value(answer));
+    uint32_t refusal = makhnodri_refusal(answer), value = makhnodri_value(answer);
+    if (refusal)
+        printf("%s: refused %" PRIu32 " %" PRIu32 ": %s\n", asked, refusal, value, makhnodri_refusal_words(refusal));
     else
-        printf("%s: %" PRIu32 "\n", asked, makhnodri_value(answer));
+        printf("%s: %" PRIu32 "\n", asked, value);
 }
 
-static const char *word(makhnodri_answer answer) { return makhnodri_refusal(answer) ? "refused" : words[answer]; }
+static const char *word(makhnodri_answer answer) {
+    return makhnodri_refusal(answer) ? "refused" : makhnodri_word(makhnodri_value(answer));
+}
 
 int main(void) {
     size_t text_length = fread(text, 1, sizeof text, stdin), counts[3];
@@ -43,16 +41,16 @@ int main(void) {
 
     makhnodri_answer room = makhnodri_count_pairs(positions, p, edges, e, triangles, t);
     show("listed pairs", room);
-    /* one entry more than needed, so that no pointer is null where nothing is listed */
+    /* one entry more than needed: malloc(0) may give null, which here means that there is no memory */
     uint16_t *list = malloc((room + 1) * 3 * sizeof *list);
-    uint8_t *verdicts = malloc(room + 1);
-    if (!list || !verdicts) return 1;
+    uint8_t *words = malloc(room + 1);
+    if (!list || !words) return 1;
 
-    makhnodri_answer count = makhnodri_settle_scene(positions, p, edges, e, triangles, t, list, 3 * room, verdicts, room);
+    makhnodri_answer count = makhnodri_settle_scene(positions, p, edges, e, triangles, t, list, 3 * room, words, room);
     for (size_t i = 0; i < count; i++) {
         const uint16_t *entry = list + 3 * i;
         int pt = entry[0] == MAKHNODRI_PT;
-        printf("%s %u %u %s, pieces", pt ? "pt" : "ee", entry[1], entry[2], words[verdicts[i]]);
+        printf("%s %u %u %s, pieces", pt ? "pt" : "ee", entry[1], entry[2], makhnodri_word(words[i]));
         for (size_t piece = 0; piece < (pt ? 3 : 4); piece++) {
             makhnodri_answer answer =
                 pt ? makhnodri_settle_pt_piece(positions, p, edges, e, triangles, t, entry[1], entry[2], piece)
@@ -79,6 +77,6 @@ int main(void) {
 
     fwrite(report, 1, makhnodri_write_report(text, text_length, report), stdout);
     free(list);
-    free(verdicts);
+    free(words);
     return 0;
 }

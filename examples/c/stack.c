@@ -20,7 +20,7 @@ static int32_t positions[MAKHNODRI_POSITIONS_LENGTH];
 static uint16_t edges[MAKHNODRI_EDGES_LENGTH];
 static uint16_t triangles[MAKHNODRI_TRIANGLES_LENGTH];
 static uint16_t list[3 * MAKHNODRI_PAIR_LIMIT];
-static uint8_t verdicts[MAKHNODRI_PAIR_LIMIT];
+static uint8_t words[MAKHNODRI_PAIR_LIMIT];
 static char text[MAKHNODRI_TEXT_LIMIT + 1];
 static uint8_t report[MAKHNODRI_REPORT_LENGTH];
 static size_t text_length, counts[3], place;
@@ -33,7 +33,7 @@ static uint16_t read_edges[MAKHNODRI_EDGES_LENGTH], read_triangles[MAKHNODRI_TRI
 static void check(void) { makhnodri_check_scene(SCENE); }
 static void count(void) { makhnodri_count_pairs(SCENE); }
 static void make_list(void) { makhnodri_list_pairs(SCENE, list, sizeof list / sizeof list[0]); }
-static void settle_scene(void) { makhnodri_settle_scene(SCENE, list, sizeof list / sizeof list[0], verdicts, sizeof verdicts); }
+static void settle_scene(void) { makhnodri_settle_scene(SCENE, list, sizeof list / sizeof list[0], words, sizeof words); }
 static void judge_pt(void) { makhnodri_judge_pt(SCENE, place, place / 3); }
 static void judge_ee(void) { makhnodri_judge_ee(SCENE, place, place / 3); }
 static void judge_pt_piece(void) { makhnodri_judge_pt_piece(SCENE, place, place / 3, place % 3); }

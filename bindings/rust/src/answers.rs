@@ -39,7 +39,7 @@ impl Settled {
     }
 }
 
-/// A vertex and a triangle, or two edges, by their places in the scene.
+/// A vertex and a triangle, or two edges, by their places: each counted from 0 in its own kind.
 #[derive(Clone, Copy, Debug, PartialEq, Eq, Hash)]
 pub struct Pair {
     pub kind: Kind,

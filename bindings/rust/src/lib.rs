@@ -12,7 +12,7 @@
 //! assert_eq!(scene.judge_pair(Kind::PointTriangle, 3, 0), Ok(Verdict::Hit));
 //! assert_eq!(scene.judge_piece(Kind::PointTriangle, 3, 0, 0), Ok(Verdict::Miss));
 //! assert_eq!(scene.judge_pair(Kind::PointTriangle, 0, 0), Err(Refusal::SharedVertex));
-//! for (pair, word) in scene.judged().unwrap() {
+//! for (pair, word) in scene.settled().unwrap() {
 //!     println!("{pair:?}: {word:?}");
 //! }
 //!
@@ -28,10 +28,13 @@
 //! assert_eq!(within.settle_pair(Kind::PointTriangle, 3, 0), Ok(Settled::Touch));
 //! ```
 //!
-//! `judge_pair` and `judge_piece` answer in three words, [`Verdict`]. `settle_pair`, `settle_piece`, the judged list and the report
-//! answer in four, [`Settled`]: what is degenerate is decided too. Either speaks for the space-time pieces of a pair. A miss, and
-//! apart too, says nothing of straight motion; only the list does: a pair that is not listed, and shares no vertex, meets neither in
-//! its pieces nor under straight motion.
+//! The names are those of the C functions, without `makhnodri_`; and a pair may also be asked for by its [`Kind`]. What begins with
+//! `judge` answers in three words, [`Verdict`]. What begins with `settle`, and the report, answers in four, [`Settled`]: what is
+//! degenerate is decided too. Either speaks for the space-time pieces of a pair. A miss, and apart too, says nothing of straight
+//! motion; only the list does: a pair that is not listed, and shares no vertex, meets neither in its pieces nor under straight motion.
+//!
+//! A pair's two places are a vertex and a triangle, or two edges, each counted from 0 in its own kind: pt 3 0 is vertex 3 and
+//! triangle 0.
 //!
 //! Nothing is kept between calls, so any number of threads may call at the same time. A call takes at most
 //! [`STACK`] bytes of stack.
@@ -44,6 +47,9 @@ mod texts;
 pub use answers::{Kind, ListRefusal, Pair, Refusal, Settled, TextRefusal, Verdict};
 pub use scenes::Scene;
 pub use texts::{read_scene, report, write_report, Counts, OwnedScene};
+
+/// The version of the wrapper, and of the header and library that it belongs to.
+pub const VERSION: &str = env!("CARGO_PKG_VERSION");
 
 /// Coordinates run from minus this to this.
 pub const COORDINATE_LIMIT: i32 = 262_143;

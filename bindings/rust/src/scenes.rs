@@ -23,7 +23,7 @@ macro_rules! ask {
 
 impl Scene<'_> {
     /// 1, 2, 3, 4, each over the whole scene before the next.
-    pub fn check(self) -> Result<(), Refusal> {
+    pub fn check_scene(self) -> Result<(), Refusal> {
         heard(ask!(self, makhnodri_check_scene)).map(drop).map_err(bare)
     }
 
@@ -38,61 +38,100 @@ impl Scene<'_> {
         heard(ask!(self, makhnodri_list_pairs, list.as_mut_ptr(), list.len())).map_err(list_refusal)
     }
 
-    /// Makes the list and judges it: `words[i]` is 0, 1, 3 or 4, for hit, miss, touch or apart, of entry i.
-    pub fn judge_listed(self, list: &mut [u16], words: &mut [u8]) -> Result<usize, ListRefusal> {
+    /// Makes the list and settles it: `words[i]` is 0, 1, 3 or 4, for hit, miss, touch or apart, of entry i.
+    pub fn settle_scene(self, list: &mut [u16], words: &mut [u8]) -> Result<usize, ListRefusal> {
         let (l, w) = ((list.as_mut_ptr(), list.len()), (words.as_mut_ptr(), words.len()));
         heard(ask!(self, makhnodri_settle_scene, l.0, l.1, w.0, w.1)).map_err(list_refusal)
     }
 
-    /// The verdict of a pair, listed or not. Two edges may be asked for in either order.
-    pub fn judge_pair(self, kind: Kind, first: usize, second: usize) -> Result<Verdict, Refusal> {
-        let answer = match kind {
-            Kind::PointTriangle => ask!(self, makhnodri_judge_pt, first, second),
-            Kind::EdgeEdge => ask!(self, makhnodri_judge_ee, first, second),
-        };
-        heard(answer).map(verdict).map_err(bare)
-    }
-
-    /// The verdict of one of a pair's pieces: 0 to 2 of a point and a triangle, 0 to 3 of two edges.
-    pub fn judge_piece(self, kind: Kind, first: usize, second: usize, piece: usize) -> Result<Verdict, Refusal> {
-        let answer = match kind {
-            Kind::PointTriangle => ask!(self, makhnodri_judge_pt_piece, first, second, piece),
-            Kind::EdgeEdge => ask!(self, makhnodri_judge_ee_piece, first, second, piece),
-        };
-        heard(answer).map(verdict).map_err(bare)
-    }
-
-    /// The word of a pair, listed or not: as its verdict, with what is degenerate decided.
-    pub fn settle_pair(self, kind: Kind, first: usize, second: usize) -> Result<Settled, Refusal> {
-        let answer = match kind {
-            Kind::PointTriangle => ask!(self, makhnodri_settle_pt, first, second),
-            Kind::EdgeEdge => ask!(self, makhnodri_settle_ee, first, second),
-        };
-        heard(answer).map(settled).map_err(bare)
-    }
-
-    /// The word of one of a pair's pieces.
-    pub fn settle_piece(self, kind: Kind, first: usize, second: usize, piece: usize) -> Result<Settled, Refusal> {
-        let answer = match kind {
-            Kind::PointTriangle => ask!(self, makhnodri_settle_pt_piece, first, second, piece),
-            Kind::EdgeEdge => ask!(self, makhnodri_settle_ee_piece, first, second, piece),
-        };
-        heard(answer).map(settled).map_err(bare)
-    }
-
     /// The list, with room of its own.
-    pub fn pairs(self) -> Result<Vec<Pair>, Refusal> {
+    pub fn listed(self) -> Result<Vec<Pair>, Refusal> {
         let mut list = vec![0; 3 * self.count_pairs()?];
         self.list_pairs(&mut list).map_err(ListRefusal::refusal)?;
         Ok(list.chunks(3).map(pair).collect())
     }
 
     /// The list and its words, with room of their own.
-    pub fn judged(self) -> Result<Vec<(Pair, Settled)>, Refusal> {
+    pub fn settled(self) -> Result<Vec<(Pair, Settled)>, Refusal> {
         let count = self.count_pairs()?;
         let (mut list, mut words) = (vec![0; 3 * count], vec![0; count]);
-        self.judge_listed(&mut list, &mut words).map_err(ListRefusal::refusal)?;
+        self.settle_scene(&mut list, &mut words).map_err(ListRefusal::refusal)?;
         Ok(list.chunks(3).map(pair).zip(words.iter().map(|&byte| settled(byte as usize))).collect())
+    }
+}
+
+/// A pair, listed or not, and its pieces, in three words. Two edges may be asked for in either order. Each call checks the whole
+/// scene first; many pairs are better asked for at once, by `settle_scene`.
+impl Scene<'_> {
+    pub fn judge_pt(self, vertex: usize, triangle: usize) -> Result<Verdict, Refusal> {
+        heard(ask!(self, makhnodri_judge_pt, vertex, triangle)).map(verdict).map_err(bare)
+    }
+
+    pub fn judge_ee(self, first: usize, second: usize) -> Result<Verdict, Refusal> {
+        heard(ask!(self, makhnodri_judge_ee, first, second)).map(verdict).map_err(bare)
+    }
+
+    /// Pieces 0, 1, 2.
+    pub fn judge_pt_piece(self, vertex: usize, triangle: usize, piece: usize) -> Result<Verdict, Refusal> {
+        heard(ask!(self, makhnodri_judge_pt_piece, vertex, triangle, piece)).map(verdict).map_err(bare)
+    }
+
+    /// Pieces 0 to 3.
+    pub fn judge_ee_piece(self, first: usize, second: usize, piece: usize) -> Result<Verdict, Refusal> {
+        heard(ask!(self, makhnodri_judge_ee_piece, first, second, piece)).map(verdict).map_err(bare)
+    }
+
+    /// The pair of this kind.
+    pub fn judge_pair(self, kind: Kind, first: usize, second: usize) -> Result<Verdict, Refusal> {
+        match kind {
+            Kind::PointTriangle => self.judge_pt(first, second),
+            Kind::EdgeEdge => self.judge_ee(first, second),
+        }
+    }
+
+    /// A piece of the pair of this kind.
+    pub fn judge_piece(self, kind: Kind, first: usize, second: usize, piece: usize) -> Result<Verdict, Refusal> {
+        match kind {
+            Kind::PointTriangle => self.judge_pt_piece(first, second, piece),
+            Kind::EdgeEdge => self.judge_ee_piece(first, second, piece),
+        }
+    }
+}
+
+/// The same in four words: what is degenerate is decided too.
+impl Scene<'_> {
+    pub fn settle_pt(self, vertex: usize, triangle: usize) -> Result<Settled, Refusal> {
+        heard(ask!(self, makhnodri_settle_pt, vertex, triangle)).map(settled).map_err(bare)
+    }
+
+    pub fn settle_ee(self, first: usize, second: usize) -> Result<Settled, Refusal> {
+        heard(ask!(self, makhnodri_settle_ee, first, second)).map(settled).map_err(bare)
+    }
+
+    /// Pieces 0, 1, 2.
+    pub fn settle_pt_piece(self, vertex: usize, triangle: usize, piece: usize) -> Result<Settled, Refusal> {
+        heard(ask!(self, makhnodri_settle_pt_piece, vertex, triangle, piece)).map(settled).map_err(bare)
+    }
+
+    /// Pieces 0 to 3.
+    pub fn settle_ee_piece(self, first: usize, second: usize, piece: usize) -> Result<Settled, Refusal> {
+        heard(ask!(self, makhnodri_settle_ee_piece, first, second, piece)).map(settled).map_err(bare)
+    }
+
+    /// The pair of this kind.
+    pub fn settle_pair(self, kind: Kind, first: usize, second: usize) -> Result<Settled, Refusal> {
+        match kind {
+            Kind::PointTriangle => self.settle_pt(first, second),
+            Kind::EdgeEdge => self.settle_ee(first, second),
+        }
+    }
+
+    /// A piece of the pair of this kind.
+    pub fn settle_piece(self, kind: Kind, first: usize, second: usize, piece: usize) -> Result<Settled, Refusal> {
+        match kind {
+            Kind::PointTriangle => self.settle_pt_piece(first, second, piece),
+            Kind::EdgeEdge => self.settle_ee_piece(first, second, piece),
+        }
     }
 }
 

@@ -60,7 +60,7 @@ fn with_room(call: Call, scene: &Scene, list: usize, words: usize) -> Question {
     if call.lists() {
         lent.list = marks_of_16(list);
     }
-    if call == Call::JudgeScene {
+    if call == Call::SettleScene {
         lent.words = marks(words);
     }
     Question::new(call, lent)
@@ -84,7 +84,7 @@ fn whole(random: &mut Random, scene: &Scene) -> Vec<Question> {
             (3 * count + more, count + more),
         ]);
     }
-    out.extend(rooms.into_iter().map(|(list, words)| with_room(Call::JudgeScene, scene, list, words)));
+    out.extend(rooms.into_iter().map(|(list, words)| with_room(Call::SettleScene, scene, list, words)));
     out
 }
 
@@ -196,7 +196,7 @@ fn on_harmed(random: &mut Random, call: Call, harmed: &Lent) -> Vec<Question> {
     if call.lists() {
         lent.list = marks_of_16(random.pick(&[0, 3_000]));
     }
-    if call == Call::JudgeScene {
+    if call == Call::SettleScene {
         lent.words = marks(random.pick(&[0, 1_000]));
     }
     let Some(asked) = call.asked() else { return vec![Question::new(call, lent)] };

@@ -218,13 +218,13 @@ fn counts() -> Vec<Damage> {
         }),
         damage("only the list's room counts", |question, answer| {
             let count = answer.number as u32 as usize;
-            if question.call == Call::JudgeScene && answer.refusal() == NO_ROOM && question.lent.list.len() / 3 >= count {
+            if question.call == Call::SettleScene && answer.refusal() == NO_ROOM && question.lent.list.len() / 3 >= count {
                 answer.number = count as u64;
             }
         }),
         damage("only the words' room counts", |question, answer| {
             let count = answer.number as u32 as usize;
-            if question.call == Call::JudgeScene && answer.refusal() == NO_ROOM && question.lent.words.len() >= count {
+            if question.call == Call::SettleScene && answer.refusal() == NO_ROOM && question.lent.words.len() >= count {
                 answer.number = count as u64;
             }
         }),
@@ -241,7 +241,7 @@ fn counts() -> Vec<Damage> {
             }
         }),
         damage("the words of a list in three", |question, answer| {
-            if question.call == Call::JudgeScene && answer.refusal() == 0 {
+            if question.call == Call::SettleScene && answer.refusal() == 0 {
                 let words = &mut answer.buffers[WORDS][MARGIN..MARGIN + answer.number as usize];
                 words.iter_mut().for_each(|word| *word = (*word).min(2));
             }

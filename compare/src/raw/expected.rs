@@ -42,7 +42,7 @@ impl Expecting {
                 let room = lent.list.len() / 3;
                 listed(lent, room).map(|(_, pairs)| pairs.len() as u64)
             }
-            Call::JudgeScene => {
+            Call::SettleScene => {
                 let room = (lent.list.len() / 3).min(lent.words.len());
                 let (scene, pairs) = listed(lent, room)?;
                 for (word, &pair) in lent.words.iter_mut().zip(&pairs) {

@@ -9,7 +9,7 @@ pub enum Call {
     CheckScene,
     CountPairs,
     ListPairs,
-    JudgeScene,
+    SettleScene,
     /// In three words, of a pair or of a piece.
     Judge(Asked),
     /// In four.
@@ -52,7 +52,7 @@ impl Asked {
 }
 
 pub fn calls() -> Vec<Call> {
-    let mut out = vec![Call::CheckScene, Call::CountPairs, Call::ListPairs, Call::JudgeScene];
+    let mut out = vec![Call::CheckScene, Call::CountPairs, Call::ListPairs, Call::SettleScene];
     out.extend(ASKED.map(Call::Judge));
     out.extend(ASKED.map(Call::Settle));
     out.extend([Call::ReadScene, Call::WriteReport]);
@@ -73,7 +73,7 @@ impl Call {
     }
 
     pub fn lists(self) -> bool {
-        matches!(self, Call::ListPairs | Call::JudgeScene)
+        matches!(self, Call::ListPairs | Call::SettleScene)
     }
 
     pub fn name(self) -> String {
@@ -82,7 +82,7 @@ impl Call {
             Call::CheckScene => "check_scene".into(),
             Call::CountPairs => "count_pairs".into(),
             Call::ListPairs => "list_pairs".into(),
-            Call::JudgeScene => "settle_scene".into(),
+            Call::SettleScene => "settle_scene".into(),
             Call::Judge(asked) => format!("judge_{}", of(asked)),
             Call::Settle(asked) => format!("settle_{}", of(asked)),
             Call::ReadScene => "read_scene".into(),

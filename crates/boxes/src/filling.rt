@@ -13,6 +13,9 @@ ghost use Rattle.boxes.specs.Parts.{Ready};
 ghost use Rattle.boxes.specs.Filling.{KeptBehind, Filled};
 use super::kept::store_joint_box;
 use super::kept::store_vertex;
+use meaning::EDGE_LIMIT;
+use meaning::TRIANGLE_LIMIT;
+use meaning::VERTEX_LIMIT;
 use scenes::parts::edge_count;
 use scenes::parts::triangle_count;
 use scenes::parts::vertex_count;
@@ -20,7 +23,7 @@ use scenes::written::corner;
 use scenes::written::edge_end;
 
 // Six numbers for each part that a scene can have.
-pub const BOX_NUMBERS: usize = 12288;
+pub const BOX_NUMBERS: usize = 6 * (VERTEX_LIMIT + EDGE_LIMIT + TRIANGLE_LIMIT);
 
 fn fill_vertices(positions: &[i32], boxes: &mut [i32])
     requires { ⌜ 6 * vertexCount (onlyPositions (now positions)) ≤ length (now boxes) ⌝ }

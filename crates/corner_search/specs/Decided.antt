@@ -23,14 +23,14 @@ use Rattle.meaning.specs.declared.Settled.the-variants.{Hit, Miss, Touch, Apart
 use Rattle.theory.specs.Computed.{pieceVerdict, pairVerdict}
 use Rattle.theory.specs.SevenPieces.{judged-piece}
 use Rattle.theory.specs.OneVerdict.{one-piece-verdict, judged-pair}
-use Rattle.corner_search.specs.declared.SixPoints.{SixPoints}
-use Rattle.corner_search.specs.declared.leaf.Leaf.{Leaf}
-use Rattle.corner_search.specs.declared.leaf.Leaf.the-variants.{Yes, No, Open}
-use Rattle.corner_search.specs.Left.{fewer}
-use Rattle.corner_search.specs.Leave.{Leaves}
-use Rattle.corner_search.specs.Points.{isLeft, pieceAt, TouchLeft, Timed, six-long}
-use Rattle.corner_search.specs.Answer.{leafOf}
-use Rattle.corner_search.specs.Right.{LeafIs, leaf-is}
+use Rattle.corner_leaf.specs.declared.SixPoints.{SixPoints}
+use Rattle.corner_leaf.specs.declared.Leaf.{Leaf}
+use Rattle.corner_leaf.specs.declared.Leaf.the-variants.{Yes, No, Open}
+use Rattle.corner_laws.specs.Left.{fewer}
+use Rattle.corner_laws.specs.Leave.{Leaves}
+use Rattle.corner_leaf.specs.Points.{isLeft, pieceAt, TouchLeft, Timed, six-long}
+use Rattle.corner_leaf.specs.Answer.{leafOf}
+use Rattle.corner_leaf.specs.Right.{LeafIs, leaf-is}
 use Rattle.corner_search.specs.Says.{isYes}
 use Rattle.corner_search.specs.Step.{count, less, set-out, put-back}
 use Rattle.corner_search.specs.Settles.{everyLeft, every-left-is}

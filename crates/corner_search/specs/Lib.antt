@@ -1,27 +1,6 @@
 -- Cloth at rest: when a degenerate piece touches.
-pub mod Level
-pub mod Left
-pub mod AtMostOne
-pub mod Tightest
-pub mod Leave
-pub mod Others
-pub mod Signed
-pub mod Slots
-pub mod Filled
-pub mod Candidate
-pub mod Flat
-pub mod Dependent
-pub mod Opened
-pub mod Points
-pub mod First
-pub mod Answer
-pub mod Base
-pub mod Tests
-pub mod Right
-pub mod Slotted
 pub mod Says
 pub mod Step
 pub mod Settles
 pub mod Sixes
 pub mod Decided
-pub mod OneOut

@@ -6,10 +6,10 @@ use mathlib.Core.Bool.{Bool, true, false}
 use mathlib.Core.List.{List}
 use lib.IntN.{ℤ}
 use lib.ListN.{set}
-use Rattle.corner_search.specs.declared.SixPoints.{SixPoints}
-use Rattle.corner_search.specs.declared.leaf.Leaf.{Leaf}
-use Rattle.corner_search.specs.declared.leaf.Leaf.the-variants.{Yes, No, Open}
-use Rattle.corner_search.specs.Points.{isLeft, TouchLeft}
+use Rattle.corner_leaf.specs.declared.SixPoints.{SixPoints}
+use Rattle.corner_leaf.specs.declared.Leaf.{Leaf}
+use Rattle.corner_leaf.specs.declared.Leaf.the-variants.{Yes, No, Open}
+use Rattle.corner_leaf.specs.Points.{isLeft, TouchLeft}
 
 abbrev pub isYes : Leaf → Bool
 isYes Yes = true

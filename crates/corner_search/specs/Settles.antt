@@ -13,9 +13,9 @@ use Rattle.meaning.specs.Verdicts.{PieceIs}
 use Rattle.meaning.specs.Resting.{PieceSettled}
 use Rattle.meaning.specs.declared.Verdict.{Verdict}
 use Rattle.meaning.specs.declared.Settled.{Settled}
-use Rattle.corner_search.specs.declared.SixPoints.{SixPoints}
-use Rattle.corner_search.specs.Left.{TouchIn, fewer, touch-in-is}
-use Rattle.corner_search.specs.Points.{isLeft, pieceAt, TouchLeft, six-long}
+use Rattle.corner_leaf.specs.declared.SixPoints.{SixPoints}
+use Rattle.corner_laws.specs.Left.{TouchIn, fewer, touch-in-is}
+use Rattle.corner_leaf.specs.Points.{isLeft, pieceAt, TouchLeft, six-long}
 use Rattle.corner_search.specs.Says.{Says, says-yes, says-no}
 
 -- the word of a piece that is not degenerate

@@ -11,14 +11,14 @@ use lib.Dec.{T, eqb, eqb→eq}
 use lib.IntN.{ℤ}
 use lib.ListN.{length, length-append, getD, set}
 use lib.Seq.{getD-set-other}
-use Rattle.corner_search.specs.declared.SixPoints.{SixPoints}
-use Rattle.corner_search.specs.declared.leaf.Leaf.{Leaf}
-use Rattle.corner_search.specs.declared.leaf.Leaf.the-variants.{Yes, No, Open}
-use Rattle.corner_search.specs.Left.{TouchIn, fewer, without, still-out, now-out}
-use Rattle.corner_search.specs.Leave.{Leaves}
-use Rattle.corner_search.specs.Points.{isLeft, pieceAt, TouchLeft, Timed, six-long}
-use Rattle.corner_search.specs.Answer.{leafOf}
-use Rattle.corner_search.specs.Right.{LeafIs, leaf-is}
+use Rattle.corner_leaf.specs.declared.SixPoints.{SixPoints}
+use Rattle.corner_leaf.specs.declared.Leaf.{Leaf}
+use Rattle.corner_leaf.specs.declared.Leaf.the-variants.{Yes, No, Open}
+use Rattle.corner_laws.specs.Left.{TouchIn, fewer, without, still-out, now-out}
+use Rattle.corner_laws.specs.Leave.{Leaves}
+use Rattle.corner_leaf.specs.Points.{isLeft, pieceAt, TouchLeft, Timed, six-long}
+use Rattle.corner_leaf.specs.Answer.{leafOf}
+use Rattle.corner_leaf.specs.Right.{LeafIs, leaf-is}
 use Rattle.corner_search.specs.Says.{isYes, NoneWithout, Says, touching, none, says-yes, says-no}
 
 -- ---- what is left to try falls

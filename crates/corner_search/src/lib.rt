@@ -1,24 +1,16 @@
 // Cloth at rest: a degenerate piece is decided by leaving corners out.
 
-mod leaf; // leaf.rt: what the corners left say where they allow at most one solution
 mod search; // search.rt: two steps that leave corners out and hand over to each other
 
 ghost use mathlib.Core.Path.{_≡_};
 ghost use Rattle.meaning.specs.Verdicts.{PieceIs};
 ghost use Rattle.meaning.specs.Resting.{PieceSettled};
-ghost use Rattle.corner_search.specs.Points.{pieceAt, SixIn};
+ghost use Rattle.corner_leaf.specs.Points.{pieceAt, SixIn};
 ghost use Rattle.corner_search.specs.Settles.{kept};
+use corner_leaf::SixPoints;
 use meaning::Settled;
 use meaning::Verdict;
 use search::first;
-
-// The six points of a piece, those of the first simplex first: their places in the positions, which are at the end, and how many
-// are the first simplex's.
-pub struct SixPoints {
-    pub at: [usize; 6],
-    pub ends: [bool; 6],
-    pub first: usize,
-}
 
 // Hit and miss stay as they are.
 fn keep(verdict: Verdict) -> Settled

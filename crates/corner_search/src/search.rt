@@ -5,12 +5,12 @@ ghost use mathlib.Core.Bool.{false, cond};
 ghost use mathlib.Core.Path.{_≡_};
 ghost use Prim.Native.Nat.{_<_};
 ghost use lib.ListN.{set};
-ghost use Rattle.corner_search.specs.Points.{SixIn};
-ghost use Rattle.corner_search.specs.Answer.{leafOf};
+ghost use Rattle.corner_leaf.specs.Points.{SixIn};
+ghost use Rattle.corner_leaf.specs.Answer.{leafOf};
 ghost use Rattle.corner_search.specs.Says.{isYes, Says};
-use super::SixPoints;
-use super::leaf::Leaf;
-use super::leaf::ask;
+use corner_leaf::Leaf;
+use corner_leaf::SixPoints;
+use corner_leaf::ask;
 
 fn is_yes(answer: Leaf) -> bool
     ensures { λ r. ⌜ r ≡ isYes answer ⌝ }

@@ -15,7 +15,9 @@ use Rattle.meaning.specs.Scene.{Scene, sceneOf}
 use Rattle.meaning.specs.Refusals.{given, refused, Check, Answers}
 use Rattle.meaning.specs.List.{Pair, pairs}
 use Rattle.meaning.specs.SceneWords.{AllSettled}
-use Rattle.meaning.specs.Text.{Entry, vertex, edge, triangle, tab, lineFeed, letterOf, numbersOf, numeral, further, rendered, lineOf, Short, late, excess, far, unknown, twice, entryChecks, EntryJudged, none, counted, countedAll, Sound, textOf, coordinatesIn, endsIn, cornersIn, sceneFrom, Holds, Fault, unformed, misplaced, FaultyAt}
+use Rattle.meaning.specs.Text.{Entry, vertex, edge, triangle, tab, lineFeed, letterOf, numbersOf, numeral, further, lineOf, Short, late, excess, far, unknown, twice, entryChecks, EntryJudged, none, counted, countedAll, sceneLines, textOf, coordinatesIn, endsIn, cornersIn, sceneFrom, Holds, Fault, FaultyAt}
+use Rattle.meaning.specs.Lines as Lines
+use Rattle.meaning.specs.Lines.{afterAll, unformed, misplaced}
 use Rattle.meaning.specs.Report.{refusedLine, pairLines, totalLine, ReportOf, tooLong, faulty, noRoom, judged, Reported}
 use Rattle.meaning.specs.declared.SceneCounts.{SceneCounts}
 use Rattle.theory.specs.Bounds.{Every}
@@ -24,7 +26,8 @@ use Rattle.theory.specs.Rearranged.{Rearranged, unmoved, moved, rearranged-back
 use Rattle.theory.specs.Written.{Different, different-rearranged}
 use Rattle.theory.specs.AnyOrder.{any, any-rearranged}
 use Rattle.theory.specs.Rewritten.{Rewritten, rewritten-back}
-use Rattle.scene_text.specs.Lines.{line-is, line-cancel, NoFeed, first-line, no-line}
+use Rattle.lines.specs.Feed.{NoFeed, first-line, no-line}
+use Rattle.scene_line.specs.Rendered.{line-is, line-cancel, scene-bodies}
 use Rattle.scene_text.specs.Accepted.{text-accepted}
 use Rattle.scenes.specs.Below.{or-left, or-rest}
 use Rattle.demands.specs.StillAccepted.{every-rearranged, both-or-neither}
@@ -132,7 +135,7 @@ same-short (anyCorners r) h = every-rearranged (λ (n : ℕ). length (digits n) 
 -- records without fault, and what is left below them: E says what that is
 record Goes (E : SceneCounts → List ℕ → Type 0) (c : SceneCounts) (text : List ℕ) (above : List Entry) : Type 0 where
   below : List ℕ
-  sound : Sound c above
+  sound : Lines.Sound sceneLines c above below
   lines : text ≡ textOf above ++ below
   ends : E (countedAll c above) below
 
@@ -155,7 +158,7 @@ record GoesAlike (E : SceneCounts → List ℕ → Type 0) (c : SceneCounts) (te
 -- one record more in front
 more : {E : SceneCounts → List ℕ → Type 0} (c : SceneCounts) {t : List ℕ} {r r′ : Entry} {rs : List Entry} → SameRecord r r′
     → Short digitLimit (numbersOf r′) → EntryJudged c r′ (given tt) → GoesAlike E (counted c r′) t rs → GoesAlike E c (lineOf r′ ++ t) (r ∷ rs)
-unfolding SameRecords Sound countedAll flatMap
+unfolding SameRecords Lines.Sound afterAll flatMap
 more c {t} {r} {r′} {rs} s short good g = record {
   other = r′ ∷ g .other;
   alike = (s, g .alike);
@@ -168,21 +171,22 @@ more c {t} {r} {r′} {rs} s short good g = record {
 }
 
 -- the line as it is, where it is a record's
-as-line : (l t : List ℕ) (r : Entry) → l ≡ rendered r → l ++ (lineFeed ∷ t) ≡ lineOf r ++ t
-unfolding lineOf
-as-line l t r e = ap (λ (k : List ℕ). k ++ (lineFeed ∷ t)) e ∙ sym (append-assoc (rendered r) (lineFeed ∷ []) t)
+as-line : (l t : List ℕ) (r : Entry) → l ≡ scene-bodies .body r → l ++ (lineFeed ∷ t) ≡ lineOf r ++ t
+as-line l t r e =
+    ap (λ (k : List ℕ). k ++ (lineFeed ∷ t)) e ∙ sym (append-assoc (scene-bodies .body r) (lineFeed ∷ []) t)
+    ∙ ap (λ (k : List ℕ). k ++ t) (sym (scene-bodies .ended r))
 
 module _ (E : SceneCounts → List ℕ → Type 0) (ends-alike : (c : SceneCounts) (t t′ : List ℕ) → DifferInOrder t t′ → E c t → E c t′) where
   goes-alike : (c : SceneCounts) {t t′ : List ℕ} (above : List Entry) → DifferInOrder t t′ → Goes E c t above → GoesAlike E c t′ above
-  unfolding SameRecords Sound countedAll flatMap
+  unfolding SameRecords Lines.Sound afterAll flatMap
   goes-alike c {t} {t′} [] d g = record {
     other = [];
     alike = tt;
     goes = record { below = t′; sound = tt; lines = refl; ends = ends-alike c t t′ d (subst (E c) (sym (g .lines)) (g .ends)) };
   }
-  goes-alike c (r ∷ rs) (rest l n) g = absurd (no-line l (textOf rs ++ g .below) r n (g .lines ∙ append-assoc (lineOf r) (textOf rs) (g .below)))
+  goes-alike c (r ∷ rs) (rest l n) g = absurd (no-line scene-bodies l (textOf rs ++ g .below) r n (g .lines ∙ append-assoc (lineOf r) (textOf rs) (g .below)))
   goes-alike c (r ∷ rs) (line l n {t} {t′} d) g =
-      let (is, left) = first-line l t (textOf rs ++ g .below) r n (g .lines ∙ append-assoc (lineOf r) (textOf rs) (g .below)) in
+      let (is, left) = first-line scene-bodies {s = c} l t (textOf rs ++ g .below) r (g .sound .0) n (g .lines ∙ append-assoc (lineOf r) (textOf rs) (g .below)) in
       subst (λ (k : List ℕ). GoesAlike E c k (r ∷ rs)) (sym (as-line l t′ r is))
       (more c (itself r) (g .sound .0) (g .sound .1)
       (goes-alike (counted c r) rs d (record { below = g .below; sound = g .sound .2; lines = left; ends = g .ends })))
@@ -206,13 +210,13 @@ end-alike (entry {r} s {t} d) e = absurd (nil≢cons (sym e ∙ line-is r t))
 -- a fault at the front of the one is the other's
 fault-alike : {n : ℕ} {c : SceneCounts} {t t′ : List ℕ} → DifferInOrder t t′ → Fault c t n → Fault c t′ n
 fault-alike (rest l n) f = f
-fault-alike (line l n {t} {t′} d) (unformed e some never) =
+fault-alike {c = c} (line l n {t} {t′} d) (unformed e some never) =
     unformed e (λ z. some (end-alike (differ-back (line l n d)) z))
     (λ r left short is.
-    let (same, w) = first-line l t′ left r n is in
+    let (same, w) = first-line scene-bodies {s = c} l t′ left r short n is in
     never r t short (as-line l t r same))
-fault-alike (line l n {t} {t′} d) (misplaced r left short is j) =
-    let (same, w) = first-line l t left r n is in
+fault-alike {c = c} (line l n {t} {t′} d) (misplaced r left short is j) =
+    let (same, w) = first-line scene-bodies {s = c} l t left r short n is in
     misplaced r t′ short (as-line l t′ r same) j
 fault-alike (entry {r} {r′} s {t} {t′} d) (unformed e some never) =
     unformed e (λ z. some (end-alike (differ-back (entry s d)) z))
@@ -331,13 +335,15 @@ pub record HoldsAlike (t : List ℕ) (s : Scene) : Type 0 where
 pub holds-alike : {t t′ : List ℕ} {s : Scene} → DifferInOrder t t′ → Holds t s → HoldsAlike t′ s
 holds-alike {t} {t′} {s} d h =
     let a = goes-alike (λ c b. b ≡ []) (λ c t t′. end-alike) none (h .entries) d
-    (record { below = []; sound = h .sound; lines = h .lines ∙ sym (append-nil (textOf (h .entries))); ends = refl }) in
+    (record { below = []; sound = h .records .sound; lines = h .records .lines ∙ sym (append-nil (textOf (h .entries))); ends = refl }) in
     record {
       scene = sceneFrom (a .other);
       holds = record {
         entries = a .other;
-        sound = a .goes .sound;
-        lines = a .goes .lines ∙ ap (λ (l : List ℕ). textOf (a .other) ++ l) (a .goes .ends) ∙ append-nil (textOf (a .other));
+        records = record {
+          sound = subst (Lines.Sound sceneLines none (a .other)) (a .goes .ends) (a .goes .sound);
+          lines = a .goes .lines ∙ ap (λ (l : List ℕ). textOf (a .other) ++ l) (a .goes .ends) ∙ append-nil (textOf (a .other));
+        };
         scene = refl;
       };
       rewritten = subst (λ (u : Scene). Rewritten u (sceneFrom (a .other))) (sym (h .scene)) (same-scene (h .entries) (a .other) (a .alike));

@@ -27,10 +27,10 @@ use Rattle.theory.specs.Reading.{verdictOf, agreeing}
 use Rattle.theory.specs.Computed.{pieceVerdict, joined, joinedBelow, pointDifferences, edgeDifferences, startSum, endSum}
 use Rattle.sign_sums.specs.BySigns.{keep}
 use Rattle.sign_sums.specs.OneWay.{oneWay}
-use Rattle.corner_search.specs.First.{firstOf}
-use Rattle.corner_search.specs.Others.{skip}
-use Rattle.corner_search.specs.Filled.{slot, next}
-use Rattle.corner_search.specs.Answer.{baseOf, judgedBy, turnOf, otherwise, leafOf}
+use Rattle.corner_leaf.specs.First.{firstOf}
+use Rattle.corner_laws.specs.Others.{skip}
+use Rattle.corner_laws.specs.Filled.{slot, next}
+use Rattle.corner_leaf.specs.Answer.{baseOf, judgedBy, turnOf, otherwise, leafOf}
 use Rattle.corner_search.specs.Sixes.{pointSix, edgesSix, sixOf}
 use Rattle.corner_search.specs.Decided.{byLeaf, touching, settledBy, verdictOfWord, pieceWord, isTouch, pairWord, piece-word-is, word-verdict, some-hit, pair-word-is}
 use Rattle.scenes.specs.Below.{or-left, or-rest, none-passes}

@@ -7,10 +7,11 @@ use mathlib.Core.Path.{_≡_, refl, sym, subst}
 use lib.Dec.{eqb}
 use Rattle.meaning.specs.Limits.{digitLimit}
 use Rattle.meaning.specs.Refusals.{refused}
-use Rattle.meaning.specs.Text.{Entry, lineOf, numbersOf, Short, late, excess, far, unknown, twice, entryChecks, EntryJudged, Fault, unformed, misplaced}
+use Rattle.meaning.specs.Text.{Entry, lineOf, numbersOf, Short, late, excess, far, unknown, twice, entryChecks, EntryJudged, Fault}
+use Rattle.meaning.specs.Lines.{unformed, misplaced}
 use Rattle.meaning.specs.declared.SceneCounts.{SceneCounts}
 use Rattle.theory.specs.Bounds.{Every}
-use Rattle.scene_text.specs.Lines.{line-cancel}
+use Rattle.scene_line.specs.Rendered.{line-cancel}
 use Rattle.demands.specs.Deciding.{Refuses, carriedBy, absent, distinct, refused-exactly, refuses-answers, number-known}
 
 -- ---- in a line that is a record's: 10, 11, 2, 3, 4

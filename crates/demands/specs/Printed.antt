@@ -20,7 +20,8 @@ use Rattle.meaning.specs.Pieces.{pieceCount}
 use Rattle.meaning.specs.Refusals.{Answers, shares}
 use Rattle.meaning.specs.Boxes.{meetOn}
 use Rattle.meaning.specs.List.{pair, pairs}
-use Rattle.meaning.specs.Text.{Entry, vertex, edge, triangle, letterOf, numbersOf, numeral, further, lineOf, Short, late, excess, far, unknown, twice, counted, Sound, textOf, coordinatesIn, endsIn, cornersIn, sceneFrom, Holds}
+use Rattle.meaning.specs.Lines as Lines
+use Rattle.meaning.specs.Text.{Entry, vertex, edge, triangle, letterOf, numbersOf, numeral, further, lineOf, Short, late, excess, far, unknown, twice, counted, textOf, coordinatesIn, endsIn, cornersIn, sceneFrom, Holds}
 use Rattle.meaning.specs.SceneWords.{byteOf, AllSettled}
 use Rattle.meaning.specs.Report.{kindWord, verdictWord, pairLines, isOne, howMany, totalLine, ReportOf, judged, Reported, ReportedRead}
 use Rattle.meaning.specs.declared.Kind.the-variants.{PointTriangle, EdgeEdge}
@@ -61,8 +62,8 @@ unfolding bytesOf records numbersOf flatMap lineOf letterOf further numeral digi
 printed-lines = refl
 
 pub printed-holds : Holds printedText printedScene
-unfolding records printedScene Sound Short numbersOf Answers late excess far unknown twice counted digits digitsWithin
-printed-holds = record { entries = records; sound = (omega arith, tt, (omega arith, tt, (omega arith, tt, (omega arith, tt, (omega arith, tt, (omega arith, tt, (omega arith, tt, (omega arith, tt, tt)))))))); lines = printed-lines; scene = refl }
+unfolding records printedScene Lines.Sound Short numbersOf Answers late excess far unknown twice counted digits digitsWithin
+printed-holds = record { entries = records; records = record { sound = (omega arith, tt, (omega arith, tt, (omega arith, tt, (omega arith, tt, (omega arith, tt, (omega arith, tt, (omega arith, tt, (omega arith, tt, tt)))))))); lines = printed-lines }; scene = refl }
 
 pub printed-accepted : Accepted printedScene
 printed-accepted = text-accepted printed-holds

@@ -1,27 +1,15 @@
 -- The report of what was read of a text: there is always a text of which that was read, so the promise fixes the report; and a buffer that is
 -- full and longer than a text may be is refused 8, however the text goes on.
 use Prim.Native.Nat.{ℕ, _≤_, _<_}
-use mathlib.Core.List.{List, [], _++_, append-nil}
-use mathlib.Core.Path.{_≡_, refl, sym, _∙_, ap}
+use mathlib.Core.List.{List, [], _++_}
+use mathlib.Core.Path.{_≡_, _∙_, ap}
 use native.Mathlib.Omega.{arith}
 use lib.ListN.{length, take, length-append}
-use lib.Seq.{take-all}
 use Rattle.sequences.specs.Wrote.{written}
 use Rattle.meaning.specs.Limits.{textLimit}
-use Rattle.meaning.specs.Report.{refusedLine, tooLong, Reported, ReadOf, ReportedRead}
+use Rattle.meaning.specs.Report.{refusedLine, tooLong, Reported, ReportedRead}
+use Rattle.meaning.specs.ReadShown.{front-read, longer-read}
 use Rattle.demands.specs.OneText.{one-report, one-reported}
-
--- the front itself is such a text
-pub front-read : (buffer : List ℕ) (count : ℕ) → ReadOf (take count buffer) buffer count
-front-read buffer count = record { rest = []; front = sym (append-nil (take count buffer)); ended = λ below. refl }
-
--- and where the buffer is full, so is every text that begins with it
-pub longer-read : (buffer rest : List ℕ) (count : ℕ) → length buffer ≤ count → ReadOf (buffer ++ rest) buffer count
-longer-read buffer rest count full = record {
-  rest = rest;
-  front = ap (λ (l : List ℕ). l ++ rest) (sym (take-all count buffer full));
-  ended = λ below. absurd (omega arith);
-}
 
 pub one-report-read : (buffer o o′ o″ : List ℕ) (count n n′ : ℕ) → ReportedRead buffer count o o′ n → ReportedRead buffer count o o″ n′ → (n ≡ n′) × (o′ ≡ o″)
 one-report-read buffer o o′ o″ count n n′ p q =

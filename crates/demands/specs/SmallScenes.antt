@@ -11,9 +11,11 @@ use Rattle.meaning.specs.Scene.{sceneOf, Accepted, someBelow}
 use Rattle.meaning.specs.Refusals.{shares}
 use Rattle.meaning.specs.Boxes.{meetOn}
 use Rattle.meaning.specs.List.{pair, pairs}
+use Rattle.meaning.specs.Lines as Lines
 use Rattle.meaning.specs.Text.{Entry, vertex, edge, triangle, letterOf, Sound, Holds, none, textOf, FaultyAt, lineFeed}
 use Rattle.meaning.specs.declared.Kind.the-variants.{PointTriangle}
-use Rattle.scene_text.specs.Lines.{line-is}
+use Rattle.scene_line.specs.Rendered.{line-is}
+use Rattle.scene_text.specs.Unique.{sound-anywhere}
 use Rattle.demands.specs.LineTable.{NoLine, no9}
 use Rattle.demands.specs.Table.{numbered}
 
@@ -28,8 +30,8 @@ unfolding pairs gather over times
 nothing-listed = refl
 
 pub empty-text : Holds [] (sceneOf [] [] [])
-unfolding Sound flatMap
-empty-text = record { entries = []; sound = tt; lines = refl; scene = refl }
+unfolding Lines.Sound flatMap
+empty-text = record { entries = []; records = record { sound = tt; lines = refl }; scene = refl }
 
 -- ---- an empty line
 
@@ -47,7 +49,7 @@ pub empty-line : (above : List Entry) (rest : List ℕ) → Sound none above →
 empty-line above rest sound = record {
   above = above;
   below = lineFeed ∷ rest;
-  sound = sound;
+  sound = sound-anywhere none above [] (lineFeed ∷ rest) sound;
   lines = refl;
   place = refl;
   fault = no9 _ (lineFeed ∷ rest) .1 (λ e. nil≢cons (sym e), empty-line-bad rest);

@@ -24,8 +24,8 @@ use Rattle.meaning.specs.declared.Settled.{Settled}
 use Rattle.scenes.specs.Facts.{accepted-sized}
 use Rattle.three_words.specs.Ready.{PointReady, EdgesReady}
 use Rattle.three_words.specs.Pairs.{pt-ready, ee-ready}
-use Rattle.corner_search.specs.declared.SixPoints.{SixPoints}
-use Rattle.corner_search.specs.Points.{offset, pieceAt, SixIn}
+use Rattle.corner_leaf.specs.declared.SixPoints.{SixPoints}
+use Rattle.corner_leaf.specs.Points.{offset, pieceAt, SixIn}
 use Rattle.corner_search.specs.Sixes.{pointSix, edgesSix, sixOf, six-piece, point-timed, edges-timed}
 
 -- ---- as code makes them: which vertex stands between a start and an end is a test of the piece's number

@@ -7,7 +7,7 @@ ghost use Prim.Native.Nat.{_<_};
 ghost use Rattle.meaning.specs.Limits.{vertexLimit};
 ghost use Rattle.corner_search.specs.Sixes.{pointSix, edgesSix};
 ghost use Rattle.four_words.specs.Six.{between, PointFew, EdgesFew};
-use corner_search::SixPoints;
+use corner_leaf::SixPoints;
 use meaning::Corners;
 use meaning::Ends;
 

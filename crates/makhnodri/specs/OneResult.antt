@@ -21,9 +21,9 @@ use Rattle.demands.specs.OneAnswer.{one-scene, one-pair, one-piece, one-settled
 use Rattle.demands.specs.OneText.{one-reading}
 use Rattle.demands.specs.TextTable.{TextRows, demand1-text}
 use Rattle.demands.specs.Unchanged.{reading-unchanged, SceneInFront, reading-holds}
-use Rattle.makhnodri.specs.Numbers.{sceneNumber, pairNumber, settledNumber, listNumber, textNumber, countsLeft, ReadInto, Told}
-use Rattle.makhnodri.specs.Small.{counted-small, listing-small, judging-small, line-small}
-use Rattle.makhnodri.specs.Back.{heard, noMore, count, countsIn, verdictNumbered, scene-heard, pair-heard, settled-heard, list-heard, text-heard}
+use Rattle.answer_numbers.specs.Numbers.{sceneNumber, pairNumber, settledNumber, listNumber, textNumber, countsLeft, ReadInto, Told}
+use Rattle.answer_numbers.specs.Small.{counted-small, listing-small, judging-small, line-small}
+use Rattle.answer_numbers.specs.Back.{heard, noMore, count, countsIn, verdictNumbered, scene-heard, pair-heard, settled-heard, list-heard, text-heard}
 
 -- one right answer, one number
 one-number : {A : Type 0} {number : A → ℕ} {R S : A → Type 0} {r r′ : ℕ} (p : Told number R r) (q : Told number S r′) → p .answer ≡ q .answer → r ≡ r′

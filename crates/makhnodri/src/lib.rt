@@ -1,84 +1,24 @@
 // The library for C and for Rust: numbers and slices only, thin over the crates that do the work. include/makhnodri.h tells the same in C.
 
-ghost use Prim.Native.Nat.{_+_, _*_, _<_};
 ghost use mathlib.Core.List.{[], _∷_};
 ghost use mathlib.Core.Path.{_≡_};
 ghost use Rattle.meaning.specs.Scene.{sceneAtEntry, sceneAtExit};
-ghost use Rattle.meaning.specs.Refusals.{numberOf, SceneChecked, PairJudged, PieceJudged};
+ghost use Rattle.meaning.specs.Refusals.{SceneChecked, PairJudged, PieceJudged};
 ghost use Rattle.meaning.specs.Resting.{PairDecided, PieceDecided};
-ghost use Rattle.meaning.specs.List.{listSays, Counted, Listing};
+ghost use Rattle.meaning.specs.List.{Counted, Listing};
 ghost use Rattle.meaning.specs.SceneWords.{SettledScene};
 ghost use Rattle.meaning.specs.declared.Kind.the-variants.{PointTriangle, EdgeEdge};
 ghost use Rattle.meaning.specs.Report.{Reported};
-ghost use Rattle.makhnodri.specs.Numbers.{upper, verdictNumber, sceneNumber, pairNumber, settledNumber, listNumber, textNumber, ReadInto, Told};
-ghost use Rattle.makhnodri.specs.Small.{toldIn};
+ghost use Rattle.answer_numbers.specs.Numbers.{sceneNumber, pairNumber, settledNumber, listNumber, textNumber, ReadInto, Told};
+use answer_numbers::list_number;
+use answer_numbers::pair_number;
+use answer_numbers::refused;
+use answer_numbers::scene_number;
+use answer_numbers::settled_number;
 use meaning::Kind;
-use meaning::ListAnswer;
-use meaning::PairAnswer;
-use meaning::Refusal;
-use meaning::SceneAnswer;
+use meaning::REPORT_BYTES;
 use meaning::SceneCounts;
-use meaning::SettledAnswer;
 use meaning::TextAnswer;
-use meaning::Verdict;
-
-// ---- an answer as one number
-
-// A refusal with the line or the count that it carries.
-fn refused(why: Refusal, carries: usize) -> u64
-    requires { ⌜ carries < upper ⌝ }
-    ensures { λ r. ⌜ r ≡ numberOf why * upper + carries ⌝ }
-{
-    wording::number_of(why) * 4294967296 + (carries as u64)
-}
-
-fn scene_number(answer: SceneAnswer) -> u64
-    ensures { λ r. ⌜ r ≡ sceneNumber answer ⌝ }
-{
-    match answer {
-        SceneAnswer::Accepted => 0,
-        SceneAnswer::Refused(why) => refused(why, 0),
-    }
-}
-
-// The three-case verdict has numbers of its own; scene_words::byte_of numbers the four words.
-fn verdict_number(verdict: Verdict) -> u64
-    ensures { λ r. ⌜ r ≡ verdictNumber verdict ⌝ }
-{
-    match verdict {
-        Verdict::Hit => 0,
-        Verdict::Miss => 1,
-        Verdict::Degenerate => 2,
-    }
-}
-
-fn pair_number(answer: PairAnswer) -> u64
-    ensures { λ r. ⌜ r ≡ pairNumber answer ⌝ }
-{
-    match answer {
-        PairAnswer::Judged(verdict) => verdict_number(verdict),
-        PairAnswer::Refused(why) => refused(why, 0),
-    }
-}
-
-fn settled_number(answer: SettledAnswer) -> u64
-    ensures { λ r. ⌜ r ≡ settledNumber answer ⌝ }
-{
-    match answer {
-        SettledAnswer::Decided(word) => scene_words::byte_of(word) as u64,
-        SettledAnswer::Refused(why) => refused(why, 0),
-    }
-}
-
-fn list_number(answer: ListAnswer) -> u64
-    requires { ⌜ toldIn (listSays answer) < upper ⌝ }
-    ensures { λ r. ⌜ r ≡ listNumber answer ⌝ }
-{
-    match answer {
-        ListAnswer::Listed(made) => made.count as u64,
-        ListAnswer::Refused(why, needed) => refused(why, needed),
-    }
-}
 
 fn put_counts(counts: &mut [usize; 3], c: SceneCounts)
     ensures { λ _. ⌜ now (counts .exit) ≡ c .vertices ∷ c .edges ∷ c .triangles ∷ [] ⌝ }
@@ -320,7 +260,7 @@ pub extern "C" fn makhnodri_read_scene(
 
 // The whole report of a text, in front of the lent array; its length is returned.
 #[no_mangle]
-pub extern "C" fn makhnodri_write_report(text: &[u8], out: &mut [u8; 65536]) -> usize
+pub extern "C" fn makhnodri_write_report(text: &[u8], out: &mut [u8; REPORT_BYTES]) -> usize
     ensures { λ r. ⌜ Reported (now (text .entry)) (now (out .entry)) (now (out .exit)) r ⌝ }
 {
     summary::write_report(text, out)

@@ -10,6 +10,8 @@ pub mod Boxes
 pub mod Motion
 pub mod List
 pub mod SceneWords
+pub mod Lines
 pub mod Text
 pub mod Report
 pub mod InMotion
+pub mod ReadShown

@@ -14,6 +14,8 @@ use Rattle.decimals.specs.Digits.{digits}
 use Rattle.meaning.specs.Limits.{vertexLimit, edgeLimit, triangleLimit, textLimit, digitLimit}
 use Rattle.meaning.specs.Scene.{Scene, sceneOf, vertexCount, edgeCount, triangleCount, outside}
 use Rattle.meaning.specs.Refusals.{Outcome, given, refused, Check, Answers, numberOf}
+use Rattle.meaning.specs.Lines as Lines
+use Rattle.meaning.specs.Lines.{Grammar, afterAll, linesOf}
 use Rattle.meaning.specs.declared.SceneCounts.{SceneCounts}
 use Rattle.meaning.specs.declared.TextAnswer.{TextAnswer}
 use Rattle.meaning.specs.declared.TextAnswer.the-variants.{Read, Refused}
@@ -127,17 +129,25 @@ counted c (vertex p q) = record { vertices = c .vertices + 1; edges = c .edges; 
 counted c (edge a b) = record { vertices = c .vertices; edges = c .edges + 1; triangles = c .triangles }
 counted c (triangle a b d) = record { vertices = c .vertices; edges = c .edges; triangles = c .triangles + 1 }
 
-unfoldable pub countedAll : SceneCounts → List Entry → SceneCounts
-countedAll c [] = c
-countedAll c (r ∷ rs) = countedAll (counted c r) rs
+-- one to nine digits a number
+abbrev pub sceneLines : Grammar
+sceneLines = record {
+  State = SceneCounts;
+  Record = Entry;
+  line = lineOf;
+  Formed = λ c r. Short digitLimit (numbersOf r);
+  checks = λ c r last. entryChecks c r;
+  after = counted;
+}
 
--- one to nine digits a number, and no record at fault given those above it
-unfoldable pub Sound : SceneCounts → List Entry → Type 0
-Sound c [] = Unit
-Sound c (r ∷ rs) = Short digitLimit (numbersOf r) × EntryJudged c r (given tt) × Sound (counted c r) rs
+abbrev pub countedAll : SceneCounts → List Entry → SceneCounts
+countedAll = afterAll sceneLines
 
 abbrev pub textOf : List Entry → List ℕ
-textOf rs = flatMap lineOf rs
+textOf = linesOf sceneLines
+
+abbrev pub Sound : SceneCounts → List Entry → Type 0
+Sound c rs = Lines.Sound sceneLines c rs []
 
 -- the scene that records make: ends and corners as they are written
 unfoldable pub coordinatesIn : Entry → List ℤ
@@ -163,28 +173,15 @@ sceneFrom rs = sceneOf (flatMap coordinatesIn rs) (flatMap endsIn rs) (flatMap c
 -- it is the lines of records, none at fault, and the scene is theirs
 pub record Holds (text : List ℕ) (s : Scene) : Type 0 where
   pub entries : List Entry
-  pub sound : Sound none entries
-  pub lines : text ≡ textOf entries
+  pub records : Lines.AllSound sceneLines none text entries
   pub scene : s ≡ sceneFrom entries
 
--- what is wrong at the front of a text, below records so counted: 9, the line there is no record's, or it has no LF; or it is a
--- record's, and n is the first check that holds
-pub data Fault (c : SceneCounts) (text : List ℕ) (n : ℕ) : Type 0 where
-  unformed : n ≡ 9 → text ≢ []
-      → ((r : Entry) (rest : List ℕ) → Short digitLimit (numbersOf r) → text ≡ lineOf r ++ rest → ⊥)
-      → Fault c text n
-  misplaced : (r : Entry) (rest : List ℕ) → Short digitLimit (numbersOf r) → text ≡ lineOf r ++ rest
-      → EntryJudged c r (refused n 0)
-      → Fault c text n
+-- 9, the line is no record's, or it has no LF; or the first check of its record that holds; and the first line with a fault
+abbrev pub Fault : SceneCounts → List ℕ → ℕ → Type 0
+Fault = Lines.Fault sceneLines
 
--- the lines of records, none at fault, and below them the faulty line, counted from 1
-pub record FaultyAt (text : List ℕ) (n line : ℕ) : Type 0 where
-  pub above : List Entry
-  pub below : List ℕ
-  pub sound : Sound none above
-  pub lines : text ≡ textOf above ++ below
-  pub place : line ≡ length above + 1
-  pub fault : Fault (countedAll none above) below n
+abbrev pub FaultyAt : List ℕ → ℕ → ℕ → Type 0
+FaultyAt = Lines.FaultyAt sceneLines none
 
 unfoldable pub TextIs : List ℕ → Outcome Scene → Type 0
 TextIs text (given s) = Holds text s

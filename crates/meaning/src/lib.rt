@@ -1,5 +1,30 @@
 // The types that every crate of the house shares. What they mean stands in specs/.
 
+// The sizes of document 01. specs/Limits.antt has the same numbers for promises and proofs.
+pub const COORDINATE_LIMIT: i32 = 262143;
+
+pub const VERTEX_LIMIT: usize = 512;
+
+pub const EDGE_LIMIT: usize = 1024;
+
+pub const TRIANGLE_LIMIT: usize = 512;
+
+pub const TEXT_LIMIT: usize = 32768;
+
+pub const DIGIT_LIMIT: usize = 9;
+
+// The numbers of the largest scene.
+pub const POSITION_NUMBERS: usize = 6 * VERTEX_LIMIT;
+
+pub const EDGE_NUMBERS: usize = 2 * EDGE_LIMIT;
+
+pub const TRIANGLE_NUMBERS: usize = 3 * TRIANGLE_LIMIT;
+
+// The pairs that a report has room for, and the bytes that hold any report.
+pub const REPORT_ROOM: usize = 2048;
+
+pub const REPORT_BYTES: usize = 65536;
+
 // A pair is asked for by kind: a point and a triangle, or two edges.
 pub enum Kind {
     PointTriangle,

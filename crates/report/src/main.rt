@@ -1,5 +1,8 @@
 // The report program: a scene text on standard input, its report on standard output. It reads and writes, and `summary` does the rest.
 
+use meaning::REPORT_BYTES;
+use summary::READ_BYTES;
+
 // Whether the input was read to its end. `read_full` stops at the end of the input and at a read that fails; one more read tells the
 // two apart, so that a failed read does not look like a shorter scene.
 fn is_at_end() -> bool {
@@ -10,16 +13,16 @@ fn is_at_end() -> bool {
 
 fn main() {
     // a full buffer is enough for the report, so that nothing is read for ever
-    let mut text = [0u8; 32769];
+    let mut text = [0u8; READ_BYTES];
     let count = io::read_full(libc::STDIN_FILENO, &mut text);
-    if count < text.len() && !is_at_end() {
+    if count < READ_BYTES && !is_at_end() {
         io::write_all(
             libc::STDERR_FILENO,
             b"report: standard input could not be read\n",
         );
         return;
     }
-    let mut out = [0u8; 65536];
+    let mut out = [0u8; REPORT_BYTES];
     let length = summary::report_read(&text, count, &mut out);
     // a part of a report may have gone out, and it is no report
     if !io::write_all(libc::STDOUT_FILENO, &out[..length]) {

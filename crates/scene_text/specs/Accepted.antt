@@ -12,9 +12,11 @@ use borrow.Author.Tests.{leb-false, lt-leb, le-ltb, eq-eqb}
 use Rattle.scenes.specs.Below.{or-left, or-rest, none-below}
 use Rattle.meaning.specs.Limits.{vertexLimit, edgeLimit, triangleLimit}
 use Rattle.meaning.specs.Scene.{Scene, Accepted, vertexCount, edgeCount, triangleCount, outside, wrongShape, outOfRange, unknownIn, unknownVertex, twiceInEdge, twiceInTriangle, repeatedVertex}
+use Rattle.meaning.specs.Lines as Lines
+use Rattle.meaning.specs.Lines.{afterAll}
 use Rattle.meaning.specs.Text.{Entry, vertex, edge, triangle, coordinates, far, unknown, twice, none, counted, countedAll, Sound, coordinatesIn, endsIn, cornersIn, sceneFrom, Holds}
 use Rattle.meaning.specs.declared.SceneCounts.{SceneCounts}
-use Rattle.scene_text.specs.Stepping.{Bounded, Faultless, faultless}
+use Rattle.scene_line.specs.Stepping.{Bounded, Faultless, faultless}
 use Rattle.scene_text.specs.Inspecting.{Lengths, lengths}
 use Rattle.scene_text.specs.Filling.{bounded-none, bounded-all}
 
@@ -67,7 +69,7 @@ threes-at P (a ∷ b ∷ c ∷ l) h (suc j) k =
 -- ---- what the records of a text without a fault are
 
 pub vertices-grow : (c : SceneCounts) (rs : List Entry) → c .vertices ≤ countedAll c rs .vertices
-unfolding countedAll counted
+unfolding afterAll counted
 vertices-grow c [] = omega arith
 vertices-grow c (vertex p q ∷ rs) = omega (arith, vertices-grow (counted c (vertex p q)) rs)
 vertices-grow c (edge a b ∷ rs) = omega (arith, vertices-grow (counted c (edge a b)) rs)
@@ -94,7 +96,7 @@ below : (m n a : ℕ) → leb m a ≡ false → m ≤ n → leb n a ≡ false
 below m n a e h = lt-leb n a (omega (arith, leb-false m a e))
 
 good : (c : SceneCounts) (n : ℕ) (rs : List Entry) → Sound c rs → countedAll c rs .vertices ≤ n → Good n rs
-unfolding Sound countedAll counted flatMap coordinatesIn endsIn cornersIn Every Twos Threes far unknown twice
+unfolding Lines.Sound afterAll counted flatMap coordinatesIn endsIn cornersIn Every Twos Threes far unknown twice
 good c n [] s h = record { near = tt; ends = tt; corners = tt; apart = tt; allApart = tt }
 good c n (vertex p q ∷ rs) s h =
     let z : Faultless c (vertex p q) = faultless (vertex p q) (s .1) in
@@ -165,4 +167,4 @@ entries-accepted rs s =
     }
 
 pub text-accepted : {text : List ℕ} {s : Scene} → Holds text s → Accepted s
-text-accepted h = rw (h .scene) (entries-accepted (h .entries) (h .sound))
+text-accepted h = rw (h .scene) (entries-accepted (h .entries) (h .records .sound))

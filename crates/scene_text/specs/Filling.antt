@@ -1,28 +1,30 @@
 -- What the second pass promises, and how it goes on from line to line.
 use mathlib.Core.Bool.{Bool}
-use mathlib.Core.List.{List, [], _∷_, _++_, flatMap, nil≢cons}
+use mathlib.Core.List.{List, [], _∷_, flatMap}
 use mathlib.Core.Path.{_≡_, refl, sym, ap, _∙_}
 use Prim.Native.Nat.{ℕ, _+_, _*_, _≤_, _<_}
 use native.Mathlib.Omega.{arith}
-use lib.ListN.{length, drop, length-drop, drop-of-length-le}
+use lib.ListN.{length, drop}
 use Rattle.sequences.specs.Flat.{flat-cons, flat-nil}
 use Rattle.sequences.specs.Stands.{stands-inside}
 use Rattle.sequences.specs.Writing.{Writing, writing-starts-front, writing-steps, writing-as, writing-ends-front}
 use Rattle.meaning.specs.Limits.{vertexLimit, edgeLimit, triangleLimit}
 use Rattle.meaning.specs.Scene.{Scene, sceneOf}
 use Rattle.meaning.specs.Refusals.{given, numberOf}
+use Rattle.meaning.specs.Lines as Lines
+use Rattle.meaning.specs.Lines.{afterAll}
 use Rattle.meaning.specs.Text as Text
-use Rattle.meaning.specs.Text.{Entry, lineOf, EntryJudged, none, counted, countedAll, Sound, textOf, coordinatesIn, endsIn, cornersIn, sceneFrom, Holds, filled}
+use Rattle.meaning.specs.Text.{Entry, none, counted, countedAll, sceneLines, Sound, coordinatesIn, endsIn, cornersIn, sceneFrom, Holds, filled}
 use Rattle.meaning.specs.declared.Refusal.{Refusal}
 use Rattle.meaning.specs.declared.SceneCounts.{SceneCounts}
-use Rattle.scene_text.specs.Lines.{line-is, line-cancel}
-use Rattle.scene_text.specs.Unique.{fault-stuck}
-use Rattle.scene_text.specs.Stepping.{Bounded, bounded-more, Stepped, Took}
+use Rattle.lines.specs.Ahead.{Ahead, ahead-first, ahead-none, ahead-never, ahead-next}
+use Rattle.scene_line.specs.Rendered.{scene-readable}
+use Rattle.scene_line.specs.Stepping.{Bounded, bounded-more, Stepped, Took}
 use Rattle.scene_text.specs.Inspecting.{Lengths, lengths, line-some}
 use Rattle.scene_text.specs.Putting.{Roomy, Ready, Put, PutEntry, put-entry, ready-entry}
-use Rattle.scene_text.specs.declared.line.Sort.{Sort}
-use Rattle.scene_text.specs.declared.line.Step.{Step}
-use Rattle.scene_text.specs.declared.line.Step.the-variants.{Fault, Taken}
+use Rattle.scene_line.specs.declared.Sort.{Sort}
+use Rattle.scene_line.specs.declared.Step.{Step}
+use Rattle.scene_line.specs.declared.Step.the-variants.{Fault, Taken}
 
 -- the text is the lines of a scene
 pub record HoldsOne (text : List ℕ) : Type 0 where
@@ -40,8 +42,7 @@ pub record Filling (text : List ℕ) (lent left : Scene) (c : SceneCounts) (at :
   pub all : List Entry
   pub below : List Entry
   pub whole : Holds text (sceneFrom all)
-  pub sound : Sound c below
-  pub ahead : drop at text ≡ textOf below
+  pub ahead : Ahead sceneLines text c at below
   pub bounded : Bounded c
   pub within : at ≤ length text
   pub positions : Writing (lent .positions) (flatMap coordinatesIn all) (left .positions) (6 * c .vertices) (flatMap coordinatesIn below)
@@ -52,7 +53,7 @@ pub bounded-none : Bounded none
 bounded-none = record { vertices = omega arith; edges = omega arith; triangles = omega arith }
 
 pub bounded-all : (c : SceneCounts) (rs : List Entry) → Bounded c → Sound c rs → Bounded (countedAll c rs)
-unfolding Sound countedAll
+unfolding Lines.Sound afterAll
 bounded-all c [] b s = b
 bounded-all c (r ∷ rs) b s = bounded-all (counted c r) rs (bounded-more r b (s .1)) (s .2)
 
@@ -60,31 +61,18 @@ pub fill-starts : (text : List ℕ) (lent : Scene) → HoldsOne text → Roomy l
 fill-starts text lent h room =
     let rs : List Entry = h .holds .entries in
     let l : Lengths none rs = lengths none rs in
-    let b : Bounded (countedAll none rs) = bounded-all none rs bounded-none (h .holds .sound) in
+    let b : Bounded (countedAll none rs) = bounded-all none rs bounded-none (h .holds .records .sound) in
     record {
       all = rs;
       below = rs;
-      whole = record { entries = rs; sound = h .holds .sound; lines = h .holds .lines; scene = refl };
-      sound = h .holds .sound;
-      ahead = h .holds .lines;
+      whole = record { entries = rs; records = h .holds .records; scene = refl };
+      ahead = ahead-first scene-readable (h .holds .records);
       bounded = bounded-none;
       within = omega arith;
       positions = writing-starts-front (lent .positions) (flatMap coordinatesIn rs) (omega (arith, l .vertices, b .vertices, room .positions));
       edges = writing-starts-front (lent .edges) (flatMap endsIn rs) (omega (arith, l .edges, b .edges, room .edges));
       triangles = writing-starts-front (lent .triangles) (flatMap cornersIn rs) (omega (arith, l .triangles, b .triangles, room .triangles));
     }
-
-text-none : (rs : List Entry) → textOf rs ≡ [] → rs ≡ []
-unfolding flatMap
-text-none [] e = refl
-text-none (r ∷ rs) e = absurd (nil≢cons (sym e ∙ line-is r (textOf rs)))
-
--- there is a next record
-next-record : (text : List ℕ) (at : ℕ) (rs : List Entry) → at < length text → drop at text ≡ textOf rs
-    → (r : Entry) × (more : List Entry) × (rs ≡ r ∷ more)
-unfolding flatMap
-next-record text at [] h e = absurd (omega (arith, simp length-drop at (ap length e)))
-next-record text at (r ∷ rs) h e = (r, rs, refl)
 
 module _ {text : List ℕ} {lent left : Scene} {c : SceneCounts} {at : ℕ} (f : Filling text lent left c at) where
   -- there is room as there was
@@ -99,7 +87,7 @@ module _ {text : List ℕ} {lent left : Scene} {c : SceneCounts} {at : ℕ} (f :
   pub fill-ends : length text ≤ at → Filled text lent left
   unfolding filled
   fill-ends h =
-      let done : f .below ≡ [] = text-none (f .below) (sym (f .ahead) ∙ drop-of-length-le text h) in
+      let done : f .below ≡ [] = ahead-none scene-readable (f .ahead) h in
       let positions : left .positions ≡ filled (given (sceneFrom (f .all))) lent .positions =
       writing-ends-front (writing-as (ap (flatMap coordinatesIn) done ∙ flat-nil coordinatesIn) (f .positions)) in
       let edges : left .edges ≡ filled (given (sceneFrom (f .all))) lent .edges =
@@ -115,12 +103,10 @@ module _ {text : List ℕ} {lent left : Scene} {c : SceneCounts} {at : ℕ} (f :
   module _ (inside : at < length text) {r : Step} (sizes : List ℕ) (minus : List Bool) (s : Stepped text at c sizes minus r) where
     -- no line is at fault
     pub fill-never : {x : Refusal} → r ≡ Fault x → ⊥
-    unfolding Stepped Sound
+    unfolding Stepped
     fill-never {x} e =
-        let (q, qs, is) = next-record text at (f .below) inside (f .ahead) in
-        let sound : Sound c (q ∷ qs) = rw is at (f .sound) in
         let fault : Text.Fault c (drop at text) (numberOf x) = rw e at s in
-        fault-stuck fault .never q (textOf qs) (sound .0) (f .ahead ∙ ap textOf is ∙ flat-cons lineOf q qs) (sound .1)
+        ahead-never scene-readable (f .ahead) inside fault
 
     pub fill-ready : {sort : Sort} {after : SceneCounts} {next : ℕ} → r ≡ Taken sort after next → 6 ≤ length sizes → 6 ≤ length minus
         → Ready sort c sizes minus
@@ -135,22 +121,17 @@ module _ {text : List ℕ} {lent left : Scene} {c : SceneCounts} {at : ℕ} (f :
 
     pub fill-goes : {sort : Sort} {after : SceneCounts} {next : ℕ} {left′ : Scene} → r ≡ Taken sort after next
         → Put sort c sizes minus left left′ → Filling text lent left′ after next × (at < next)
-    unfolding Stepped Sound
+    unfolding Stepped
     fill-goes {sort} {after} {next} {left′} e p =
         let took : Took text at c sizes minus sort after next = rw e at s in
         let r₀ : Entry = took .line .entry in
         let w : PutEntry c r₀ left left′ = put-entry c sizes minus left r₀ (took .line .sorted) (took .line .front) p in
-        let (q, qs, is) = next-record text at (f .below) inside (f .ahead) in
-        let (same, rest) =
-        line-cancel r₀ q (drop next text) (textOf qs) (sym (took .line .stands .here) ∙ f .ahead ∙ ap textOf is ∙ flat-cons lineOf q qs) in
-        let next-one : f .below ≡ r₀ ∷ qs = is ∙ ap (λ (x : Entry). x ∷ qs) (sym same) in
-        let sound : Sound c (r₀ ∷ qs) = rw next-one at (f .sound) in (
+        let (qs, next-one, on) = ahead-next scene-readable (f .ahead) inside r₀ (took .line .short) (took .line .stands) in (
           rw (took .adds) (record {
             all = f .all;
             below = qs;
             whole = f .whole;
-            sound = sound .2;
-            ahead = rest;
+            ahead = on;
             bounded = bounded-more r₀ (f .bounded) (took .good);
             within = stands-inside (f .within) (took .line .stands);
             positions = writing-steps (writing-as (ap (flatMap coordinatesIn) next-one ∙ flat-cons coordinatesIn r₀ qs) (f .positions)) (w .positions);

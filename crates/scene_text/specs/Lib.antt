@@ -1,9 +1,5 @@
 -- Texts of scenes: that the meaning of a text is one, that a scene read from one is accepted, and what the reader's functions promise.
-pub mod Lines
 pub mod Unique
-pub mod Reading
-pub mod Judging
-pub mod Stepping
 pub mod Inspecting
 pub mod Putting
 pub mod Filling

@@ -7,25 +7,20 @@ ghost use Rattle.meaning.specs.Text.{TextRead};
 ghost use Rattle.scene_text.specs.Filling.{HoldsOne, Filled};
 ghost use Rattle.scene_text.specs.Inspecting.{Inspected};
 ghost use Rattle.scene_text.specs.Putting.{Roomy};
-ghost use Rattle.scene_text.specs.Stepping.{Bounded};
+ghost use Rattle.scene_line.specs.Stepping.{Bounded};
 
-mod line; // line.rt: one line, its record or its first fault
 mod place; // place.rt: a record goes to its place in the buffers
 
-use line::Step;
-use line::next_line;
+use meaning::EDGE_LIMIT;
 use meaning::Refusal;
 use meaning::SceneCounts;
+use meaning::TEXT_LIMIT;
+use meaning::TRIANGLE_LIMIT;
 use meaning::TextAnswer;
+use meaning::VERTEX_LIMIT;
 use place::put;
-
-const VERTEX_LIMIT: usize = 512;
-
-const EDGE_LIMIT: usize = 1024;
-
-const TRIANGLE_LIMIT: usize = 512;
-
-const TEXT_LIMIT: usize = 32768;
+use scene_line::Step;
+use scene_line::next_line;
 
 // The number of the line below so many records, counted from 1: each line above it holds one.
 fn line_number(c: SceneCounts) -> usize

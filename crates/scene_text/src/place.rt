@@ -7,8 +7,8 @@ ghost use Rattle.sequences.specs.Wrote.{Wrote};
 ghost use Rattle.meaning.specs.Limits.{coordinateLimit};
 ghost use Rattle.meaning.specs.Scene.{sceneIn, sceneAtEntry, sceneAtExit};
 ghost use Rattle.scene_text.specs.Putting.{signedOf, pointFrom, vertexFrom, Near, Ready, Roomy, Put};
-use crate::line::Sort;
 use meaning::SceneCounts;
+use scene_line::Sort;
 
 // The coordinate of this sign and size.
 fn coordinate(minus: bool, size: u64) -> i32

@@ -11,14 +11,10 @@ ghost use Rattle.scenes.specs.Alone.{onlyPositions, onlyEdges, onlyTrian
 use super::written::corner;
 use super::written::edge_end;
 use super::written::wide;
-
-const COORDINATE_LIMIT: i32 = 262143;
-
-const VERTEX_LIMIT: usize = 512;
-
-const EDGE_LIMIT: usize = 1024;
-
-const TRIANGLE_LIMIT: usize = 512;
+use meaning::COORDINATE_LIMIT;
+use meaning::EDGE_LIMIT;
+use meaning::TRIANGLE_LIMIT;
+use meaning::VERTEX_LIMIT;
 
 // 1: a length that is no multiple, or a count over its size.
 pub fn wrong_shape(positions: &[i32], edges: &[u16], triangles: &[u16]) -> bool

@@ -10,19 +10,28 @@ ghost use Rattle.meaning.specs.Limits.{textLimit};
 ghost use Rattle.meaning.specs.Report.{Reported, ReportedRead};
 ghost use Rattle.summary.specs.Sizes.{reportLength};
 ghost use Rattle.summary.specs.Whole.{SceneReported};
+use meaning::EDGE_NUMBERS;
 use meaning::ListAnswer;
+use meaning::POSITION_NUMBERS;
+use meaning::REPORT_BYTES;
+use meaning::REPORT_ROOM;
+use meaning::TEXT_LIMIT;
+use meaning::TRIANGLE_NUMBERS;
 use meaning::TextAnswer;
 use pairs::pairs_report;
 use wording::lines::refused_line;
 use wording::number_of;
+
+// The bytes that a program reads into: one more than a text may have, so that a full buffer decides refusal 8.
+pub const READ_BYTES: usize = TEXT_LIMIT + 1;
 
 // The report of a scene that is accepted: 7 is found before anything is written.
 fn scene_report(positions: &[i32], edges: &[u16], triangles: &[u16], out: &mut [u8]) -> usize
     requires { ⌜ Accepted (sceneIn positions edges triangles) × (length (now out) ≡ reportLength) ⌝ }
     ensures { λ r. ⌜ SceneReported (sceneAtEntry positions edges triangles) (now (out .entry)) (now (out .exit)) r ⌝ }
 {
-    let mut list = [0u16; 6144];
-    let mut verdicts = [0u8; 2048];
+    let mut list = [0u16; 3 * REPORT_ROOM];
+    let mut verdicts = [0u8; REPORT_ROOM];
     match scene_words::settle_accepted(positions, edges, triangles, &mut list, &mut verdicts) {
         ListAnswer::Listed(made) => pairs_report(&list, &verdicts, made.count, out),
         ListAnswer::Refused(_, needed) => refused_line(out, 0, 7, needed as u64),
@@ -30,12 +39,12 @@ fn scene_report(positions: &[i32], edges: &[u16], triangles: &[u16], out: &mut [
 }
 
 // The whole report of a text.
-pub fn write_report(text: &[u8], out: &mut [u8; 65536]) -> usize
+pub fn write_report(text: &[u8], out: &mut [u8; REPORT_BYTES]) -> usize
     ensures { λ r. ⌜ Reported (now (text .entry)) (now (out .entry)) (now (out .exit)) r ⌝ }
 {
-    let mut positions = [0i32; 3072];
-    let mut edges = [0u16; 2048];
-    let mut triangles = [0u16; 1536];
+    let mut positions = [0i32; POSITION_NUMBERS];
+    let mut edges = [0u16; EDGE_NUMBERS];
+    let mut triangles = [0u16; TRIANGLE_NUMBERS];
     match scene_text::read_scene(text, &mut positions, &mut edges, &mut triangles) {
         TextAnswer::Read(counts) => {
             let p = 6 * counts.vertices;
@@ -49,7 +58,7 @@ pub fn write_report(text: &[u8], out: &mut [u8; 65536]) -> usize
 
 // The report of what was read of a text into a buffer that is longer than a text may be. Where it fills the buffer, the text is too long
 // however it goes on; else it is the text.
-fn front_report(read: &[u8], count: usize, out: &mut [u8; 65536]) -> usize
+fn front_report(read: &[u8], count: usize, out: &mut [u8; REPORT_BYTES]) -> usize
     requires { ⌜ textLimit < length (now read) ⌝ }
     ensures { λ r. ⌜ ReportedRead (now (read .entry)) count (now (out .entry)) (now (out .exit)) r ⌝ }
 {
@@ -59,8 +68,8 @@ fn front_report(read: &[u8], count: usize, out: &mut [u8; 65536]) -> usize
     refused_line(out, 0, 8, 0)
 }
 
-// The report of what a program read: the first `count` bytes of a buffer that is one byte longer than a text may be.
-pub fn report_read(read: &[u8; 32769], count: usize, out: &mut [u8; 65536]) -> usize
+// The report of what a program read: the first `count` bytes of its buffer.
+pub fn report_read(read: &[u8; READ_BYTES], count: usize, out: &mut [u8; REPORT_BYTES]) -> usize
     ensures { λ r. ⌜ ReportedRead (now (read .entry)) count (now (out .entry)) (now (out .exit)) r ⌝ }
 {
     front_report(read, count, out)

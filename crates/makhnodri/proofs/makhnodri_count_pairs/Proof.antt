@@ -1,6 +1,6 @@
 use borrow.Author.Needs.{needs}
 use Rattle.meaning.specs.Scene.{sceneOf}
-use Rattle.makhnodri.specs.Small.{counted-small}
+use Rattle.answer_numbers.specs.Small.{counted-small}
 use Rattle.makhnodri.proofs.makhnodri_count_pairs.Statement.{statement}
 use Rattle.makhnodri.proofs.makhnodri_count_pairs.Tie as tie
 

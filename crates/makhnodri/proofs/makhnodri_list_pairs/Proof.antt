@@ -1,5 +1,5 @@
 use borrow.Author.Needs.{needs}
-use Rattle.makhnodri.specs.Small.{listing-small}
+use Rattle.answer_numbers.specs.Small.{listing-small}
 use Rattle.makhnodri.proofs.makhnodri_list_pairs.Statement.{statement}
 use Rattle.makhnodri.proofs.makhnodri_list_pairs.Tie as tie
 

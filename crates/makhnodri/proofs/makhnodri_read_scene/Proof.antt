@@ -1,5 +1,5 @@
 use borrow.Author.Needs.{needs}
-use Rattle.makhnodri.specs.Telling.{text-line, text-read, text-refused}
+use Rattle.answer_numbers.specs.Telling.{text-line, text-read, text-refused}
 use Rattle.makhnodri.proofs.makhnodri_read_scene.Statement.{statement}
 use Rattle.makhnodri.proofs.makhnodri_read_scene.Tie as tie
 

@@ -1,5 +1,5 @@
 use borrow.Author.Needs.{needs}
-use Rattle.makhnodri.specs.Small.{judging-small}
+use Rattle.answer_numbers.specs.Small.{judging-small}
 use Rattle.makhnodri.proofs.makhnodri_settle_scene.Statement.{statement}
 use Rattle.makhnodri.proofs.makhnodri_settle_scene.Tie as tie
 

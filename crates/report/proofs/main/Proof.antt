@@ -1,11 +1,12 @@
 use Prim.Native.Nat.{ℕ, _≤_}
-use mathlib.Core.List.{List, [], append-nil}
-use mathlib.Core.Path.{refl, sym, ap}
+use mathlib.Core.List.{List}
+use mathlib.Core.Path.{sym, ap}
 use native.Mathlib.Omega.{arith}
 use lib.ListN.{length, take, length-append}
 use lib.Seq.{length-take-le}
 use borrow.Author.Needs.{needs}
 use Rattle.meaning.specs.Report.{Reported, ReportedRead}
+use Rattle.meaning.specs.ReadShown.{front-read}
 use Rattle.report.proofs.main.Statement.{statement}
 use Rattle.report.proofs.main.Tie as tie
 use Rattle.report.proofs.main.Reads as reads
@@ -18,8 +19,7 @@ use Rattle.summary.proofs.report_read.Reads as report-read-reads
 -- a report fits the buffer that it stands in
 fits : {buffer o o′ : List ℕ} {count n : ℕ} → ReportedRead buffer count o o′ n → n ≤ length o′
 fits {buffer} {o} {o′} {count} {n} r =
-    let p : Reported (take count buffer) o o′ n =
-    r (take count buffer) (record { rest = []; front = sym (append-nil (take count buffer)); ended = λ below. refl }) in
+    let p : Reported (take count buffer) o o′ n = r (take count buffer) (front-read buffer count) in
     omega (arith, p .length-is, simp length-append at (ap length (p .buffer)))
 
 -- src/main.rt:14:51

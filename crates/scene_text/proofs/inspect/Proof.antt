@@ -37,7 +37,7 @@ loop-less c =
     let line = c .before .before .before .before .before in
     let i = line .before .before .before .before .loop .inv .0 in
     let on = inspect-goes i (line .next-line .last .1 .1 .1 .0) (line .next-line .last .1 .1 .1 .1 .0) (line .next-line .ensures) (c .before .after .given .1) in
-    omega (arith, on .1, i .within, on .0 .within)
+    omega (arith, on .1, i .reached .within, on .0 .reached .within)
 
 loop-again : tie.Need-loop-again Inv-loop μ-loop
 loop-again c =

@@ -7,7 +7,7 @@ use Prim.Native.Nat.{ℕ, _≤_, _<_, _-_, zero-le}
 use mathlib.Core.Logic.{⊎-elim, ⊎-swap}
 use Rattle.corner_search.specs.Says.{NoneWithout}
 use Rattle.corner_search.specs.Step.{toTry, falls-without, falls-handed, none-yet, more, not-left, on-a-side, found, not-found, says-answer, says-tried, says-last}
-use Rattle.corner_search.proofs.Tags.{is-open, decided}
+use Rattle.corner_leaf.proofs.Tags.{is-open, decided}
 use borrow.Fn.Kinds.{In}
 use borrow.Fn.PlainCycle.{Measures, is, falls, and}
 use Rattle.corner_search.proofs.search.first.Reads as first

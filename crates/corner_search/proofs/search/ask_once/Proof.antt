@@ -2,7 +2,7 @@
 use borrow.Author.Needs.{needs}
 use mathlib.Core.Path.{_≡_, sym, _∙_, ap}
 use mathlib.Core.Bool.{Bool, false, cond}
-use Rattle.corner_search.specs.declared.leaf.Leaf.{Leaf}
+use Rattle.corner_leaf.specs.declared.Leaf.{Leaf}
 use Rattle.corner_search.proofs.search.ask_once.Statement.{statement}
 use Rattle.corner_search.proofs.search.ask_once.Tie as tie
 

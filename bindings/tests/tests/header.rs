@@ -1,0 +1,88 @@
+//! The C header says the same as the wrapper: version, sizes, words, kinds and refusals.
+
+use makhnodri::*;
+use std::collections::BTreeMap;
+
+fn header_text() -> String {
+    std::fs::read_to_string(concat!(env!("CARGO_MANIFEST_DIR"), "/../../include/makhnodri.h")).unwrap()
+}
+
+/// What the header defines, by `#define NAME NUMBER` or as `NAME = NUMBER` in an enum.
+fn header() -> BTreeMap<String, i64> {
+    let text = header_text();
+    let numbered = |line: &str| {
+        let mut words =
+            line.trim().trim_start_matches("#define ").split([' ', ',']).filter(|word| !word.is_empty() && *word != "=");
+        let name = words.next()?.strip_prefix("MAKHNODRI_")?.to_string();
+        Some((name, words.next()?.parse().ok()?))
+    };
+    text.lines().filter_map(numbered).collect()
+}
+
+const REFUSALS: [(&str, Refusal); 12] = [
+    ("SHAPE", Refusal::Shape),
+    ("COORDINATE", Refusal::Coordinate),
+    ("UNKNOWN_VERTEX", Refusal::UnknownVertex),
+    ("REPEATED_VERTEX", Refusal::RepeatedVertex),
+    ("NOT_THERE", Refusal::NotThere),
+    ("SHARED_VERTEX", Refusal::SharedVertex),
+    ("NO_ROOM", Refusal::NoRoom),
+    ("LONG_TEXT", Refusal::LongText),
+    ("BAD_LINE", Refusal::BadLine),
+    ("LATE_RECORD", Refusal::LateRecord),
+    ("TOO_MANY", Refusal::TooMany),
+    ("SHORT_BUFFER", Refusal::ShortBuffer),
+];
+
+#[test]
+fn the_header_has_the_same_numbers() {
+    let mut version = VERSION.split('.').map(|part| part.parse().unwrap());
+    let limits = [
+        ("VERSION_MAJOR", version.next().unwrap()),
+        ("VERSION_MINOR", version.next().unwrap()),
+        ("VERSION_PATCH", version.next().unwrap()),
+        ("COORDINATE_LIMIT", COORDINATE_LIMIT as usize),
+        ("VERTEX_LIMIT", VERTEX_LIMIT),
+        ("EDGE_LIMIT", EDGE_LIMIT),
+        ("TRIANGLE_LIMIT", TRIANGLE_LIMIT),
+        ("TEXT_LIMIT", TEXT_LIMIT),
+        ("REPORT_ROOM", REPORT_ROOM),
+        ("PAIR_LIMIT", PAIR_LIMIT),
+        ("POSITIONS_LENGTH", POSITIONS_LENGTH),
+        ("EDGES_LENGTH", EDGES_LENGTH),
+        ("TRIANGLES_LENGTH", TRIANGLES_LENGTH),
+        ("REPORT_LENGTH", REPORT_LENGTH),
+        ("STACK", STACK),
+        ("HIT", Verdict::Hit as usize),
+        ("MISS", Verdict::Miss as usize),
+        ("DEGENERATE", Verdict::Degenerate as usize),
+        ("TOUCH", Settled::Touch as usize),
+        ("APART", Settled::Apart as usize),
+        ("PT", Kind::PointTriangle as usize),
+        ("EE", Kind::EdgeEdge as usize),
+    ];
+    let numbers = REFUSALS.map(|(name, refusal)| (name, refusal.number() as usize));
+    let wanted = limits.into_iter().chain(numbers).map(|(name, number)| (name.to_string(), number as i64));
+    assert_eq!(header(), wanted.collect());
+    assert_eq!((Settled::Hit as usize, Settled::Miss as usize), (Verdict::Hit as usize, Verdict::Miss as usize));
+    assert!(header_text().contains(&format!("#define MAKHNODRI_VERSION \"{VERSION}\"")));
+}
+
+/// `case MAKHNODRI_NAME: return "words";`
+fn returned(name: &str) -> String {
+    let text = header_text();
+    let case = format!("case MAKHNODRI_{name}: return \"");
+    let from = text.find(&case).unwrap_or_else(|| panic!("no words for {name}")) + case.len();
+    text[from..].split('"').next().unwrap().to_string()
+}
+
+#[test]
+fn the_header_has_the_same_words() {
+    for (name, refusal) in REFUSALS {
+        assert_eq!(returned(name), refusal.words());
+    }
+    for word in [Settled::Hit, Settled::Miss, Settled::Touch, Settled::Apart] {
+        assert_eq!(returned(&format!("{word:?}").to_uppercase()), format!("{word:?}").to_lowercase());
+    }
+    assert_eq!(returned("DEGENERATE"), "degenerate");
+}

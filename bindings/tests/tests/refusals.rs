@@ -1,0 +1,306 @@
+//! The refusals that the report program never prints: 1, 5, 6 and 12, each with all its causes, and in their place in the order.
+//! Each is asked of every function that can give it, and leaves every buffer as it was.
+
+use compare::cases::PRINTED_SCENE;
+use compare::text::read;
+use makhnodri::{Kind, Refusal, TextRefusal};
+use makhnodri_tests::*;
+
+/// Five vertices, three edges, two triangles, and pairs of both kinds that share nothing.
+fn good() -> Flat {
+    let mut flat = Flat::of(&read(PRINTED_SCENE.as_bytes()).unwrap());
+    flat.edges.extend([1, 2]);
+    flat.triangles.extend([2, 1, 0]);
+    flat
+}
+
+fn refused_by_all(flat: &Flat, number: u64) {
+    let before = flat.clone();
+    for (question, answer) in every_answer(flat) {
+        assert_eq!(answer, Err((number, 0)), "{question}");
+    }
+    assert_eq!(*flat, before);
+}
+
+fn with(change: impl Fn(&mut Flat)) -> Flat {
+    let mut flat = good();
+    change(&mut flat);
+    flat
+}
+
+// ---- 1
+
+/// Each way to have the wrong shape.
+fn wrong_shapes() -> Vec<Flat> {
+    let mut out = Vec::new();
+    for extra in 1..6 {
+        out.push(with(|flat| flat.positions.extend(vec![0; extra])));
+        out.push(with(|flat| flat.positions.truncate(extra)));
+    }
+    out.push(with(|flat| flat.edges.push(0)));
+    for extra in 1..3 {
+        out.push(with(|flat| flat.triangles.extend(vec![0; extra])));
+    }
+    out.push(with(|flat| flat.positions.resize(6 * 513, 0)));
+    out.push(with(|flat| flat.edges.extend([0, 1].repeat(1_022))));
+    out.push(with(|flat| flat.triangles.extend([0, 1, 2].repeat(511))));
+    out
+}
+
+#[test]
+fn a_wrong_shape_is_refused_before_all_else() {
+    for flat in wrong_shapes() {
+        refused_by_all(&flat, 1);
+        let worse = |change: &dyn Fn(&mut Flat)| {
+            let mut flat = flat.clone();
+            change(&mut flat);
+            refused_by_all(&flat, 1);
+        };
+        worse(&|flat| flat.positions[0] = 262_144);
+        worse(&|flat| flat.edges[0] = 60_000);
+        worse(&|flat| flat.triangles[0] = flat.triangles[1]);
+    }
+}
+
+#[test]
+fn the_sizes_themselves_are_taken() {
+    let mut full = good();
+    full.positions.resize(6 * 512, 9);
+    full.edges.extend([0, 1].repeat(1_021));
+    full.triangles.extend([0, 1, 2].repeat(510));
+    assert_eq!(full.scene().check_scene(), Ok(()));
+    assert_eq!(good().scene().check_scene(), Ok(()));
+    assert_eq!(Flat::default().scene().check_scene(), Ok(()));
+    assert_eq!(Flat::default().scene().settled(), Ok(vec![]));
+}
+
+// ---- 2, 3, 4 of slices, each over the whole scene before the next
+
+#[test]
+fn the_four_checks_go_in_order_over_the_whole_scene() {
+    let far: [fn(&mut Flat); 4] = [
+        |flat| flat.positions[0] = 262_144,
+        |flat| *flat.positions.last_mut().unwrap() = -262_144,
+        |flat| flat.positions[7] = i32::MAX,
+        |flat| flat.positions[7] = i32::MIN,
+    ];
+    let unknown: [fn(&mut Flat); 4] = [
+        |flat| flat.edges[0] = 5,
+        |flat| flat.edges[5] = u16::MAX,
+        |flat| flat.triangles[0] = 5,
+        |flat| flat.triangles[5] = u16::MAX,
+    ];
+    let twice: [fn(&mut Flat); 4] = [
+        |flat| flat.edges[0] = flat.edges[1],
+        |flat| flat.triangles[3] = flat.triangles[4],
+        |flat| flat.triangles[3] = flat.triangles[5],
+        |flat| flat.triangles[4] = flat.triangles[5],
+    ];
+    for first in far {
+        refused_by_all(&with(first), 2);
+        unknown.iter().chain(&twice).for_each(|second| refused_by_all(&with(|flat| (first(flat), second(flat)).1), 2));
+    }
+    for first in unknown {
+        refused_by_all(&with(first), 3);
+        twice.iter().for_each(|second| refused_by_all(&with(|flat| (second(flat), first(flat)).1), 3));
+    }
+    twice.iter().for_each(|fault| refused_by_all(&with(fault), 4));
+    for edge in [262_143, -262_143] {
+        assert_eq!(with(|flat| flat.positions[0] = edge).scene().check_scene(), Ok(()));
+    }
+}
+
+// ---- 5
+
+/// Places that are not there, some of which come to a small offset when they are multiplied in 64 bits.
+fn beyond(count: usize) -> Vec<usize> {
+    let wraps = [2, 3, 6].map(|width: u64| (u64::MAX / width + 1) as usize);
+    let mut out = vec![count, count + 1, 65_535, 65_536, usize::MAX];
+    out.extend(wraps.iter().flat_map(|&place| [place, place + 1]));
+    out
+}
+
+/// The pair and these pieces, asked for in three words and in four.
+fn asked(flat: &Flat, kind: Kind, first: usize, second: usize, pieces: &[usize]) -> Vec<Result<(), Refusal>> {
+    let scene = flat.scene();
+    let mut out = vec![scene.judge_pair(kind, first, second).map(drop), scene.settle_pair(kind, first, second).map(drop)];
+    for &piece in pieces {
+        out.push(scene.judge_piece(kind, first, second, piece).map(drop));
+        out.push(scene.settle_piece(kind, first, second, piece).map(drop));
+    }
+    out
+}
+
+#[test]
+fn what_is_not_there_is_refused_before_what_it_shares() {
+    let flat = good();
+    let not_there = |kind: Kind, first: usize, second: usize| {
+        for answer in asked(&flat, kind, first, second, &[0, 1, 2, 3, 4, usize::MAX]) {
+            assert_eq!(answer, Err(Refusal::NotThere), "{kind:?} {first} {second}");
+        }
+    };
+    let (vertices, edges, triangles) = (5, 3, 2);
+    for place in beyond(vertices) {
+        (0..triangles).for_each(|triangle| not_there(Kind::PointTriangle, place, triangle));
+        beyond(triangles).iter().for_each(|&triangle| not_there(Kind::PointTriangle, place, triangle));
+    }
+    for place in beyond(triangles) {
+        (0..vertices).for_each(|vertex| not_there(Kind::PointTriangle, vertex, place));
+    }
+    for place in beyond(edges) {
+        (0..edges).for_each(|other| not_there(Kind::EdgeEdge, place, other));
+        (0..edges).for_each(|other| not_there(Kind::EdgeEdge, other, place));
+        beyond(edges).iter().for_each(|&other| not_there(Kind::EdgeEdge, place, other));
+    }
+}
+
+#[test]
+fn nothing_is_there_in_an_empty_scene() {
+    for kind in KINDS {
+        assert!(asked(&Flat::default(), kind, 0, 0, &[0, 3]).iter().all(|answer| *answer == Err(Refusal::NotThere)));
+    }
+}
+
+#[test]
+fn a_piece_that_is_not_there_is_refused_before_what_the_pair_shares() {
+    let flat = good();
+    for (kind, pieces) in [(Kind::PointTriangle, 3), (Kind::EdgeEdge, 4)] {
+        for (first, second) in [(3, 0), (0, 0), (1, 0), (0, 1)] {
+            for piece in beyond(pieces) {
+                assert_eq!(flat.scene().judge_piece(kind, first, second, piece), Err(Refusal::NotThere));
+                assert_eq!(flat.scene().settle_piece(kind, first, second, piece), Err(Refusal::NotThere));
+            }
+        }
+    }
+    assert!((0..3).all(|piece| flat.scene().judge_piece(Kind::PointTriangle, 3, 0, piece).is_ok()));
+    assert!((0..3).all(|piece| flat.scene().settle_piece(Kind::PointTriangle, 3, 0, piece).is_ok()));
+    assert!((0..4).all(|piece| flat.scene().judge_piece(Kind::EdgeEdge, 0, 1, piece).is_ok()));
+    assert!((0..4).all(|piece| flat.scene().settle_piece(Kind::EdgeEdge, 0, 1, piece).is_ok()));
+}
+
+// ---- 6
+
+#[test]
+fn each_shared_corner_is_refused() {
+    for order in [[0, 1, 2], [0, 2, 1], [1, 0, 2], [1, 2, 0], [2, 0, 1], [2, 1, 0]] {
+        let flat = with(|flat| flat.triangles[..3].copy_from_slice(&order));
+        for vertex in 0..3 {
+            for answer in asked(&flat, Kind::PointTriangle, vertex, 0, &[0, 1, 2]) {
+                assert_eq!(answer, Err(Refusal::SharedVertex));
+            }
+        }
+        for vertex in 3..5 {
+            assert!(asked(&flat, Kind::PointTriangle, vertex, 0, &[0, 1, 2]).iter().all(Result::is_ok));
+        }
+    }
+}
+
+#[test]
+fn each_shared_end_is_refused_and_an_edge_with_itself() {
+    // one end in common, in each of four ways; the same edge again; the same the other way round
+    for second in [[0, 2], [2, 0], [1, 2], [2, 1], [0, 1], [1, 0]] {
+        let flat = with(|flat| flat.edges[2..4].copy_from_slice(&second));
+        for (first, second) in [(0, 1), (1, 0), (0, 0), (1, 1), (2, 2)] {
+            for answer in asked(&flat, Kind::EdgeEdge, first, second, &[0, 1, 2, 3]) {
+                assert_eq!(answer, Err(Refusal::SharedVertex));
+            }
+        }
+    }
+    assert!(asked(&good(), Kind::EdgeEdge, 0, 1, &[0, 1, 2, 3]).iter().all(Result::is_ok));
+}
+
+/// A pair that shares a vertex is in no list either, however its boxes lie.
+#[test]
+fn no_listed_pair_shares_a_vertex() {
+    for pair in good().scene().listed().unwrap() {
+        assert!(good().scene().judge_pair(pair.kind, pair.first, pair.second).is_ok());
+    }
+}
+
+// ---- 7 last, with the count needed
+
+#[test]
+fn room_is_the_smaller_of_the_two_and_the_last_check() {
+    let flat = good();
+    let count = flat.scene().count_pairs().unwrap();
+    assert!(count > 1);
+    for room in 0..count {
+        for spare in 0..3 {
+            assert_eq!(listed(&flat, room, spare), Err((7, count as u64)));
+            assert_eq!(settled(&flat, room, spare, count + 5), Err((7, count as u64)));
+        }
+        assert_eq!(settled(&flat, count + 5, 1, room), Err((7, count as u64)));
+    }
+    assert!(listed(&flat, count, 0).is_ok() && settled(&flat, count, 0, count).is_ok());
+    let bad = with(|flat| flat.triangles[3] = flat.triangles[4]);
+    assert_eq!(listed(&bad, 0, 0), Err((4, 0)));
+    assert_eq!(settled(&bad, 0, 0, 0), Err((4, 0)));
+}
+
+// ---- 12
+
+/// Reads into buffers of these lengths, and holds every number behind the scene, or all of them after a refusal, to what it was.
+fn read_into(text: &[u8], lengths: [usize; 3]) -> Answer<Flat> {
+    let mut positions: Vec<i32> = painted(lengths[0]);
+    let (mut edges, mut triangles): (Vec<u16>, Vec<u16>) = (painted(lengths[1]), painted(lengths[2]));
+    let before = (positions.clone(), edges.clone(), triangles.clone());
+    let answer = makhnodri::read_scene(text, &mut positions, &mut edges, &mut triangles);
+    let counts = answer.unwrap_or_default();
+    let (p, e, t) = (6 * counts.vertices, 2 * counts.edges, 3 * counts.triangles);
+    assert_eq!(positions[p..], before.0[p..]);
+    assert_eq!(edges[e..], before.1[e..]);
+    assert_eq!(triangles[t..], before.2[t..]);
+    let flat = Flat { positions: positions[..p].to_vec(), edges: edges[..e].to_vec(), triangles: triangles[..t].to_vec() };
+    answer.map(|_| flat).map_err(of_text)
+}
+
+const LENT: [usize; 3] = [3_072, 2_048, 1_536];
+
+#[test]
+fn a_short_buffer_is_refused_before_the_text_is_looked_at() {
+    let (long, bad) = ([b'\n'; 32_769], b"x");
+    for text in [PRINTED_SCENE.as_bytes(), b"", &long, bad] {
+        for buffer in 0..3 {
+            for short in [0, 1, LENT[buffer] - 6, LENT[buffer] - 1] {
+                let mut lengths = LENT;
+                lengths[buffer] = short;
+                assert_eq!(read_into(text, lengths), Err((12, 0)));
+                lengths[(buffer + 1) % 3] = 0;
+                assert_eq!(read_into(text, lengths), Err((12, 0)));
+            }
+        }
+        assert_eq!(read_into(text, [0; 3]), Err((12, 0)));
+    }
+    assert_eq!(read_into(&long, LENT), Err((8, 0)));
+    assert_eq!(read_into(bad, LENT), Err((9, 1)));
+}
+
+#[test]
+fn buffers_that_are_long_enough_hold_the_scene_in_front() {
+    let printed = Flat::of(&read(PRINTED_SCENE.as_bytes()).unwrap());
+    for more in [0, 1, 7] {
+        assert_eq!(read_into(PRINTED_SCENE.as_bytes(), LENT.map(|length| length + more)), Ok(printed.clone()));
+        assert_eq!(read_into(b"", LENT.map(|length| length + more)), Ok(Flat::default()));
+    }
+}
+
+/// Refused with a line, or read: what the independent reader says, of every text at an edge of the rules.
+#[test]
+fn texts_at_the_edges_of_the_rules() {
+    let mut numbers = std::collections::BTreeSet::new();
+    for case in compare::cases::text_cases() {
+        let wanted = compare::text::read_lent(&case.text, LENT[0], LENT[1], LENT[2]);
+        let wanted = wanted.map(|scene| Flat::of(&scene)).map_err(|refusal| (refusal.number, refusal.third));
+        assert_eq!(read_into(&case.text, LENT), wanted, "{}", case.name);
+        numbers.extend(wanted.err().map(|(number, _)| number));
+    }
+    assert_eq!(numbers.into_iter().collect::<Vec<u64>>(), [2, 3, 4, 8, 9, 10, 11]);
+}
+
+#[test]
+fn refusals_tell_what_they_are() {
+    assert_eq!(Refusal::NotThere.to_string(), "refused 5: a vertex, edge, triangle or piece asked for that isn't there");
+    let line = TextRefusal::Line { refusal: Refusal::BadLine, line: 3 };
+    assert_eq!(line.to_string(), "line 3: refused 9: a line not of the form, or a last line without LF");
+    assert_eq!(makhnodri::ListRefusal::NoRoom { needed: 2 }.to_string(), "refused 7: more listed pairs than room, 2 needed");
+}

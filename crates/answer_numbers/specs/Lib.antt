@@ -1,0 +1,5 @@
+-- An answer as one number, and back.
+pub mod Numbers
+pub mod Small
+pub mod Telling
+pub mod Back

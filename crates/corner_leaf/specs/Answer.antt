@@ -1,0 +1,84 @@
+-- What the corners left say by themselves, computed: a base at the start and one at the end, the four volumes in up to three turns of the axes,
+-- and the signs of the first that are not all 0.
+use Prim.Native.Nat.{ℕ}
+use mathlib.Core.Path.{_≡_, sym, _∙_, ap}
+use mathlib.Core.Bool.{Bool, true, false, not, cond, _&&_}
+use mathlib.Core.List.{List}
+use lib.Dec.{ltb}
+use lib.IntN.{ℤ}
+use Rattle.whole.specs.Vector.{Vector}
+use Rattle.whole.specs.Cramer.{Four, each, volumes}
+use Rattle.exact.specs.Places.{apart}
+use Rattle.exact.specs.declared.arrows.Arrow.{Arrow}
+use Rattle.exact.specs.declared.arrows.Arrow.the-variants.{Between, Axis}
+use Rattle.sign_sums.specs.OneWay.{oneWay, zeroBut}
+use Rattle.corner_leaf.specs.declared.SixPoints.{SixPoints}
+use Rattle.corner_leaf.specs.declared.Leaf.{Leaf}
+use Rattle.corner_leaf.specs.declared.Leaf.the-variants.{Yes, No, Open}
+use Rattle.corner_laws.specs.Others.{othersOf}
+use Rattle.corner_laws.specs.Filled.{filled}
+use Rattle.corner_leaf.specs.Points.{offset, atEnd, isLeft}
+use Rattle.corner_leaf.specs.First.{firstOf}
+
+abbrev pub sameBool : Bool → Bool → Bool
+sameBool true b = b
+sameBool false b = not b
+
+-- the first corner left at the start, or at the end; where none is left, one of that time
+unfoldable pub baseOf : SixPoints → List Bool → Bool → ℕ
+baseOf six left end = firstOf (λ i. isLeft left i && sameBool (atEnd six i) end) 0 6 (cond end 5 0)
+
+-- a corner's place seen from the base of its time
+abbrev pub seenFrom : List ℤ → SixPoints → ℕ → ℕ → ℕ → Vector
+seenFrom ps six s e i = apart ps (offset six i) (offset six (cond (atEnd six i) e s))
+
+-- what stands in a corner's slot, as code hands it on
+unfoldable pub arrowAt : SixPoints → List Bool → ℕ → ℕ → ℕ → ℕ → Arrow
+arrowAt six left s e i f = cond (isLeft left i) (Between (offset six i) (offset six (cond (atEnd six i) e s))) (Axis f)
+
+abbrev pub slotsAt : List ℤ → SixPoints → List Bool → ℕ → ℕ → ℕ → Four Vector
+slotsAt ps six left s e f = filled f (each (isLeft left) (othersOf s e)) (each (seenFrom ps six s e) (othersOf s e))
+
+abbrev pub none : Four Bool
+none = record { v0 = false; v1 = false; v2 = false; v3 = false }
+
+-- the numbers n of the corners q are 0 for those left out, and of one sign
+abbrev pub fitting : SixPoints → List Bool → ℕ → ℕ → Four ℕ → Four ℤ → Bool
+fitting six left s e q n =
+    zeroBut (each (isLeft left) q) n
+    && oneWay (each (atEnd six) q) (each (λ i. ltb i (six .first)) q) (ltb s (six .first)) (ltb e (six .first)) n
+
+unfoldable pub judgedBy : SixPoints → List Bool → ℕ → ℕ → Four ℕ → Four ℤ → Leaf
+judgedBy six left s e q n = cond (zeroBut none n) Open (cond (fitting six left s e q n) Yes No)
+
+unfoldable pub turnOf : List ℤ → SixPoints → List Bool → ℕ → ℕ → ℕ → Leaf
+turnOf ps six left s e f = judgedBy six left s e (othersOf s e) (volumes (slotsAt ps six left s e f))
+
+-- the first that is not open
+unfoldable pub otherwise : Leaf → Leaf → Leaf
+otherwise Yes r = Yes
+otherwise No r = No
+otherwise Open r = r
+
+unfoldable pub leafOf : List ℤ → SixPoints → List Bool → Leaf
+leafOf ps six left = otherwise (turn 0) (otherwise (turn 1) (turn 2))
+  where
+    turn : ℕ → Leaf
+    turn = turnOf ps six left (baseOf six left false) (baseOf six left true)
+
+-- ---- case by case
+
+module _ (six : SixPoints) (left : List Bool) (s e : ℕ) (q : Four ℕ) (n : Four ℤ) where
+  pub judged-open : zeroBut none n ≡ true → Open ≡ judgedBy six left s e q n
+  unfolding judgedBy
+  judged-open h = ap (λ c. cond c Open (cond (fitting six left s e q n) Yes No)) (sym h)
+
+  judged : (z t : Bool) → zeroBut none n ≡ z → fitting six left s e q n ≡ t → cond z Open (cond t Yes No) ≡ judgedBy six left s e q n
+  unfolding judgedBy
+  judged z t h k = λ i. cond (sym h i) Open (cond (sym k i) Yes No)
+
+  pub judged-yes : zeroBut none n ≡ false → fitting six left s e q n ≡ true → Yes ≡ judgedBy six left s e q n
+  judged-yes = judged false true
+
+  pub judged-no : zeroBut none n ≡ false → fitting six left s e q n ≡ false → No ≡ judgedBy six left s e q n
+  judged-no = judged false false

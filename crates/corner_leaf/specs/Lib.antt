@@ -1,0 +1,8 @@
+-- What the corners left say by themselves.
+pub mod Points
+pub mod First
+pub mod Answer
+pub mod Base
+pub mod Tests
+pub mod Right
+pub mod Slotted

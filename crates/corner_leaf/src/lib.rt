@@ -1,0 +1,174 @@
+// What the corners left say by themselves: weights, no weights, or nothing yet.
+
+ghost use mathlib.Core.Bool.{cond, _&&_};
+ghost use mathlib.Core.Path.{_≡_};
+ghost use Prim.Native.Nat.{_+_, _≤_, _<_, min, max};
+ghost use Rattle.whole.specs.Cramer.{volumes};
+ghost use Rattle.exact.specs.Volumes.{four, fourOf, Holds, Small};
+ghost use Rattle.corner_laws.specs.Others.{skip, othersOf};
+ghost use Rattle.corner_laws.specs.Filled.{next};
+ghost use Rattle.corner_leaf.specs.Points.{isLeft, SixIn};
+ghost use Rattle.corner_leaf.specs.Answer.{sameBool, baseOf, arrowAt, slotsAt, judgedBy, turnOf, leafOf};
+use exact::Volumes;
+use exact::arrows::Arrow;
+use exact::arrows::arrow_volumes;
+use sign_sums::ways::one_way;
+use sign_sums::ways::zero_but;
+
+// The six points of a piece, those of the first simplex first: their places in the positions, which are at the end, and how many
+// are the first simplex's.
+pub struct SixPoints {
+    pub at: [usize; 6],
+    pub ends: [bool; 6],
+    pub first: usize,
+}
+
+pub enum Leaf {
+    Yes,
+    No,
+    Open,
+}
+
+// The k-th of the places other than i.
+fn skip(i: usize, k: usize) -> usize
+    requires { ⌜ k < 6 ⌝ }
+    ensures { λ r. ⌜ r ≡ skip i k ⌝ }
+{
+    if k < i { k } else { k + 1 }
+}
+
+// The k-th of the places other than s and e.
+fn other(s: usize, e: usize, k: usize) -> usize
+    requires { ⌜ k < 4 ⌝ }
+    ensures { λ r. ⌜ (r ≡ skip (max s e) (skip (min s e) k)) × (r < 6) ⌝ }
+{
+    if s < e {
+        skip(e, skip(s, k))
+    } else {
+        skip(s, skip(e, k))
+    }
+}
+
+// The axis for the slot after this one.
+fn next(left: bool, axis: usize) -> usize
+    requires { ⌜ axis < 6 ⌝ }
+    ensures { λ r. ⌜ (r ≡ next left axis) × (r ≤ axis + 1) ⌝ }
+{
+    if left { axis } else { axis + 1 }
+}
+
+// Is a corner left, and at the time that is asked for?
+fn stands(left: bool, at_end: bool, end: bool) -> bool
+    ensures { λ r. ⌜ r ≡ left && sameBool «at_end» end ⌝ }
+{
+    if at_end { left & end } else { left & !end }
+}
+
+// The first corner left at the start, or at the end; where none is left, one of that time.
+fn base(six: SixPoints, left: [bool; 6], end: bool) -> usize
+    ensures { λ r. ⌜ r ≡ baseOf six left end ⌝ }
+{
+    let mut i = 0;
+    while i < 6 {
+        if stands(left[i], six.ends[i], end) {
+            return i;
+        }
+        i += 1;
+    }
+    if end { 5 } else { 0 }
+}
+
+// The base of a corner's time.
+fn base_of(end: bool, s: usize, e: usize) -> usize
+    requires { ⌜ (s < 6) × (e < 6) ⌝ }
+    ensures { λ r. ⌜ (r ≡ cond end e s) × (r < 6) ⌝ }
+{
+    if end { e } else { s }
+}
+
+// What stands in the slot of corner i: its place seen from the base of its time, or an axis where it is left out.
+fn arrow(six: SixPoints, left: [bool; 6], s: usize, e: usize, i: usize, axis: usize) -> Arrow
+    requires { ⌜ (s < 6) × (e < 6) × (i < 6) ⌝ }
+    ensures { λ r. ⌜ r ≡ arrowAt six left s e i axis ⌝ }
+{
+    if left[i] {
+        let from = base_of(six.ends[i], s, e);
+        Arrow::Between(six.at[i], six.at[from])
+    } else {
+        Arrow::Axis(axis)
+    }
+}
+
+// The corners other than the bases, and what the volumes say of them.
+fn judge(
+    six: SixPoints,
+    left: [bool; 6],
+    s: usize,
+    e: usize,
+    q0: usize,
+    q1: usize,
+    q2: usize,
+    q3: usize,
+    v: Volumes,
+) -> Leaf
+    requires { ⌜ Small v × (q0 < 6) × (q1 < 6) × (q2 < 6) × (q3 < 6) ⌝ }
+    ensures { λ r. ⌜ r ≡ judgedBy six left s e (four q0 q1 q2 q3) (fourOf v) ⌝ }
+{
+    if zero_but(v, false, false, false, false) {
+        return Leaf::Open;
+    }
+    let first = six.first;
+    let out = zero_but(v, left[q0], left[q1], left[q2], left[q3]);
+    let signs = one_way(
+        v,
+        six.ends[q0],
+        six.ends[q1],
+        six.ends[q2],
+        six.ends[q3],
+        q0 < first,
+        q1 < first,
+        q2 < first,
+        q3 < first,
+        s < first,
+        e < first,
+    );
+    if out & signs { Leaf::Yes } else { Leaf::No }
+}
+
+// One turn of the axes.
+fn turn(positions: &[i32], six: SixPoints, left: [bool; 6], s: usize, e: usize, f: usize) -> Leaf
+    requires { ⌜ SixIn (now positions) six × (s < 6) × (e < 6) × (f < 3) ⌝ }
+    ensures { λ r. ⌜ r ≡ turnOf (now (positions .entry)) six left s e f ⌝ }
+{
+    let q0 = other(s, e, 0);
+    let q1 = other(s, e, 1);
+    let q2 = other(s, e, 2);
+    let q3 = other(s, e, 3);
+    let f1 = next(left[q0], f);
+    let f2 = next(left[q1], f1);
+    let f3 = next(left[q2], f2);
+    let a0 = arrow(six, left, s, e, q0, f);
+    let a1 = arrow(six, left, s, e, q1, f1);
+    let a2 = arrow(six, left, s, e, q2, f2);
+    let a3 = arrow(six, left, s, e, q3, f3);
+    let v = arrow_volumes(positions, a0, a1, a2, a3);
+    judge(six, left, s, e, q0, q1, q2, q3, v)
+}
+
+// Weights, no weights, or nothing yet: the first of three turns that says more than nothing.
+pub fn ask(positions: &[i32], six: SixPoints, left: [bool; 6]) -> Leaf
+    requires { ⌜ SixIn (now positions) six ⌝ }
+    ensures { λ r. ⌜ r ≡ leafOf (now (positions .entry)) six left ⌝ }
+{
+    let s = base(six, left, false);
+    let e = base(six, left, true);
+    let first = turn(positions, six, left, s, e, 0);
+    let Leaf::Open = first else {
+        return first;
+    };
+    let second = turn(positions, six, left, s, e, 1);
+    let Leaf::Open = second else {
+        return second;
+    };
+    turn(positions, six, left, s, e, 2)
+}

@@ -1,2 +1,0 @@
--- Laws that several proofs of this crate cite.
-mod Tags

@@ -1,0 +1,59 @@
+/*
+ * Null pointers with length 0: every function takes them for empty slices. Prints what it found, and ends with status 1 where an
+ * answer is not that of the empty scene or the empty text.
+ *
+ *     examples/c/run nothing
+ */
+#include "makhnodri.h"
+
+#include <stdio.h>
+#include <string.h>
+
+#define NO_SCENE NULL, 0, NULL, 0, NULL, 0
+
+static int wrong;
+
+static void hold(const char *asked, makhnodri_answer answer, uint32_t refusal, uint32_t value) {
+    if (makhnodri_refusal(answer) == refusal && makhnodri_value(answer) == value) return;
+    printf("%s: %s, %u\n", asked, makhnodri_refusal_words(makhnodri_refusal(answer)), (unsigned)makhnodri_value(answer));
+    wrong = 1;
+}
+
+int main(void) {
+    static int32_t positions[MAKHNODRI_POSITIONS_LENGTH];
+    static uint16_t edges[MAKHNODRI_EDGES_LENGTH], triangles[MAKHNODRI_TRIANGLES_LENGTH];
+    static uint8_t out[MAKHNODRI_REPORT_LENGTH];
+    size_t counts[3] = {7, 7, 7};
+
+    hold("check_scene", makhnodri_check_scene(NO_SCENE), 0, 0);
+    hold("count_pairs", makhnodri_count_pairs(NO_SCENE), 0, 0);
+    hold("list_pairs", makhnodri_list_pairs(NO_SCENE, NULL, 0), 0, 0);
+    hold("settle_scene", makhnodri_settle_scene(NO_SCENE, NULL, 0, NULL, 0), 0, 0);
+    hold("judge_pt", makhnodri_judge_pt(NO_SCENE, 0, 0), MAKHNODRI_NOT_THERE, 0);
+    hold("judge_ee", makhnodri_judge_ee(NO_SCENE, 0, 0), MAKHNODRI_NOT_THERE, 0);
+    hold("judge_pt_piece", makhnodri_judge_pt_piece(NO_SCENE, 0, 0, 0), MAKHNODRI_NOT_THERE, 0);
+    hold("judge_ee_piece", makhnodri_judge_ee_piece(NO_SCENE, 0, 0, 0), MAKHNODRI_NOT_THERE, 0);
+    hold("settle_pt", makhnodri_settle_pt(NO_SCENE, 0, 0), MAKHNODRI_NOT_THERE, 0);
+    hold("settle_ee", makhnodri_settle_ee(NO_SCENE, 0, 0), MAKHNODRI_NOT_THERE, 0);
+    hold("settle_pt_piece", makhnodri_settle_pt_piece(NO_SCENE, 0, 0, 0), MAKHNODRI_NOT_THERE, 0);
+    hold("settle_ee_piece", makhnodri_settle_ee_piece(NO_SCENE, 0, 0, 0), MAKHNODRI_NOT_THERE, 0);
+    hold("read_scene, no buffers", makhnodri_read_scene(NULL, 0, NO_SCENE, counts), MAKHNODRI_SHORT_BUFFER, 0);
+    hold("read_scene, no text",
+         makhnodri_read_scene(NULL, 0, positions, MAKHNODRI_POSITIONS_LENGTH, edges, MAKHNODRI_EDGES_LENGTH, triangles,
+                              MAKHNODRI_TRIANGLES_LENGTH, counts),
+         0, 0);
+    if (counts[0] || counts[1] || counts[2]) wrong = 1, puts("counts of no text");
+
+    static const char nothing[] = "total\t0\t0\t0\t0\t0\n";
+    size_t length = makhnodri_write_report(NULL, 0, out);
+    if (length != sizeof nothing - 1 || memcmp(out, nothing, length)) wrong = 1, puts("the report of no text");
+
+    /* one part lent, the others null: a vertex that is alone, and an edge without room for a list */
+    static const int32_t two[] = {0, 0, 0, 0, 0, 0, 1, 1, 1, 1, 1, 1};
+    static const uint16_t edge[] = {0, 1};
+    hold("a vertex alone", makhnodri_settle_scene(two, 6, NULL, 0, NULL, 0, NULL, 0, NULL, 0), 0, 0);
+    hold("an edge alone", makhnodri_settle_scene(two, 12, edge, 2, NULL, 0, NULL, 0, NULL, 0), 0, 0);
+    hold("edges without vertices", makhnodri_check_scene(NULL, 0, edge, 2, NULL, 0), MAKHNODRI_UNKNOWN_VERTEX, 0);
+    puts(wrong ? "null pointers: WRONG" : "null pointers with length 0 are empty slices to every function");
+    return wrong;
+}
