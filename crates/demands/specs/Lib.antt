@@ -10,9 +10,11 @@ pub mod Demand3
 pub mod Table
 pub mod Sending
 pub mod Cases
+pub mod InMotion
 pub mod SmallScenes
 pub mod OneAnswer
 pub mod OneText
+pub mod ReadTexts
 pub mod SameAnswer
 pub mod StillAccepted
 pub mod AnyWriting
@@ -21,5 +23,6 @@ pub mod NoCracks
 pub mod Columns
 pub mod FivePoints
 pub mod Printed
+pub mod AnyText
 pub mod Barred
 pub mod BarredLists

@@ -16,3 +16,4 @@ pub mod Text
 pub mod Report
 pub mod Contacts
 pub mod InMotion
+pub mod ReadShown

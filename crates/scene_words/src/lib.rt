@@ -7,11 +7,17 @@ ghost use Rattle.sequences.specs.Wrote.{written};
 ghost use Rattle.meaning.specs.Scene.{sceneIn, sceneAtEntry, Accepted};
 ghost use Rattle.meaning.specs.List.{pairs, roomOf};
 ghost use Rattle.meaning.specs.SceneWords.{byteOf, SettledScene};
-ghost use Rattle.scene_words.specs.Listed.{bytesOf, ListStands, WordByte};
+ghost use Rattle.scene_words.specs.Listed.{bytesOf, ListStands, StandsFor};
 ghost use Rattle.scene_words.specs.Answering.{SettledIn};
 use meaning::ListAnswer;
 use meaning::SceneAnswer;
 use meaning::Settled;
+
+// The answer to "which word does this byte stand for?".
+pub enum ByteAnswer {
+    Word(Settled),
+    NoWord,
+}
 
 // A word as the byte that stands for it in a lent buffer. No byte is 2, the number of degenerate: a number never stands for two words.
 pub fn byte_of(w: Settled) -> u8
@@ -25,21 +31,23 @@ pub fn byte_of(w: Settled) -> u8
     }
 }
 
-// And back, from a byte that stands for a word.
-pub fn word_of(byte: u8) -> Settled
-    requires { ⌜ WordByte byte ⌝ }
-    ensures { λ r. ⌜ byteOf r ≡ byte ⌝ }
+// And back: a buffer may hold any byte, and most stand for no word.
+pub fn word_of(byte: u8) -> ByteAnswer
+    ensures { λ r. ⌜ StandsFor byte r ⌝ }
 {
     if byte == 0 {
-        return Settled::Hit;
+        return ByteAnswer::Word(Settled::Hit);
     }
     if byte == 1 {
-        return Settled::Miss;
+        return ByteAnswer::Word(Settled::Miss);
     }
     if byte == 3 {
-        return Settled::Touch;
+        return ByteAnswer::Word(Settled::Touch);
     }
-    Settled::Apart
+    if byte == 4 {
+        return ByteAnswer::Word(Settled::Apart);
+    }
+    ByteAnswer::NoWord
 }
 
 // The k-th entry of the list, judged.

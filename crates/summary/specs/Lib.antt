@@ -3,3 +3,4 @@ pub mod Rendered
 pub mod Sizes
 pub mod Whole
 pub mod FromCalls
+pub mod ReadSoFar

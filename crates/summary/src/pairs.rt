@@ -11,11 +11,24 @@ ghost use Rattle.meaning.specs.List.{roomOf};
 ghost use Rattle.meaning.specs.Report.{totalLine};
 ghost use Rattle.scene_words.specs.Listed.{WordByte};
 ghost use Rattle.wording.specs.Counted.{TallyOf};
-ghost use Rattle.summary.specs.Rendered.{lineAt, verdictsIn};
+ghost use Rattle.summary.specs.Rendered.{verdictAt, lineAt, verdictsIn};
 ghost use Rattle.summary.specs.Sizes.{reportLength, Words, Held};
+use meaning::Settled;
+use scene_words::ByteAnswer;
 use wording::lines::pair_line;
 use wording::lines::total_line;
 use wording::tally::Tally;
+
+// The word of the k-th byte, which stands for one.
+fn verdict_at(verdicts: &[u8], k: usize) -> Settled
+    requires { ⌜ (k < length (now verdicts)) × WordByte (getD (now verdicts) k 0) ⌝ }
+    ensures { λ r. ⌜ r ≡ verdictAt (now (verdicts .entry)) k ⌝ }
+{
+    let ByteAnswer::Word(word) = scene_words::word_of(verdicts[k]) else {
+        return Settled::Apart; // never: the byte stands for a word
+    };
+    word
+}
 
 // The line of one entry.
 fn entry_line(list: &[u16], verdicts: &[u8], k: usize, out: &mut [u8], at: usize) -> usize
@@ -25,7 +38,7 @@ fn entry_line(list: &[u16], verdicts: &[u8], k: usize, out: &mut [u8], at: usize
     let kind = listing::entries::entry_kind(list, k);
     let first = listing::entries::entry_first(list, k);
     let second = listing::entries::entry_second(list, k);
-    let verdict = scene_words::word_of(verdicts[k]);
+    let verdict = verdict_at(verdicts, k);
     pair_line(out, at, kind, first as u64, second as u64, verdict)
 }
 
@@ -57,7 +70,7 @@ fn tally_of(verdicts: &[u8], count: usize) -> Tally
     };
     let mut k = 0;
     while k < count {
-        tally = tally.add(scene_words::word_of(verdicts[k]));
+        tally = tally.add(verdict_at(verdicts, k));
         k += 1;
     }
     tally

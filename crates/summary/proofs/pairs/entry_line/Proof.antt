@@ -1,13 +1,12 @@
 use borrow.Author.Needs.{needs}
 use Rattle.meaning.specs.List.{pair}
 use Rattle.meaning.specs.Report.{pairLine}
-use Rattle.scene_words.specs.Listed.{word-of-its-byte}
 use Rattle.wording.specs.Lines.{wrote-as}
 use Rattle.summary.proofs.pairs.entry_line.Statement.{statement}
 use Rattle.summary.proofs.pairs.entry_line.Tie as tie
 use Rattle.summary.proofs.pairs.entry_line.Reads as reads
 use Rattle.summary.proofs.pairs.entry_line.Lts as lts
-use Rattle.scene_words.proofs.word_of.Reads as word-of-reads
+use Rattle.summary.proofs.pairs.verdict_at.Reads as verdict-at-reads
 use Rattle.listing.proofs.entries.entry_first.Reads as entry-first-reads
 use Rattle.listing.proofs.entries.entry_kind.Reads as entry-kind-reads
 use Rattle.listing.proofs.entries.entry_second.Reads as entry-second-reads
@@ -25,13 +24,9 @@ entry-first-requires c κs = search needs
 entry-second-requires : tie.Need-entry-second-requires
 entry-second-requires c κs = search needs
 
--- src/pairs.rt:28:39
-shared-slice-read-word-of : tie.Need-shared-slice-read-word-of
-shared-slice-read-word-of c = search needs
-
 -- src/pairs.rt:28:9
-word-of-requires : tie.Need-word-of-requires
-word-of-requires c κs = search needs
+verdict-at-requires : tie.Need-verdict-at-requires
+verdict-at-requires c κs = search needs
 
 -- src/pairs.rt:29:5
 pair-line-requires : tie.Need-pair-line-requires
@@ -45,7 +40,7 @@ same-length c = search needs
 returns : tie.Need-returns
 returns c =
     wrote-as
-    (λ t. pairLine (pair (c .before .before .before .before .before .before .before .before .entry-kind .ensures t) (c .before .before .before .before .before .before .before .entry-first .ensures t) (c .before .before .before .before .before .before .entry-second .ensures t)) (word-of-its-byte (c .before .before .before .before .word-of .result) (c .before .before .before .before .word-of .ensures) t))
+    (λ t. pairLine (pair (c .before .before .before .before .before .before .before .entry-kind .ensures t) (c .before .before .before .before .before .before .entry-first .ensures t) (c .before .before .before .before .before .entry-second .ensures t)) (c .before .before .before .before .verdict-at .ensures t))
     (c .before .before .pair-line .ensures)
 
 pub entry-line-spec : {M : Type 1} → statement M
@@ -55,8 +50,7 @@ entry-line-spec =
     entry-kind-requires
     entry-first-requires
     entry-second-requires
-    shared-slice-read-word-of
-    word-of-requires
+    verdict-at-requires
     pair-line-requires
     same-length
     returns)
