@@ -81,7 +81,7 @@ extern "C" {
  *     list_pairs       49,512      settle_pt, settle_pt_piece   2,528
  *     settle_scene     50,024      settle_ee, settle_ee_piece   2,352
  *     read_scene          680      write_report                83,864
- *     turn_scene          200
+ *     turn_scene          168
  *
  * ---- An answer ----
  *

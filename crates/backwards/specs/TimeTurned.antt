@@ -60,7 +60,8 @@ touch-turned a b t = record {
     v : ℕ → ℤ
     v i = pos (t .v i)
 
-    same : (f : Event → ℤ) → total (λ e. f (timeTurned e)) u a ≡ total (λ e. f (timeTurned e)) v b → total f u (map timeTurned a) ≡ total f v (map timeTurned b)
+    same : (f : Event → ℤ) → total (λ e. f (timeTurned e)) u a ≡ total (λ e. f (timeTurned e)) v b
+        → total f u (map timeTurned a) ≡ total f v (map timeTurned b)
     same f e = total-map f timeTurned u a ∙ e ∙ sym (total-map f timeTurned v b)
 
 -- ---- turned twice
@@ -110,7 +111,8 @@ six-turned Forms.alone p q o = refl
 six-turned Forms.behind p q o = refl
 six-turned Forms.ahead p q o = refl
 
-singular-turned : (form : Form) (p q : Vector) (o : Four Event) → (determinantOf (formed form p q o) ≡ pos 0) ↔ (determinantOf (mapped timeTurned (formed form p q o)) ≡ pos 0)
+singular-turned : (form : Form) (p q : Vector) (o : Four Event)
+    → (determinantOf (formed form p q o) ≡ pos 0) ↔ (determinantOf (mapped timeTurned (formed form p q o)) ≡ pos 0)
 singular-turned form p q o =
     Iff·trans (singular-is form p q o)
     (Iff·trans (subst (λ (d : Four Vector). (factor form (volumes d) ≡ pos 0) ↔ (determinantOf (formed form q p (each timeTurned o)) ≡ pos 0)) (differences-turned p q o)
