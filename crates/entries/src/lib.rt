@@ -1,11 +1,13 @@
 // An entry of the list is one number: the kind's part, then the two places. Nothing else makes an entry or takes one apart.
 
-ghost use Prim.Native.Nat.{_+_, _<_};
+ghost use Prim.Native.Nat.{_+_, _≤_, _<_};
 ghost use mathlib.Core.List.{[], _∷_};
 ghost use mathlib.Core.Path.{_≡_};
+ghost use lib.ListN.{length};
 ghost use Rattle.meaning.specs.List.{pair, kindPart, number, roomOf};
 ghost use Rattle.entries.specs.Entries.{kindOf, firstOf, secondOf};
 ghost use Rattle.entries.specs.Entering.{Entered};
+ghost use Rattle.entries.specs.UpTo.{kept};
 use meaning::Kind;
 
 // How many entries a lent buffer has room for.
@@ -38,6 +40,16 @@ pub fn put(list: &mut [u32], k: usize, kind: Kind, first: usize, second: usize)
     ensures { λ _. ⌜ Entered (now (list .entry)) k (pair kind first second ∷ []) (now (list .exit)) (k + 1) ⌝ }
 {
     list[k] = number_of(kind, first, second);
+}
+
+// The pair is entered at number k where that is below a bound; else the list stays as it is.
+pub fn put_below(list: &mut [u32], most: usize, k: usize, kind: Kind, first: usize, second: usize)
+    requires { ⌜ (most ≤ length (now list)) × (first < 1024) × (second < 1024) ⌝ }
+    ensures { λ _. ⌜ now (list .exit) ≡ kept most k (number (pair kind first second)) (now (list .entry)) ⌝ }
+{
+    if k < most {
+        list[k] = number_of(kind, first, second);
+    }
 }
 
 // And back: the pair of an entry, its kind and its two places.
