@@ -4,6 +4,7 @@ pub mod Demand1
 pub mod LineTable
 pub mod TextTable
 pub mod Unchanged
+pub mod Entries
 pub mod Demand2
 pub mod Standing
 pub mod Demand3
