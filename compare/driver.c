@@ -15,7 +15,7 @@
 enum { MARGIN = 24, CAPACITY = 1 << 22 };
 
 enum { POSITIONS, EDGES, TRIANGLES, LIST, WORDS, TEXT, COUNTS, REPORT, BUFFERS };
-static const size_t size_of[BUFFERS] = {4, 2, 2, 2, 1, 1, sizeof(size_t), 1};
+static const size_t size_of[BUFFERS] = {4, 2, 2, 4, 1, 1, sizeof(size_t), 1};
 
 struct question {
     uint64_t call, asked[3], length[BUFFERS];

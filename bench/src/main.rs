@@ -20,7 +20,7 @@ use compare::random::Random;
 use compare::scene::{Scene, EDGE_LIMIT, REPORT_ROOM, TRIANGLE_LIMIT, VERTEX_LIMIT};
 use compare::text::write;
 use product::Product;
-use slices::Slices;
+use slices::{parts, Slices};
 use timing::{shortest, Timed, Way};
 
 /// The tolerance of the cubic that is timed.
@@ -70,10 +70,10 @@ impl Bench {
     }
 
     fn verdicts(&self, name: &str, slices: &Slices) {
-        let mut list = vec![0; 3 * 20_000];
+        let mut list = vec![0; 20_000];
         let count = plain::list(slices, &mut list);
-        let list = &list[..3 * count];
-        let right: Vec<u8> = list.chunks_exact(3).map(|entry| plain_rest::settle(slices, entry).byte()).collect();
+        let list = &list[..count];
+        let right: Vec<u8> = list.iter().map(|&entry| plain_rest::settle(slices, entry).byte()).collect();
         let (mut made, mut words, mut made_alone) = (vec![0; list.len()], vec![0; count], vec![0; list.len()]);
         let mut ways = baselines(slices, list);
         if let Some(product) = &self.product {
@@ -96,7 +96,7 @@ impl Bench {
         for fold in [32, 8, 2] {
             let slices = Slices::of(&scenes::full_size(&mut Random::new(fold as u64), fold));
             let count = plain::list(&slices, &mut []);
-            let (mut plain, mut ours) = (vec![0; 3 * count], vec![0; 3 * count]);
+            let (mut plain, mut ours) = (vec![0; count], vec![0; count]);
             let mut ways = vec![Way::new("the same algorithm in plain safe Rust", || plain::list(&slices, &mut plain) as u64)];
             if let Some(product) = &self.product {
                 ways.push(Way::new(OURS, || product.list(&slices, &mut ours).expect("there is room") as u64));
@@ -142,7 +142,7 @@ impl Bench {
     }
 
     fn report(&self, name: &str, text: &[u8]) {
-        let mut list = [0; 3 * REPORT_ROOM];
+        let mut list = [0; REPORT_ROOM];
         let (mut plain, mut ours, mut length) = (Vec::new(), [0; product::REPORT_BYTES], 0);
         let mut ways = vec![Way::new("plain Rust", || {
             plain.clear();
@@ -180,8 +180,8 @@ impl Bench {
 }
 
 /// The ways beside the library, on the same pairs.
-fn baselines<'a>(slices: &'a Slices, list: &'a [u16]) -> Vec<Way<'a>> {
-    let pairs = move || list.chunks_exact(3);
+fn baselines<'a>(slices: &'a Slices, list: &'a [u32]) -> Vec<Way<'a>> {
+    let pairs = move || list.iter().copied();
     vec![
         Way::new("a cubic in doubles, tolerance 1e-6", move || pairs().map(|e| by_cubic(slices, e) as u64).sum()),
         Way::new("128-bit whole numbers, straightforwardly", move || {
@@ -197,10 +197,10 @@ fn baselines<'a>(slices: &'a Slices, list: &'a [u16]) -> Vec<Way<'a>> {
     ]
 }
 
-fn by_cubic(slices: &Slices, entry: &[u16]) -> bool {
+fn by_cubic(slices: &Slices, entry: u32) -> bool {
     let moving = |vertex: usize| &slices.moving[vertex];
-    let (first, second) = (entry[1] as usize, entry[2] as usize);
-    if entry[0] == 0 {
+    let (kind, first, second) = parts(entry);
+    if kind == 0 {
         cubic::point_triangle(moving(first), slices.corners(second).map(moving), TOLERANCE)
     } else {
         cubic::edge_edge(slices.ends(first).map(moving), slices.ends(second).map(moving), TOLERANCE)
@@ -208,8 +208,9 @@ fn by_cubic(slices: &Slices, entry: &[u16]) -> bool {
 }
 
 /// As many multiplications as a pair takes at the least, on numbers of the scene.
-fn floor_of(slices: &Slices, entry: &[u16]) {
-    let count = if entry[0] == 0 { floor::POINT_TRIANGLE } else { floor::EDGE_EDGE };
-    let at = (6 * entry[1] as usize).min(slices.wide.len() - count);
+fn floor_of(slices: &Slices, entry: u32) {
+    let (kind, first, _) = parts(entry);
+    let count = if kind == 0 { floor::POINT_TRIANGLE } else { floor::EDGE_EDGE };
+    let at = (6 * first).min(slices.wide.len() - count);
     floor::multiplications(&slices.wide[at..at + count]);
 }

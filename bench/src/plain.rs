@@ -1,6 +1,6 @@
 //! The library's own way in plain safe Rust: what the proofs are held to cost nothing beside.
 
-use crate::slices::Slices;
+use crate::slices::{entry, parts, Slices};
 use compare::verdict::Verdict;
 
 pub type Vector = [i64; 3];
@@ -104,9 +104,9 @@ pub fn edge_verdicts(positions: &[i32], mut first: [usize; 2], mut second: [usiz
 
 /// The verdict of an entry of the list.
 #[inline]
-pub fn judge(slices: &Slices, entry: &[u16]) -> Verdict {
-    let (first, second) = (entry[1] as usize, entry[2] as usize);
-    if entry[0] == 0 {
+pub fn judge(slices: &Slices, entry: u32) -> Verdict {
+    let (kind, first, second) = parts(entry);
+    if kind == 0 {
         joined(point_verdicts(&slices.positions, first, slices.corners(second)).into_iter())
     } else {
         joined(edge_verdicts(&slices.positions, slices.ends(first), slices.ends(second)).into_iter())
@@ -144,7 +144,7 @@ impl Boxes {
 
 /// Every listed pair in order.
 #[inline]
-fn each_listed(slices: &Slices, boxes: &Boxes, mut take: impl FnMut(u16, usize, usize)) {
+fn each_listed(slices: &Slices, boxes: &Boxes, mut take: impl FnMut(u32, usize, usize)) {
     for (vertex, one) in boxes.vertices.iter().enumerate() {
         for (triangle, other) in boxes.triangles.iter().enumerate() {
             if meet(one, other) && !slices.corners(triangle).contains(&vertex) {
@@ -166,15 +166,13 @@ fn each_listed(slices: &Slices, boxes: &Boxes, mut take: impl FnMut(u16, usize, 
 }
 
 /// Counts, then writes. Nothing is written where there is no room; the count is handed back all the same.
-pub fn list(slices: &Slices, room: &mut [u16]) -> usize {
+pub fn list(slices: &Slices, room: &mut [u32]) -> usize {
     let boxes = Boxes::of(slices);
     let mut count = 0;
     each_listed(slices, &boxes, |_, _, _| count += 1);
-    if count <= room.len() / 3 {
-        let mut entries = room.chunks_exact_mut(3);
-        each_listed(slices, &boxes, |kind, first, second| {
-            entries.next().unwrap().copy_from_slice(&[kind, first as u16, second as u16]);
-        });
+    if count <= room.len() {
+        let mut entries = room.iter_mut();
+        each_listed(slices, &boxes, |kind, first, second| *entries.next().unwrap() = entry(kind, first, second));
     }
     count
 }

@@ -3,7 +3,7 @@
 use crate::plain_rest::settle_scene;
 use crate::product::Product;
 use crate::scenes::RESTING;
-use crate::slices::Slices;
+use crate::slices::{parts, Slices};
 use crate::timing::{shortest, Timed, Way};
 use crate::{plain, Bench};
 use compare::random::Random;
@@ -13,7 +13,7 @@ use compare::settled::{joined, Settled, WORDS};
 /// A scene with room for its list and its words.
 struct Lent {
     slices: Slices,
-    list: Vec<u16>,
+    list: Vec<u32>,
     words: Vec<u8>,
 }
 
@@ -21,7 +21,7 @@ impl Lent {
     fn new(scene: &Scene) -> Lent {
         let slices = Slices::of(scene);
         let count = plain::list(&slices, &mut []);
-        Lent { slices, list: vec![0; 3 * count], words: vec![0; count] }
+        Lent { slices, list: vec![0; count], words: vec![0; count] }
     }
 
     fn plain(&mut self) -> u64 {
@@ -113,9 +113,9 @@ fn print_row(way: &str, times: &[Timed]) {
 /// Pairs asked for by themselves have the words that the call gave them, and those are what their pieces come to.
 fn asked_alone(lent: &Lent, product: &Product) {
     let word = |byte: usize| WORDS.into_iter().find(|word| usize::from(word.byte()) == byte).expect("a word");
-    for (entry, &byte) in lent.list.chunks_exact(3).zip(&lent.words).step_by(1 + lent.words.len() / 500) {
+    for (&entry, &byte) in lent.list.iter().zip(&lent.words).step_by(1 + lent.words.len() / 500) {
         assert_eq!(product.settle(&lent.slices, entry), Ok(byte.into()), "a pair asked for alone");
-        let count = if entry[0] == 0 { 3 } else { 4 };
+        let count = if parts(entry).0 == 0 { 3 } else { 4 };
         let pieces: Vec<Settled> =
             (0..count).map(|piece| word(product.settle_piece(&lent.slices, entry, piece).expect("a piece"))).collect();
         assert_eq!(joined(&pieces).byte(), byte, "the pieces of a pair");

@@ -3,6 +3,16 @@
 use compare::cubic::Moving;
 use compare::scene::Scene;
 
+/// An entry of the list: 2^20 for two edges or 0 for a point and a triangle, plus 2^10 times the first place, plus the second.
+pub fn entry(kind: u32, first: usize, second: usize) -> u32 {
+    kind << 20 | (first as u32) << 10 | second as u32
+}
+
+/// Its kind, 0 or 1, and its two places.
+pub fn parts(entry: u32) -> (u32, usize, usize) {
+    (entry >> 20, (entry >> 10 & 1_023) as usize, (entry & 1_023) as usize)
+}
+
 #[derive(Clone, Default)]
 pub struct Slices {
     pub positions: Vec<i32>,

@@ -19,7 +19,7 @@ enum { STACK = 2 * MAKHNODRI_STACK, PAINT = 0xa5 };
 static int32_t positions[MAKHNODRI_POSITIONS_LENGTH];
 static uint16_t edges[MAKHNODRI_EDGES_LENGTH];
 static uint16_t triangles[MAKHNODRI_TRIANGLES_LENGTH];
-static uint16_t list[3 * MAKHNODRI_PAIR_LIMIT];
+static uint32_t list[MAKHNODRI_PAIR_LIMIT];
 static uint8_t words[MAKHNODRI_PAIR_LIMIT];
 static char text[MAKHNODRI_TEXT_LIMIT + 1];
 static uint8_t report[MAKHNODRI_REPORT_LENGTH];

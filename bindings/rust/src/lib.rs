@@ -59,7 +59,7 @@ pub const TRIANGLE_LIMIT: usize = 512;
 /// Bytes of a scene text.
 pub const TEXT_LIMIT: usize = 32_768;
 /// Pairs that a report has room for.
-pub const REPORT_ROOM: usize = 2_048;
+pub const REPORT_ROOM: usize = 3_072;
 /// No scene lists more.
 pub const PAIR_LIMIT: usize = 785_920;
 

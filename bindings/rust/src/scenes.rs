@@ -1,6 +1,6 @@
 //! A scene as slices, and what can be asked of it.
 
-use crate::answers::{heard, pair, settled, verdict};
+use crate::answers::{heard, settled, verdict};
 use crate::{raw, Kind, ListRefusal, Pair, Refusal, Settled, Verdict};
 
 /// Six numbers a vertex (start x, y, z, end x, y, z), two vertex numbers an edge, three a triangle, the latter in any order.
@@ -32,31 +32,31 @@ impl Scene<'_> {
         heard(ask!(self, makhnodri_count_pairs)).map_err(bare)
     }
 
-    /// Makes the list in front of `list`, three numbers an entry (0 for pt or 1 for ee, then the two places), and returns the count
-    /// of entries. The rest of `list` is unchanged, and all of it after a refusal.
-    pub fn list_pairs(self, list: &mut [u16]) -> Result<usize, ListRefusal> {
+    /// Makes the list in front of `list`, one number an entry ([`Pair::of_entry`] takes it apart), and returns the count of entries.
+    /// The rest of `list` is unchanged, and all of it after a refusal.
+    pub fn list_pairs(self, list: &mut [u32]) -> Result<usize, ListRefusal> {
         heard(ask!(self, makhnodri_list_pairs, list.as_mut_ptr(), list.len())).map_err(list_refusal)
     }
 
     /// Makes the list and settles it: `words[i]` is 0, 1, 3 or 4, for hit, miss, touch or apart, of entry i.
-    pub fn settle_scene(self, list: &mut [u16], words: &mut [u8]) -> Result<usize, ListRefusal> {
+    pub fn settle_scene(self, list: &mut [u32], words: &mut [u8]) -> Result<usize, ListRefusal> {
         let (l, w) = ((list.as_mut_ptr(), list.len()), (words.as_mut_ptr(), words.len()));
         heard(ask!(self, makhnodri_settle_scene, l.0, l.1, w.0, w.1)).map_err(list_refusal)
     }
 
     /// The list, with room of its own.
     pub fn listed(self) -> Result<Vec<Pair>, Refusal> {
-        let mut list = vec![0; 3 * self.count_pairs()?];
+        let mut list = vec![0; self.count_pairs()?];
         self.list_pairs(&mut list).map_err(ListRefusal::refusal)?;
-        Ok(list.chunks(3).map(pair).collect())
+        Ok(list.into_iter().map(Pair::of_entry).collect())
     }
 
     /// The list and its words, with room of their own.
     pub fn settled(self) -> Result<Vec<(Pair, Settled)>, Refusal> {
         let count = self.count_pairs()?;
-        let (mut list, mut words) = (vec![0; 3 * count], vec![0; count]);
+        let (mut list, mut words) = (vec![0; count], vec![0; count]);
         self.settle_scene(&mut list, &mut words).map_err(ListRefusal::refusal)?;
-        Ok(list.chunks(3).map(pair).zip(words.iter().map(|&byte| settled(byte as usize))).collect())
+        Ok(list.into_iter().map(Pair::of_entry).zip(words.iter().map(|&byte| settled(byte as usize))).collect())
     }
 }
 

@@ -70,17 +70,17 @@ fn hold_list(scene: &Scene) -> usize {
     let wanted = flat.independent(|slices| slices::list(slices, usize::MAX)).unwrap();
     let count = wanted.len();
     assert_eq!(flat.scene().count_pairs(), Ok(count));
-    assert_eq!(listed(&flat, count, 2).as_ref(), Ok(&wanted));
-    assert_eq!(listed(&flat, count + 9, 0).as_ref(), Ok(&wanted));
-    let pairs = wanted.iter().map(|entry| {
-        let kind = KINDS[entry[0] as usize];
-        flat.scene().settle_pair(kind, entry[1].into(), entry[2].into()).unwrap() as u8
+    assert_eq!(listed(&flat, count).as_ref(), Ok(&wanted));
+    assert_eq!(listed(&flat, count + 9).as_ref(), Ok(&wanted));
+    let pairs = wanted.iter().map(|&entry| {
+        let makhnodri::Pair { kind, first, second } = makhnodri::Pair::of_entry(entry);
+        flat.scene().settle_pair(kind, first, second).unwrap() as u8
     });
-    assert_eq!(settled(&flat, count + 1, 1, count + 3), Ok((wanted.clone(), pairs.collect())));
+    assert_eq!(settled(&flat, count + 1, count + 3), Ok((wanted.clone(), pairs.collect())));
     if count > 0 {
-        assert_eq!(listed(&flat, count - 1, 2), Err((7, count as u64)));
-        assert_eq!(settled(&flat, count - 1, 2, count), Err((7, count as u64)));
-        assert_eq!(settled(&flat, count, 2, count - 1), Err((7, count as u64)));
+        assert_eq!(listed(&flat, count - 1), Err((7, count as u64)));
+        assert_eq!(settled(&flat, count - 1, count), Err((7, count as u64)));
+        assert_eq!(settled(&flat, count, count - 1), Err((7, count as u64)));
     }
     count
 }
@@ -191,7 +191,7 @@ fn damaged_scenes_are_refused_alike() {
         }
         let wanted = flat.independent(slices::scene);
         assert_eq!(flat.scene().check_scene().map_err(bare), wanted.as_ref().map(|_| ()).map_err(|&r| r), "seed {seed}");
-        assert_eq!(listed(&flat, 5, 1), flat.independent(|s| slices::list(s, 5)), "seed {seed}");
+        assert_eq!(listed(&flat, 5), flat.independent(|s| slices::list(s, 5)), "seed {seed}");
         let (first, second, piece) = (random.below(9), random.below(9), random.below(6));
         for kind in KINDS {
             let ask = (kind_of(kind), first as u64, second as u64);
@@ -252,12 +252,12 @@ fn full_size_scenes() {
         scene.triangles = (0..512).map(|i| [(i + 1) % 512, i, (i + 2 + i % 3) % 512]).collect();
         let flat = Flat::of(&scene);
         let wanted = flat.independent(|slices| slices::list(slices, usize::MAX)).unwrap();
-        let (list, bytes) = settled(&flat, wanted.len(), 2, wanted.len()).unwrap();
+        let (list, bytes) = settled(&flat, wanted.len(), wanted.len()).unwrap();
         assert_eq!(list, wanted);
         assert!(list.len() <= makhnodri::PAIR_LIMIT);
-        for (entry, byte) in list.iter().zip(bytes).step_by(1 + list.len() / 2_000) {
-            let kind = kind_of(KINDS[entry[0] as usize]);
-            let pair = compare::scene::Pair { kind, first: entry[1].into(), second: entry[2].into() };
+        for (&entry, byte) in list.iter().zip(bytes).step_by(1 + list.len() / 2_000) {
+            let makhnodri::Pair { kind, first, second } = makhnodri::Pair::of_entry(entry);
+            let pair = compare::scene::Pair { kind: kind_of(kind), first, second };
             assert_eq!(byte, settled_of(settled::of_pair(&scene, pair)) as u8, "{pair:?}");
         }
     }

@@ -1,5 +1,5 @@
 //! usage: exact-report [ROOM] < SCENE
-//! The report of document 01 on a scene text, by the independent way. ROOM is 2,048 where it is not given.
+//! The report of document 01 on a scene text, by the independent way. ROOM is 3,072 where it is not given.
 
 use compare::streams::{input, print};
 

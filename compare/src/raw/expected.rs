@@ -39,11 +39,11 @@ impl Expecting {
             Call::CheckScene => scene(lent).map(|_| 0),
             Call::CountPairs => scene(lent).map(|scene| listing::listed(&scene).len() as u64),
             Call::ListPairs => {
-                let room = lent.list.len() / 3;
+                let room = lent.list.len();
                 listed(lent, room).map(|(_, pairs)| pairs.len() as u64)
             }
             Call::SettleScene => {
-                let room = (lent.list.len() / 3).min(lent.words.len());
+                let room = lent.list.len().min(lent.words.len());
                 let (scene, pairs) = listed(lent, room)?;
                 for (word, &pair) in lent.words.iter_mut().zip(&pairs) {
                     *word = settled::joined(self.words(&scene, pair)).byte();
@@ -101,9 +101,8 @@ fn listed(lent: &mut Lent, room: usize) -> Result<(Scene, Vec<Pair>), Refusal> {
     if pairs.len() > room {
         return Err(Refusal::new(NO_ROOM, pairs.len() as u64));
     }
-    for (entry, pair) in lent.list.chunks_exact_mut(3).zip(&pairs) {
-        let kind = (pair.kind == Kind::EdgeEdge) as u16;
-        entry.copy_from_slice(&[kind, pair.first as u16, pair.second as u16]);
+    for (entry, &pair) in lent.list.iter_mut().zip(&pairs) {
+        *entry = slices::entry(pair);
     }
     Ok((scene, pairs))
 }

@@ -27,7 +27,8 @@ some-same zero test other e = refl
 some-same (suc n) test other e = ap₂ _||_ (some-same n test other (λ i h. e i (omega arith))) (e n (omega arith))
 
 -- whatever their order
-some-onto : (n : ℕ) (f : ℕ → ℕ) → ((i : ℕ) → i < n → f i < n) → ((i : ℕ) → f (f i) ≡ i) → (test : ℕ → Bool) → someBelow n (λ i. test (f i)) ≡ someBelow n test
+some-onto : (n : ℕ) (f : ℕ → ℕ) → ((i : ℕ) → i < n → f i < n) → ((i : ℕ) → f (f i) ≡ i) → (test : ℕ → Bool)
+    → someBelow n (λ i. test (f i)) ≡ someBelow n test
 some-onto n f below twice test = go (someBelow n test) refl
   where
     go : (b : Bool) → someBelow n test ≡ b → someBelow n (λ i. test (f i)) ≡ b

@@ -103,14 +103,17 @@ module _ {s t : Scene} (h : TurnsRound s t) where
   point-turned v k = λ i. start-turned v k i ∷ end-turned v k i ∷ []
 
   -- piece A is piece B, and B is A
-  edge-turned : (e : Ends) → There (e .low) × There (e .high) → (movingEdge t (endsTurned n e) 1 ≡ reverse (map timeTurned (movingEdge s e 0))) × (movingEdge t (endsTurned n e) 0 ≡ reverse (map timeTurned (movingEdge s e 1)))
+  edge-turned : (e : Ends) → There (e .low) × There (e .high)
+      → (movingEdge t (endsTurned n e) 1 ≡ reverse (map timeTurned (movingEdge s e 0)))
+      × (movingEdge t (endsTurned n e) 0 ≡ reverse (map timeTurned (movingEdge s e 1)))
   unfolding movingEdge
   edge-turned e (l, u) = (
     λ i. start-turned (e .high) u i ∷ end-turned (e .high) u i ∷ end-turned (e .low) l i ∷ [],
     λ i. start-turned (e .high) u i ∷ start-turned (e .low) l i ∷ end-turned (e .low) l i ∷ [],
   )
 
-  triangle-turned : (c : Corners) → There (c .low) × There (c .middle) × There (c .high) → (k : ℕ) → k < 3 → movingTriangle t (cornersTurned n c) (2 - k) ≡ reverse (map timeTurned (movingTriangle s c k))
+  triangle-turned : (c : Corners) → There (c .low) × There (c .middle) × There (c .high) → (k : ℕ) → k < 3
+      → movingTriangle t (cornersTurned n c) (2 - k) ≡ reverse (map timeTurned (movingTriangle s c k))
   unfolding movingTriangle
   triangle-turned c (l, m, u) zero b =
       λ i. start-turned (c .high) u i ∷ end-turned (c .high) u i ∷ end-turned (c .middle) m i ∷ end-turned (c .low) l i ∷ []
@@ -135,7 +138,8 @@ module _ {s t : Scene} (h : TurnsRound s t) where
       ap₂ (rising t) (edge-end-turned j 0 b (omega arith)) (edge-end-turned j 1 b (omega arith))
       ∙ rising-turned s t n (edgeEnd s j 0) (edgeEnd s j 1) (e .0) (e .1 .0) (d .0 .0)
 
-  corners-of-turned : (j : ℕ) → j < triangleCount s → Different s (cornersWritten s j) → Every There (cornersWritten s j) → cornersOf t j ≡ cornersTurned n (cornersOf s j)
+  corners-of-turned : (j : ℕ) → j < triangleCount s → Different s (cornersWritten s j) → Every There (cornersWritten s j)
+      → cornersOf t j ≡ cornersTurned n (cornersOf s j)
   corners-of-turned j b d e =
       ap₂ (among t) (ap₂ (rising t) (corner-turned j 0 b (omega arith)) (corner-turned j 1 b (omega arith))) (corner-turned j 2 b (omega arith))
       ∙ corners-turned s t n (corner s j 0) (corner s j 1) (corner s j 2) (e .0) (e .1 .0) (e .1 .1 .0) (d .0 .0) (d .1 .0 .0) (d .0 .1 .0)

@@ -18,8 +18,7 @@ use Rattle.meaning.specs.declared.Kind.{Kind}
 use Rattle.theory.specs.Alike.{Alike, alike-then}
 use Rattle.theory.specs.Bridge.{singular-is}
 use Rattle.theory.specs.Determinants.{front, behind}
-use Rattle.theory.specs.Differences.{difference, differences, Form, formed}
-use Rattle.theory.specs.Differences as Forms
+use Rattle.theory.specs.Differences.{difference, differences, Form, alone, around, formed}
 use Rattle.theory.specs.MovingParts.{mapped}
 use Rattle.theory.specs.RationalVerdicts.{OfForm, piece-form}
 use Rattle.theory.specs.Rearranged.{Rearranged, unmoved, moved, also, rearranged-behind, passes}
@@ -60,7 +59,8 @@ touch-turned a b t = record {
     v : ℕ → ℤ
     v i = pos (t .v i)
 
-    same : (f : Event → ℤ) → total (λ e. f (timeTurned e)) u a ≡ total (λ e. f (timeTurned e)) v b → total f u (map timeTurned a) ≡ total f v (map timeTurned b)
+    same : (f : Event → ℤ) → total (λ e. f (timeTurned e)) u a ≡ total (λ e. f (timeTurned e)) v b
+        → total f u (map timeTurned a) ≡ total f v (map timeTurned b)
     same f e = total-map f timeTurned u a ∙ e ∙ sym (total-map f timeTurned v b)
 
 -- ---- turned twice
@@ -100,17 +100,16 @@ differences-turned p q o = λ i. record {
 -- the base's two points change places
 formed-turned : (form : Form) (p q : Vector) (o : Four Event) → SamePoints (mapped timeTurned (formed form p q o)) (formed form q p (each timeTurned o))
 unfolding formed
-formed-turned Forms.alone p q o = record { first = moved front unmoved; second = unmoved }
-formed-turned Forms.behind p q o = record { first = moved (behind front) unmoved; second = unmoved }
-formed-turned Forms.ahead p q o = record { first = moved front unmoved; second = unmoved }
+formed-turned alone p q o = record { first = moved front unmoved; second = unmoved }
+formed-turned around p q o = record { first = moved front (moved (behind front) (moved front unmoved)); second = unmoved }
 
 six-turned : (form : Form) (p q : Vector) (o : Four Event) → pointsOf (mapped timeTurned (formed form p q o)) ≡ 6
 unfolding formed
-six-turned Forms.alone p q o = refl
-six-turned Forms.behind p q o = refl
-six-turned Forms.ahead p q o = refl
+six-turned alone p q o = refl
+six-turned around p q o = refl
 
-singular-turned : (form : Form) (p q : Vector) (o : Four Event) → (determinantOf (formed form p q o) ≡ pos 0) ↔ (determinantOf (mapped timeTurned (formed form p q o)) ≡ pos 0)
+singular-turned : (form : Form) (p q : Vector) (o : Four Event)
+    → (determinantOf (formed form p q o) ≡ pos 0) ↔ (determinantOf (mapped timeTurned (formed form p q o)) ≡ pos 0)
 singular-turned form p q o =
     Iff·trans (singular-is form p q o)
     (Iff·trans (subst (λ (d : Four Vector). (factor form (volumes d) ≡ pos 0) ↔ (determinantOf (formed form q p (each timeTurned o)) ≡ pos 0)) (differences-turned p q o)

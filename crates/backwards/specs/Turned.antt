@@ -121,7 +121,8 @@ module _ (s : Scene) (v : ℕ) (h : v < vertexCount s) where
   n = vertexCount s
 
   -- number k of vertex v, under its new number, is what it was half a vertex further on
-  number : (k i j : ℕ) → k < 6 → i ≡ 6 * fromLast n v + k → j ≡ 6 * v + (k + 3) % 6 → getD (turnedRound s .positions) i (pos 0) ≡ getD (s .positions) j (pos 0)
+  number : (k i j : ℕ) → k < 6 → i ≡ 6 * fromLast n v + k → j ≡ 6 * v + (k + 3) % 6
+      → getD (turnedRound s .positions) i (pos 0) ≡ getD (s .positions) j (pos 0)
   number k i j l at from =
       coordinate s i
       ∙ ap (λ p. getD (s .positions) p (pos 0))

@@ -4,15 +4,18 @@ pub mod Demand1
 pub mod LineTable
 pub mod TextTable
 pub mod Unchanged
+pub mod Entries
 pub mod Demand2
 pub mod Standing
 pub mod Demand3
 pub mod Table
 pub mod Sending
 pub mod Cases
+pub mod InMotion
 pub mod SmallScenes
 pub mod OneAnswer
 pub mod OneText
+pub mod ReadTexts
 pub mod SameAnswer
 pub mod StillAccepted
 pub mod AnyWriting
@@ -21,5 +24,6 @@ pub mod NoCracks
 pub mod Columns
 pub mod FivePoints
 pub mod Printed
+pub mod AnyText
 pub mod Barred
 pub mod BarredLists

@@ -190,7 +190,8 @@ same-totals {ws} {ws′} r =
     let each : (w : Settled) → howMany w ws ≡ howMany w ws′ = λ w. how-many-rearranged w r in
     record { order = r; listed = n; each = each; line = rw (n, each Hit, each Miss, each Touch, each Apart) }
 
-pub totals-turned : {s : Scene} → Accepted s → (ws ws′ : List Settled) → AllSettled s (pairs s) ws → AllSettled (turnedRound s) (pairs (turnedRound s)) ws′ → SameTotals ws ws′
+pub totals-turned : {s : Scene} → Accepted s → (ws ws′ : List Settled) → AllSettled s (pairs s) ws
+    → AllSettled (turnedRound s) (pairs (turnedRound s)) ws′ → SameTotals ws ws′
 totals-turned {s} a ws ws′ h k =
     let there : (p : Pair) → List·Memᴰ p (pairs s) → notThere s (p .kind) (p .first) (p .second) ≡ false = λ p m. list-is s .stands p .0 m .there in
     let moved = rearranged-words (turnedRound s) (pairs-turned a) ws (words-turned a (pairs s) there ws h) in

@@ -51,7 +51,7 @@ different-corners {s} a = corners-differ s (a .distinct)
 
 -- ---- and so of one written in another order
 
-every-rearranged : {A : Type 0} (P : A → Type 0) {k l : List A} → Rearranged k l → Every P k → Every P l
+pub every-rearranged : {A : Type 0} (P : A → Type 0) {k l : List A} → Rearranged k l → Every P k → Every P l
 every-rearranged P unmoved h = h
 every-rearranged P (moved e r) h = every-rearranged P r (every-exchanged P e h)
 
@@ -131,7 +131,7 @@ module _ {s t : Scene} (h : Rewritten s t) where
 
 -- ---- so each check says the same of both
 
-both-or-neither : (a b : Bool) → (a ≡ false → b ≡ false) → (b ≡ false → a ≡ false) → b ≡ a
+pub both-or-neither : (a b : Bool) → (a ≡ false → b ≡ false) → (b ≡ false → a ≡ false) → b ≡ a
 both-or-neither true true f g = refl
 both-or-neither true false f g = sym (g refl)
 both-or-neither false b f g = f refl

@@ -63,7 +63,7 @@ pub extern "C" fn makhnodri_list_pairs(
     positions: &[i32],
     edges: &[u16],
     triangles: &[u16],
-    list: &mut [u16],
+    list: &mut [u32],
 ) -> u64
     ensures { λ r. ⌜ Told listNumber (Listing (sceneAtEntry positions edges triangles) (now (list .entry)) (now (list .exit))) r ⌝ }
 {
@@ -76,7 +76,7 @@ pub extern "C" fn makhnodri_settle_scene(
     positions: &[i32],
     edges: &[u16],
     triangles: &[u16],
-    list: &mut [u16],
+    list: &mut [u32],
     verdicts: &mut [u8],
 ) -> u64
     ensures { λ r. ⌜ Told listNumber (SettledScene (sceneAtEntry positions edges triangles) (now (list .entry)) (now (list .exit)) (now (verdicts .entry)) (now (verdicts .exit))) r ⌝ }

@@ -8,6 +8,7 @@ pub mod Resting
 pub mod Refusals
 pub mod Boxes
 pub mod Motion
+pub mod Runs
 pub mod List
 pub mod SceneWords
 pub mod Lines
@@ -16,3 +17,4 @@ pub mod Text
 pub mod Report
 pub mod Contacts
 pub mod InMotion
+pub mod ReadShown

@@ -26,4 +26,4 @@ digitLimit = 9
 
 -- the pairs that the report program has room for
 abbrev pub reportRoom : ℕ
-reportRoom = 2_048
+reportRoom = 3_072

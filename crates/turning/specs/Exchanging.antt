@@ -134,7 +134,8 @@ module _ {n : ℕ} {l l′ : List ℤ} {i : ℕ} (e : Exchanging n l l′ i) (ro
   exchanging-goes is from = rw (is, from) goes-on
 
 -- in the end every number has come from its place
-pub exchanging-ends : {n : ℕ} {l l′ : List ℤ} {i : ℕ} → Exchanging n l l′ i → 3 * n ≤ i → (x : ℕ) → getD l′ x (pos 0) ≡ getD l (source n x) (pos 0)
+pub exchanging-ends : {n : ℕ} {l l′ : List ℤ} {i : ℕ} → Exchanging n l l′ i → 3 * n ≤ i → (x : ℕ)
+    → getD l′ x (pos 0) ≡ getD l (source n x) (pos 0)
 exchanging-ends {n} {l} {l′} {i} e h x = e .from x ∙ ap (λ k. getD l k (pos 0)) (all (decLt x i) (decLt x (6 * n)))
   where
     all : Dec (x < i) → Dec (x < 6 * n) → halfway n i x ≡ source n x

@@ -43,11 +43,13 @@ pub few-positions : {s : Scene} → Accepted s → length (s .positions) ≤ 6 *
 few-positions a = let z = accepted-sized a in omega arith
 
 -- the call's promise, accepted and refused
-pub turned-scene : (s : Scene) → Accepted s → {p : List ℤ} {e k : List ℕ} → p ≡ positionsTurned (s .positions) → e ≡ map (fromLast (vertexCount s)) (s .edges)
+pub turned-scene : (s : Scene) → Accepted s → {p : List ℤ} {e k : List ℕ} → p ≡ positionsTurned (s .positions)
+    → e ≡ map (fromLast (vertexCount s)) (s .edges)
     → k ≡ map (fromLast (vertexCount s)) (s .triangles) → Turning s (sceneOf p e k) Answer.the-variants.Accepted
 unfolding sceneSays sceneLeft turnedRound
 turned-scene s a h i j = record { answer = accepted-checked s a; scene = λ x. record { positions = h x; edges = i x; triangles = j x } }
 
-pub scene-refused : (s : Scene) {r : SceneAnswer} (why : Refusal) → r ≡ Answer.the-variants.Refused why → SceneChecked s r → Turning s s (Answer.the-variants.Refused why)
+pub scene-refused : (s : Scene) {r : SceneAnswer} (why : Refusal) → r ≡ Answer.the-variants.Refused why
+    → SceneChecked s r → Turning s s (Answer.the-variants.Refused why)
 unfolding sceneSays sceneLeft
 scene-refused s why e p = record { answer = rw e at p; scene = refl }

@@ -19,7 +19,9 @@ exchange-requires c κs =
 
 loop-again : tie.Need-loop-again Inv-loop μ-loop
 loop-again c =
-    exchanging-goes (c .before .before .before .before .before .loop .inv) (omega arith) (omega arith) (c .before .exchange .ensures) (c .before .before .before .source .ensures)
+    let exchanged = c .before in
+    let found = exchanged .before .before in
+    exchanging-goes (found .before .before .loop .inv) (omega arith) (omega arith) (exchanged .exchange .ensures) (found .source .ensures)
 
 pub turn-positions-spec : {M : Type 1} → statement M
 turn-positions-spec =

@@ -8,31 +8,48 @@ use Rattle.turning.proofs.turn_scene.Tie as tie
 
 returns : tie.Need-returns
 returns c =
-    let a = c .before .before .before .before .before .before .before .before .before .args in
-    scene-refused (sceneOf (a .positions .now) (a .edges .now) (a .triangles .now)) _ (c .before .refusal .given .1) (c .before .before .before .check-scene .ensures)
+    let checked = c .before .before .before in
+    let a = checked .before .before .before .before .before .before .args in
+    let s = sceneOf (a .positions .now) (a .edges .now) (a .triangles .now) in
+    scene-refused s _ (c .before .refusal .given .1) (checked .check-scene .ensures)
 
 turn-positions-requires : tie.Need-turn-positions-requires
 turn-positions-requires c κs =
-    let a = c .before .before .before .before .before .before .before .before .before .args in
-    few-positions (accepted-by (sceneOf (a .positions .now) (a .edges .now) (a .triangles .now)) (c .before .enum-told .given .1) (c .before .before .before .check-scene .ensures))
+    let told = c .before in
+    let checked = told .before .before in
+    let a = checked .before .before .before .before .before .before .args in
+    let s = sceneOf (a .positions .now) (a .edges .now) (a .triangles .now) in
+    few-positions (accepted-by s (told .enum-told .given .1) (checked .check-scene .ensures))
 
 renumber-requires : tie.Need-renumber-requires
 renumber-requires c κs =
-    let a = c .before .before .before .before .before .before .before .before .before .before .before .before .args in
-    let accepted = accepted-by (sceneOf (a .positions .now) (a .edges .now) (a .triangles .now)) (c .before .before .before .before .enum-told .given .1) (c .before .before .before .before .before .before .check-scene .ensures) in
+    let told = c .before .before .before .before in
+    let checked = told .before .before in
+    let a = checked .before .before .before .before .before .before .args in
+    let s = sceneOf (a .positions .now) (a .edges .now) (a .triangles .now) in
+    let accepted = accepted-by s (told .enum-told .given .1) (checked .check-scene .ensures) in
     (few-vertices accepted, ends-below accepted)
 
 renumber-requires-2 : tie.Need-renumber-requires-2
 renumber-requires-2 c κs =
-    let a = c .before .before .before .before .before .before .before .before .before .before .before .before .before .before .before .before .args in
-    let accepted = accepted-by (sceneOf (a .positions .now) (a .edges .now) (a .triangles .now)) (c .before .before .before .before .before .before .before .before .enum-told .given .1) (c .before .before .before .before .before .before .before .before .before .before .check-scene .ensures) in
+    let told = c .before .before .before .before .before .before .before .before in
+    let checked = told .before .before in
+    let a = checked .before .before .before .before .before .before .args in
+    let s = sceneOf (a .positions .now) (a .edges .now) (a .triangles .now) in
+    let accepted = accepted-by s (told .enum-told .given .1) (checked .check-scene .ensures) in
     (few-vertices accepted, corners-below accepted)
 
 returns-2 : tie.Need-returns-2
 returns-2 c =
-    let a = c .before .before .before .before .before .before .before .before .before .before .before .before .before .before .before .before .before .before .before .args in
+    let corners = c .before .before in
+    let ends = corners .before .before .before .before in
+    let turned = ends .before .before .before in
+    let told = turned .before .before in
+    let checked = told .before .before in
+    let a = checked .before .before .before .before .before .before .args in
     let s = sceneOf (a .positions .now) (a .edges .now) (a .triangles .now) in
-    turned-scene s (accepted-by s (c .before .before .before .before .before .before .before .before .before .before .before .enum-told .given .1) (c .before .before .before .before .before .before .before .before .before .before .before .before .before .check-scene .ensures)) (c .before .before .before .before .before .before .before .before .before .turn-positions .ensures) (c .before .before .before .before .before .before .renumber .ensures) (c .before .before .renumber2 .ensures)
+    turned-scene s (accepted-by s (told .enum-told .given .1) (checked .check-scene .ensures))
+    (turned .turn-positions .ensures) (ends .renumber .ensures) (corners .renumber2 .ensures)
 
 pub turn-scene-spec : {M : Type 1} → statement M
 turn-scene-spec =
