@@ -77,11 +77,12 @@ int main(void) {
 
     /* played backwards the same pairs have the same words, the pt pairs at their vertices' new numbers */
     show("turned round", makhnodri_turn_scene(positions, p, edges, e, triangles, t));
-    count = makhnodri_settle_scene(positions, p, edges, e, triangles, t, list, 3 * room, words, room);
+    count = makhnodri_settle_scene(positions, p, edges, e, triangles, t, list, room, words, room);
     for (size_t i = 0; i < count; i++) {
-        const uint16_t *entry = list + 3 * i;
-        size_t first = entry[0] == MAKHNODRI_PT ? counts[0] - 1 - entry[1] : entry[1];
-        printf("%s %zu %u %s\n", entry[0] == MAKHNODRI_PT ? "pt" : "ee", first, entry[2], makhnodri_word(words[i]));
+        uint32_t first = makhnodri_entry_first(list[i]), second = makhnodri_entry_second(list[i]);
+        int pt = makhnodri_entry_kind(list[i]) == MAKHNODRI_PT;
+        if (pt) first = (uint32_t)counts[0] - 1 - first;
+        printf("%s %" PRIu32 " %" PRIu32 " %s\n", pt ? "pt" : "ee", first, second, makhnodri_word(words[i]));
     }
 
     fwrite(report, 1, makhnodri_write_report(text, text_length, report), stdout);

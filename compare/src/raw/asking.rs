@@ -88,7 +88,7 @@ fn whole(random: &mut Random, scene: &Scene) -> Vec<Question> {
     }
     out.extend(rooms.into_iter().map(|(list, words)| with_room(Call::SettleScene, scene, list, words)));
     if count <= LONGEST_JUDGED {
-        out.push(with_room(Call::SettleScene, &backwards::turned(scene), 3 * count, count));
+        out.push(with_room(Call::SettleScene, &backwards::turned(scene), count, count));
     }
     out
 }
