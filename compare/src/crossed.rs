@@ -79,7 +79,7 @@ fn faulty(random: &mut Random, kind: usize, vertices: usize, faults: &[u64]) -> 
     let beside = (at + 1) % fields.len();
     for fault in faults {
         match *fault {
-            OUT_OF_RANGE => fields[at] = random.pick(&["262144", "-262144", "999999999"]).into(),
+            OUT_OF_RANGE => fields[at] = random.pick(&["524288", "-524288", "999999999"]).into(),
             NO_SUCH_VERTEX => fields[at] = random.pick(&[vertices, vertices + 1, 512, 65_536, 999_999_999]).to_string(),
             VERTEX_TWICE => fields[beside] = fields[at].clone(),
             _ => {}
@@ -124,7 +124,7 @@ fn long(random: &mut Random) -> Sections {
 fn crowded(random: &mut Random) -> Sections {
     let points = 33 + random.below(4);
     let vertices = vec!["v\t0\t0\t0\t0\t0\t0\n".to_string(); points + 3];
-    [vertices, vec!["e\t0\t1\n".into()], vec!["t\t0\t1\t2\n".into(); 64]]
+    [vertices, vec!["e\t0\t1\n".into()], vec!["t\t0\t1\t2\n".into(); 96]]
 }
 
 fn crowded_and_long(random: &mut Random) -> Sections {

@@ -78,8 +78,8 @@ fn misstate(random: &mut Random, fields: &mut [Vec<u8>]) {
     }
     let at = 1 + random.below(fields.len() - 1);
     fields[at] = match random.below(6) {
-        0 => random.pick(&["262144", "-262144", "524287"]).into(),
-        1 => random.pick(&["262143", "-262143"]).into(),
+        0 => random.pick(&["524288", "-524288", "1048575"]).into(),
+        1 => random.pick(&["524287", "-524287", "262144", "-262144"]).into(),
         2 => random.pick(&["999999999", "-999999999"]).into(),
         3 => random.below(600).to_string().into(),
         4 => random.below(4).to_string().into(),

@@ -1,5 +1,5 @@
-//! Scenes at an edge of the rules: everything in one plane or on one line, boxes that only touch, lists of just the
-//! room and one more, texts of just the length and one more.
+//! Scenes at an edge of the rules: everything in one plane or on one line, boxes that only touch, the largest sums of
+//! determinants, lists of just the room and one more, texts of just the length and one more.
 
 use crate::random::Random;
 use crate::scene::*;
@@ -49,9 +49,66 @@ pub fn touching_boxes(random: &mut Random) -> Scene {
     scene
 }
 
-/// 2,047, 2,048 or 2,049 listed pairs: every box has the origin in it.
+/// Six points of a piece at corners of a cube, for which the sum over one simplex is the largest there is, five times
+/// the cube of the side (a test tries every choice of corners). Those of a moving point: its start and end, then the
+/// four of the tetrahedron, for each piece. Those of two edges: the three of each triangle, for each piece.
+const POINT_CORNERS: [[[i64; 3]; 6]; 3] = [
+    [[-1, -1, -1], [1, 1, 1], [-1, 1, 1], [1, -1, 1], [1, 1, -1], [-1, -1, -1]],
+    [[-1, 1, -1], [1, -1, 1], [-1, 1, 1], [1, -1, -1], [1, 1, -1], [-1, -1, -1]],
+    [[1, -1, -1], [-1, 1, 1], [-1, 1, 1], [1, -1, 1], [1, 1, -1], [-1, -1, -1]],
+];
+
+/// Which vertex, and at which time, each of the six points is: the point is vertex 3, the triangle 0 1 2.
+const POINT_PLACES: [[(usize, usize); 6]; 3] = [
+    [(3, 0), (3, 3), (0, 0), (1, 0), (2, 0), (2, 3)],
+    [(3, 0), (3, 3), (0, 0), (1, 0), (1, 3), (2, 3)],
+    [(3, 0), (3, 3), (0, 0), (0, 3), (1, 3), (2, 3)],
+];
+
+/// The base's start and end, the other point of the first triangle, then the three of the second.
+const EDGE_CORNERS: [[[i64; 3]; 6]; 4] = [
+    [[-1, -1, 1], [1, 1, 1], [-1, 1, -1], [-1, 1, 1], [1, -1, -1], [-1, -1, -1]],
+    [[-1, 1, 1], [1, -1, 1], [1, -1, -1], [1, -1, 1], [1, 1, -1], [-1, -1, -1]],
+    [[-1, -1, -1], [1, -1, 1], [1, 1, -1], [-1, 1, 1], [1, -1, -1], [-1, -1, -1]],
+    [[-1, 1, -1], [-1, 1, 1], [1, -1, -1], [1, -1, 1], [1, 1, -1], [-1, -1, -1]],
+];
+
+/// The edges are 0 1 and 2 3: AA, AB, BA, BB.
+const EDGE_PLACES: [[(usize, usize); 6]; 4] = [
+    [(1, 0), (1, 3), (0, 0), (2, 0), (3, 0), (3, 3)],
+    [(1, 0), (1, 3), (0, 0), (2, 0), (2, 3), (3, 3)],
+    [(0, 0), (0, 3), (1, 3), (2, 0), (3, 0), (3, 3)],
+    [(0, 0), (0, 3), (1, 3), (2, 0), (2, 3), (3, 3)],
+];
+
+/// Every coordinate at the limit, and one piece whose sum of determinants is the largest there is: of a point and a
+/// triangle, or of two edges. At times one number is a step less.
+pub fn largest_sums(random: &mut Random) -> Scene {
+    let far = COORDINATE_LIMIT;
+    let mut scene = Scene { vertices: vec![], edges: vec![[0, 1], [2, 3]], triangles: vec![[0, 1, 2]] };
+    scene.vertices = (0..4).map(|_| [0; 6].map(|_| random.pick(&[far, -far]))).collect();
+    let (corners, places) = match random.below(7) {
+        piece @ 0..3 => (POINT_CORNERS[piece], POINT_PLACES[piece]),
+        piece => (EDGE_CORNERS[piece - 3], EDGE_PLACES[piece - 3]),
+    };
+    // a cube's corners, turned and mirrored
+    let axes = random.pick(&[[0, 1, 2], [0, 2, 1], [1, 0, 2], [1, 2, 0], [2, 0, 1], [2, 1, 0]]);
+    let sides = [0; 3].map(|_| random.pick(&[far, -far]));
+    for (corner, (vertex, time)) in corners.into_iter().zip(places) {
+        for axis in 0..3 {
+            scene.vertices[vertex][time + axis] = sides[axis] * corner[axes[axis]];
+        }
+    }
+    if random.chance(3) {
+        let (vertex, place) = (random.below(4), random.below(6));
+        scene.vertices[vertex][place] -= scene.vertices[vertex][place].signum();
+    }
+    scene
+}
+
+/// 3,071, 3,072 or 3,073 listed pairs: every box has the origin in it.
 pub fn just_the_room(random: &mut Random) -> Scene {
-    let (points, triangles) = random.pick(&[(23, 89), (32, 64), (64, 32), (32, 64)]);
+    let (points, triangles) = random.pick(&[(37, 83), (32, 96), (96, 32), (32, 96)]);
     let edges = random.pick(&[&[][..], &[[0, 1], [1, 2]], &[[0, 1], [3, 2]]]);
     let through = |random: &mut Random| {
         let mut v = [0; 6];
@@ -94,6 +151,36 @@ pub fn just_the_length(random: &mut Random) -> Scene {
 mod tests {
     use super::*;
     use crate::listing::list;
+    use crate::pieces::pieces;
+    use crate::signs::weights;
+
+    /// The largest sum over one simplex, in cubes of the largest difference.
+    fn largest(scene: &Scene, pair: Pair) -> i128 {
+        let side = 2 * COORDINATE_LIMIT as i128;
+        let sums = pieces(scene, pair).into_iter().map(|piece| weights::<i128>(&piece).1.abs());
+        sums.max().unwrap() / (side * side * side)
+    }
+
+    /// Five cubes are reached by the corners above, of each piece, and passed by no choice of corners.
+    #[test]
+    fn no_sum_is_larger() {
+        let far = COORDINATE_LIMIT;
+        let of = |vertices: Vec<[i64; 6]>| Scene { vertices, edges: vec![[0, 1], [2, 3]], triangles: vec![[0, 1, 2]] };
+        let shapes = POINT_CORNERS.into_iter().zip(POINT_PLACES).map(|shape| (shape, Pair::pt(3, 0)));
+        let shapes = shapes.chain(EDGE_CORNERS.into_iter().zip(EDGE_PLACES).map(|shape| (shape, Pair::ee(0, 1))));
+        for ((corners, places), pair) in shapes {
+            let mut vertices = vec![[far; 6]; 4];
+            for (corner, (vertex, time)) in corners.into_iter().zip(places) {
+                (0..3).for_each(|axis| vertices[vertex][time + axis] = far * corner[axis]);
+            }
+            assert_eq!(largest(&of(vertices), pair), 5, "{places:?}");
+        }
+        let mut random = Random::new(13);
+        for _ in 0..20_000 {
+            let scene = of((0..4).map(|_| [0; 6].map(|_| random.pick(&[far, -far]))).collect());
+            assert!(largest(&scene, Pair::pt(3, 0)).max(largest(&scene, Pair::ee(0, 1))) <= 5);
+        }
+    }
 
     #[test]
     fn just_what_they_say() {

@@ -1,13 +1,13 @@
 //! Scenes from seeds. Each kind is after something that a wrong program gets wrong.
 
-use crate::extremes::{flat, just_the_length, just_the_room, touching_boxes};
+use crate::extremes::{flat, just_the_length, just_the_room, largest_sums, touching_boxes};
 use crate::random::Random;
 use crate::scene::*;
 use crate::still::{at_rest, coinciding, in_one_place, on_a_line, out_of_turn, sliding};
 
 type Maker = fn(&mut Random) -> Scene;
 
-pub const KINDS: [(&str, Maker); 19] = [
+pub const KINDS: [(&str, Maker); 20] = [
     ("tiny", tiny),
     ("limit", limit),
     ("touching", touching),
@@ -27,6 +27,7 @@ pub const KINDS: [(&str, Maker); 19] = [
     ("coinciding", coinciding),
     ("out of turn", out_of_turn),
     ("crowd or sizes", crowd_or_sizes),
+    ("largest sums", largest_sums),
 ];
 
 pub fn kind_name(seed: u64) -> &'static str {

@@ -1,11 +1,13 @@
 //! A scene and its sizes.
 
-pub const COORDINATE_LIMIT: i64 = 262_143;
+pub const COORDINATE_LIMIT: i64 = 524_287;
+/// What the limit was before document 02, §13.
+pub const FIRST_COORDINATE_LIMIT: i64 = 262_143;
 pub const VERTEX_LIMIT: usize = 512;
 pub const EDGE_LIMIT: usize = 1_024;
 pub const TRIANGLE_LIMIT: usize = 512;
 pub const TEXT_LIMIT: usize = 32_768;
-pub const REPORT_ROOM: usize = 2_048;
+pub const REPORT_ROOM: usize = 3_072;
 
 #[derive(Clone, Debug, Default, PartialEq, Eq)]
 pub struct Scene {

@@ -85,9 +85,12 @@ fn the_weights_of_case_1() {
 #[test]
 fn run_only_facts() {
     let vertex = |x: &str| report(format!("v\t{x}\t0\t0\t0\t0\t0\n").as_bytes(), REPORT_ROOM);
-    assert_eq!(vertex("262143"), "total\t0\t0\t0\t0\t0\n");
-    assert_eq!(vertex("-262143"), "total\t0\t0\t0\t0\t0\n");
-    assert_eq!(vertex("262144"), "refused\t2\t1\n");
+    for taken in ["524287", "-524287", "262144", "-262144"] {
+        assert_eq!(vertex(taken), "total\t0\t0\t0\t0\t0\n");
+    }
+    for refused in ["524288", "-524288"] {
+        assert_eq!(vertex(refused), "refused\t2\t1\n");
+    }
     assert_eq!(vertex("-0"), "refused\t9\t1\n");
     assert_eq!(report(PRINTED_SCENE.as_bytes(), 1), "refused\t7\t2\n");
     assert_eq!(report(PRINTED_SCENE.as_bytes(), 2), PRINTED_REPORT);
@@ -126,7 +129,7 @@ fn refused(positions: &[i64], edges: &[u64], triangles: &[u64]) -> u64 {
 
 #[test]
 fn slices_are_checked_whole_before_the_next_check() {
-    let (three, far) = ([0; 18], [0, 0, 0, 0, 0, 262_144]);
+    let (three, far) = ([0; 18], [0, 0, 0, 0, 0, 524_288]);
     assert_eq!(refused(&[0; 5], &[], &[]), BAD_SHAPE);
     assert_eq!(refused(&[], &[0], &[]), BAD_SHAPE);
     assert_eq!(refused(&[], &[], &[0, 1]), BAD_SHAPE);
@@ -135,7 +138,7 @@ fn slices_are_checked_whole_before_the_next_check() {
     assert_eq!(refused(&three, &[], &[0, 1, 2].repeat(513)), BAD_SHAPE);
     assert_eq!(refused(&far, &[0], &[]), BAD_SHAPE);
     assert_eq!(refused(&far, &[0, 9], &[]), OUT_OF_RANGE);
-    assert_eq!(refused(&[-262_144, 0, 0, 0, 0, 0], &[0, 0], &[]), OUT_OF_RANGE);
+    assert_eq!(refused(&[-524_288, 0, 0, 0, 0, 0], &[0, 0], &[]), OUT_OF_RANGE);
     assert_eq!(refused(&[i64::MIN; 6], &[], &[]), OUT_OF_RANGE);
     assert_eq!(refused(&[], &[0, 1], &[]), NO_SUCH_VERTEX);
     assert_eq!(refused(&three, &[1, 1, 0, 3], &[]), NO_SUCH_VERTEX);
@@ -144,7 +147,7 @@ fn slices_are_checked_whole_before_the_next_check() {
     assert_eq!(refused(&three, &[1, 1], &[0, 1, 2]), VERTEX_TWICE);
     assert_eq!(refused(&three, &[0, 1], &[2, 1, 2]), VERTEX_TWICE);
     let full = compare::slices::scene(Slices {
-        positions: &[262_143; 3_072],
+        positions: &[524_287; 3_072],
         edges: &[0, 511].repeat(1_024),
         triangles: &[0, 1, 511].repeat(512),
     });
@@ -189,7 +192,7 @@ fn a_pair_or_a_piece_asked_for() {
     }
     let bad = Slices { positions: &positions[1..], edges: &edges, triangles: &triangles };
     assert_eq!(pair_verdict(bad, pt, 9, 9), Err(Refusal::bare(BAD_SHAPE)));
-    assert_eq!(list(slices, 2), Ok(vec![[0, 3, 0], [1, 0, 1]]));
+    assert_eq!(list(slices, 2), Ok(vec![3_072, 1_048_577]));
     assert_eq!(list(slices, 1), Err(Refusal::new(NO_ROOM, 2)));
     assert_eq!(list(bad, 0), Err(Refusal::bare(BAD_SHAPE)));
 }

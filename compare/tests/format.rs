@@ -57,7 +57,7 @@ fn placed(cell: &str, count: usize) -> Vec<Placed> {
         "an empty line" => Placed::new(vertices(count), ""),
         "a line that ends CR LF" => Placed::new(vertices(count), "v\t0\t0\t0\t0\t0\t0\r"),
         "the 513th `v` line below an `e` line" => Placed::new(full_and_an_edge(), "v\t0\t0\t0\t0\t0\t0"),
-        "the 513th `v` line with a coordinate out of range" => Placed::new(vertices(VERTEX_LIMIT), "v\t0\t0\t0\t0\t0\t262144"),
+        "the 513th `v` line with a coordinate out of range" => Placed::new(vertices(VERTEX_LIMIT), "v\t0\t0\t0\t0\t0\t524288"),
         words => match words.strip_suffix(" above every `v` line") {
             Some(quoted) => Placed { below: vertices(count), ..Placed::new(vec![], &tabbed(quoted)) },
             None if words.starts_with('`') && words.ends_with('`') => Placed::new(vertices(count), &tabbed(words)),

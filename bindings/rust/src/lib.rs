@@ -45,21 +45,21 @@ mod scenes;
 mod texts;
 
 pub use answers::{Kind, ListRefusal, Pair, Refusal, Settled, TextRefusal, Verdict};
-pub use scenes::Scene;
+pub use scenes::{turn_scene, Scene};
 pub use texts::{read_scene, report, write_report, Counts, OwnedScene};
 
 /// The version of the wrapper, and of the header and library that it belongs to.
 pub const VERSION: &str = env!("CARGO_PKG_VERSION");
 
 /// Coordinates run from minus this to this.
-pub const COORDINATE_LIMIT: i32 = 262_143;
+pub const COORDINATE_LIMIT: i32 = 524_287;
 pub const VERTEX_LIMIT: usize = 512;
 pub const EDGE_LIMIT: usize = 1_024;
 pub const TRIANGLE_LIMIT: usize = 512;
 /// Bytes of a scene text.
 pub const TEXT_LIMIT: usize = 32_768;
 /// Pairs that a report has room for.
-pub const REPORT_ROOM: usize = 2_048;
+pub const REPORT_ROOM: usize = 3_072;
 /// No scene lists more.
 pub const PAIR_LIMIT: usize = 785_920;
 

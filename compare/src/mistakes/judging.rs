@@ -24,6 +24,7 @@ pub fn mistakes() -> Vec<Mistake> {
             "signs without the determinant: a singular piece is a hit where no sign is negative, else a miss",
             by_signs_only,
         ),
+        by_piece("sum-wraps", "all six weights added up in 64 bits, where twice the sum over one simplex wraps", by_wrapped_sum),
         by_pair("written-order", "corners in the order the scene writes them", in_written_order),
         by_pair("first-piece", "the first piece's word given for the pair", |scene, pair| of_pieces(scene, pair)[0]),
         by_pair("last-piece", "the last piece's word given for the pair", |scene, pair| *of_pieces(scene, pair).last().unwrap()),
@@ -74,6 +75,17 @@ fn by_signs_only(piece: &Piece) -> Settled {
         Settled::Hit
     } else {
         Settled::Miss
+    }
+}
+
+/// The sign of the determinant from the sum of all six weights, which is twice the sum over one simplex.
+fn by_wrapped_sum(piece: &Piece) -> Settled {
+    let (weights, _) = weights::<i128>(piece);
+    let sum = weights.iter().fold(0i64, |sum, &weight| sum.wrapping_add(weight as i64));
+    match sum {
+        0 => decided(Verdict::Degenerate, || touches(piece)),
+        _ if weights.iter().all(|weight| weight.signum() * sum.signum() as i128 >= 0) => Settled::Hit,
+        _ => Settled::Miss,
     }
 }
 

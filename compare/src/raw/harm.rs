@@ -112,7 +112,7 @@ pub fn harm(random: &mut Random, lent: &mut Lent, number: u64) {
         BAD_SHAPE => misshape(random, lent),
         OUT_OF_RANGE => {
             let at = random.below(lent.positions.len());
-            lent.positions[at] = random.pick(&[262_144, -262_144, i32::MAX, i32::MIN, 1 << 18, 1 << 24]);
+            lent.positions[at] = random.pick(&[524_288, -524_288, i32::MAX, i32::MIN, 1 << 20, 1 << 24]);
         }
         NO_SUCH_VERTEX => {
             let numbers = if random.chance(2) { &mut lent.edges } else { &mut lent.triangles };

@@ -20,7 +20,7 @@ use Rattle.meaning.specs.Equations.{one, total, Touch, determinantOf, Touches}
 use Rattle.meaning.specs.Verdicts.{PieceIs}
 use Rattle.meaning.specs.declared.Kind.{Kind}
 use Rattle.meaning.specs.declared.Verdict.the-variants.{Degenerate}
-use Rattle.theory.specs.Differences.{differences, Form, alone, behind, ahead, formed}
+use Rattle.theory.specs.Differences.{differences, Form, alone, around, formed}
 use Rattle.theory.specs.Spread.{factor, firstNumbers, secondNumbers, weightsOf}
 use Rattle.theory.specs.Solved.{Solved}
 use Rattle.theory.specs.Shapes.{solved}
@@ -46,17 +46,15 @@ above-some {w} h e = subst (λ z. pos 0 <ℤ z) e h .lt
 nothing : (w x n d : ℤ) → pos 0 <ℤ w → d ≡ pos 0 → x *ℤ d ≡ w *ℤ n → n ≡ pos 0
 nothing w x n d h z e = factor-zero w n (sym e ∙ ap (λ y. x *ℤ y) z ∙ *ℤ-zero x) (above-some h)
 
--- ---- the frame of a piece: the vertex that it holds at both times, and the four others
+-- ---- the frame of a piece: its base, an event at each time, and the four others
 
 unfoldable startBase : Form → ℕ
 startBase alone = 0
-startBase behind = 1
-startBase ahead = 0
+startBase around = 0
 
 unfoldable endBase : Form → ℕ
 endBase alone = 1
-endBase behind = 2
-endBase ahead = 1
+endBase around = 2
 
 module _ (form : Form) (p q : Vector) (o : Four Event) where
   abbrev a : List Event
@@ -74,14 +72,12 @@ module _ (form : Form) (p q : Vector) (o : Four Event) where
 based : (form : Form) (p q : Vector) (o : Four Event) → Based (a form p q o ++ b form p q o) (startBase form) (endBase form) (others form p q o)
 unfolding formed startBase endBase
 based alone p q o = record { six = refl; order = order-of 0 1 (omega arith) (omega arith) (λ e. omega arith); starts = refl; ends = refl }
-based behind p q o = record { six = refl; order = order-of 1 2 (omega arith) (omega arith) (λ e. omega arith); starts = refl; ends = refl }
-based ahead p q o = record { six = refl; order = order-of 0 1 (omega arith) (omega arith) (λ e. omega arith); starts = refl; ends = refl }
+based around p q o = record { six = refl; order = order-of 0 2 (omega arith) (omega arith) (λ e. omega arith); starts = refl; ends = refl }
 
 framed : (form : Form) (p q : Vector) (o : Four Event) → differencesIn (a form p q o ++ b form p q o) (startBase form) (endBase form) (others form p q o) ≡ differences p q o
 unfolding formed startBase endBase skip
 framed alone p q o = refl
-framed behind p q o = refl
-framed ahead p q o = refl
+framed around p q o = refl
 
 -- ---- singular weights make all four volumes 0
 
@@ -105,14 +101,10 @@ flat alone p q o z t p0 = second-none alone p q o z t 0 (omega arith)
 flat alone p q o z t p1 = second-none alone p q o z t 1 (omega arith)
 flat alone p q o z t p2 = second-none alone p q o z t 2 (omega arith)
 flat alone p q o z t p3 = second-none alone p q o z t 3 (omega arith)
-flat behind p q o z t p0 = unminus (first-none behind p q o z t 0 (omega arith))
-flat behind p q o z t p1 = second-none behind p q o z t 0 (omega arith)
-flat behind p q o z t p2 = second-none behind p q o z t 1 (omega arith)
-flat behind p q o z t p3 = second-none behind p q o z t 2 (omega arith)
-flat ahead p q o z t p0 = unminus (first-none ahead p q o z t 2 (omega arith))
-flat ahead p q o z t p1 = second-none ahead p q o z t 0 (omega arith)
-flat ahead p q o z t p2 = second-none ahead p q o z t 1 (omega arith)
-flat ahead p q o z t p3 = second-none ahead p q o z t 2 (omega arith)
+flat around p q o z t p0 = unminus (first-none around p q o z t 1 (omega arith))
+flat around p q o z t p1 = second-none around p q o z t 0 (omega arith)
+flat around p q o z t p2 = second-none around p q o z t 1 (omega arith)
+flat around p q o z t p3 = second-none around p q o z t 2 (omega arith)
 
 -- ---- the theorem
 

@@ -44,7 +44,7 @@ parts-there s PointTriangle i j there = are-there (vertexCount s) (triangleCount
 parts-there s EdgeEdge i j there = are-there (edgeCount s) (edgeCount s) i j there
 
 -- in an accepted scene they are well made
-well-made : {s : Scene} → Accepted s → (kind : Kind) (i j : ℕ) → notThere s kind i j ≡ false → WellMade s kind i j
+pub well-made : {s : Scene} → Accepted s → (kind : Kind) (i j : ℕ) → notThere s kind i j ≡ false → WellMade s kind i j
 unfolding notThere WellMade
 well-made {s} a PointTriangle i j there =
     let (h, k) = are-there (vertexCount s) (triangleCount s) i j there in

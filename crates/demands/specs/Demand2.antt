@@ -1,19 +1,22 @@
 -- Demand 2, of every scene whatever: the verdicts of its pieces and pairs, its list, and the pairs that the list leaves out. The pieces and
 -- the equations are those of `meaning`, in document 01's words.
-use Prim.Native.Nat.{ℕ, _<_}
-use mathlib.Core.Bool.{true, false}
+use Prim.Native.Nat.{ℕ, _≤_, _<_}
+use mathlib.Core.Bool.{Bool, true, false, _||_}
 use mathlib.Core.List.{List}
 use mathlib.Core.Logic.{_↔_, _⊎_, inl, inr, ⊎-elim}
 use mathlib.Core.Path.{_≡_}
+use lib.Dec.{leb, lit≤}
 use lib.IntN.{pos}
 use lib.ListN.{length, getD}
+use borrow.Author.Tests.{lt-leb}
 use Rattle.sequences.specs.Lists.{Lists}
-use Rattle.meaning.specs.Scene.{Scene}
-use Rattle.meaning.specs.Pieces.{Piece, pieceOf}
+use Rattle.meaning.specs.Limits.{coordinateLimit, contactLimit}
+use Rattle.meaning.specs.Scene.{Scene, AcceptedWithin, Accepted}
+use Rattle.meaning.specs.Pieces.{Piece, pieceOf, pieceCount}
 use Rattle.meaning.specs.Equations.{determinantOf, Touches}
 use Rattle.meaning.specs.Verdicts.{PieceIs, SomePiece, PairIs}
-use Rattle.meaning.specs.Resting.{PieceSettled, SomeSettled, PairSettled}
-use Rattle.meaning.specs.Refusals.{shares}
+use Rattle.meaning.specs.Resting.{PieceSettled, SomeSettled, PairSettled, settledSays, PairDecided, PieceDecided}
+use Rattle.meaning.specs.Refusals.{Outcome, given, pairSays, notThere, shares, PairJudged, PieceJudged}
 use Rattle.meaning.specs.Boxes.{boxesMeet, culled}
 use Rattle.meaning.specs.Motion.{TouchInMotion}
 use Rattle.meaning.specs.List.{Pair, pairs}
@@ -22,6 +25,8 @@ use Rattle.meaning.specs.declared.Verdict.{Verdict}
 use Rattle.meaning.specs.declared.Verdict.the-variants.{Hit, Miss, Degenerate}
 use Rattle.meaning.specs.declared.Settled as Words
 use Rattle.meaning.specs.declared.Settled.{Settled}
+use Rattle.meaning.specs.declared.PairAnswer.{PairAnswer}
+use Rattle.meaning.specs.declared.SettledAnswer.{SettledAnswer}
 use Rattle.theory.specs.Rational.{touch-rational}
 use Rattle.theory.specs.RationalVerdicts.{Solvable, Meets, RationalPieceIs, piece-rational}
 use Rattle.theory.specs.OneVerdict.{piece-is, judged-pair, pair-is}
@@ -29,7 +34,9 @@ use Rattle.theory.specs.Computed.{pieceVerdict, pairVerdict}
 use Rattle.theory.specs.SevenPieces.{judged-piece}
 use Rattle.theory.specs.Cull.{culled-apart, culled-apart-in-motion, culled-never-meets}
 use Rattle.corner_search.specs.Decided.{pieceWord, pairWord, settled-piece, piece-word-is, settled-pair, pair-word-is, some-hit}
+use Rattle.scenes.specs.Facts.{accepted-wider}
 use Rattle.listing.specs.InOrder.{Earlier, ToList, list-is, list-only, list-once}
+use Rattle.demands.specs.Demand1.{AskedTable, demand1-pair, demand1-piece, demand1-settled-pair, demand1-settled-piece}
 
 -- one of the three, or of the four, and no other
 pub record ExactlyOne {W : Type 0} (Is : W → Type 0) : Type 0 where
@@ -123,6 +130,42 @@ module _ (s : Scene) (kind : Kind) (i j : ℕ) where
 
   pub demand2-verdicts : VerdictsAsDemanded s kind i j
   demand2-verdicts = record { pieces = piece-as-demanded; pair = pair-as-demanded }
+
+-- 'Show the verdicts once for any bound up to the new one.' The verdicts above are of every scene; in one that is accepted within a bound up to the
+-- limit, whatever meets the promises answers with them, and refuses no pair that is there and shares no vertex.
+pub record AnswersAsDemanded (s : Scene) (kind : Kind) (i j : ℕ) : Type 0 where
+  pub verdicts : VerdictsAsDemanded s kind i j
+  pub pair : (r : PairAnswer) → PairJudged s kind i j r → (v : Verdict) → (pairSays r ≡ given v) ↔ PairIs s kind i j v
+  pub piece : (k : ℕ) → k < pieceCount kind → (r : PairAnswer) → PieceJudged s kind i j k r
+      → (v : Verdict) → (pairSays r ≡ given v) ↔ PieceIs (pieceOf s kind i j k) v
+  pub pairWord : (r : SettledAnswer) → PairDecided s kind i j r → (w : Settled) → (settledSays r ≡ given w) ↔ PairSettled s kind i j w
+  pub pieceWord : (k : ℕ) → k < pieceCount kind → (r : SettledAnswer) → PieceDecided s kind i j k r
+      → (w : Settled) → (settledSays r ≡ given w) ↔ PieceSettled (pieceOf s kind i j k) w
+
+-- where neither 5 nor 6 holds in an accepted scene, a value is given exactly when it is right
+given-right : {W : Type 0} {s : Scene} {missing shared : Bool} {Is : W → Type 0} {o : Outcome W} → AskedTable s missing shared Is o
+    → Accepted s → missing ≡ false → shared ≡ false → (v : W) → (o ≡ given v) ↔ Is v
+given-right t a m h v = (λ e. t .judged v .0 e .1 .2, λ is. t .judged v .1 (a, (m, h, is)))
+
+pub demand2-answers : (B : ℕ) → B ≤ coordinateLimit → {s : Scene} → AcceptedWithin B s
+    → (kind : Kind) (i j : ℕ) → notThere s kind i j ≡ false → shares s kind i j ≡ false → AnswersAsDemanded s kind i j
+demand2-answers B small {s} within kind i j there apart =
+    let a : Accepted s = accepted-wider small within in
+    record {
+      verdicts = demand2-verdicts s kind i j;
+      pair = λ r p. given-right (demand1-pair s kind i j r p) a there apart;
+      piece = λ k h r p. given-right (demand1-piece s kind i j k r p) a (known k h) apart;
+      pairWord = λ r p. given-right (demand1-settled-pair s kind i j r p) a there apart;
+      pieceWord = λ k h r p. given-right (demand1-settled-piece s kind i j k r p) a (known k h) apart;
+    }
+  where
+    known : (k : ℕ) → k < pieceCount kind → notThere s kind i j || leb (pieceCount kind) k ≡ false
+    known k h = rw (there, lt-leb (pieceCount kind) k h)
+
+-- so in the range that coordinates had at first, where contacts are given
+pub demand2-first-range : {s : Scene} → AcceptedWithin contactLimit s
+    → (kind : Kind) (i j : ℕ) → notThere s kind i j ≡ false → shares s kind i j ≡ false → AnswersAsDemanded s kind i j
+demand2-first-range = demand2-answers contactLimit (lit≤ tt)
 
 -- 'The list holds exactly the pairs without a shared vertex whose swept boxes meet, in order.'
 pub record ListAsDemanded (s : Scene) (l : List Pair) : Type 0 where

@@ -9,7 +9,8 @@ use mathlib.Core.Path.{_≡_}
 use native.Mathlib.Omega.{arith}
 use Rattle.whole.specs.Vector.{Vector}
 use Rattle.whole.specs.VectorLaws.{Matrix}
-use Rattle.meaning.specs.Scene.{Scene, Accepted, vertexCount, edgeCount, triangleCount}
+use Rattle.meaning.specs.Limits.{contactLimit}
+use Rattle.meaning.specs.Scene.{Scene, AcceptedWithin, vertexCount, edgeCount, triangleCount}
 use Rattle.meaning.specs.Pieces.{pieceOf}
 use Rattle.meaning.specs.Verdicts.{PieceIs, PairIs}
 use Rattle.meaning.specs.Resting.{PieceSettled, PairSettled}
@@ -27,7 +28,7 @@ use Rattle.scenes.specs.Facts.{accepted-end, accepted-corner}
 use Rattle.listing.specs.InOrder.{are-there}
 
 -- in an accepted scene the vertices of a pair that is there are there
-vertices-there : {s : Scene} → Accepted s → (kind : Kind) (i j : ℕ) → notThere s kind i j ≡ false → Known s kind i j
+pub vertices-there : {s : Scene} {B : ℕ} → AcceptedWithin B s → (kind : Kind) (i j : ℕ) → notThere s kind i j ≡ false → Known s kind i j
 unfolding notThere firstPart secondPart
 vertices-there {s} a PointTriangle i j there =
     let (h, k) = are-there (vertexCount s) (triangleCount s) i j there in
@@ -51,7 +52,8 @@ pub record KeepsVerdicts (s t : Scene) (kind : Kind) (i j : ℕ) : Type 0 where
   pub culledInEither : (culled s kind i j ≡ true) ⊎ (culled t kind i j ≡ true) → ¬ PairIs s kind i j Hit × ¬ PairIs t kind i j Hit
   pub touchInNeither : (culled s kind i j ≡ true) ⊎ (culled t kind i j ≡ true) → ¬ PairSettled s kind i j Touch × ¬ PairSettled t kind i j Touch
 
-pub demand3 : {m : Matrix} {a b : Vector} {s t : Scene} → Moves m a b s t → Accepted s → Accepted t
+-- 'Show the verdicts once for any bound up to the new one': whatever ranges the two scenes are accepted in, the limit's or a narrower one
+pub demand3 : {m : Matrix} {a b : Vector} {s t : Scene} {B C : ℕ} → Moves m a b s t → AcceptedWithin B s → AcceptedWithin C t
     → (kind : Kind) (i j : ℕ) → notThere s kind i j ≡ false → shares s kind i j ≡ false → KeepsVerdicts s t kind i j
 demand3 moves accepted also kind i j there apart =
     let known = vertices-there accepted kind i j there in
@@ -63,3 +65,8 @@ demand3 moves accepted also kind i j there apart =
       culledInEither = culled-in-either-hit-in-neither moves kind i j known;
       touchInNeither = λ c. let n = culled-in-either-meets-in-neither moves kind i j known c in (n .0 .1, n .1 .1);
     }
+
+-- so in the range that coordinates had at first, where contacts are given
+pub demand3-first-range : {m : Matrix} {a b : Vector} {s t : Scene} → Moves m a b s t → AcceptedWithin contactLimit s → AcceptedWithin contactLimit t
+    → (kind : Kind) (i j : ℕ) → notThere s kind i j ≡ false → shares s kind i j ≡ false → KeepsVerdicts s t kind i j
+demand3-first-range = demand3

@@ -1,5 +1,5 @@
 -- 'By Cramer's rule each weight is, up to one common factor, a signed determinant of the other five points with rows x, y, z, at-start,
--- at-end': the numbers that solve a piece are these determinants, with signs that depend on the place alone, in all three forms that a piece
+-- at-end': the numbers that solve a piece are these determinants, with signs that depend on the place alone, in both forms that a piece
 -- can have.
 use Prim.Native.Nat.{ℕ}
 use mathlib.Core.List.{List, [], _∷_, _++_, map}
@@ -10,7 +10,7 @@ use Rattle.whole.specs.Ring.{neg}
 use Rattle.whole.specs.Operations.{expandIn, determinantIn}
 use Rattle.whole.specs.Cramer.{Four, volumes, all}
 use Rattle.meaning.specs.Pieces.{Event, Piece}
-use Rattle.theory.specs.Differences.{difference, differences, atStart, atEnd, Form, alone, behind, ahead, formed}
+use Rattle.theory.specs.Differences.{difference, differences, atStart, atEnd, Form, alone, around, formed}
 use Rattle.theory.specs.NoCrack.{without}
 use Rattle.theory.specs.Spread.{startShare, endShare, firstNumbers, secondNumbers, factor, weightsOf}
 use Rattle.theory.specs.Solved.{Solved}
@@ -24,16 +24,14 @@ otherFive p i = five (map columnOf (without i (p .first ++ p .second)))
 -- ---- the signs
 
 -- d i is the determinant without the i-th point. From point to point of the six the sign turns, and it turns once more between the simplices,
--- since the weights of the second stand on the other side of the equations: - + | + - + - and - + - | - + -
+-- since the weights of the second stand on the other side of the equations: - + | + - + - and + - + | + - +
 unfoldable pub firstSigned : Form → (ℕ → ℤ) → List ℤ
 firstSigned alone d = negℤ (d 0) ∷ d 1 ∷ []
-firstSigned behind d = negℤ (d 0) ∷ d 1 ∷ negℤ (d 2) ∷ []
-firstSigned ahead d = negℤ (d 0) ∷ d 1 ∷ negℤ (d 2) ∷ []
+firstSigned around d = d 0 ∷ negℤ (d 1) ∷ d 2 ∷ []
 
 unfoldable pub secondSigned : Form → (ℕ → ℤ) → List ℤ
 secondSigned alone d = d 2 ∷ negℤ (d 3) ∷ d 4 ∷ negℤ (d 5) ∷ []
-secondSigned behind d = negℤ (d 3) ∷ d 4 ∷ negℤ (d 5) ∷ []
-secondSigned ahead d = negℤ (d 3) ∷ d 4 ∷ negℤ (d 5) ∷ []
+secondSigned around d = d 3 ∷ negℤ (d 4) ∷ d 5 ∷ []
 
 -- ---- each point left out in turn
 
@@ -44,12 +42,12 @@ unfolding volume determinantIn expandIn
 five-is-volume p q c d e =
     five-worth (letters p q (record { v0 = c; v1 = c; v2 = d; v3 = e })) (startˣ ∷ endˣ ∷ o1 ∷ o2 ∷ o3 ∷ []) (volumeˣ o1 o2 o3) refl
 
--- with a point before the base as well
-five-is-volume-behind : (p q : Vector) (c d e : Event)
-    → five (map columnOf (c ∷ atStart p ∷ atEnd q ∷ d ∷ e ∷ [])) ≡ volume (difference p q c) (difference p q d) (difference p q e)
+-- with a point between the two of the base
+five-is-volume-around : (p q : Vector) (c d e : Event)
+    → five (map columnOf (atStart p ∷ c ∷ atEnd q ∷ d ∷ e ∷ [])) ≡ negℤ (volume (difference p q c) (difference p q d) (difference p q e))
 unfolding volume determinantIn expandIn
-five-is-volume-behind p q c d e =
-    five-worth (letters p q (record { v0 = c; v1 = c; v2 = d; v3 = e })) (o1 ∷ startˣ ∷ endˣ ∷ o2 ∷ o3 ∷ []) (volumeˣ o1 o2 o3) refl
+five-is-volume-around p q c d e =
+    five-worth (letters p q (record { v0 = c; v1 = c; v2 = d; v3 = e })) (startˣ ∷ o1 ∷ endˣ ∷ o2 ∷ o3 ∷ []) (neg (volumeˣ o1 o2 o3)) refl
 
 module _ (p q : Vector) (o : Four Event) where
   abbrev E : Four ℤ
@@ -63,13 +61,9 @@ module _ (p q : Vector) (o : Four Event) where
   unfolding volume determinantIn expandIn
   without-end = five-worth (letters p q o) (startˣ ∷ o0 ∷ o1 ∷ o2 ∷ o3 ∷ []) (shareˣ (λ c. c .end)) refl
 
-  without-start-behind : five (map columnOf (o .v0 ∷ atEnd q ∷ o .v1 ∷ o .v2 ∷ o .v3 ∷ [])) ≡ startShare o E
+  without-start-around : five (map columnOf (o .v0 ∷ atEnd q ∷ o .v1 ∷ o .v2 ∷ o .v3 ∷ [])) ≡ startShare o E
   unfolding volume determinantIn expandIn
-  without-start-behind = five-worth (letters p q o) (o0 ∷ endˣ ∷ o1 ∷ o2 ∷ o3 ∷ []) (shareˣ (λ c. c .start)) refl
-
-  without-end-behind : five (map columnOf (o .v0 ∷ atStart p ∷ o .v1 ∷ o .v2 ∷ o .v3 ∷ [])) ≡ negℤ (endShare o E)
-  unfolding volume determinantIn expandIn
-  without-end-behind = five-worth (letters p q o) (o0 ∷ startˣ ∷ o1 ∷ o2 ∷ o3 ∷ []) (neg (shareˣ (λ c. c .end))) refl
+  without-start-around = five-worth (letters p q o) (o0 ∷ endˣ ∷ o1 ∷ o2 ∷ o3 ∷ []) (shareˣ (λ c. c .start)) refl
 
   -- ---- the theorem
 
@@ -89,18 +83,11 @@ module _ (p q : Vector) (o : Four Event) where
   spans : (c d e : Event) → spanned c d e ≡ withBase c d e
   spans c d e = sym (five-is-volume p q c d e)
 
-  abbrev behindBase : Event → Event → Event → ℤ
-  behindBase c d e = five (map columnOf (c ∷ atStart p ∷ atEnd q ∷ d ∷ e ∷ []))
-
-  spans-behind : (c d e : Event) → spanned c d e ≡ behindBase c d e
-  spans-behind c d e = sym (five-is-volume-behind p q c d e)
-
   -- the numbers of the first simplex
   first-five : (form : Form) → firstNumbers form o E ≡ firstSigned form (others form)
   unfolding formed without firstNumbers firstSigned
   first-five alone = λ i. turned (startShare o E) without-start i ∷ sym without-end i ∷ []
-  first-five behind = λ i. negℤ (spans (o .v1) (o .v2) (o .v3) i) ∷ sym without-start-behind i ∷ turned (endShare o E) without-end-behind i ∷ []
-  first-five ahead = λ i. turned (startShare o E) without-start i ∷ sym without-end i ∷ negℤ (spans (o .v1) (o .v2) (o .v3) i) ∷ []
+  first-five around = λ i. sym without-start-around i ∷ negℤ (spans (o .v1) (o .v2) (o .v3) i) ∷ sym without-end i ∷ []
 
   -- and of the second
   second-five : (form : Form) → secondNumbers form E ≡ secondSigned form (others form)
@@ -108,10 +95,10 @@ module _ (p q : Vector) (o : Four Event) where
   second-five alone = λ i.
       spans (o .v1) (o .v2) (o .v3) i ∷ negℤ (spans (o .v0) (o .v2) (o .v3) i) ∷ spans (o .v0) (o .v1) (o .v3) i
       ∷ negℤ (spans (o .v0) (o .v1) (o .v2) i) ∷ []
-  second-five behind = λ i.
-      negℤ (spans-behind (o .v0) (o .v2) (o .v3) i) ∷ spans-behind (o .v0) (o .v1) (o .v3) i ∷ negℤ (spans-behind (o .v0) (o .v1) (o .v2) i) ∷ []
-  second-five ahead = λ i.
-      negℤ (spans (o .v0) (o .v2) (o .v3) i) ∷ spans (o .v0) (o .v1) (o .v3) i ∷ negℤ (spans (o .v0) (o .v1) (o .v2) i) ∷ []
+  second-five around = λ i.
+      sym (five-is-volume-around p q (o .v0) (o .v2) (o .v3)) i
+      ∷ turned (spanned (o .v0) (o .v1) (o .v3)) (five-is-volume-around p q (o .v0) (o .v1) (o .v3)) i
+      ∷ sym (five-is-volume-around p q (o .v0) (o .v1) (o .v2)) i ∷ []
 
   -- each of the six numbers is the determinant of the other five points, with the sign of its place
   pub other-five : (form : Form)

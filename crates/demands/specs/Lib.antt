@@ -4,6 +4,7 @@ pub mod Demand1
 pub mod LineTable
 pub mod TextTable
 pub mod Unchanged
+pub mod Entries
 pub mod Demand2
 pub mod Standing
 pub mod Demand3
@@ -18,6 +19,7 @@ pub mod ReadTexts
 pub mod SameAnswer
 pub mod StillAccepted
 pub mod AnyWriting
+pub mod PlayedBackwards
 pub mod NoCracks
 pub mod Columns
 pub mod FivePoints

@@ -1,2 +1,3 @@
 -- Laws that several proofs of this crate cite.
-mod Held
+mod ArrowShort
+mod Products

@@ -5,10 +5,6 @@ use Rattle.meaning.specs.Limits.{coordinateLimit}
 abbrev pub differenceLimit : ℕ
 differenceLimit = coordinateLimit + coordinateLimit
 
--- six products of three differences
+-- a determinant of differences, by its value (`Largest.largest`): its six products, one by one, would allow 6 differenceLimit ^ 3
 abbrev pub determinantLimit : ℕ
-determinantLimit = 6 * differenceLimit ^ 3
-
--- four determinants
-abbrev pub sumLimit : ℕ
-sumLimit = 4 * determinantLimit
+determinantLimit = 4 * differenceLimit ^ 3

@@ -1,8 +1,6 @@
--- The list: row by row, its entries, and what stands in it.
+-- The list: row by row, and what stands in it.
 pub mod Rows
 pub mod Meeting
-pub mod Entries
-pub mod Entering
 pub mod Stepping
 pub mod Answering
 pub mod Once

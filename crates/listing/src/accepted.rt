@@ -28,7 +28,7 @@ pub fn list_accepted(
     positions: &[i32],
     edges: &[u16],
     triangles: &[u16],
-    list: &mut [u16],
+    list: &mut [u32],
     room: usize,
 ) -> ListAnswer
     requires { ⌜ Accepted (sceneIn positions edges triangles) × (room ≤ roomOf (now list)) ⌝ }

@@ -1,6 +1,6 @@
 // The listed pairs, entered one behind the other from a number of the list on. Each function answers the number behind its last entry.
 
-ghost use Prim.Native.Nat.{_+_, _*_, _≤_, _<_};
+ghost use Prim.Native.Nat.{_<_};
 ghost use mathlib.Core.Path.{_≡_};
 ghost use lib.ListN.{length};
 ghost use Rattle.sequences.specs.Wrote.{written};
@@ -8,12 +8,12 @@ ghost use Rattle.meaning.specs.Scene.{sceneIn, sceneAtEntry};
 ghost use Rattle.meaning.specs.List.{pairs, entries};
 ghost use Rattle.listing.specs.Rows.{firstCount, secondCount, candidate, rowOf, rowsOf};
 ghost use Rattle.listing.specs.Meeting.{Prepared};
-ghost use Rattle.listing.specs.Entering.{RoomFor, Entered};
+ghost use Rattle.entries.specs.Entering.{RoomFor, Entered};
 use super::candidates::first_count;
 use super::candidates::is_listed;
 use super::candidates::second_count;
 use super::candidates::second_from;
-use super::entries::put;
+use entries::put;
 use meaning::Kind;
 
 fn write_one(
@@ -24,7 +24,7 @@ fn write_one(
     kind: Kind,
     i: usize,
     j: usize,
-    list: &mut [u16],
+    list: &mut [u32],
     from: usize,
 ) -> usize
     requires { ⌜ Prepared (sceneIn positions edges triangles) (now boxes) × (i < firstCount (sceneIn positions edges triangles) kind) × (j < secondCount (sceneIn positions edges triangles) kind) ⌝ }
@@ -46,7 +46,7 @@ fn write_row(
     boxes: &[i32],
     kind: Kind,
     i: usize,
-    list: &mut [u16],
+    list: &mut [u32],
     from: usize,
 ) -> usize
     requires { ⌜ Prepared (sceneIn positions edges triangles) (now boxes) × (i < firstCount (sceneIn positions edges triangles) kind) ⌝ }
@@ -69,7 +69,7 @@ fn write_rows(
     triangles: &[u16],
     boxes: &[i32],
     kind: Kind,
-    list: &mut [u16],
+    list: &mut [u32],
     from: usize,
 ) -> usize
     requires { ⌜ Prepared (sceneIn positions edges triangles) (now boxes) ⌝ }
@@ -92,7 +92,7 @@ pub fn write_all(
     edges: &[u16],
     triangles: &[u16],
     boxes: &[i32],
-    list: &mut [u16],
+    list: &mut [u32],
 )
     requires { ⌜ Prepared (sceneIn positions edges triangles) (now boxes) ⌝ }
     requires { ⌜ RoomFor (now list) 0 (pairs (sceneIn positions edges triangles)) ⌝ }

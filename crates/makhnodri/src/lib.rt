@@ -4,6 +4,7 @@ ghost use mathlib.Core.List.{[], _∷_};
 ghost use mathlib.Core.Path.{_≡_};
 ghost use Rattle.meaning.specs.Scene.{sceneAtEntry, sceneAtExit};
 ghost use Rattle.meaning.specs.Refusals.{SceneChecked, PairJudged, PieceJudged};
+ghost use Rattle.meaning.specs.Backwards.{Turning};
 ghost use Rattle.meaning.specs.Resting.{PairDecided, PieceDecided};
 ghost use Rattle.meaning.specs.List.{Counted, Listing};
 ghost use Rattle.meaning.specs.SceneWords.{SettledScene};
@@ -36,6 +37,18 @@ pub extern "C" fn makhnodri_check_scene(positions: &[i32], edges: &[u16], triang
     scene_number(scenes::check_scene(positions, edges, triangles))
 }
 
+// The scene turned round where it stands: start and end swapped, vertices numbered from last to first.
+#[no_mangle]
+pub extern "C" fn makhnodri_turn_scene(
+    positions: &mut [i32],
+    edges: &mut [u16],
+    triangles: &mut [u16],
+) -> u64
+    ensures { λ r. ⌜ Told sceneNumber (Turning (sceneAtEntry positions edges triangles) (sceneAtExit positions edges triangles)) r ⌝ }
+{
+    scene_number(turning::turn_scene(positions, edges, triangles))
+}
+
 // How many pairs are listed.
 #[no_mangle]
 pub extern "C" fn makhnodri_count_pairs(positions: &[i32], edges: &[u16], triangles: &[u16]) -> u64
@@ -50,7 +63,7 @@ pub extern "C" fn makhnodri_list_pairs(
     positions: &[i32],
     edges: &[u16],
     triangles: &[u16],
-    list: &mut [u16],
+    list: &mut [u32],
 ) -> u64
     ensures { λ r. ⌜ Told listNumber (Listing (sceneAtEntry positions edges triangles) (now (list .entry)) (now (list .exit))) r ⌝ }
 {
@@ -63,7 +76,7 @@ pub extern "C" fn makhnodri_settle_scene(
     positions: &[i32],
     edges: &[u16],
     triangles: &[u16],
-    list: &mut [u16],
+    list: &mut [u32],
     verdicts: &mut [u8],
 ) -> u64
     ensures { λ r. ⌜ Told listNumber (SettledScene (sceneAtEntry positions edges triangles) (now (list .entry)) (now (list .exit)) (now (verdicts .entry)) (now (verdicts .exit))) r ⌝ }

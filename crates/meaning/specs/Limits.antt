@@ -1,8 +1,12 @@
--- 'Sizes' of document 01. Each limit stands here once, and everything else names it.
+-- 'Sizes' of document 01, the coordinates by document 02, §13. Each limit stands here once, and everything else names it.
 use Prim.Native.Nat.{ℕ}
 
 abbrev pub coordinateLimit : ℕ
-coordinateLimit = 262_143
+coordinateLimit = 524_287
+
+-- contacts are given in the range that coordinates had at first
+abbrev pub contactLimit : ℕ
+contactLimit = 262_143
 
 abbrev pub vertexLimit : ℕ
 vertexLimit = 512
@@ -22,4 +26,4 @@ digitLimit = 9
 
 -- the pairs that the report program has room for
 abbrev pub reportRoom : ℕ
-reportRoom = 2_048
+reportRoom = 3_072

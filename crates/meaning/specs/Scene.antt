@@ -103,12 +103,19 @@ wrongShape s =
     || ltb edgeLimit (edgeCount s)
     || ltb triangleLimit (triangleCount s)
 
+-- larger than B in size: a number, and some coordinate of the scene
+abbrev pub beyond : ℕ → ℤ → Bool
+beyond B z = ltb B (natAbs z)
+
+abbrev pub reachesBeyond : ℕ → Scene → Bool
+reachesBeyond B s = someBelow (length (s .positions)) (λ i. beyond B (getD (s .positions) i (pos 0)))
+
 -- 2: a coordinate outside its range
 abbrev pub outside : ℤ → Bool
-outside z = ltb coordinateLimit (natAbs z)
+outside z = beyond coordinateLimit z
 
 abbrev pub outOfRange : Scene → Bool
-outOfRange s = someBelow (length (s .positions)) (λ i. outside (getD (s .positions) i (pos 0)))
+outOfRange s = reachesBeyond coordinateLimit s
 
 -- 3: a vertex number not below the vertex count
 abbrev pub unknownIn : ℕ → List ℕ → Bool
@@ -128,9 +135,13 @@ twiceInTriangle s j =
 abbrev pub repeatedVertex : Scene → Bool
 repeatedVertex s = someBelow (edgeCount s) (twiceInEdge s) || someBelow (triangleCount s) (twiceInTriangle s)
 
--- a scene that none of the four refuses
-pub record Accepted (s : Scene) : Type 0 where
+-- a scene that none of the four refuses, if the range of a coordinate is -B to B
+pub record AcceptedWithin (B : ℕ) (s : Scene) : Type 0 where
   pub shapely : wrongShape s ≡ false
-  pub inRange : outOfRange s ≡ false
+  pub inRange : reachesBeyond B s ≡ false
   pub known : unknownVertex s ≡ false
   pub distinct : repeatedVertex s ≡ false
+
+-- a scene that none of the four refuses
+abbrev pub Accepted : Scene → Type 0
+Accepted s = AcceptedWithin coordinateLimit s

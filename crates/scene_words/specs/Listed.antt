@@ -21,7 +21,7 @@ use Rattle.scene_words.specs.declared.ByteAnswer.{ByteAnswer}
 use Rattle.scene_words.specs.declared.ByteAnswer.the-variants.{Word, NoWord}
 use Rattle.corner_search.specs.Decided.{pairWord, pair-word-is, settled-pair}
 use Rattle.listing.specs.InOrder.{ToList, list-is}
-use Rattle.listing.specs.Entries.{pairAt}
+use Rattle.entries.specs.Entries.{pairAt}
 
 abbrev pub wordOfPair : Scene → Pair → Settled
 wordOfPair s p = pairWord s (p .kind) (p .first) (p .second)

@@ -51,13 +51,14 @@ pub fn word_of(byte: u8) -> ByteAnswer
 }
 
 // The k-th entry of the list, judged.
-fn settle_entry(positions: &[i32], edges: &[u16], triangles: &[u16], list: &[u16], k: usize) -> u8
+fn settle_entry(positions: &[i32], edges: &[u16], triangles: &[u16], list: &[u32], k: usize) -> u8
     requires { ⌜ Accepted (sceneIn positions edges triangles) × ListStands (sceneIn positions edges triangles) (now list) × (k < length (pairs (sceneIn positions edges triangles))) ⌝ }
     ensures { λ r. ⌜ r ≡ getD (bytesOf (sceneAtEntry positions edges triangles) (pairs (sceneAtEntry positions edges triangles))) k 0 ⌝ }
 {
-    let kind = listing::entries::entry_kind(list, k);
-    let first = listing::entries::entry_first(list, k);
-    let second = listing::entries::entry_second(list, k);
+    let entry = list[k];
+    let kind = entries::kind_of(entry);
+    let first = entries::first_of(entry);
+    let second = entries::second_of(entry);
     byte_of(four_words::accepted::pair(positions, edges, triangles, kind, first, second))
 }
 
@@ -66,7 +67,7 @@ fn settle_entries(
     positions: &[i32],
     edges: &[u16],
     triangles: &[u16],
-    list: &[u16],
+    list: &[u32],
     out: &mut [u8],
     count: usize,
 )
@@ -91,13 +92,13 @@ pub fn settle_accepted(
     positions: &[i32],
     edges: &[u16],
     triangles: &[u16],
-    list: &mut [u16],
+    list: &mut [u32],
     out: &mut [u8],
 ) -> ListAnswer
     requires { ⌜ Accepted (sceneIn positions edges triangles) ⌝ }
     ensures { λ r. ⌜ SettledIn (sceneAtEntry positions edges triangles) (min (roomOf (now (list .entry))) (length (now (out .entry)))) (now (list .entry)) (now (list .exit)) (now (out .entry)) (now (out .exit)) r ⌝ }
 {
-    let room = smaller(listing::entries::room(list), out.len());
+    let room = smaller(entries::room(list), out.len());
     match listing::accepted::list_accepted(positions, edges, triangles, list, room) {
         ListAnswer::Listed(made) => {
             settle_entries(positions, edges, triangles, list, out, made.count);
@@ -112,7 +113,7 @@ pub fn settle_scene(
     positions: &[i32],
     edges: &[u16],
     triangles: &[u16],
-    list: &mut [u16],
+    list: &mut [u32],
     out: &mut [u8],
 ) -> ListAnswer
     ensures { λ r. ⌜ SettledScene (sceneAtEntry positions edges triangles) (now (list .entry)) (now (list .exit)) (now (out .entry)) (now (out .exit)) r ⌝ }

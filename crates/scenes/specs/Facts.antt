@@ -5,14 +5,15 @@ use mathlib.Core.List.{List}
 use mathlib.Core.Path.{_≡_}
 use mathlib.Core.Logic.{_≢_}
 use native.Mathlib.Decide.{decLt}
+use native.Mathlib.Nat.{le-trans}
 use native.Mathlib.Omega.{arith}
 use lib.Dec.{leb, eqb}
 use lib.IntN.{pos, natAbs}
 use lib.ListN.{length, getD, List·getD-eq-default}
-use borrow.Author.Tests.{ltb-false, leb-false, eqb-true, eqb-false, not-false}
-use Rattle.meaning.specs.Limits.{coordinateLimit, vertexLimit, edgeLimit, triangleLimit}
-use Rattle.meaning.specs.Scene.{Scene, Accepted, vertexCount, edgeCount, triangleCount, edgeEnd, corner, outside, unknownIn, twiceInEdge, twiceInTriangle}
-use Rattle.scenes.specs.Below.{or-left, or-rest, none-passes}
+use borrow.Author.Tests.{ltb-false, le-ltb, leb-false, eqb-true, eqb-false, not-false}
+use Rattle.meaning.specs.Limits.{vertexLimit, edgeLimit, triangleLimit}
+use Rattle.meaning.specs.Scene.{Scene, AcceptedWithin, vertexCount, edgeCount, triangleCount, edgeEnd, corner, beyond, unknownIn, twiceInEdge, twiceInTriangle}
+use Rattle.scenes.specs.Below.{or-left, or-rest, none-passes, none-below}
 
 -- six numbers to each vertex, two to each edge, three to each triangle, and no more of them than their sizes
 pub record Sized (s : Scene) : Type 0 where
@@ -26,7 +27,7 @@ pub record Sized (s : Scene) : Type 0 where
 none-over : (n d : ℕ) → not (eqb (n % d) 0) ≡ false → n % d ≡ 0
 none-over n d h = eqb-true (n % d) 0 (not-false (eqb (n % d) 0) h)
 
-pub accepted-sized : {s : Scene} → Accepted s → Sized s
+pub accepted-sized : {s : Scene} {B : ℕ} → AcceptedWithin B s → Sized s
 accepted-sized {s} a =
     record {
       positionsLong = omega (arith, none-over (length (s .positions)) 6 (search (or-left, or-rest)));
@@ -48,23 +49,33 @@ pub triangle-inside : (s : Scene) (j k : ℕ) → j < triangleCount s → k < 3 
 triangle-inside s j k h l = omega arith
 
 -- every coordinate is in range, and so is the 0 that is read past the end
-pub accepted-coordinate : {s : Scene} → Accepted s → (i : ℕ) → natAbs (getD (s .positions) i (pos 0)) ≤ coordinateLimit
-accepted-coordinate {s} a i = by-place (decLt i (length (s .positions)))
+pub accepted-coordinate : {s : Scene} {B : ℕ} → AcceptedWithin B s → (i : ℕ) → natAbs (getD (s .positions) i (pos 0)) ≤ B
+accepted-coordinate {s} {B} a i = by-place (decLt i (length (s .positions)))
   where
-    by-place : Dec (i < length (s .positions)) → natAbs (getD (s .positions) i (pos 0)) ≤ coordinateLimit
-    by-place (yes h) = ltb-false _ _ (none-passes (λ k. outside (getD (s .positions) k (pos 0))) (length (s .positions)) (a .inRange) i h)
+    by-place : Dec (i < length (s .positions)) → natAbs (getD (s .positions) i (pos 0)) ≤ B
+    by-place (yes h) = ltb-false _ _ (none-passes (λ k. beyond B (getD (s .positions) k (pos 0))) (length (s .positions)) (a .inRange) i h)
     by-place (no h) = rw (List·getD-eq-default (s .positions) (pos 0) {n = i} (omega arith)) (omega arith)
+
+-- so it passes in a wider range
+pub accepted-wider : {s : Scene} {B C : ℕ} → B ≤ C → AcceptedWithin B s → AcceptedWithin C s
+accepted-wider {s} {B} {C} h a =
+    record {
+      shapely = a .shapely;
+      inRange = none-below (λ i. beyond C (getD (s .positions) i (pos 0))) (length (s .positions)) (λ i l. le-ltb C _ (le-trans (accepted-coordinate a i) h));
+      known = a .known;
+      distinct = a .distinct;
+    }
 
 pub known-inside : (n : ℕ) (l : List ℕ) → unknownIn n l ≡ false → (i : ℕ) → i < length l → getD l i 0 < n
 known-inside n l e i h = leb-false _ _ (none-passes (λ k. leb n (getD l k 0)) (length l) e i h)
 
-pub accepted-end : {s : Scene} → Accepted s → (j k : ℕ) → j < edgeCount s → k < 2 → edgeEnd s j k < vertexCount s
+pub accepted-end : {s : Scene} {B : ℕ} → AcceptedWithin B s → (j k : ℕ) → j < edgeCount s → k < 2 → edgeEnd s j k < vertexCount s
 accepted-end {s} a j k h l = known-inside _ (s .edges) (search (or-left, or-rest)) (2 * j + k) (omega arith)
 
-pub accepted-corner : {s : Scene} → Accepted s → (j k : ℕ) → j < triangleCount s → k < 3 → corner s j k < vertexCount s
+pub accepted-corner : {s : Scene} {B : ℕ} → AcceptedWithin B s → (j k : ℕ) → j < triangleCount s → k < 3 → corner s j k < vertexCount s
 accepted-corner {s} a j k h l = known-inside _ (s .triangles) (search (or-left, or-rest)) (3 * j + k) (omega arith)
 
-pub accepted-ends-differ : {s : Scene} → Accepted s → (j : ℕ) → j < edgeCount s → edgeEnd s j 0 ≢ edgeEnd s j 1
+pub accepted-ends-differ : {s : Scene} {B : ℕ} → AcceptedWithin B s → (j : ℕ) → j < edgeCount s → edgeEnd s j 0 ≢ edgeEnd s j 1
 accepted-ends-differ {s} a j h = eqb-false _ _ (none-passes (twiceInEdge s) (edgeCount s) (search (or-left, or-rest)) j h)
 
 -- no two corners are one
@@ -73,7 +84,7 @@ pub record Apart (a b c : ℕ) : Type 0 where
   pub ac : a ≢ c
   pub bc : b ≢ c
 
-pub accepted-corners-differ : {s : Scene} → Accepted s → (j : ℕ) → j < triangleCount s → Apart (corner s j 0) (corner s j 1) (corner s j 2)
+pub accepted-corners-differ : {s : Scene} {B : ℕ} → AcceptedWithin B s → (j : ℕ) → j < triangleCount s → Apart (corner s j 0) (corner s j 1) (corner s j 2)
 accepted-corners-differ {s} a j h =
     let e : twiceInTriangle s j ≡ false = none-passes (twiceInTriangle s) (triangleCount s) (search (or-left, or-rest)) j h in
     record {

@@ -2,3 +2,4 @@
 pub mod BySigns
 pub mod BySignsLaws
 pub mod OneWay
+pub mod Sums

@@ -1,41 +1,66 @@
-// What the signs of exact volumes, and of their sums, say of a piece. This is the one place that adds determinants, and no sum leaves it as a
-// number.
+// What the signs of exact volumes, and of their sums, say of a piece. This is the one place that adds determinants, never more than two, and no
+// sum leaves it as a number.
 
 pub mod ways; // ways.rt: numbers of one sign, for cloth at rest
 
 ghost use mathlib.Core.Path.{_≡_};
 ghost use mathlib.Core.List.{[], _∷_};
-ghost use Rattle.whole.specs.Sizes.{Is};
+ghost use lib.IntN.{pos};
+ghost use lib.Signed.{leZ};
 ghost use Rattle.meaning.specs.Limits.{coordinateLimit};
-ghost use Rattle.exact.specs.Limits.{sumLimit};
 ghost use Rattle.exact.specs.Places.{Bounded};
 ghost use Rattle.exact.specs.Volumes.{four, Rooms, volumesAt, fourOf, Holds, Small};
 ghost use Rattle.sign_sums.specs.BySigns.{bySigns, pointVerdict, edgeVerdict, sum, keep, kept};
+ghost use Rattle.sign_sums.specs.Sums.{worth};
 use exact::Volumes;
 use exact::volumes_at;
 use meaning::Verdict;
 
-// The verdict by the sign of d and the signs of six numbers.
-fn by_signs(d: i64, a: i64, b: i64, c: i64, e: i64, f: i64, g: i64) -> Verdict
-    ensures { λ r. ⌜ r ≡ bySigns d (a ∷ b ∷ c ∷ e ∷ f ∷ g ∷ []) ⌝ }
+// A sum of determinants that need not fit 64 bits: the first number less the second. The two are compared, and neither is taken from the other.
+pub(crate) struct Sum {
+    two: i64,
+    against: i64,
+}
+
+const NOTHING: Sum = Sum { two: 0, against: 0 };
+
+pub(crate) fn at_least_zero(s: Sum) -> bool
+    ensures { λ r. ⌜ r ≡ leZ (pos 0) (worth s) ⌝ }
 {
-    let up = (a >= 0) & (b >= 0) & (c >= 0) & (e >= 0) & (f >= 0) & (g >= 0);
-    let down = (a <= 0) & (b <= 0) & (c <= 0) & (e <= 0) & (f <= 0) & (g <= 0);
-    if (d <= 0) & (d >= 0) {
+    s.two >= s.against
+}
+
+pub(crate) fn at_most_zero(s: Sum) -> bool
+    ensures { λ r. ⌜ r ≡ leZ (worth s) (pos 0) ⌝ }
+{
+    s.two <= s.against
+}
+
+// The verdict by the sign of d and the signs of six numbers.
+fn by_signs(d: Sum, a: i64, b: i64, c: i64, e: i64, f: Sum, g: Sum) -> Verdict
+    ensures { λ r. ⌜ r ≡ bySigns (worth d) (a ∷ b ∷ c ∷ e ∷ worth f ∷ worth g ∷ []) ⌝ }
+{
+    let d_up = at_least_zero(d);
+    let d_down = at_most_zero(d);
+    let up = (a >= 0) & (b >= 0) & (c >= 0) & (e >= 0) & at_least_zero(f) & at_least_zero(g);
+    let down = (a <= 0) & (b <= 0) & (c <= 0) & (e <= 0) & at_most_zero(f) & at_most_zero(g);
+    if d_down & d_up {
         return Verdict::Degenerate;
     }
-    if ((d >= 0) & up) | ((d <= 0) & down) {
+    if (d_up & up) | (d_down & down) {
         return Verdict::Hit;
     }
     Verdict::Miss
 }
 
-// Four determinants added up.
-fn sum_of(v: Volumes) -> i64
+// Four determinants' sum. Two of them fit 64 bits together and three need not: two stand against minus the others.
+fn sum_of(v: Volumes) -> Sum
     requires { ⌜ Small v ⌝ }
-    ensures { λ r. ⌜ Is sumLimit r (sum (fourOf v)) ⌝ }
+    ensures { λ r. ⌜ worth r ≡ sum (fourOf v) ⌝ }
 {
-    v.e0 + v.e1 + v.e2 + v.e3
+    let two = v.e0 + v.e1;
+    let against = 0 - (v.e2 + v.e3);
+    Sum { two, against }
 }
 
 fn keep_if(counts: bool, e: i64) -> i64
@@ -56,9 +81,10 @@ fn keep_where(v: Volumes, t0: bool, t1: bool, t2: bool, t3: bool) -> Volumes
     Volumes { e0, e1, e2, e3 }
 }
 
-fn sum_where(v: Volumes, t0: bool, t1: bool, t2: bool, t3: bool) -> i64
+// The sum of those that count.
+pub(crate) fn sum_where(v: Volumes, t0: bool, t1: bool, t2: bool, t3: bool) -> Sum
     requires { ⌜ Small v ⌝ }
-    ensures { λ r. ⌜ Is sumLimit r (sum (kept (four t0 t1 t2 t3) (fourOf v))) ⌝ }
+    ensures { λ r. ⌜ worth r ≡ sum (kept (four t0 t1 t2 t3) (fourOf v)) ⌝ }
 {
     sum_of(keep_where(v, t0, t1, t2, t3))
 }
@@ -68,7 +94,7 @@ pub fn point_verdict(v: Volumes) -> Verdict
     requires { ⌜ Small v ⌝ }
     ensures { λ r. ⌜ r ≡ pointVerdict (fourOf v) ⌝ }
 {
-    by_signs(sum_of(v), v.e0, v.e1, v.e2, v.e3, 0, 0)
+    by_signs(sum_of(v), v.e0, v.e1, v.e2, v.e3, NOTHING, NOTHING)
 }
 
 // The verdict of two moving edges' triangles: the first volume is of the point of the first edge that is no base, the others are

@@ -3,6 +3,10 @@
 ghost use mathlib.Core.Path.{_≡_};
 ghost use Rattle.exact.specs.Volumes.{four, fourOf, Small};
 ghost use Rattle.sign_sums.specs.OneWay.{notBelow, allNotBelow, oneWay, zeroBut};
+ghost use Rattle.sign_sums.specs.Sums.{worth};
+use super::Sum;
+use super::at_least_zero;
+use super::at_most_zero;
 use super::sum_where;
 use exact::Volumes;
 
@@ -10,6 +14,16 @@ fn not_below(up: bool, n: i64) -> bool
     ensures { λ r. ⌜ r ≡ notBelow up n ⌝ }
 {
     if up { n >= 0 } else { n <= 0 }
+}
+
+fn sum_not_below(up: bool, s: Sum) -> bool
+    ensures { λ r. ⌜ r ≡ notBelow up (worth s) ⌝ }
+{
+    if up {
+        at_least_zero(s)
+    } else {
+        at_most_zero(s)
+    }
 }
 
 // Are all volumes 0 but those that count?
@@ -31,18 +45,18 @@ fn all_not_below(
     f3: bool,
     s: bool,
     e: bool,
-    starts: i64,
-    ends: i64,
+    starts: Sum,
+    ends: Sum,
 ) -> bool
     requires { ⌜ Small v ⌝ }
-    ensures { λ r. ⌜ r ≡ allNotBelow (four f0 f1 f2 f3) s e (fourOf v) starts ends ⌝ }
+    ensures { λ r. ⌜ r ≡ allNotBelow (four f0 f1 f2 f3) s e (fourOf v) (worth starts) (worth ends) ⌝ }
 {
     not_below(f0, v.e0)
         & not_below(f1, v.e1)
         & not_below(f2, v.e2)
         & not_below(f3, v.e3)
-        & not_below(!s, starts)
-        & not_below(!e, ends)
+        & sum_not_below(!s, starts)
+        & sum_not_below(!e, ends)
 }
 
 // Are the numbers that the volumes give to six corners of one sign? The t say which of the four are at the end, the f which are in

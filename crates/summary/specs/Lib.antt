@@ -4,3 +4,4 @@ pub mod Sizes
 pub mod Whole
 pub mod FromCalls
 pub mod ReadSoFar
+pub mod Fits

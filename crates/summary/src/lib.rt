@@ -30,7 +30,7 @@ fn scene_report(positions: &[i32], edges: &[u16], triangles: &[u16], out: &mut [
     requires { ⌜ Accepted (sceneIn positions edges triangles) × (length (now out) ≡ reportLength) ⌝ }
     ensures { λ r. ⌜ SceneReported (sceneAtEntry positions edges triangles) (now (out .entry)) (now (out .exit)) r ⌝ }
 {
-    let mut list = [0u16; 3 * REPORT_ROOM];
+    let mut list = [0u32; REPORT_ROOM];
     let mut verdicts = [0u8; REPORT_ROOM];
     match scene_words::settle_accepted(positions, edges, triangles, &mut list, &mut verdicts) {
         ListAnswer::Listed(made) => pairs_report(&list, &verdicts, made.count, out),

@@ -71,8 +71,8 @@ fn printed() {
 fn largest() {
     print(b"\nthe largest coordinates");
     show_read(
-        b"v\t262143\t-262143\t0\t1\t-1\t262142\n",
-        &[262143, -262143, 0, 1, -1, 262142],
+        b"v\t524287\t-524287\t0\t262144\t-262144\t524286\n",
+        &[524287, -524287, 0, 262144, -262144, 524286],
         &[],
         &[],
     );
@@ -172,7 +172,7 @@ fn vertex_too_far() {
         &[0],
         b"v\t0\t0\t0\t0\t0\t0\n",
         512,
-        b"v\t262144\t0\t0\t0\t0\t0\n",
+        b"v\t524288\t0\t0\t0\t0\t0\n",
         1,
         b"",
         0,
@@ -185,7 +185,7 @@ fn vertex_without_form() {
         &[0],
         b"v\t0\t0\t0\t0\t0\t0\n",
         512,
-        b"v\t262144\t0\t0\t0\t0\n",
+        b"v\t524288\t0\t0\t0\t0\n",
         1,
         b"",
         0,
@@ -262,8 +262,8 @@ pub(crate) fn longer() {
 fn bytes_all() {
     show_lines(
         b"\n32768 bytes",
-        &[-262143],
-        b"v\t-262143\t-262143\t-262143\t-262143\t-262143\t-262143\n",
+        &[-524287],
+        b"v\t-524287\t-524287\t-524287\t-524287\t-524287\t-524287\n",
         512,
         b"e\t0\t1\n",
         1024,
@@ -275,8 +275,8 @@ fn bytes_all() {
 fn bytes_more() {
     show_lines(
         b"\na few bytes more",
-        &[-262143],
-        b"v\t-262143\t-262143\t-262143\t-262143\t-262143\t-262143\n",
+        &[-524287],
+        b"v\t-524287\t-524287\t-524287\t-524287\t-524287\t-524287\n",
         512,
         b"e\t0\t1\n",
         1024,
@@ -288,7 +288,7 @@ fn bytes_more() {
 fn bytes_without_line() {
     show_lines(
         b"\none byte more, and no line",
-        &[-262143],
+        &[-524287],
         b"x",
         32769,
         b"",

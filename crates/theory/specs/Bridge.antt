@@ -1,5 +1,5 @@
--- The determinant of the six equations of a piece is the common factor of its form, up to the sign, which is known. So the one is 0
--- exactly when the other is.
+-- The determinant of the six equations of a piece is the common factor of its form with the other sign. So the one is 0 exactly when the
+-- other is.
 use mathlib.Core.Path.{_≡_, refl, sym, _∙_, ap}
 use mathlib.Core.Logic.{_↔_}
 use mathlib.Core.List.{List, [], _∷_, _++_, map}
@@ -11,7 +11,7 @@ use Rattle.whole.specs.Operations.{expandIn, determinantIn}
 use Rattle.whole.specs.Cramer.{Four, volumes, all}
 use Rattle.meaning.specs.Pieces.{Event}
 use Rattle.meaning.specs.Equations.{determinantOf}
-use Rattle.theory.specs.Differences.{differences, Form, alone, behind, ahead, formed}
+use Rattle.theory.specs.Differences.{differences, Form, alone, around, formed}
 use Rattle.theory.specs.Spread.{factor}
 use Rattle.theory.specs.Symbols.{Vectorˣ, Eventˣ, Unknownˣ, ofFirstˣ, ofSecondˣ, determinantˣ, determinant-worth, spannedˣ}
 
@@ -42,10 +42,8 @@ environment p q o =
 -- the six columns
 abbrev columnsˣ : Form → List Unknownˣ
 columnsˣ alone = map ofFirstˣ (startˣ ∷ endˣ ∷ []) ++ map ofSecondˣ (all othersˣ)
-columnsˣ behind =
-    map ofFirstˣ (othersˣ .v0 ∷ startˣ ∷ endˣ ∷ []) ++ map ofSecondˣ (othersˣ .v1 ∷ othersˣ .v2 ∷ othersˣ .v3 ∷ [])
-columnsˣ ahead =
-    map ofFirstˣ (startˣ ∷ endˣ ∷ othersˣ .v0 ∷ []) ++ map ofSecondˣ (othersˣ .v1 ∷ othersˣ .v2 ∷ othersˣ .v3 ∷ [])
+columnsˣ around =
+    map ofFirstˣ (startˣ ∷ othersˣ .v0 ∷ endˣ ∷ []) ++ map ofSecondˣ (othersˣ .v1 ∷ othersˣ .v2 ∷ othersˣ .v3 ∷ [])
 
 abbrev volumeˣ : Four Expr
 volumeˣ = spannedˣ (placeˣ 0) (placeˣ 3) othersˣ
@@ -58,28 +56,15 @@ fourˣ = add (add (add (volumeˣ .v0) (volumeˣ .v1)) (volumeˣ .v2)) (volumeˣ 
 
 -- ---- the bridge
 
-unfoldable pub turned : Form → ℤ → ℤ
-turned alone d = negℤ d
-turned behind d = d
-turned ahead d = d
-
-pub determinant-is : (form : Form) (p q : Vector) (o : Four Event) → determinantOf (formed form p q o) ≡ turned form (factor form (volumes (differences p q o)))
-unfolding determinantOf formed factor turned volume determinantIn expandIn
+pub determinant-is : (form : Form) (p q : Vector) (o : Four Event) → determinantOf (formed form p q o) ≡ negℤ (factor form (volumes (differences p q o)))
+unfolding determinantOf formed factor volume determinantIn expandIn
 determinant-is alone p q o =
     sym (determinant-worth (environment p q o) (columnsˣ alone)) ∙ solve (environment p q o) (determinantˣ (columnsˣ alone)) (neg fourˣ) refl
-determinant-is behind p q o =
-    sym (determinant-worth (environment p q o) (columnsˣ behind)) ∙ solve (environment p q o) (determinantˣ (columnsˣ behind)) threeˣ refl
-determinant-is ahead p q o =
-    sym (determinant-worth (environment p q o) (columnsˣ ahead)) ∙ solve (environment p q o) (determinantˣ (columnsˣ ahead)) threeˣ refl
-
-turned-zero : (form : Form) (d : ℤ) → (turned form d ≡ pos 0) ↔ (d ≡ pos 0)
-unfolding turned
-turned-zero alone d = (λ h. sym (negℤ-negℤ d) ∙ ap negℤ h, ap negℤ)
-turned-zero behind d = (λ h. h, λ h. h)
-turned-zero ahead d = (λ h. h, λ h. h)
+determinant-is around p q o =
+    sym (determinant-worth (environment p q o) (columnsˣ around)) ∙ solve (environment p q o) (determinantˣ (columnsˣ around)) (neg threeˣ) refl
 
 pub singular-is : (form : Form) (p q : Vector) (o : Four Event) → (determinantOf (formed form p q o) ≡ pos 0) ↔ (factor form (volumes (differences p q o)) ≡ pos 0)
 singular-is form p q o = (
-  λ h. turned-zero form _ .0 (sym (determinant-is form p q o) ∙ h),
-  λ h. determinant-is form p q o ∙ turned-zero form _ .1 h,
+  λ h. sym (negℤ-negℤ _) ∙ ap negℤ (sym (determinant-is form p q o) ∙ h),
+  λ h. determinant-is form p q o ∙ ap negℤ h,
 )

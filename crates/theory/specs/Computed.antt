@@ -50,36 +50,36 @@ pointDifferences s p c (suc (suc k)) =
 abbrev pub pointVerdict : Four ℤ → Verdict
 pointVerdict E = verdictOf (sgn (E .v0 +ℤ E .v1 +ℤ E .v2 +ℤ E .v3)) (map sgn (all E))
 
--- edge e's piece i against edge f's piece j, 0 for A and 1 for B. The base is e's higher end in piece A and its lower end in piece B; the
--- third event of e's piece comes first among the four others
+-- edge e's piece i against edge f's piece j, 0 for A and 1 for B. Both pieces of e hold its lower end at the start and its higher end at the
+-- end: starts are seen from the one, ends from the other. The third event of e's piece comes first among the four others
 unfoldable pub edgeDifferences : Scene → Ends → ℕ → Ends → ℕ → Four Vector
 edgeDifferences s e zero f zero =
     record {
-      v0 = startFrom s (e .high) (e .low);
-      v1 = startFrom s (e .high) (f .low);
-      v2 = startFrom s (e .high) (f .high);
+      v0 = startFrom s (e .low) (e .high);
+      v1 = startFrom s (e .low) (f .low);
+      v2 = startFrom s (e .low) (f .high);
       v3 = endFrom s (e .high) (f .high);
     }
 edgeDifferences s e zero f (suc j) =
     record {
-      v0 = startFrom s (e .high) (e .low);
-      v1 = startFrom s (e .high) (f .low);
+      v0 = startFrom s (e .low) (e .high);
+      v1 = startFrom s (e .low) (f .low);
       v2 = endFrom s (e .high) (f .low);
       v3 = endFrom s (e .high) (f .high);
     }
 edgeDifferences s e (suc i) f zero =
     record {
-      v0 = endFrom s (e .low) (e .high);
+      v0 = endFrom s (e .high) (e .low);
       v1 = startFrom s (e .low) (f .low);
       v2 = startFrom s (e .low) (f .high);
-      v3 = endFrom s (e .low) (f .high);
+      v3 = endFrom s (e .high) (f .high);
     }
 edgeDifferences s e (suc i) f (suc j) =
     record {
-      v0 = endFrom s (e .low) (e .high);
+      v0 = endFrom s (e .high) (e .low);
       v1 = startFrom s (e .low) (f .low);
-      v2 = endFrom s (e .low) (f .low);
-      v3 = endFrom s (e .low) (f .high);
+      v2 = endFrom s (e .high) (f .low);
+      v3 = endFrom s (e .high) (f .high);
     }
 
 -- the volumes that stand at the start, and those at the end, summed

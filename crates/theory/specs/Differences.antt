@@ -1,5 +1,5 @@
--- Every piece holds some vertex at both times. With its places p (at the start) and q (at the end) as the base, each other event
--- has a difference: its place less where the straight motion from p to q stands at the event's time. The time stays a number of the
+-- Every piece holds in its first simplex an event at the start and one at the end. With their places p and q as the base, each other event
+-- has a difference: its place less where the straight motion from p to q stands at the event's time. p and q need not be of one vertex. The time stays a number of the
 -- ring, so that nothing that follows goes by cases of start and end; at the start and at the end the difference is what code computes.
 use mathlib.Core.Path.{_≡_, refl}
 use mathlib.Core.List.{[], _∷_}
@@ -40,21 +40,17 @@ difference-start p q a =
 pub difference-end : (p q a : Vector) → difference p q (atEnd a) ≡ minus a q
 difference-end p q a = vector-eq (less-end (a .x) (p .x) (q .x)) (less-end (a .y) (p .y) (q .y)) (less-end (a .z) (p .z) (q .z))
 
--- ---- the three forms
+-- ---- the two forms
 
 -- where the base stands among the six events of a piece
 pub data Form : Type 0 where
   -- it is the first simplex
   alone : Form
-  -- it stands behind another event of the first simplex, as in piece A of a moving edge
-  behind : Form
-  -- it stands before another event of the first simplex, as in piece B of a moving edge
-  ahead : Form
+  -- it stands around another event of the first simplex, as in both pieces of a moving edge
+  around : Form
 
--- p p′ | four others; r p p′ | three others; p p′ r | three others: the four others in the order in which they are written
+-- p q | four others; p r q | three others: the four others in the order in which they are written
 unfoldable pub formed : Form → Vector → Vector → Four Event → Piece
 formed alone p q o = record { first = atStart p ∷ atEnd q ∷ []; second = all o }
-formed behind p q o =
-    record { first = o .v0 ∷ atStart p ∷ atEnd q ∷ []; second = o .v1 ∷ o .v2 ∷ o .v3 ∷ [] }
-formed ahead p q o =
-    record { first = atStart p ∷ atEnd q ∷ o .v0 ∷ []; second = o .v1 ∷ o .v2 ∷ o .v3 ∷ [] }
+formed around p q o =
+    record { first = atStart p ∷ o .v0 ∷ atEnd q ∷ []; second = o .v1 ∷ o .v2 ∷ o .v3 ∷ [] }

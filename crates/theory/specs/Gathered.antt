@@ -11,7 +11,7 @@ use Rattle.whole.specs.Quote.{quotes, combine, times}
 use Rattle.whole.specs.Cramer.{Four, weigh, all}
 use Rattle.meaning.specs.Pieces.{Event}
 use Rattle.meaning.specs.Equations.{xOf, yOf, zOf, total, Balanced}
-use Rattle.theory.specs.Differences.{differences, Form, alone, behind, ahead, formed}
+use Rattle.theory.specs.Differences.{differences, Form, alone, around, formed}
 use Rattle.theory.specs.Solved.{weights-there}
 use Rattle.theory.specs.Spread.{firstNumbers, secondNumbers, weightsOf, timesOf, between, unlevel}
 
@@ -32,8 +32,7 @@ firsts-at (suc k) w (suc i) h = firsts-at k (λ i. w (suc i)) i (omega arith)
 
 unfoldable fourOf : Form → (ℕ → ℤ) → (ℕ → ℤ) → Four ℤ
 fourOf alone u v = record { v0 = v 0; v1 = v 1; v2 = v 2; v3 = v 3 }
-fourOf behind u v = record { v0 = negℤ (u 0); v1 = v 0; v2 = v 1; v3 = v 2 }
-fourOf ahead u v = record { v0 = negℤ (u 2); v1 = v 0; v2 = v 1; v3 = v 2 }
+fourOf around u v = record { v0 = negℤ (u 1); v1 = v 0; v2 = v 1; v3 = v 2 }
 
 module _ (p q : Vector) (o : Four Event) (u v : ℕ → ℤ) where
   abbrev unknowns : List ℤ
@@ -44,20 +43,15 @@ module _ (p q : Vector) (o : Four Event) (u v : ℕ → ℤ) where
   first-read alone h zero k = combine unknowns (times (pos 1) (h .sums) ∷ times (negsuc 0) (h .times) ∷ []) (search quotes depth 40 fits 9000) refl
   first-read alone h (suc zero) k = combine unknowns (times (pos 1) (h .times) ∷ []) (search quotes depth 40 fits 9000) refl
   first-read alone h (suc (suc i)) k = absurd (omega arith)
-  first-read behind h zero k = sym (negℤ-negℤ (u 0))
-  first-read behind h (suc zero) k = combine unknowns (times (pos 1) (h .sums) ∷ times (negsuc 0) (h .times) ∷ []) (search quotes depth 40 fits 9000) refl
-  first-read behind h (suc (suc zero)) k = combine unknowns (times (pos 1) (h .times) ∷ []) (search quotes depth 40 fits 9000) refl
-  first-read behind h (suc (suc (suc i))) k = absurd (omega arith)
-  first-read ahead h zero k = combine unknowns (times (pos 1) (h .sums) ∷ times (negsuc 0) (h .times) ∷ []) (search quotes depth 40 fits 9000) refl
-  first-read ahead h (suc zero) k = combine unknowns (times (pos 1) (h .times) ∷ []) (search quotes depth 40 fits 9000) refl
-  first-read ahead h (suc (suc zero)) k = sym (negℤ-negℤ (u 2))
-  first-read ahead h (suc (suc (suc i))) k = absurd (omega arith)
+  first-read around h zero k = combine unknowns (times (pos 1) (h .sums) ∷ times (negsuc 0) (h .times) ∷ []) (search quotes depth 40 fits 9000) refl
+  first-read around h (suc zero) k = sym (negℤ-negℤ (u 1))
+  first-read around h (suc (suc zero)) k = combine unknowns (times (pos 1) (h .times) ∷ []) (search quotes depth 40 fits 9000) refl
+  first-read around h (suc (suc (suc i))) k = absurd (omega arith)
 
   second-read : (form : Form) (i : ℕ) → i < length (formed form p q o .second) → v i ≡ weightsOf (secondNumbers form (fourOf form u v)) i
   unfolding formed secondNumbers fourOf
   second-read alone i k = firsts-at 4 v i k
-  second-read behind i k = firsts-at 3 v i k
-  second-read ahead i k = firsts-at 3 v i k
+  second-read around i k = firsts-at 3 v i k
 
   pub gather : (form : Form) → Balanced (formed form p q o .first) (formed form p q o .second) u v → Gathered form p q o u v
   gather form h = record {

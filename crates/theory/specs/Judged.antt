@@ -10,7 +10,7 @@ use Rattle.whole.specs.Cramer.{Four, each, volumes, all}
 use Rattle.meaning.specs.Pieces.{Event}
 use Rattle.meaning.specs.Equations.{Touches}
 use Rattle.meaning.specs.Verdicts.{PieceIs}
-use Rattle.theory.specs.Differences.{differences, Form, alone, behind, ahead, formed}
+use Rattle.theory.specs.Differences.{differences, Form, alone, around, formed}
 use Rattle.theory.specs.Solved.{AllAgree, touch-is}
 use Rattle.theory.specs.Spread.{startShare, endShare, firstNumbers, secondNumbers, factor, weightsOf, timesOf}
 use Rattle.theory.specs.Shapes.{solved}
@@ -26,8 +26,7 @@ pub record Timely (o : Four Event) : Type 0 where
 -- the numbers that are to agree with the common factor
 unfoldable pub tested : Form → Four Event → Four ℤ → List ℤ
 tested alone o n = all n
-tested behind o n = negℤ (n .v0) ∷ n .v1 ∷ n .v2 ∷ n .v3 ∷ startShare o n ∷ endShare o n ∷ []
-tested ahead o n = negℤ (n .v0) ∷ n .v1 ∷ n .v2 ∷ n .v3 ∷ startShare o n ∷ endShare o n ∷ []
+tested around o n = negℤ (n .v0) ∷ n .v1 ∷ n .v2 ∷ n .v3 ∷ startShare o n ∷ endShare o n ∷ []
 
 module _ (p q : Vector) (o : Four Event) (t : Timely o) (D : ℤ) (n : Four ℤ) where
   abbrev AllNumbers : Form → Type 0
@@ -47,24 +46,17 @@ module _ (p q : Vector) (o : Four Event) (t : Timely o) (D : ℤ) (n : Four ℤ)
     where
       four : AgreeFour D n
       four = record { a0 = agreed h 0 tt; a1 = agreed h 1 tt; a2 = agreed h 2 tt; a3 = agreed h 3 tt }
-  enough behind h = (
-    agree-three (agreed h 0 tt) (agreed h 4 tt) (agreed h 5 tt),
-    agree-three (agreed h 1 tt) (agreed h 2 tt) (agreed h 3 tt),
-  )
-  enough ahead h = (
-    agree-three (agreed h 4 tt) (agreed h 5 tt) (agreed h 0 tt),
+  enough around h = (
+    agree-three (agreed h 4 tt) (agreed h 0 tt) (agreed h 5 tt),
     agree-three (agreed h 1 tt) (agreed h 2 tt) (agreed h 3 tt),
   )
 
   needed : (form : Form) → AllNumbers form → AllTested form
   unfolding formed firstNumbers secondNumbers tested
   needed alone h = record { each = h .1 .each }
-  needed behind h =
-      agree-more (agreed (h .0) 0 tt) (agree-more (agreed (h .1) 0 tt) (agree-more (agreed (h .1) 1 tt)
-      (agree-three (agreed (h .1) 2 tt) (agreed (h .0) 1 tt) (agreed (h .0) 2 tt))))
-  needed ahead h =
-      agree-more (agreed (h .0) 2 tt) (agree-more (agreed (h .1) 0 tt) (agree-more (agreed (h .1) 1 tt)
-      (agree-three (agreed (h .1) 2 tt) (agreed (h .0) 0 tt) (agreed (h .0) 1 tt))))
+  needed around h =
+      agree-more (agreed (h .0) 1 tt) (agree-more (agreed (h .1) 0 tt) (agree-more (agreed (h .1) 1 tt)
+      (agree-three (agreed (h .1) 2 tt) (agreed (h .0) 0 tt) (agreed (h .0) 2 tt))))
 
 pub judged : (form : Form) (p q : Vector) (o : Four Event) → Timely o → PieceIs (formed form p q o) (verdictOf (sgn (factor form (volumes (differences p q o)))) (map sgn (tested form o (volumes (differences p q o)))))
 judged form p q o t = verdict-right (formed form p q o) D (map sgn (tested form o E)) (singular-is form p q o) touches

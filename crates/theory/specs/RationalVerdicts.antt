@@ -16,7 +16,7 @@ use Rattle.meaning.specs.declared.Kind.{Kind}
 use Rattle.meaning.specs.declared.Kind.the-variants.{PointTriangle, EdgeEdge}
 use Rattle.meaning.specs.declared.Verdict.{Verdict}
 use Rattle.meaning.specs.declared.Verdict.the-variants.{Hit, Miss, Degenerate}
-use Rattle.theory.specs.Differences.{Form, alone, behind, ahead, formed}
+use Rattle.theory.specs.Differences.{Form, alone, around, formed}
 use Rattle.theory.specs.Rational.{RationalTouch, touch-rational}
 use Rattle.theory.specs.OneSolution.{OneSolution}
 use Rattle.theory.specs.Singular.{one-solution-is}
@@ -49,10 +49,10 @@ point-form s i c (suc (suc k)) = record { form = alone; start = _; end = _; othe
 
 edge-form : (s : Scene) (e : Ends) (i : ℕ) (f : Ends) (j : ℕ) → OfForm (record { first = movingEdge s e i; second = movingEdge s f j })
 unfolding formed movingEdge
-edge-form s e zero f zero = record { form = behind; start = _; end = _; others = _; is = refl }
-edge-form s e zero f (suc j) = record { form = behind; start = _; end = _; others = _; is = refl }
-edge-form s e (suc i) f zero = record { form = ahead; start = _; end = _; others = _; is = refl }
-edge-form s e (suc i) f (suc j) = record { form = ahead; start = _; end = _; others = _; is = refl }
+edge-form s e zero f zero = record { form = around; start = _; end = _; others = _; is = refl }
+edge-form s e zero f (suc j) = record { form = around; start = _; end = _; others = _; is = refl }
+edge-form s e (suc i) f zero = record { form = around; start = _; end = _; others = _; is = refl }
+edge-form s e (suc i) f (suc j) = record { form = around; start = _; end = _; others = _; is = refl }
 
 pub piece-form : (s : Scene) (kind : Kind) (i j k : ℕ) → OfForm (pieceOf s kind i j k)
 unfolding pieceOf

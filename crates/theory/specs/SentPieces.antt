@@ -17,7 +17,7 @@ use Rattle.meaning.specs.declared.Kind.{Kind}
 use Rattle.meaning.specs.declared.Kind.the-variants.{PointTriangle, EdgeEdge}
 use Rattle.meaning.specs.declared.Ends.{Ends}
 use Rattle.meaning.specs.declared.Corners.{Corners}
-use Rattle.theory.specs.Differences.{baseAt, difference, differences, atStart, atEnd, Form, alone, behind, ahead, formed}
+use Rattle.theory.specs.Differences.{baseAt, difference, differences, atStart, atEnd, Form, alone, around, formed}
 use Rattle.theory.specs.Spread.{factor}
 use Rattle.theory.specs.Bridge.{singular-is}
 use Rattle.theory.specs.Alike.{Alike}
@@ -52,8 +52,7 @@ volumes-grow m d = λ i. record {
 pub factor-grows : (form : Form) (k : ℤ) (n : Four ℤ) → factor form (each (λ v. k *ℤ v) n) ≡ k *ℤ factor form n
 unfolding factor
 factor-grows alone k n = ring (k ∷ all n) (search quotes depth 40 fits 9000) refl
-factor-grows behind k n = ring (k ∷ all n) (search quotes depth 40 fits 9000) refl
-factor-grows ahead k n = ring (k ∷ all n) (search quotes depth 40 fits 9000) refl
+factor-grows around k n = ring (k ∷ all n) (search quotes depth 40 fits 9000) refl
 
 pub product-zero : (k n : ℤ) → k ≢ pos 0 → (k *ℤ n ≡ pos 0) ↔ (n ≡ pos 0)
 product-zero k n h = (λ e. cancel-factor k n (pos 0) h (e ∙ sym (*ℤ-zero k)), λ e. ap (λ x. k *ℤ x) e ∙ *ℤ-zero k)
@@ -83,8 +82,7 @@ module _ (m : Matrix) (a b : Vector) where
   pub formed-sent : (form : Form) (p q : Vector) (o : Four Event) → sentPiece m a b (formed form p q o) ≡ formed form (movedPlace m a p) (movedPlace m b q) (each (sent m a b) o)
   unfolding formed
   formed-sent alone p q o = λ i. record { first = start-sent p i ∷ end-sent q i ∷ []; second = map (sent m a b) (all o) }
-  formed-sent behind p q o = λ i. record { first = sent m a b (o .v0) ∷ start-sent p i ∷ end-sent q i ∷ []; second = map (sent m a b) (o .v1 ∷ o .v2 ∷ o .v3 ∷ []) }
-  formed-sent ahead p q o = λ i. record { first = start-sent p i ∷ end-sent q i ∷ sent m a b (o .v0) ∷ []; second = map (sent m a b) (o .v1 ∷ o .v2 ∷ o .v3 ∷ []) }
+  formed-sent around p q o = λ i. record { first = start-sent p i ∷ sent m a b (o .v0) ∷ end-sent q i ∷ []; second = map (sent m a b) (o .v1 ∷ o .v2 ∷ o .v3 ∷ []) }
 
   pub factor-sent : (form : Form) (p q : Vector) (o : Four Event) → factor form (volumes (differences (movedPlace m a p) (movedPlace m b q) (each (sent m a b) o))) ≡ det m *ℤ factor form (volumes (differences p q o))
   factor-sent form p q o =
@@ -123,10 +121,10 @@ module _ (m : Matrix) (a b : Vector) where
 
     pub edge-alike : (s : Scene) (e : Ends) (i : ℕ) (f : Ends) (j : ℕ) → AlikeWhenSent (record { first = movingEdge s e i; second = movingEdge s f j })
     unfolding movingEdge formed
-    edge-alike s e zero f zero = formed-alike behind _ _ _
-    edge-alike s e zero f (suc j) = formed-alike behind _ _ _
-    edge-alike s e (suc i) f zero = formed-alike ahead _ _ _
-    edge-alike s e (suc i) f (suc j) = formed-alike ahead _ _ _
+    edge-alike s e zero f zero = formed-alike around _ _ _
+    edge-alike s e zero f (suc j) = formed-alike around _ _ _
+    edge-alike s e (suc i) f zero = formed-alike around _ _ _
+    edge-alike s e (suc i) f (suc j) = formed-alike around _ _ _
 
     pub piece-alike : (s : Scene) (kind : Kind) (i j k : ℕ) → AlikeWhenSent (pieceOf s kind i j k)
     unfolding pieceOf

@@ -16,7 +16,7 @@ use Rattle.meaning.specs.declared.Ends.{Ends}
 use Rattle.meaning.specs.declared.Corners.{Corners}
 use Rattle.meaning.specs.declared.Kind.{Kind}
 use Rattle.meaning.specs.declared.Kind.the-variants.{PointTriangle, EdgeEdge}
-use Rattle.theory.specs.Differences.{difference, differences, difference-start, difference-end, atStart, atEnd, Form, alone, behind, ahead, formed}
+use Rattle.theory.specs.Differences.{difference, differences, difference-start, difference-end, atStart, atEnd, Form, alone, around, formed}
 use Rattle.theory.specs.Spread.{factor}
 use Rattle.theory.specs.Reading.{verdictOf}
 use Rattle.theory.specs.Judged.{Timely, tested, judged}
@@ -82,10 +82,10 @@ numbers-are i j n = λ k. negℤ (n .v0) ∷ n .v1 ∷ n .v2 ∷ n .v3 ∷ start
 
 pub judged-edge : (s : Scene) (e : Ends) (i : ℕ) (f : Ends) (j : ℕ) → PieceIs (record { first = movingEdge s e i; second = movingEdge s f j }) (edgeVerdict i j (volumes (edgeDifferences s e i f j)))
 unfolding movingEdge edgeDifferences formed factor tested
-judged-edge s e zero f zero = judged-seen behind _ _ start start start end (edgeNumbers 0 0) (numbers-are 0 0)
-judged-edge s e zero f (suc j) = judged-seen behind _ _ start start end end (edgeNumbers 0 (suc j)) (numbers-are 0 (suc j))
-judged-edge s e (suc i) f zero = judged-seen ahead _ _ end start start end (edgeNumbers (suc i) 0) (numbers-are (suc i) 0)
-judged-edge s e (suc i) f (suc j) = judged-seen ahead _ _ end start end end (edgeNumbers (suc i) (suc j)) (numbers-are (suc i) (suc j))
+judged-edge s e zero f zero = judged-seen around _ _ start start start end (edgeNumbers 0 0) (numbers-are 0 0)
+judged-edge s e zero f (suc j) = judged-seen around _ _ start start end end (edgeNumbers 0 (suc j)) (numbers-are 0 (suc j))
+judged-edge s e (suc i) f zero = judged-seen around _ _ end start start end (edgeNumbers (suc i) 0) (numbers-are (suc i) 0)
+judged-edge s e (suc i) f (suc j) = judged-seen around _ _ end start end end (edgeNumbers (suc i) (suc j)) (numbers-are (suc i) (suc j))
 
 -- ---- the piece of a pair that is asked for
 

@@ -1,4 +1,4 @@
--- Each of the three forms is solved by the signed volumes of its four differences: by Cramer's rule all four numbers that combine the
+-- Each of the two forms is solved by the signed volumes of its four differences: by Cramer's rule all four numbers that combine the
 -- differences to the origin are proportional to the volumes, and every weight is linear in the four.
 use Prim.Native.Nat.{ℕ, zero, suc}
 use mathlib.Core.Path.{_≡_, refl, sym, _∙_, ap}
@@ -9,7 +9,7 @@ use Rattle.whole.specs.Quote.{quotes, ring}
 use Rattle.whole.specs.Cramer.{Four, each, weigh, volumes, all, dot4, balance, proportional, Place, p0, p1, p2, p3, pick, at-place, reads}
 use Rattle.meaning.specs.Pieces.{Event}
 use Rattle.meaning.specs.Equations.{one, total}
-use Rattle.theory.specs.Differences.{differences, Form, alone, behind, ahead, formed}
+use Rattle.theory.specs.Differences.{differences, Form, alone, around, formed}
 use Rattle.theory.specs.Solved.{Solved, weights-there}
 use Rattle.theory.specs.Spread.{startShare, endShare, firstNumbers, secondNumbers, factor, weightsOf, spread, spread-sum}
 use Rattle.theory.specs.Gathered.{Gathered, gather}
@@ -68,14 +68,12 @@ linear-four = record {
 linear-factor : (form : Form) → Linear (factor form)
 unfolding factor
 linear-factor alone = linear-four
-linear-factor behind = linear-three
-linear-factor ahead = linear-three
+linear-factor around = linear-three
 
 linear-first : (form : Form) (o : Four Event) → LinearList (firstNumbers form o)
 unfolding firstNumbers
 linear-first alone o = linear-cons (linear-start o) (linear-cons (linear-end o) linear-nil)
-linear-first behind o = linear-cons linear-less (linear-cons (linear-start o) (linear-cons (linear-end o) linear-nil))
-linear-first ahead o = linear-cons (linear-start o) (linear-cons (linear-end o) (linear-cons linear-less linear-nil))
+linear-first around o = linear-cons (linear-start o) (linear-cons linear-less (linear-cons (linear-end o) linear-nil))
 
 linear-others : LinearList (λ n. n .v1 ∷ n .v2 ∷ n .v3 ∷ [])
 linear-others = linear-cons (linear-place p1) (linear-cons (linear-place p2) (linear-cons (linear-place p3) linear-nil))
@@ -83,8 +81,7 @@ linear-others = linear-cons (linear-place p1) (linear-cons (linear-place p2) (li
 linear-second : (form : Form) → LinearList (secondNumbers form)
 unfolding secondNumbers
 linear-second alone = linear-cons (linear-place p0) linear-others
-linear-second behind = linear-others
-linear-second ahead = linear-others
+linear-second around = linear-others
 
 -- ---- so each form is solved
 

@@ -15,7 +15,7 @@ use Rattle.whole.specs.Cramer.{Four, all, weigh, volumes}
 use Rattle.meaning.specs.Pieces.{Event}
 use Rattle.meaning.specs.Equations.{one, total, Balanced, determinantOf}
 use Rattle.theory.specs.Totals.{weights-plus}
-use Rattle.theory.specs.Differences.{differences, Form, alone, behind, ahead, formed}
+use Rattle.theory.specs.Differences.{differences, Form, alone, around, formed}
 use Rattle.theory.specs.Spread.{firstNumbers, secondNumbers, factor, weightsOf, spread, spread-sum}
 use Rattle.theory.specs.Shapes.{solved}
 use Rattle.theory.specs.Bridge.{singular-is}
@@ -51,14 +51,12 @@ module _ {a b : List Event} (O : OneSolution a b) {x y : ℕ → ℤ} (h : Balan
 
 unfoldable lead : Form → ℤ
 lead alone = pos 1
-lead behind = pos 0
-lead ahead = pos 0
+lead around = pos 0
 
 factor-lead : (form : Form) (n : Four ℤ) → factor form n ≡ lead form *ℤ n .v0 +ℤ n .v1 +ℤ n .v2 +ℤ n .v3
 unfolding factor lead
 factor-lead alone n = ring (all n) (search quotes depth 40 fits 9000) refl
-factor-lead behind n = ring (all n) (search quotes depth 40 fits 9000) refl
-factor-lead ahead n = ring (all n) (search quotes depth 40 fits 9000) refl
+factor-lead around n = ring (all n) (search quotes depth 40 fits 9000) refl
 
 abbrev less : ℤ → Vector → Vector → Vector
 less k v w = minus v (scale k w)
@@ -92,8 +90,7 @@ There l w = (i : ℕ) → i < length l → weightsOf w i ≡ pos 0
 numbers-none : (form : Form) (p q : Vector) (o : Four Event) (n : Four ℤ) → There (formed form p q o .first) (firstNumbers form o n) → There (formed form p q o .second) (secondNumbers form n) → (n .v0 ≡ pos 0) × (n .v1 ≡ pos 0) × (n .v2 ≡ pos 0)
 unfolding formed firstNumbers secondNumbers
 numbers-none alone p q o n f s = (s 0 (omega arith), s 1 (omega arith), s 2 (omega arith))
-numbers-none behind p q o n f s = (unminus (f 0 (omega arith)), s 0 (omega arith), s 1 (omega arith))
-numbers-none ahead p q o n f s = (unminus (f 2 (omega arith)), s 0 (omega arith), s 1 (omega arith))
+numbers-none around p q o n f s = (unminus (f 1 (omega arith)), s 0 (omega arith), s 1 (omega arith))
 
 module _ (form : Form) (p q : Vector) (o : Four Event) (O : OneSolution (formed form p q o .first) (formed form p q o .second)) where
   abbrev d : Four Vector

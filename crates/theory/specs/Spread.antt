@@ -9,7 +9,7 @@ use Rattle.whole.specs.Quote.{quotes, ring, combine, times}
 use Rattle.whole.specs.Cramer.{Four, each, weigh, all, dot4}
 use Rattle.meaning.specs.Pieces.{Event}
 use Rattle.meaning.specs.Equations.{one, xOf, yOf, zOf, timeOf, total, Balanced}
-use Rattle.theory.specs.Differences.{differences, Form, alone, behind, ahead, formed, atStart, atEnd}
+use Rattle.theory.specs.Differences.{differences, Form, alone, around, formed, atStart, atEnd}
 
 -- what falls to the base at the start, and at the end
 abbrev pub startShare : Four Event → Four ℤ → ℤ
@@ -20,19 +20,16 @@ endShare o n = dot4 n (each (λ (e : Event). e .time) o)
 
 unfoldable pub firstNumbers : Form → Four Event → Four ℤ → List ℤ
 firstNumbers alone o n = startShare o n ∷ endShare o n ∷ []
-firstNumbers behind o n = negℤ (n .v0) ∷ startShare o n ∷ endShare o n ∷ []
-firstNumbers ahead o n = startShare o n ∷ endShare o n ∷ negℤ (n .v0) ∷ []
+firstNumbers around o n = startShare o n ∷ negℤ (n .v0) ∷ endShare o n ∷ []
 
 unfoldable pub secondNumbers : Form → Four ℤ → List ℤ
 secondNumbers alone n = all n
-secondNumbers behind n = n .v1 ∷ n .v2 ∷ n .v3 ∷ []
-secondNumbers ahead n = n .v1 ∷ n .v2 ∷ n .v3 ∷ []
+secondNumbers around n = n .v1 ∷ n .v2 ∷ n .v3 ∷ []
 
 -- the common factor: the sum over the second simplex
 unfoldable pub factor : Form → Four ℤ → ℤ
 factor alone n = n .v0 +ℤ n .v1 +ℤ n .v2 +ℤ n .v3
-factor behind n = n .v1 +ℤ n .v2 +ℤ n .v3
-factor ahead n = n .v1 +ℤ n .v2 +ℤ n .v3
+factor around n = n .v1 +ℤ n .v2 +ℤ n .v3
 
 abbrev pub weightsOf : List ℤ → ℕ → ℤ
 weightsOf l i = getD l i (pos 0)
@@ -67,8 +64,7 @@ module _ (f : Event → ℤ) (p q : Vector) (o : Four Event) (n : Four ℤ) wher
   gap : (form : Form) → firstTotal form +ℤ between ≡ secondTotal form
   unfolding total formed firstNumbers secondNumbers
   gap alone = ring atoms (search quotes depth 40 fits 9000) refl
-  gap behind = ring atoms (search quotes depth 40 fits 9000) refl
-  gap ahead = ring atoms (search quotes depth 40 fits 9000) refl
+  gap around = ring atoms (search quotes depth 40 fits 9000) refl
 
   level : (form : Form) → between ≡ pos 0 → firstTotal form ≡ secondTotal form
   level form h = no-gap (firstTotal form) between (secondTotal form) (gap form) h
@@ -95,8 +91,7 @@ module _ (p q : Vector) (o : Four Event) (n : Four ℤ) where
   second-sum : (form : Form) → secondTotal one p q o n form ≡ factor form n
   unfolding total formed secondNumbers factor
   second-sum alone = ring (all n) (search quotes depth 40 fits 9000) refl
-  second-sum behind = ring (all n) (search quotes depth 40 fits 9000) refl
-  second-sum ahead = ring (all n) (search quotes depth 40 fits 9000) refl
+  second-sum around = ring (all n) (search quotes depth 40 fits 9000) refl
 
   pub spread-sum : (form : Form) → total one (weightsOf (firstNumbers form o n)) (formed form p q o .first) ≡ factor form n
   spread-sum form = level one p q o n form one-level ∙ second-sum form

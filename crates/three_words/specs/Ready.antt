@@ -10,7 +10,8 @@ use Rattle.meaning.specs.Limits.{coordinateLimit}
 use Rattle.meaning.specs.Scene.{Scene, vertexCount, edgeCount, triangleCount, endsOf, cornersOf, Accepted}
 use Rattle.meaning.specs.declared.Ends.{Ends}
 use Rattle.meaning.specs.declared.Corners.{Corners}
-use Rattle.exact.specs.Places.{Bounded, Room}
+use Rattle.exact.specs.Places.{Bounded}
+use Rattle.exact.specs.Shared.{Moving}
 use Rattle.scenes.specs.Facts.{accepted-coordinate}
 use Rattle.scenes.specs.Rising.{EndsRise, CornersRise, ends-rise, corners-rise}
 
@@ -28,12 +29,9 @@ pub record EdgesReady (ps : List ℤ) (e f : Ends) : Type 0 where
   pub otherLow : f .low < length ps / 6
   pub otherHigh : f .high < length ps / 6
 
--- the start and the end of a vertex that is there, seen from those of another
-pub start-room : (ps : List ℤ) (v b : ℕ) → v < length ps / 6 → b < length ps / 6 → Room ps (6 * v) (6 * b)
-start-room ps v b h k = record { place = omega arith; base = omega arith }
-
-pub end-room : (ps : List ℤ) (v b : ℕ) → v < length ps / 6 → b < length ps / 6 → Room ps (6 * v + 3) (6 * b + 3)
-end-room ps v b h k = record { place = omega arith; base = omega arith }
+-- a vertex that is there has six numbers
+pub moving : {ps : List ℤ} {v : ℕ} → v < length ps / 6 → Moving ps (6 * v)
+moving h = record { six = omega arith }
 
 -- in an accepted scene everything is ready
 accepted-bounded : {s : Scene} → Accepted s → Bounded coordinateLimit (s .positions)

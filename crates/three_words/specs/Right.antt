@@ -16,7 +16,8 @@ use Rattle.meaning.specs.declared.Corners.{Corners}
 use Rattle.meaning.specs.declared.Verdict.{Verdict}
 use Rattle.meaning.specs.declared.Verdict.the-variants.{Hit, Miss, Degenerate}
 use Rattle.sign_sums.specs.BySigns.{allAgree, bySigns, sum, keep, kept, pointVerdict, edgeVerdict}
-use Rattle.exact.specs.Volumes.{four}
+use Rattle.exact.specs.Volumes.{four, fourOf, Holds, holds-same}
+use Rattle.exact.specs.declared.Volumes.{Volumes}
 use Rattle.theory.specs.Reading.{agreeing, verdictOf}
 use Rattle.theory.specs.Computed.{pointDifferences, edgeDifferences, startSum, endSum, edgeNumbers}
 use Rattle.theory.specs.Computed as Computed
@@ -75,6 +76,16 @@ module _ (s : Scene) where
   edges-right e i f j v h =
       subst (PieceIs (record { first = movingEdge s e i; second = movingEdge s f j }))
       (sym (h ∙ edge-reading i j (volumes (edgeDifferences s e i f j)))) (judged-edge s e i f j)
+
+  -- the same of volumes that the machine holds
+  pub point-held : (p : ℕ) (c : Corners) (k : ℕ) {w : Volumes} (v : Verdict) → Holds w (volumes (pointDifferences s p c k)) → v ≡ pointVerdict (fourOf w)
+      → PieceIs (record { first = movingPoint s p; second = movingTriangle s c k }) v
+  point-held p c k v h e = point-right p c k v (e ∙ ap pointVerdict (holds-same h))
+
+  pub edges-held : (e : Ends) (i : ℕ) (f : Ends) (j : ℕ) {w : Volumes} (v : Verdict) → Holds w (volumes (edgeDifferences s e i f j))
+      → v ≡ edgeVerdict (flags i j) (fourOf w)
+      → PieceIs (record { first = movingEdge s e i; second = movingEdge s f j }) v
+  edges-held e i f j v h q = edges-right e i f j v (q ∙ ap (edgeVerdict (flags i j)) (holds-same h))
 
 -- a piece's number is 0, or 1, or more: the code's tests
 module _ (P : ℕ → Type 0) (k : ℕ) where

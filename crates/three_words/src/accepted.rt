@@ -11,10 +11,14 @@ ghost use Rattle.meaning.specs.Verdicts.{PieceIs, PairIs};
 ghost use Rattle.meaning.specs.declared.Kind.the-variants.{PointTriangle, EdgeEdge};
 ghost use Rattle.theory.specs.Computed.{joined};
 ghost use Rattle.three_words.specs.Ready.{PointReady, EdgesReady};
+use exact::shared::edge_volumes;
+use exact::shared::point_volumes;
 use meaning::Corners;
 use meaning::Ends;
 use meaning::Kind;
 use meaning::Verdict;
+use sign_sums::edge_verdict;
+use sign_sums::point_verdict;
 
 // 5: a place that isn't there.
 pub fn not_there(
@@ -113,13 +117,18 @@ pub fn joined(a: Verdict, b: Verdict) -> Verdict
     }
 }
 
+// The pieces of a pair share their determinants, so a pair takes the volumes of all its pieces at once.
 fn point_pair(positions: &[i32], p: usize, c: Corners) -> Verdict
     requires { ⌜ PointReady (now positions) p c ⌝ }
     ensures { λ r. ⌜ ((e t : List ℕ) (j : ℕ) → cornersOf (sceneOf (now (positions .entry)) e t) j ≡ c → PairIs (sceneOf (now (positions .entry)) e t) PointTriangle p j r) ⌝ }
 {
-    let a = crate::pieces::point_piece(positions, p, c, 0);
-    let b = crate::pieces::point_piece(positions, p, c, 1);
-    let d = crate::pieces::point_piece(positions, p, c, 2);
+    let v = point_volumes(positions, 6 * p, 6 * c.low, 6 * c.middle, 6 * c.high);
+    let first = v.first;
+    let second = v.second;
+    let third = v.third;
+    let a = point_verdict(first);
+    let b = point_verdict(second);
+    let d = point_verdict(third);
     joined(a, joined(b, d))
 }
 
@@ -127,11 +136,22 @@ fn edges_pair(positions: &[i32], first: Ends, second: Ends) -> Verdict
     requires { ⌜ EdgesReady (now positions) first second ⌝ }
     ensures { λ r. ⌜ ((e t : List ℕ) (i j : ℕ) → endsOf (sceneOf (now (positions .entry)) e t) (min i j) ≡ first → endsOf (sceneOf (now (positions .entry)) e t) (max i j) ≡ second → PairIs (sceneOf (now (positions .entry)) e t) EdgeEdge i j r) ⌝ }
 {
-    let aa = crate::pieces::edges_piece(positions, first, 0, second, 0);
-    let ab = crate::pieces::edges_piece(positions, first, 0, second, 1);
-    let ba = crate::pieces::edges_piece(positions, first, 1, second, 0);
-    let bb = crate::pieces::edges_piece(positions, first, 1, second, 1);
-    joined(aa, joined(ab, joined(ba, bb)))
+    let v = edge_volumes(
+        positions,
+        6 * first.low,
+        6 * first.high,
+        6 * second.low,
+        6 * second.high,
+    );
+    let aa = v.aa;
+    let ab = v.ab;
+    let ba = v.ba;
+    let bb = v.bb;
+    let a = edge_verdict(aa, false, false, false, true);
+    let b = edge_verdict(ab, false, false, true, true);
+    let c = edge_verdict(ba, true, false, false, true);
+    let d = edge_verdict(bb, true, false, true, true);
+    joined(a, joined(b, joined(c, d)))
 }
 
 // A pair: its corners are found once for all its pieces.

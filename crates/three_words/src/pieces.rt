@@ -1,5 +1,5 @@
-// The verdict of one piece. Every piece holds a vertex at both times; the four other points are seen from it, a start point from its
-// start and an end point from its end.
+// The verdict of one piece. The first simplex of every piece holds a point at the start and one at the end that all pieces of its pair hold. The
+// four other points are seen from these, a start from the one and an end from the other.
 
 ghost use Prim.Native.Nat.{ℕ, _<_};
 ghost use mathlib.Core.List.{List};
@@ -32,8 +32,8 @@ pub fn point_piece(positions: &[i32], p: usize, c: Corners, k: usize) -> Verdict
     judge_point(positions, low, from, low + 3, to, mid + 3, to, high + 3, to)
 }
 
-// Piece A (0) or B (1) of the first edge against that of the second. The base is the vertex that the first edge's piece holds at both
-// times: its higher end in piece A, its lower in piece B.
+// Piece A (0) or B (1) of the first edge against that of the second. Both pieces of the first hold its lower end at the start and its higher end
+// at the end: these are the base.
 pub fn edges_piece(positions: &[i32], e: Ends, i: usize, f: Ends, j: usize) -> Verdict
     requires { ⌜ EdgesReady (now positions) e f ⌝ }
     ensures { λ r. ⌜ ((es ts : List ℕ) → PieceIs (record { first = movingEdge (sceneOf (now (positions .entry)) es ts) e i; second = movingEdge (sceneOf (now (positions .entry)) es ts) f j }) r) ⌝ }
@@ -57,23 +57,24 @@ fn both_a(positions: &[i32], e: Ends, f: Ends) -> Verdict
     requires { ⌜ EdgesReady (now positions) e f ⌝ }
     ensures { λ r. ⌜ ((es ts : List ℕ) → PieceIs (record { first = movingEdge (sceneOf (now (positions .entry)) es ts) e 0; second = movingEdge (sceneOf (now (positions .entry)) es ts) f 0 }) r) ⌝ }
 {
-    let base = 6 * e.high;
-    let other = 6 * e.low;
+    let from = 6 * e.low;
+    let other = 6 * e.high;
+    let to = other + 3;
     let low = 6 * f.low;
     let high = 6 * f.high;
     judge_edges(
         positions,
         other,
-        base,
+        from,
         false,
         low,
-        base,
+        from,
         false,
         high,
-        base,
+        from,
         false,
         high + 3,
-        base + 3,
+        to,
         true,
     )
 }
@@ -82,23 +83,24 @@ fn a_against_b(positions: &[i32], e: Ends, f: Ends) -> Verdict
     requires { ⌜ EdgesReady (now positions) e f ⌝ }
     ensures { λ r. ⌜ ((es ts : List ℕ) → PieceIs (record { first = movingEdge (sceneOf (now (positions .entry)) es ts) e 0; second = movingEdge (sceneOf (now (positions .entry)) es ts) f 1 }) r) ⌝ }
 {
-    let base = 6 * e.high;
-    let other = 6 * e.low;
+    let from = 6 * e.low;
+    let other = 6 * e.high;
+    let to = other + 3;
     let low = 6 * f.low;
     let high = 6 * f.high;
     judge_edges(
         positions,
         other,
-        base,
+        from,
         false,
         low,
-        base,
+        from,
         false,
         low + 3,
-        base + 3,
+        to,
         true,
         high + 3,
-        base + 3,
+        to,
         true,
     )
 }
@@ -107,23 +109,24 @@ fn b_against_a(positions: &[i32], e: Ends, f: Ends) -> Verdict
     requires { ⌜ EdgesReady (now positions) e f ⌝ }
     ensures { λ r. ⌜ ((es ts : List ℕ) → PieceIs (record { first = movingEdge (sceneOf (now (positions .entry)) es ts) e 1; second = movingEdge (sceneOf (now (positions .entry)) es ts) f 0 }) r) ⌝ }
 {
-    let base = 6 * e.low;
-    let other = 6 * e.high;
+    let from = 6 * e.low;
+    let to = 6 * e.high + 3;
     let low = 6 * f.low;
     let high = 6 * f.high;
+    let other = from + 3;
     judge_edges(
         positions,
-        other + 3,
-        base + 3,
+        other,
+        to,
         true,
         low,
-        base,
+        from,
         false,
         high,
-        base,
+        from,
         false,
         high + 3,
-        base + 3,
+        to,
         true,
     )
 }
@@ -132,23 +135,24 @@ fn both_b(positions: &[i32], e: Ends, f: Ends) -> Verdict
     requires { ⌜ EdgesReady (now positions) e f ⌝ }
     ensures { λ r. ⌜ ((es ts : List ℕ) → PieceIs (record { first = movingEdge (sceneOf (now (positions .entry)) es ts) e 1; second = movingEdge (sceneOf (now (positions .entry)) es ts) f 1 }) r) ⌝ }
 {
-    let base = 6 * e.low;
-    let other = 6 * e.high;
+    let from = 6 * e.low;
+    let to = 6 * e.high + 3;
     let low = 6 * f.low;
     let high = 6 * f.high;
+    let other = from + 3;
     judge_edges(
         positions,
-        other + 3,
-        base + 3,
+        other,
+        to,
         true,
         low,
-        base,
+        from,
         false,
         low + 3,
-        base + 3,
+        to,
         true,
         high + 3,
-        base + 3,
+        to,
         true,
     )
 }

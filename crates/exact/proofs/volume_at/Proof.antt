@@ -1,6 +1,8 @@
--- A volume of places: the nine differences are those of the three vectors, so the determinant is theirs.
+-- A volume: the first difference with the minors of the other two.
 use borrow.Author.Needs.{needs}
-use Rattle.exact.proofs.Held.{held-within, row, result}
+use mir.Syntax.{w64}
+use Rattle.whole.specs.Sizes.{back}
+use Rattle.exact.specs.Minors.{minors-small, standing-first}
 use Rattle.exact.proofs.volume_at.Statement.{statement}
 use Rattle.exact.proofs.volume_at.Tie as tie
 
@@ -9,18 +11,5 @@ volume-at-spec =
     tie.close
     (tie.spec
     (λ c κs. search needs)
-    (λ c κs. search needs)
-    (λ c κs. search needs)
-    (λ c κs. search needs)
-    (λ c κs. search needs)
-    (λ c κs. search needs)
-    (λ c κs. search needs)
-    (λ c κs. search needs)
-    (λ c κs. search needs)
-    (λ c κs. search held-within)
-    (λ c.
-    result
-    (row _ (c .before .before .before .before .before .before .before .before .before .difference .ensures) (c .before .before .before .before .before .before .before .before .difference2 .ensures) (c .before .before .before .before .before .before .before .difference3 .ensures))
-    (row _ (c .before .before .before .before .before .before .difference4 .ensures) (c .before .before .before .before .before .difference5 .ensures) (c .before .before .before .before .difference6 .ensures))
-    (row _ (c .before .before .before .difference7 .ensures) (c .before .before .difference8 .ensures) (c .before .difference9 .ensures))
-    (c .determinant .ensures)))
+    (λ c κs. let p = c .before .pre in (p .0, minors-small (c .minors-at .ensures), p .3))
+    (λ c. back w64 (standing-first (c .volume-with .ensures) (c .before .minors-at .ensures)) tt))

@@ -1,4 +1,5 @@
 -- The verdict by signs: the code's comparisons with 0, joined, are the agreement of the signs.
+use borrow.Author.Needs.{needs}
 use mathlib.Core.Path.{_≡_, refl, sym, _∙_, ap}
 use mathlib.Core.Bool.{Bool, true, false, not, cond, _&&_, _||_, and-assoc, and-true, or-false}
 use mathlib.Core.List.{[], _∷_}
@@ -11,6 +12,7 @@ use Rattle.whole.specs.Sizes.{held}
 use Rattle.meaning.specs.declared.Verdict.{Verdict}
 use Rattle.meaning.specs.declared.Verdict.the-variants.{Hit, Miss, Degenerate}
 use Rattle.sign_sums.specs.BySigns.{bySigns}
+use Rattle.sign_sums.specs.Sums.{worth}
 use Rattle.sign_sums.proofs.by_signs.Statement.{statement}
 use Rattle.sign_sums.proofs.by_signs.Tie as tie
 
@@ -42,22 +44,21 @@ by-sign positive a b c e f g = simp (agree-positive, and-assoc, and-true, or-fal
 by-sign negative a b c e f g = simp (agree-negative, and-assoc, and-true)
 by-sign nought a b c e f g = refl
 
--- the code's choice is made of the numbers as their locals hold them
-by-test : (s : tie.Start) → let x = s .args in bySigns (x .d) (x .a ∷ x .b ∷ x .c ∷ x .e ∷ x .f ∷ x .g ∷ []) ≡ chosen (λ z. leZ (pos 0) z) (λ z. leZ z (pos 0)) (held w64 (x .d)) (held w64 (x .a)) (held w64 (x .b)) (held w64 (x .c)) (held w64 (x .e)) (held w64 (x .f)) (held w64 (x .g))
+-- the code's choice is made of the numbers as their locals hold them, and of what the sums are worth
+by-test : (s : tie.Start) → let x = s .args in bySigns (worth (x .d)) (x .a ∷ x .b ∷ x .c ∷ x .e ∷ worth (x .f) ∷ worth (x .g) ∷ []) ≡ chosen (λ z. leZ (pos 0) z) (λ z. leZ z (pos 0)) (worth (x .d)) (held w64 (x .a)) (held w64 (x .b)) (held w64 (x .c)) (held w64 (x .e)) (worth (x .f)) (worth (x .g))
 unfolding bySigns
 by-test s =
     let x = s .args in
     let h = s .fits in
-    simp
-    (toZ-ofZ (h .d), toZ-ofZ (h .a), toZ-ofZ (h .b), toZ-ofZ (h .c), toZ-ofZ (h .e), toZ-ofZ (h .f), toZ-ofZ (h .g), le-nought, nought-le)
-    (by-sign (sgn (x .d)) (sgn (x .a)) (sgn (x .b)) (sgn (x .c)) (sgn (x .e)) (sgn (x .f)) (sgn (x .g)))
+    simp (toZ-ofZ (h .a), toZ-ofZ (h .b), toZ-ofZ (h .c), toZ-ofZ (h .e), le-nought, nought-le)
+    (by-sign (sgn (worth (x .d))) (sgn (x .a)) (sgn (x .b)) (sgn (x .c)) (sgn (x .e)) (sgn (worth (x .f))) (sgn (worth (x .g))))
 
--- the two tests, of the numbers as their locals hold them
+-- the two tests, of these
 abbrev zeroTest : tie.Start → Bool
-zeroTest s = neither (λ z. leZ (pos 0) z) (λ z. leZ z (pos 0)) (held w64 (s .args .d))
+zeroTest s = neither (λ z. leZ (pos 0) z) (λ z. leZ z (pos 0)) (worth (s .args .d))
 
 abbrev hitTest : tie.Start → Bool
-hitTest s = let x = s .args in oneWay (λ z. leZ (pos 0) z) (λ z. leZ z (pos 0)) (held w64 (x .d)) (held w64 (x .a)) (held w64 (x .b)) (held w64 (x .c)) (held w64 (x .e)) (held w64 (x .f)) (held w64 (x .g))
+hitTest s = let x = s .args in oneWay (λ z. leZ (pos 0) z) (λ z. leZ z (pos 0)) (worth (x .d)) (held w64 (x .a)) (held w64 (x .b)) (held w64 (x .c)) (held w64 (x .e)) (worth (x .f)) (worth (x .g))
 
 if-so : {A : Type 0} (b : Bool) (x y : A) → b ≡ true → cond b x y ≡ x
 if-so b x y e = ap (λ c. cond c x y) e
@@ -69,6 +70,32 @@ pub by-signs-spec : {M : Type 1} → statement M
 by-signs-spec =
     tie.close
     (tie.spec
-    (λ c. let s = c .before in sym (by-test s ∙ if-so (zeroTest s) _ _ (c .if1 .taken)))
-    (λ c. let s = c .before .before in sym (by-test s ∙ if-not (zeroTest s) _ _ (c .before .if1 .left) ∙ if-so (hitTest s) _ _ (c .if2 .taken)))
-    (λ c. let s = c .before .before in sym (by-test s ∙ if-not (zeroTest s) _ _ (c .before .if1 .left) ∙ if-not (hitTest s) _ _ (c .if2 .left))))
+    (λ c κs. search needs)
+    (λ c κs. search needs)
+    (λ c κs. search needs)
+    (λ c κs. search needs)
+    (λ c κs. search needs)
+    (λ c κs. search needs)
+    (λ c.
+    let d = c .before .before .before .before .before in
+    let s = d .before .before in
+    let t : zeroTest s ≡ true = rw (d .at-most-zero .ensures, d .before .at-least-zero .ensures) at (c .if1 .taken) in
+    sym (by-test s ∙ if-so (zeroTest s) _ _ t))
+    (λ c.
+    let d = c .before .before .before .before .before .before in
+    let s = d .before .before in
+    let t : zeroTest s ≡ false = rw (d .at-most-zero .ensures, d .before .at-least-zero .ensures) at (c .before .if1 .left) in
+    let u : hitTest s ≡ true =
+    simp
+    (d .at-most-zero .ensures, d .before .at-least-zero .ensures, c .before .before .before .before .before .at-least-zero2 .ensures, c .before .before .before .before .at-least-zero3 .ensures, c .before .before .before .at-most-zero2 .ensures, c .before .before .at-most-zero3 .ensures)
+    at (c .if2 .taken) in
+    sym (by-test s ∙ if-not (zeroTest s) _ _ t ∙ if-so (hitTest s) _ _ u))
+    (λ c.
+    let d = c .before .before .before .before .before .before in
+    let s = d .before .before in
+    let t : zeroTest s ≡ false = rw (d .at-most-zero .ensures, d .before .at-least-zero .ensures) at (c .before .if1 .left) in
+    let u : hitTest s ≡ false =
+    simp
+    (d .at-most-zero .ensures, d .before .at-least-zero .ensures, c .before .before .before .before .before .at-least-zero2 .ensures, c .before .before .before .before .at-least-zero3 .ensures, c .before .before .before .at-most-zero2 .ensures, c .before .before .at-most-zero3 .ensures)
+    at (c .if2 .left) in
+    sym (by-test s ∙ if-not (zeroTest s) _ _ t ∙ if-not (hitTest s) _ _ u)))

@@ -1,11 +1,11 @@
 -- Two edges' verdict: the signs are those of the exact numbers; the sum without the first volume begins with a 0.
 use borrow.Author.Needs.{needs}
-use mathlib.Core.Path.{_≡_, ap}
+use mathlib.Core.Path.{_≡_, _∙_, ap}
 use mathlib.Core.Bool.{true, false}
 use lib.IntN.{ℤ, _+ℤ_, +ℤ-idl}
 use mir.Syntax.{w64}
 use Rattle.whole.specs.Cramer.{Four}
-use Rattle.whole.specs.Sizes.{is-equal, fits}
+use Rattle.whole.specs.Sizes.{fits}
 use Rattle.sign_sums.specs.BySigns.{sum, keep, kept, edgeVerdict}
 use Rattle.exact.specs.Volumes.{four, fourOf, turned}
 use Rattle.sign_sums.proofs.Held.{same-signs}
@@ -31,7 +31,7 @@ edge-verdict-spec =
     let p = s .before .before .before .pre in
     let v = s .before .before .before .args .v in
     same-signs
-    (is-equal (without-first (fourOf v)) (s .before .before .sum-where .ensures))
+    (s .before .before .sum-where .ensures ∙ without-first (fourOf v))
     (turned (p .is0))
     (p .is1)
     (p .is2)

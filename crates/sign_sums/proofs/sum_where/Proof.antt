@@ -1,8 +1,6 @@
 -- The sum of those that count.
 use borrow.Author.Needs.{needs}
-use mathlib.Core.Path.{ap}
-use mir.Syntax.{w64}
-use Rattle.whole.specs.Sizes.{is-equal, back}
+use mathlib.Core.Path.{_∙_, ap}
 use Rattle.sign_sums.specs.BySigns.{sum}
 use Rattle.exact.specs.Volumes.{holds-small, holds-same}
 use Rattle.sign_sums.proofs.sum_where.Statement.{statement}
@@ -14,4 +12,4 @@ sum-where-spec =
     (tie.spec
     (λ c κs. search needs)
     (λ c κs. holds-small (c .keep-where .ensures))
-    (λ c. back w64 (is-equal (ap sum (holds-same (c .before .keep-where .ensures))) (c .sum-of .ensures)) tt))
+    (λ c. c .sum-of .ensures ∙ ap sum (holds-same (c .before .keep-where .ensures))))

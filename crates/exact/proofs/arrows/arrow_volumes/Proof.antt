@@ -1,8 +1,7 @@
--- Four volumes: each is what `arrow_volume` promises of the other three vectors, the second and the fourth with the other sign.
+-- Four volumes: the minors of the first two with each of the others standing last, those of the last two with each of the others standing first.
 use borrow.Author.Needs.{needs}
-use mir.Syntax.{w64}
-use Rattle.whole.specs.Sizes.{fits, back}
-use Rattle.exact.specs.Volumes.{turned}
+use Rattle.exact.specs.Minors.{minors-small, standing-first, standing-last}
+use Rattle.exact.specs.Volumes.{held-small, held-in-turn}
 use Rattle.exact.proofs.arrows.arrow_volumes.Statement.{statement}
 use Rattle.exact.proofs.arrows.arrow_volumes.Tie as tie
 
@@ -11,15 +10,19 @@ arrow-volumes-spec =
     tie.close
     (tie.spec
     (λ c κs. search needs)
+    (λ c κs. let p = c .before .pre in (p .0 .stands3, minors-small (c .arrow-minors .ensures), p .1))
+    (λ c κs. let p = c .before .before .pre in (p .0 .stands2, minors-small (c .before .arrow-minors .ensures), p .1))
     (λ c κs. search needs)
-    (λ c. fits w64 (turned (c .arrow-volume2 .ensures)) tt)
-    (λ c κs. search needs)
-    (λ c κs. search needs)
-    (λ c. fits w64 (turned (c .arrow-volume4 .ensures)) tt)
+    (λ c κs. let p = c .before .before .before .before .pre in (p .0 .stands1, minors-small (c .arrow-minors2 .ensures), p .1))
+    (λ c κs. let p = c .before .before .before .before .before .pre in (p .0 .stands0, minors-small (c .before .arrow-minors2 .ensures), p .1))
+    (λ c κs.
+    held-small (standing-first (c .before .arrow-with3 .ensures) (c .before .before .arrow-minors2 .ensures))
+    (standing-first (c .arrow-with4 .ensures) (c .before .before .arrow-minors2 .ensures))
+    (standing-last (c .before .before .before .before .arrow-with .ensures) (c .before .before .before .before .before .arrow-minors .ensures))
+    (standing-last (c .before .before .before .arrow-with2 .ensures) (c .before .before .before .before .before .arrow-minors .ensures)))
     (λ c.
-    record {
-      is0 = back w64 (c .before .before .before .arrow-volume .ensures) tt;
-      is1 = back w64 (turned (c .before .before .arrow-volume2 .ensures)) tt;
-      is2 = back w64 (c .before .arrow-volume3 .ensures) tt;
-      is3 = back w64 (turned (c .arrow-volume4 .ensures)) tt;
-    }))
+    held-in-turn (standing-first (c .before .before .arrow-with3 .ensures) (c .before .before .before .arrow-minors2 .ensures))
+    (standing-first (c .before .arrow-with4 .ensures) (c .before .before .before .arrow-minors2 .ensures))
+    (standing-last (c .before .before .before .before .before .arrow-with .ensures) (c .before .before .before .before .before .before .arrow-minors .ensures))
+    (standing-last (c .before .before .before .before .arrow-with2 .ensures) (c .before .before .before .before .before .before .arrow-minors .ensures))
+    (c .in-turn .ensures)))

@@ -3,7 +3,7 @@ use borrow.Author.Needs.{needs}
 use native.Mathlib.Omega.{arith}
 use Rattle.meaning.specs.Scene.{sceneOf}
 use Rattle.meaning.specs.List.{pairs}
-use Rattle.listing.specs.Entering.{room-for}
+use Rattle.entries.specs.Entering.{room-for}
 use Rattle.listing.specs.Answering.{too-many, listed}
 use Rattle.listing.proofs.accepted.list_accepted.Statement.{statement}
 use Rattle.listing.proofs.accepted.list_accepted.Tie as tie

@@ -3,7 +3,7 @@ use borrow.Author.Needs.{needs}
 use Rattle.meaning.specs.Scene.{sceneOf}
 use Rattle.meaning.specs.declared.Kind.the-variants.{PointTriangle, EdgeEdge}
 use Rattle.listing.specs.Rows.{rowsOf, pairs-rows}
-use Rattle.listing.specs.Entering.{room-first, room-second, entered-front}
+use Rattle.entries.specs.Entering.{room-first, room-second, entered-front}
 use Rattle.listing.proofs.writing.write_all.Statement.{statement}
 use Rattle.listing.proofs.writing.write_all.Tie as tie
 

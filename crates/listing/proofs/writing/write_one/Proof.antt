@@ -5,7 +5,7 @@ use Rattle.meaning.specs.Scene.{sceneOf}
 use Rattle.meaning.specs.Boxes.{listed}
 use Rattle.meaning.specs.List.{pair}
 use Rattle.listing.specs.Rows.{few-firsts, few-seconds}
-use Rattle.listing.specs.Entering.{one-room, entered-one, entered-none}
+use Rattle.entries.specs.Entering.{one-room, entered-one, entered-none}
 use Rattle.listing.proofs.writing.write_one.Statement.{statement}
 use Rattle.listing.proofs.writing.write_one.Tie as tie
 

@@ -4,7 +4,7 @@ use native.Mathlib.Omega.{arith}
 use Prim.Native.Nat.{_-_}
 use Rattle.meaning.specs.Scene.{sceneOf}
 use Rattle.listing.specs.Rows.{firstCount, rowOf, few-firsts}
-use Rattle.listing.specs.Entering.{Entering, entering-starts, entering-length, entering-room, entering-more, entering-all}
+use Rattle.entries.specs.Entering.{Entering, entering-starts, entering-length, entering-room, entering-more, entering-all}
 use Rattle.listing.proofs.writing.write_rows.Statement.{statement}
 use Rattle.listing.proofs.writing.write_rows.Tie as tie
 

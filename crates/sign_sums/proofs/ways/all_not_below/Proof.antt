@@ -1,7 +1,6 @@
 -- Six tests joined.
 use borrow.Author.Needs.{needs}
 use mir.Syntax.{w64}
-use mir.Facts.{toZ-ofZ}
 use Rattle.whole.specs.Sizes.{back}
 use Rattle.sign_sums.proofs.ways.all_not_below.Statement.{statement}
 use Rattle.sign_sums.proofs.ways.all_not_below.Tie as tie
@@ -23,4 +22,4 @@ all-not-below-spec =
     let c₁ = c₂ .before .before in
     let s = c₁ .before .before in
     simp
-    (c₁ .not-below .ensures, c₂ .not-below2 .ensures, c₃ .not-below3 .ensures, c₄ .not-below4 .ensures, c .before .not-below5 .ensures, c .not-below6 .ensures, back w64 (s .pre .is0) tt .same, back w64 (s .pre .is1) tt .same, back w64 (s .pre .is2) tt .same, back w64 (s .pre .is3) tt .same, toZ-ofZ (s .fits .starts), toZ-ofZ (s .fits .ends))))
+    (c₁ .not-below .ensures, c₂ .not-below2 .ensures, c₃ .not-below3 .ensures, c₄ .not-below4 .ensures, c .before .sum-not-below .ensures, c .sum-not-below2 .ensures, back w64 (s .pre .is0) tt .same, back w64 (s .pre .is1) tt .same, back w64 (s .pre .is2) tt .same, back w64 (s .pre .is3) tt .same)))

@@ -1,7 +1,5 @@
 -- One way or the other, by the two exact sums.
 use borrow.Author.Needs.{needs}
-use mir.Syntax.{w64}
-use Rattle.whole.specs.Sizes.{back}
 use Rattle.sign_sums.specs.OneWay.{oneWay}
 use Rattle.sign_sums.proofs.ways.one_way.Statement.{statement}
 use Rattle.sign_sums.proofs.ways.one_way.Tie as tie
@@ -16,6 +14,5 @@ one-way-spec =
     (λ c κs. search needs)
     (λ c κs. search needs)
     (λ c.
-    let s = c .before .before .before in
     simp
-    (c .before .all-not-below .ensures, c .all-not-below2 .ensures, back w64 (s .sum-where .ensures) tt .same, back w64 (c .before .before .sum-where2 .ensures) tt .same)))
+    (c .before .all-not-below .ensures, c .all-not-below2 .ensures, c .before .before .before .sum-where .ensures, c .before .before .sum-where2 .ensures)))

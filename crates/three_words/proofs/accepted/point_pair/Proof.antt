@@ -1,54 +1,39 @@
 use borrow.Author.Needs.{needs}
 use Rattle.meaning.specs.Scene.{Scene, sceneOf}
 use Rattle.meaning.specs.Pieces.{pieceOf}
+use Rattle.exact.specs.Volumes.{holds-small}
+use Rattle.theory.specs.Computed.{pointDifferences}
 use Rattle.three_words.specs.Pairs.{of-three}
+use Rattle.three_words.specs.Ready.{moving}
+use Rattle.three_words.specs.Right.{point-held}
 use Rattle.three_words.proofs.accepted.point_pair.Statement.{statement}
 use Rattle.three_words.proofs.accepted.point_pair.Tie as tie
-use Rattle.three_words.proofs.accepted.point_pair.Reads as reads
-use Rattle.three_words.proofs.accepted.point_pair.Lts as lts
-use Rattle.three_words.proofs.accepted.joined.Reads as joined-reads
-use Rattle.three_words.proofs.pieces.point_piece.Reads as point-piece-reads
 
--- src/accepted.rt:106:9
-point-piece-requires : tie.Need-point-piece-requires
-point-piece-requires c κs = search needs
-
--- src/accepted.rt:107:9
-point-piece-requires-2 : tie.Need-point-piece-requires-2
-point-piece-requires-2 c κs = search needs
-
--- src/accepted.rt:108:9
-point-piece-requires-3 : tie.Need-point-piece-requires-3
-point-piece-requires-3 c κs = search needs
-
--- src/accepted.rt:109:15
-joined-requires : tie.Need-joined-requires
-joined-requires c κs = search needs
-
--- src/accepted.rt:109:5
-joined-requires-2 : tie.Need-joined-requires-2
-joined-requires-2 c κs = search needs
-
--- src/accepted.rt:102:1
 returns : tie.Need-returns
-unfolding pieceOf
+unfolding pieceOf pointDifferences
 returns c =
-    let a = c .before .before .before .before .before .args in
+    let a = c .before .before .before .before .before .before .before .before .before .before .before .before .args in
+    let v = c .before .before .before .before .before .before .before .before .point-volumes .ensures in
     λ e t j same.
     let s : Scene = sceneOf (a .positions .now) e t in
     rw (c .joined2 .ensures, c .before .joined .ensures)
-    (of-three s (a .p) j (c .before .before .before .before .point-piece .result) (c .before .before .before .point-piece2 .result) (c .before .before .point-piece3 .result)
-    (rw same (c .before .before .before .before .point-piece .ensures e t))
-    (rw same (c .before .before .before .point-piece2 .ensures e t))
-    (rw same (c .before .before .point-piece3 .ensures e t)))
+    (of-three s (a .p) j (c .before .before .before .before .point-verdict .result) (c .before .before .before .point-verdict2 .result) (c .before .before .point-verdict3 .result)
+    (rw same (point-held s (a .p) (a .c) 0 (c .before .before .before .before .point-verdict .result) (v .holds0) (c .before .before .before .before .point-verdict .ensures)))
+    (rw same (point-held s (a .p) (a .c) 1 (c .before .before .before .point-verdict2 .result) (v .holds1) (c .before .before .before .point-verdict2 .ensures)))
+    (rw same (point-held s (a .p) (a .c) 2 (c .before .before .point-verdict3 .result) (v .holds2) (c .before .before .point-verdict3 .ensures))))
 
 pub point-pair-spec : {M : Type 1} → statement M
 point-pair-spec =
     tie.close
     (tie.spec
-    point-piece-requires
-    point-piece-requires-2
-    point-piece-requires-3
-    joined-requires
-    joined-requires-2
+    (λ c. search needs)
+    (λ c. search needs)
+    (λ c. search needs)
+    (λ c. search needs)
+    (λ c κs. let r = c .before .before .before .pre in (moving (r .point), moving (r .low), moving (r .middle), moving (r .high), r .bounded))
+    (λ c κs. holds-small (c .before .before .before .point-volumes .ensures .holds0))
+    (λ c κs. holds-small (c .before .before .before .before .point-volumes .ensures .holds1))
+    (λ c κs. holds-small (c .before .before .before .before .before .point-volumes .ensures .holds2))
+    (λ c κs. search needs)
+    (λ c κs. search needs)
     returns)

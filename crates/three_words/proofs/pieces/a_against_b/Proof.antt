@@ -25,6 +25,5 @@ a-against-b-spec =
     (λ c. search needs)
     (λ c. search needs)
     (λ c. search needs)
-    (λ c. search needs)
     (λ c κs. (omega arith, c .before .before .before .before .pre .bounded))
     returns)

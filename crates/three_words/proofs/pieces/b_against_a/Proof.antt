@@ -25,6 +25,5 @@ b-against-a-spec =
     (λ c. search needs)
     (λ c. search needs)
     (λ c. search needs)
-    (λ c. search needs)
     (λ c κs. (omega arith, c .before .before .before .before .pre .bounded))
     returns)

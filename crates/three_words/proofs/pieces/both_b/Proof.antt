@@ -26,7 +26,5 @@ both-b-spec =
     (λ c. search needs)
     (λ c. search needs)
     (λ c. search needs)
-    (λ c. search needs)
-    (λ c. search needs)
     (λ c κs. (omega arith, c .before .before .before .before .pre .bounded))
     returns)
