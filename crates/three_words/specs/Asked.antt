@@ -10,7 +10,7 @@ use Rattle.meaning.specs.declared.Verdict.{Verdict}
 use Rattle.meaning.specs.declared.Refusal.{Refusal}
 use Rattle.meaning.specs.declared.SceneAnswer as SceneAnswers
 use Rattle.meaning.specs.declared.SceneAnswer.{SceneAnswer}
-use Rattle.scenes.specs.Answering.{refuses, lets-pass, gives, is-given, refused-before, given-before}
+use Rattle.scenes.specs.Answering.{refuses, lets-pass, gives, is-refused, is-given, refused-before, given-before}
 use Rattle.scenes.specs.Accepting.{after-accepted}
 use Rattle.scenes.specs.Below.{or-left, or-rest}
 
@@ -29,16 +29,27 @@ PairAsked s kind i j missing r = Answers (sceneChecks s ++ askedChecks (notThere
 
 -- ---- as they are found
 
-module _ (s : Scene) (five six : Bool) (a : Accepted s) where
-  pub not-there-refused : five ≡ true → Answers (sceneChecks s ++ askedChecks five six) Passes (refused 5 0)
-  not-there-refused h = after-accepted s (askedChecks five six) Passes (refused 5 0) a (refuses _ _ _ _ h refl)
+-- the first that holds
+module _ (five six : Bool) where
+  pub five-first : five ≡ true → Answers (askedChecks five six) Passes (refused 5 0)
+  five-first h = refuses _ _ _ _ h refl
 
-  pub shared-refused : five ≡ false → six ≡ true → Answers (sceneChecks s ++ askedChecks five six) Passes (refused 6 0)
-  shared-refused h k =
-      after-accepted s (askedChecks five six) Passes (refused 6 0) a (lets-pass _ _ _ _ h (refuses _ _ _ _ k refl))
+  pub then-six : five ≡ false → six ≡ true → Answers (askedChecks five six) Passes (refused 6 0)
+  then-six h k = lets-pass _ _ _ _ h (refuses _ _ _ _ k refl)
 
-  pub none-refuses : five ≡ false → six ≡ false → Answers (sceneChecks s ++ askedChecks five six) Passes (given tt)
-  none-refuses h k = after-accepted s (askedChecks five six) Passes (given tt) a (lets-pass _ _ _ _ h (lets-pass _ _ _ _ k (gives Passes tt tt)))
+  pub neither : five ≡ false → six ≡ false → Answers (askedChecks five six) Passes (given tt)
+  neither h k = lets-pass _ _ _ _ h (lets-pass _ _ _ _ k (gives Passes tt tt))
+
+-- of an accepted scene: the pair isn't there, or it is, and 5 says whether what is asked for of it is missing
+module _ (s : Scene) (kind : Kind) (i j : ℕ) (missing : Bool) (a : Accepted s) (r : SceneAnswer) where
+  pub gone-asked : notThere s kind i j ≡ true → Answers (askedChecks true false) Passes (sceneSays r) → PairAsked s kind i j missing r
+  gone-asked h p =
+      after-accepted s (askedChecks (notThere s kind i j || missing) (shares s kind i j)) Passes (sceneSays r) a
+      (refuses _ _ _ _ (ap (λ (b : Bool). b || missing) h) (is-refused Passes _ _ (sceneSays r) refl p))
+
+  pub there-asked : notThere s kind i j ≡ false → {shared : Bool} → shared ≡ shares s kind i j → Answers (askedChecks missing shared) Passes (sceneSays r)
+      → PairAsked s kind i j missing r
+  there-asked h e p = after-accepted s (askedChecks (notThere s kind i j || missing) (shares s kind i j)) Passes (sceneSays r) a (rw (h, ← e) p)
 
 -- ---- and what the answer is then
 

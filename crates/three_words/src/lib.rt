@@ -4,12 +4,25 @@ mod pieces; // pieces.rt: the verdict of one piece, from the positions of its co
 pub mod accepted; // accepted.rt: pieces and pairs of a scene that was checked already
 
 ghost use Rattle.meaning.specs.Scene.{sceneAtEntry};
-ghost use Rattle.meaning.specs.Refusals.{PairJudged, PieceJudged};
-ghost use Rattle.three_words.specs.Asked.{PairAsked};
+ghost use Rattle.meaning.specs.Refusals.{Answers, sceneSays, PairJudged, PieceJudged};
+ghost use Rattle.three_words.specs.Asked.{Passes, askedChecks, PairAsked};
 use meaning::Kind;
 use meaning::PairAnswer;
 use meaning::Refusal;
 use meaning::SceneAnswer;
+
+// The first of 5 and 6 that holds.
+fn first_of(missing: bool, shared: bool) -> SceneAnswer
+    ensures { λ r. ⌜ Answers (askedChecks missing shared) Passes (sceneSays r) ⌝ }
+{
+    if missing {
+        return SceneAnswer::Refused(Refusal::NotThere);
+    }
+    if shared {
+        return SceneAnswer::Refused(Refusal::SharedVertex);
+    }
+    SceneAnswer::Accepted
+}
 
 // The refusals of a pair that is asked for, in the table's order: those of the scene, then 5, then 6. `missing`: what is asked for of the pair
 // isn't there.
@@ -27,14 +40,11 @@ fn asked(
     if let SceneAnswer::Refused(refusal) = scenes::check_scene(positions, edges, triangles) {
         return SceneAnswer::Refused(refusal);
     }
-    let gone = accepted::not_there(positions, edges, triangles, kind, first, second);
-    if gone | missing {
-        return SceneAnswer::Refused(Refusal::NotThere);
+    if accepted::not_there(positions, edges, triangles, kind, first, second) {
+        return first_of(true, false);
     }
-    if accepted::shares_vertex(positions, edges, triangles, kind, first, second) {
-        return SceneAnswer::Refused(Refusal::SharedVertex);
-    }
-    SceneAnswer::Accepted
+    let shared = accepted::shares_vertex(positions, edges, triangles, kind, first, second);
+    first_of(missing, shared)
 }
 
 // The verdict of a pair, for a scene that may be anything.
