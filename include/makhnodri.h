@@ -76,10 +76,10 @@ extern "C" {
  * with the same corners left each step is asked once at most, so that the calls are never more than 14 deep.
  * MAKHNODRI_STACK bytes of stack are enough for any call. As measured by `examples/c/run stack`, in bytes:
  *
- *     check_scene         120      judge_pt, judge_pt_piece       448
- *     count_pairs      49,400      judge_ee, judge_ee_piece       448
- *     list_pairs       49,512      settle_pt, settle_pt_piece   2,784
- *     settle_scene     50,024      settle_ee, settle_ee_piece   2,432
+ *     check_scene         120      judge_pt, judge_pt_piece       480
+ *     count_pairs      49,400      judge_ee, judge_ee_piece       480
+ *     list_pairs       49,512      settle_pt, settle_pt_piece   2,800
+ *     settle_scene     50,040      settle_ee, settle_ee_piece   2,448
  *     read_scene          680      write_report                84,904
  *     turn_scene          168
  *
