@@ -1,9 +1,9 @@
--- `text_cases::show_part` is safe: a part of a buffer has the length that was asked for.
+-- `marked_reads::show_part` is safe: a part of a buffer has the length that was asked for.
 use native.Mathlib.Omega.{arith}
 use lib.ListN.{length-take}
 use borrow.Author.Needs.{needs}
-use Rattle.text_cases.proofs.show_part.Statement.{statement}
-use Rattle.text_cases.proofs.show_part.Tie as tie
+use Rattle.marked_reads.proofs.show_part.Statement.{statement}
+use Rattle.marked_reads.proofs.show_part.Tie as tie
 
 slice-aggregate-show-in-4 : tie.Need-slice-aggregate-show-in-4
 slice-aggregate-show-in-4 c = simp length-take (omega arith)

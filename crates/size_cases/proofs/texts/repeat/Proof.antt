@@ -1,11 +1,11 @@
--- `text_cases::texts::repeat` is safe and ends: no line is put behind the end.
+-- `size_cases::texts::repeat` is safe and ends: no line is put behind the end.
 use mathlib.Core.Path.{_≡_}
 use Prim.Native.Nat.{_≤_}
 use native.Mathlib.Omega.{arith}
 use lib.ListN.{length}
 use borrow.Author.Needs.{needs}
-use Rattle.text_cases.proofs.texts.repeat.Statement.{statement}
-use Rattle.text_cases.proofs.texts.repeat.Tie as tie
+use Rattle.size_cases.proofs.texts.repeat.Statement.{statement}
+use Rattle.size_cases.proofs.texts.repeat.Tie as tie
 
 abbrev Inv-loop : tie.InvT-loop
 Inv-loop out₀ at line times end₀ left₀ out end left = (end ≤ length out) × (length out ≡ length out₀)

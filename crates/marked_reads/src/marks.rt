@@ -1,6 +1,6 @@
 // What is seen of a buffer after a call: every number of it was the mark before.
 
-pub(crate) fn print(text: &[u8]) {
+pub fn print(text: &[u8]) {
     io::write_all(1, text);
 }
 

@@ -1,9 +1,9 @@
--- `text_cases::cases::show_made` is safe: the text that was made is not longer than the buffer.
+-- `size_cases::cases::show_made` is safe: the text that was made is not longer than the buffer.
 use native.Mathlib.Omega.{arith}
 use lib.ListN.{length-take}
 use borrow.Author.Needs.{needs}
-use Rattle.text_cases.proofs.cases.show_made.Statement.{statement}
-use Rattle.text_cases.proofs.cases.show_made.Tie as tie
+use Rattle.size_cases.proofs.cases.show_made.Statement.{statement}
+use Rattle.size_cases.proofs.cases.show_made.Tie as tie
 
 slice-aggregate-show-read : tie.Need-slice-aggregate-show-read
 slice-aggregate-show-read c =

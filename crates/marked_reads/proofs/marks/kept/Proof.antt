@@ -1,9 +1,9 @@
--- `text_cases::marks::kept_plain` is safe and ends: the index stays below the length.
+-- `marked_reads::marks::kept` is safe and ends: the index stays below the length.
 use Prim.Native.Nat.{_-_}
 use lib.ListN.{length}
 use borrow.Author.Needs.{needs}
-use Rattle.text_cases.proofs.marks.kept_plain.Statement.{statement}
-use Rattle.text_cases.proofs.marks.kept_plain.Tie as tie
+use Rattle.marked_reads.proofs.marks.kept.Statement.{statement}
+use Rattle.marked_reads.proofs.marks.kept.Tie as tie
 
 abbrev Inv-loop : tie.InvT-loop
 Inv-loop b from i₀ i = Unit {0}
@@ -11,8 +11,8 @@ Inv-loop b from i₀ i = Unit {0}
 abbrev μ-loop : tie.MeasureT-loop
 μ-loop b from i₀ i = length b - i
 
-pub kept-plain-spec : {M : Type 1} → statement M
-kept-plain-spec =
+pub kept-spec : {M : Type 1} → statement M
+kept-spec =
     tie.close
     (tie.spec
     Inv-loop

@@ -1,11 +1,11 @@
--- `text_cases::texts::append` is safe and ends: no byte is put behind the end.
+-- `size_cases::texts::append` is safe and ends: no byte is put behind the end.
 use mathlib.Core.Path.{_≡_}
 use Prim.Native.Nat.{_-_, _≤_}
 use native.Mathlib.Omega.{arith}
 use lib.ListN.{length, length-set}
 use borrow.Author.Needs.{needs}
-use Rattle.text_cases.proofs.texts.append.Statement.{statement}
-use Rattle.text_cases.proofs.texts.append.Tie as tie
+use Rattle.size_cases.proofs.texts.append.Statement.{statement}
+use Rattle.size_cases.proofs.texts.append.Tie as tie
 
 abbrev Inv-loop : tie.InvT-loop
 Inv-loop out₀ at line end₀ i₀ out end i = (end ≤ length out) × (length out ≡ length out₀)
