@@ -6,4 +6,3 @@ pub mod Speaking
 pub mod Alone
 pub mod Accepting
 pub mod Facts
-pub mod Rising
