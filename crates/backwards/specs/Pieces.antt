@@ -93,19 +93,19 @@ module _ {s t : Scene} (h : TurnsRound s t) where
 
   -- ---- the points of a part
 
-  start-turned : (v : ℕ) → There v → starting t (fromLast n v) ≡ timeTurned (ending s v)
+  start-turned : (v : ℕ) → There v → starting (t .positions) (fromLast n v) ≡ timeTurned (ending (s .positions) v)
   start-turned v k = ap atStart (h .starts v k)
 
-  end-turned : (v : ℕ) → There v → ending t (fromLast n v) ≡ timeTurned (starting s v)
+  end-turned : (v : ℕ) → There v → ending (t .positions) (fromLast n v) ≡ timeTurned (starting (s .positions) v)
   end-turned v k = ap atEnd (h .ends v k)
 
-  point-turned : (v : ℕ) → There v → movingPoint t (fromLast n v) ≡ reverse (map timeTurned (movingPoint s v))
+  point-turned : (v : ℕ) → There v → movingPoint (t .positions) (fromLast n v) ≡ reverse (map timeTurned (movingPoint (s .positions) v))
   point-turned v k = λ i. start-turned v k i ∷ end-turned v k i ∷ []
 
   -- piece A is piece B, and B is A
   edge-turned : (e : Ends) → There (e .low) × There (e .high)
-      → (movingEdge t (endsTurned n e) 1 ≡ reverse (map timeTurned (movingEdge s e 0)))
-      × (movingEdge t (endsTurned n e) 0 ≡ reverse (map timeTurned (movingEdge s e 1)))
+      → (movingEdge (t .positions) (endsTurned n e) 1 ≡ reverse (map timeTurned (movingEdge (s .positions) e 0)))
+      × (movingEdge (t .positions) (endsTurned n e) 0 ≡ reverse (map timeTurned (movingEdge (s .positions) e 1)))
   unfolding movingEdge
   edge-turned e (l, u) = (
     λ i. start-turned (e .high) u i ∷ end-turned (e .high) u i ∷ end-turned (e .low) l i ∷ [],
@@ -113,7 +113,7 @@ module _ {s t : Scene} (h : TurnsRound s t) where
   )
 
   triangle-turned : (c : Corners) → There (c .low) × There (c .middle) × There (c .high) → (k : ℕ) → k < 3
-      → movingTriangle t (cornersTurned n c) (2 - k) ≡ reverse (map timeTurned (movingTriangle s c k))
+      → movingTriangle (t .positions) (cornersTurned n c) (2 - k) ≡ reverse (map timeTurned (movingTriangle (s .positions) c k))
   unfolding movingTriangle
   triangle-turned c (l, m, u) zero b =
       λ i. start-turned (c .high) u i ∷ end-turned (c .high) u i ∷ end-turned (c .middle) m i ∷ end-turned (c .low) l i ∷ []
@@ -147,18 +147,18 @@ module _ {s t : Scene} (h : TurnsRound s t) where
   -- both pieces of edge j
   abbrev EdgeTurned : ℕ → Type 0
   EdgeTurned j =
-      (movingEdge t (endsOf t j) 1 ≡ reverse (map timeTurned (movingEdge s (endsOf s j) 0)))
-      × (movingEdge t (endsOf t j) 0 ≡ reverse (map timeTurned (movingEdge s (endsOf s j) 1)))
+      (movingEdge (t .positions) (endsOf t j) 1 ≡ reverse (map timeTurned (movingEdge (s .positions) (endsOf s j) 0)))
+      × (movingEdge (t .positions) (endsOf t j) 0 ≡ reverse (map timeTurned (movingEdge (s .positions) (endsOf s j) 1)))
 
   edge-at-turned : (j : ℕ) → j < edgeCount s → Different s (endsWritten s j) → Every There (endsWritten s j) → EdgeTurned j
   edge-at-turned j b d e =
       rw (ends-turned j b d e) (edge-turned (endsOf s j) (rising-keeps s There (edgeEnd s j 0) (edgeEnd s j 1) (e .0) (e .1 .0)))
 
   triangle-at-turned : (j : ℕ) → j < triangleCount s → Different s (cornersWritten s j) → Every There (cornersWritten s j)
-      → (k : ℕ) → k < 3 → movingTriangle t (cornersOf t j) (2 - k) ≡ reverse (map timeTurned (movingTriangle s (cornersOf s j) k))
+      → (k : ℕ) → k < 3 → movingTriangle (t .positions) (cornersOf t j) (2 - k) ≡ reverse (map timeTurned (movingTriangle (s .positions) (cornersOf s j) k))
   triangle-at-turned j b d e k l =
       let (low, high) = rising-keeps s There (corner s j 0) (corner s j 1) (e .0) (e .1 .0) in
-      ap (λ (c : Corners). movingTriangle t c (2 - k)) (corners-of-turned j b d e)
+      ap (λ (c : Corners). movingTriangle (t .positions) c (2 - k)) (corners-of-turned j b d e)
       ∙ triangle-turned (cornersOf s j) (among-keeps s There (rising s (corner s j 0) (corner s j 1)) (corner s j 2) low high (e .1 .1 .0)) k l
 
   -- ---- the pieces of a pair

@@ -68,8 +68,8 @@ WellMade s EdgeEdge i j = (i < edgeCount s) × Different s (endsWritten s i) × 
 module _ {s t : Scene} (h : Rewritten s t) where
   pub follows : Follows s t (λ e. e) (λ v. Unit {0})
   follows = record {
-    starts = λ v k. ap (λ (l : List ℤ). starting (sceneOf l [] []) v) (h .positions);
-    ends = λ v k. ap (λ (l : List ℤ). ending (sceneOf l [] []) v) (h .positions);
+    starts = λ v k. ap (λ (l : List ℤ). starting l v) (h .positions);
+    ends = λ v k. ap (λ (l : List ℤ). ending l v) (h .positions);
   }
 
   pub same-parts : (kind : Kind) (i j : ℕ) → WellMade s kind i j → SameParts s t kind i j
