@@ -76,11 +76,11 @@ extern "C" {
  * with the same corners left each step is asked once at most, so that the calls are never more than 14 deep.
  * MAKHNODRI_STACK bytes of stack are enough for any call. As measured by `examples/c/run stack`, in bytes:
  *
- *     check_scene         120      judge_pt, judge_pt_piece       504
- *     count_pairs      49,400      judge_ee, judge_ee_piece       584
- *     list_pairs       49,512      settle_pt, settle_pt_piece   2,528
- *     settle_scene     50,024      settle_ee, settle_ee_piece   2,352
- *     read_scene          680      write_report                84,904
+ *     check_scene         120      judge_pt, judge_pt_piece       528
+ *     count_pairs      52,016      judge_ee, judge_ee_piece       576
+ *     list_pairs       84,848      settle_pt, settle_pt_piece   2,656
+ *     settle_scene     85,184      settle_ee, settle_ee_piece   2,480
+ *     read_scene          680      write_report               120,048
  *     turn_scene          168
  *
  * ---- An answer ----
