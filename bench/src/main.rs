@@ -97,7 +97,7 @@ impl Bench {
             let slices = Slices::of(&scenes::full_size(&mut Random::new(fold as u64), fold));
             let count = plain::list(&slices, &mut []);
             let (mut plain, mut ours) = (vec![0; count], vec![0; count]);
-            let mut ways = vec![Way::new("the same algorithm in plain safe Rust", || plain::list(&slices, &mut plain) as u64)];
+            let mut ways = vec![Way::new("every pair tested, in plain safe Rust", || plain::list(&slices, &mut plain) as u64)];
             if let Some(product) = &self.product {
                 ways.push(Way::new(OURS, || product.list(&slices, &mut ours).expect("there is room") as u64));
             }

@@ -16,7 +16,6 @@ use Rattle.sequences.specs.Pick.{pick}
 use Rattle.sequences.specs.Wrote.{Wrote, wrote-none, wrote-one, wrote-then}
 use Rattle.meaning.specs.List.{Pair, number, entries}
 use Rattle.entries.specs.Entries.{entries-length}
-use Rattle.entries.specs.Entering.{Entered}
 
 -- a number is stored in its place if that is below `most`
 abbrev pub kept : ℕ → ℕ → ℕ → List ℕ → List ℕ
@@ -67,10 +66,12 @@ pub record Walked (most : ℕ) (o : List ℕ) (k : ℕ) (ps : List Pair) (o′ :
 pub walked-one : {most k m m′ : ℕ} {o o₁ o₂ : List ℕ} {ps : List Pair} → Walked most o k ps o₁ m → Walked most o k ps o₂ m′ → (o₁ ≡ o₂) × (m ≡ m′)
 walked-one v w = (v .list ∙ sym (w .list), v .counts ∙ sym (w .counts))
 
-pub walked-entered : {most k m : ℕ} {o o′ : List ℕ} {ps : List Pair} → m ≤ most → most ≤ length o → Walked most o k ps o′ m → Entered o k ps o′ m
-walked-entered {most} {k} {m} {o} {o′} {ps} fits room w =
+-- where there is room for all of them they stand there
+pub walked-wrote : {most k m : ℕ} {o o′ : List ℕ} {ps : List Pair} → m ≤ most → most ≤ length o → Walked most o k ps o′ m
+    → Wrote o k (entries ps) o′ m
+walked-wrote {most} {k} {m} {o} {o′} {ps} fits room w =
     let long : k + length (entries ps) ≡ m = omega (arith, entries-length ps, w .counts) in
-    record { wrote = rw (w .list, ← long) (enter-wrote most k (entries ps) o (omega (arith, entries-length ps, w .counts)) room) }
+    rw (w .list, ← long) (enter-wrote most k (entries ps) o (omega (arith, entries-length ps, w .counts)) room)
 
 pub walked-length : {most k m : ℕ} {o o′ : List ℕ} {ps : List Pair} → Walked most o k ps o′ m → length o′ ≡ length o
 walked-length {most} {k} {m} {o} {o′} {ps} w = ap length (w .list) ∙ enter-length most k (entries ps) o

@@ -1,12 +1,10 @@
 // An entry of the list is one number: the kind's part, then the two places. Nothing else makes an entry or takes one apart.
 
-ghost use Prim.Native.Nat.{_+_, _≤_, _<_};
-ghost use mathlib.Core.List.{[], _∷_};
+ghost use Prim.Native.Nat.{_≤_, _<_};
 ghost use mathlib.Core.Path.{_≡_};
 ghost use lib.ListN.{length};
 ghost use Rattle.meaning.specs.List.{pair, kindPart, number, roomOf};
 ghost use Rattle.entries.specs.Entries.{kindOf, firstOf, secondOf};
-ghost use Rattle.entries.specs.Entering.{Entered};
 ghost use Rattle.entries.specs.UpTo.{kept};
 use meaning::Kind;
 
@@ -32,14 +30,6 @@ pub fn number_of(kind: Kind, first: usize, second: usize) -> u32
     ensures { λ r. ⌜ r ≡ number (pair kind first second) ⌝ }
 {
     kind_part(kind) + 1024 * (first as u32) + second as u32
-}
-
-// The pair is entered at number k.
-pub fn put(list: &mut [u32], k: usize, kind: Kind, first: usize, second: usize)
-    requires { ⌜ (k < roomOf (now list)) × (first < 1024) × (second < 1024) ⌝ }
-    ensures { λ _. ⌜ Entered (now (list .entry)) k (pair kind first second ∷ []) (now (list .exit)) (k + 1) ⌝ }
-{
-    list[k] = number_of(kind, first, second);
 }
 
 // The pair is entered at number k where that is below a bound; else the list stays as it is.

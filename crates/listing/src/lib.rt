@@ -1,8 +1,5 @@
 // The list: the point-triangle and edge-edge pairs of a scene whose swept boxes meet, in order.
 
-mod candidates; // candidates.rt: which pairs there are, and whether one is listed
-mod counting; // counting.rt: how many are listed
-mod writing; // writing.rt: the listed pairs, entered
 pub mod accepted; // accepted.rt: the list of a scene that is accepted
 
 ghost use Rattle.meaning.specs.Scene.{sceneAtEntry};
