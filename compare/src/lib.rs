@@ -7,6 +7,7 @@ pub mod affine;
 pub mod backwards;
 pub mod blame;
 pub mod cases;
+pub mod claims;
 pub mod cost;
 pub mod crossed;
 pub mod cubic;

@@ -1,5 +1,6 @@
 -- An answer as one number, and back.
 pub mod Numbers
 pub mod Small
+pub mod Claims
 pub mod Telling
 pub mod Back

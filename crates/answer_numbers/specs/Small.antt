@@ -6,20 +6,20 @@ use mathlib.Core.Path.{_≡_, refl, sym, ap, _∙_, subst}
 use native.Mathlib.Omega.{arith}
 use lib.ListN.{length, length-append}
 use borrow.Author.Tests.{ltb-false}
-use Rattle.sequences.specs.Flat.{flat-cons}
 use Rattle.meaning.specs.Limits.{textLimit}
 use Rattle.meaning.specs.Scene.{Scene, Accepted}
 use Rattle.meaning.specs.Refusals.{Outcome, given, refused, Check, Answers, numberOf, sceneChecks}
 use Rattle.meaning.specs.List.{pairs, roomOf, listSays, listChecks, Counted, Listing}
 use Rattle.meaning.specs.SceneWords.{SettledScene}
-use Rattle.meaning.specs.Text.{Entry, lineOf, textOf, FaultyAt, TextIs, shortBuffer, longText, TextOutcome, countsTold, textSays, TextRead}
+use Rattle.meaning.specs.Text.{textOf, FaultyAt, TextIs, shortBuffer, longText, TextOutcome, countsTold, textSays, TextRead}
 use Rattle.meaning.specs.declared.Refusal.{Refusal}
 use Rattle.meaning.specs.declared.Refusal.the-variants.{Shape, Coordinate, UnknownVertex, RepeatedVertex, NotThere, SharedVertex, NoRoom, LongText, BadLine, LateRecord, TooMany, ShortBuffer}
 use Rattle.meaning.specs.declared.ListAnswer.{ListAnswer}
 use Rattle.meaning.specs.declared.TextAnswer.{TextAnswer}
 use Rattle.scenes.specs.Answering.{is-refused, is-past}
 use Rattle.listing.specs.Sizes.{few-pairs}
-use Rattle.scene_text.specs.Inspecting.{line-some}
+use Rattle.lines.specs.Unique.{records-few}
+use Rattle.scene_line.specs.Rendered.{scene-readable}
 use Rattle.demands.specs.Deciding.{holds-or-not}
 use Rattle.answer_numbers.specs.Numbers.{upper}
 
@@ -105,11 +105,6 @@ judging-small {s} {o} {o′} {b} {b′} {r} p = listed-small s (min (roomOf o) (
 
 -- ---- a text
 
--- each line has its LF at least
-lines-few : (rs : List Entry) → length rs ≤ length (textOf rs)
-lines-few [] = omega arith
-lines-few (r ∷ rs) = omega (arith, line-some r, lines-few rs, ap length (flat-cons lineOf r rs) ∙ length-append (lineOf r) (textOf rs))
-
 unfoldable pub lineIn : {A : Type 0} → Outcome A → ℕ
 lineIn (given a) = 0
 lineIn (refused n line) = line
@@ -123,7 +118,7 @@ text-line-small : (text : List ℕ) (x : Outcome Scene) → length text ≤ text
 unfolding TextIs lineIn
 text-line-small text (given s) h p = omega arith
 text-line-small text (refused n line) h p =
-    omega (arith, p .place, lines-few (p .above), ap length (p .lines) ∙ length-append (textOf (p .above)) (p .below))
+    omega (arith, p .place, records-few scene-readable (p .above), ap length (p .lines) ∙ length-append (textOf (p .above)) (p .below))
 
 pub line-small : {text : List ℕ} {lent left : Scene} {r : TextAnswer} → TextRead text lent left r → lineIn (textSays r) < upper
 unfolding lineIn

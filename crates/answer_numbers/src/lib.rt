@@ -4,8 +4,11 @@ ghost use Prim.Native.Nat.{_+_, _*_, _<_};
 ghost use mathlib.Core.Path.{_≡_};
 ghost use Rattle.meaning.specs.Refusals.{numberOf};
 ghost use Rattle.meaning.specs.List.{listSays};
+ghost use Rattle.meaning.specs.Claims.{claimsSays};
 ghost use Rattle.answer_numbers.specs.Numbers.{upper, verdictNumber, sceneNumber, pairNumber, settledNumber, listNumber};
 ghost use Rattle.answer_numbers.specs.Small.{toldIn};
+ghost use Rattle.answer_numbers.specs.Claims.{claimsNumber};
+use meaning::ClaimsAnswer;
 use meaning::ListAnswer;
 use meaning::PairAnswer;
 use meaning::Refusal;
@@ -66,5 +69,15 @@ pub fn list_number(answer: ListAnswer) -> u64
     match answer {
         ListAnswer::Listed(made) => made.count as u64,
         ListAnswer::Refused(why, needed) => refused(why, needed),
+    }
+}
+
+pub fn claims_number(answer: ClaimsAnswer) -> u64
+    requires { ⌜ toldIn (claimsSays answer) < upper ⌝ }
+    ensures { λ r. ⌜ r ≡ claimsNumber answer ⌝ }
+{
+    match answer {
+        ClaimsAnswer::Answered(count) => count as u64,
+        ClaimsAnswer::Refused(why, carries) => refused(why, carries),
     }
 }

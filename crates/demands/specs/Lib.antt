@@ -27,3 +27,4 @@ pub mod Printed
 pub mod AnyText
 pub mod Barred
 pub mod BarredLists
+pub mod Claims

@@ -3,4 +3,5 @@ pub mod Numerals
 pub mod Field
 pub mod Rows
 pub mod Ended
+pub mod Tabbed
 pub mod Unique

@@ -126,7 +126,7 @@ module _ {ps : List ℤ} where
 -- ---- the piece of a pair that is asked for
 
 module _ (s : Scene) where
-  six-in : Accepted s → (kind : Kind) (i j k : ℕ) → notThere s kind i j ≡ false → SixIn (s .positions) (sixOf s kind i j k)
+  pub six-in : Accepted s → (kind : Kind) (i j k : ℕ) → notThere s kind i j ≡ false → SixIn (s .positions) (sixOf s kind i j k)
   unfolding sixOf
   six-in a PointTriangle i j k e = point-six-in k (pt-ready s i j a e)
   six-in a EdgeEdge i j k e = edges-six-in (k / 2) (k % 2) (ee-ready s i j a e)

@@ -8,13 +8,10 @@ ghost use Rattle.meaning.specs.Refusals.{notThere};
 ghost use Rattle.meaning.specs.Verdicts.{PieceIs, PairIs};
 ghost use Rattle.meaning.specs.Resting.{PieceSettled, PairSettled};
 ghost use Rattle.four_words.specs.Words.{TouchSaid};
-use super::six::edges_six;
-use super::six::point_six;
+use super::six::six_of;
 use meaning::Kind;
 use meaning::Settled;
 use meaning::Verdict;
-use three_words::accepted::larger;
-use three_words::accepted::smaller;
 
 // The word of a piece, from its verdict.
 pub(crate) fn piece_word(
@@ -30,17 +27,8 @@ pub(crate) fn piece_word(
     requires { ⌜ Accepted (sceneIn positions edges triangles) × (notThere (sceneIn positions edges triangles) kind i j ≡ false) × PieceIs (pieceOf (sceneIn positions edges triangles) kind i j k) verdict ⌝ }
     ensures { λ r. ⌜ PieceSettled (pieceOf (sceneAtEntry positions edges triangles) kind i j k) r ⌝ }
 {
-    match kind {
-        Kind::PointTriangle => {
-            let six = point_six(i, scenes::parts::corners_of(triangles, j), k);
-            corner_search::settle_piece(positions, six, verdict)
-        }
-        Kind::EdgeEdge => {
-            let first = scenes::parts::ends_of(edges, smaller(i, j));
-            let second = scenes::parts::ends_of(edges, larger(i, j));
-            corner_search::settle_piece(positions, edges_six(first, k / 2, second, k % 2), verdict)
-        }
-    }
+    let six = six_of(positions, edges, triangles, kind, i, j, k);
+    corner_search::settle_piece(positions, six, verdict)
 }
 
 // One piece of a pair.

@@ -3,13 +3,19 @@
 // makes the pieces differ.
 
 ghost use mathlib.Core.Path.{_≡_};
+ghost use mathlib.Core.Bool.{false};
 ghost use Prim.Native.Nat.{_<_};
 ghost use Rattle.meaning.specs.Limits.{vertexLimit};
-ghost use Rattle.corner_search.specs.Sixes.{pointSix, edgesSix};
+ghost use Rattle.meaning.specs.Scene.{sceneIn, sceneAtEntry, Accepted};
+ghost use Rattle.meaning.specs.Refusals.{notThere};
+ghost use Rattle.corner_search.specs.Sixes.{pointSix, edgesSix, sixOf};
 ghost use Rattle.four_words.specs.Six.{between, PointFew, EdgesFew};
 use corner_leaf::SixPoints;
 use meaning::Corners;
 use meaning::Ends;
+use meaning::Kind;
+use three_words::accepted::larger;
+use three_words::accepted::smaller;
 
 // The point between the lower vertex at the start and the higher at the end.
 fn between(low: usize, high: usize, end: bool) -> usize
@@ -20,7 +26,7 @@ fn between(low: usize, high: usize, end: bool) -> usize
 }
 
 // p p' and 1 2 3 3', or 1 2 2' 3', or 1 1' 2' 3'.
-pub(crate) fn point_six(p: usize, c: Corners, k: usize) -> SixPoints
+fn point_six(p: usize, c: Corners, k: usize) -> SixPoints
     requires { ⌜ PointFew p c ⌝ }
     ensures { λ r. ⌜ r ≡ pointSix p c k ⌝ }
 {
@@ -36,7 +42,7 @@ pub(crate) fn point_six(p: usize, c: Corners, k: usize) -> SixPoints
 }
 
 // 1 2 2' in piece A (0), 1 1' 2' in piece B, of either edge.
-pub(crate) fn edges_six(e: Ends, i: usize, f: Ends, j: usize) -> SixPoints
+fn edges_six(e: Ends, i: usize, f: Ends, j: usize) -> SixPoints
     requires { ⌜ EdgesFew e f ⌝ }
     ensures { λ r. ⌜ r ≡ edgesSix e i f j ⌝ }
 {
@@ -48,5 +54,28 @@ pub(crate) fn edges_six(e: Ends, i: usize, f: Ends, j: usize) -> SixPoints
         at: [6 * e.low, a, 6 * e.high + 3, 6 * f.low, b, 6 * f.high + 3],
         ends: [false, first, true, false, second, true],
         first: 3,
+    }
+}
+
+// The six points of a piece of a pair, the edge with the lower place first.
+pub fn six_of(
+    positions: &[i32],
+    edges: &[u16],
+    triangles: &[u16],
+    kind: Kind,
+    i: usize,
+    j: usize,
+    k: usize,
+) -> SixPoints
+    requires { ⌜ Accepted (sceneIn positions edges triangles) × (notThere (sceneIn positions edges triangles) kind i j ≡ false) ⌝ }
+    ensures { λ r. ⌜ r ≡ sixOf (sceneAtEntry positions edges triangles) kind i j k ⌝ }
+{
+    match kind {
+        Kind::PointTriangle => point_six(i, scenes::parts::corners_of(triangles, j), k),
+        Kind::EdgeEdge => {
+            let first = scenes::parts::ends_of(edges, smaller(i, j));
+            let second = scenes::parts::ends_of(edges, larger(i, j));
+            edges_six(first, k / 2, second, k % 2)
+        }
     }
 }

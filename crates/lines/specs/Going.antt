@@ -4,7 +4,7 @@ use mathlib.Core.List.{List, [], _∷_, _++_, flatMap, append-assoc, append-nil}
 use mathlib.Core.Path.{_≡_, refl, sym, ap, _∙_, subst}
 use Prim.Native.Nat.{ℕ, _+_, _≤_, _<_}
 use native.Mathlib.Omega.{arith}
-use lib.ListN.{length, drop, drop-of-length-le}
+use lib.ListN.{length, drop, drop-of-length-le, length-append}
 use Rattle.sequences.specs.Flat.{flat-append}
 use Rattle.sequences.specs.Stands.{Stands, stands-inside}
 use Rattle.meaning.specs.Refusals.{given}
@@ -22,6 +22,10 @@ pub reached-first : (g : Grammar) (s₀ : g .State) (text : List ℕ) → Reache
 unfolding flatMap Sound afterAll
 reached-first g s₀ text =
     record { above = []; ran = record { sound = tt; lines = refl }; state = refl; within = omega arith }
+
+pub reached-none : (g : Grammar) (s₀ : g .State) (text : List ℕ) → length (reached-first g s₀ text .above) ≡ 0
+unfolding reached-first
+reached-none g s₀ text = refl
 
 module _ {g : Grammar} {s₀ : g .State} {text : List ℕ} {s : g .State} {at : ℕ} (i : Reached g s₀ text s at) where
   -- a line that is a record's, and not at fault
@@ -49,6 +53,12 @@ module _ {g : Grammar} {s₀ : g .State} {text : List ℕ} {s : g .State} {at : 
         },
         omega (arith, stands .place, readable .some r),
       )
+
+  -- the records above are then one more
+  pub reached-longer : (readable : Readable g) (r : g .Record) {next : ℕ} (formed : g .Formed s r) (good : RecordJudged g s r (nothing (drop next text)) (given tt))
+      (stands : Stands text at (g .line r) next) → length (reached-next readable r formed good stands .0 .above) ≡ length (i .above) + 1
+  unfolding reached-next
+  reached-longer readable r formed good stands = length-append (i .above) (r ∷ [])
 
   -- a line at fault is the first
   pub reached-fault : {n line : ℕ} → Fault g s (drop at text) n → line ≡ length (i .above) + 1 → FaultyAt g s₀ text n line

@@ -1,9 +1,10 @@
 -- A text means one thing: how far its records go without a fault, and what is wrong where they stop.
 use mathlib.Core.List.{List, [], _∷_, _++_, flatMap, append-assoc, append-nil}
 use mathlib.Core.Path.{_≡_, refl, sym, ap, _∙_, subst}
-use Prim.Native.Nat.{ℕ, _+_, _<_}
+use Prim.Native.Nat.{ℕ, _+_, _≤_, _<_}
 use native.Mathlib.Omega.{arith}
 use lib.ListN.{length, length-append}
+use Rattle.sequences.specs.Flat.{flat-cons}
 use Rattle.scenes.specs.Answering.{one-answer}
 use Rattle.meaning.specs.Refusals.{Outcome, given, refused}
 use Rattle.meaning.specs.Lines.{Grammar, nothing, RecordJudged, linesOf, afterAll, Sound, Fault, unformed, misplaced, AllSound, FaultyAt, LinesAre}
@@ -45,6 +46,12 @@ module _ {g : Grammar} (readable : Readable g) where
       let stuck : Stuck g (afterAll g (g .after s q) rs) x = subst (λ (t : g .Record). Stuck g (afterAll g (g .after s t) rs) x) same a in
       let (sames, below) = ran-unique rs qs more (record { sound = w .sound .2; lines = rest }) stuck b in
       (λ i. same i ∷ sames i, below)
+
+  -- each line has a byte at least
+  pub records-few : (rs : List (g .Record)) → length rs ≤ length (linesOf g rs)
+  records-few [] = omega arith
+  records-few (r ∷ rs) =
+      omega (arith, readable .some r, records-few rs, ap length (flat-cons (g .line) r rs) ∙ length-append (g .line r) (linesOf g rs))
 
   -- at its end, or at a fault, a text is stuck
   pub end-stuck : (s : g .State) → Stuck g s []

@@ -10,7 +10,10 @@ ghost use Rattle.meaning.specs.List.{Counted, Listing};
 ghost use Rattle.meaning.specs.SceneWords.{SettledScene};
 ghost use Rattle.meaning.specs.declared.Kind.the-variants.{PointTriangle, EdgeEdge};
 ghost use Rattle.meaning.specs.Report.{Reported};
+ghost use Rattle.meaning.specs.Claims.{ClaimsChecked};
+ghost use Rattle.answer_numbers.specs.Claims.{claimsNumber};
 ghost use Rattle.answer_numbers.specs.Numbers.{sceneNumber, pairNumber, settledNumber, listNumber, textNumber, ReadInto, Told};
+use answer_numbers::claims_number;
 use answer_numbers::list_number;
 use answer_numbers::pair_number;
 use answer_numbers::refused;
@@ -277,4 +280,20 @@ pub extern "C" fn makhnodri_write_report(text: &[u8], out: &mut [u8; REPORT_BYTE
     ensures { λ r. ⌜ Reported (now (text .entry)) (now (out .entry)) (now (out .exit)) r ⌝ }
 {
     summary::write_report(text, out)
+}
+
+// ---- claims
+
+// A partner's claims beside a scene, each answered with a byte in front of the lent buffer: 1 for yes, 0 for no.
+#[no_mangle]
+pub extern "C" fn makhnodri_check_claims(
+    positions: &[i32],
+    edges: &[u16],
+    triangles: &[u16],
+    claims: &[u8],
+    answers: &mut [u8],
+) -> u64
+    ensures { λ r. ⌜ Told claimsNumber (ClaimsChecked (sceneAtEntry positions edges triangles) (now (claims .entry)) (now (answers .entry)) (now (answers .exit))) r ⌝ }
+{
+    claims_number(claim_answers::check_claims(positions, edges, triangles, claims, answers))
 }

@@ -16,5 +16,6 @@ pub mod Backwards
 pub mod Text
 pub mod Report
 pub mod Contacts
+pub mod Claims
 pub mod InMotion
 pub mod ReadShown

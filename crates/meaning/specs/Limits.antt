@@ -1,5 +1,5 @@
 -- 'Sizes' of document 01, the coordinates by document 02, §13. Each limit stands here once, and everything else names it.
-use Prim.Native.Nat.{ℕ}
+use Prim.Native.Nat.{ℕ, _^_}
 
 abbrev pub coordinateLimit : ℕ
 coordinateLimit = 524_287
@@ -27,3 +27,14 @@ digitLimit = 9
 -- the pairs that the report program has room for
 abbrev pub reportRoom : ℕ
 reportRoom = 3_072
+
+-- a weight of a claim is one to thirteen digits, and at most 2^40
+abbrev pub weightDigits : ℕ
+weightDigits = 13
+
+abbrev pub weightLimit : ℕ
+weightLimit = 2 ^ 40
+
+-- the answers that the program of claims has room for
+abbrev pub claimRoom : ℕ
+claimRoom = 2_048

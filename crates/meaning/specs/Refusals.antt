@@ -86,12 +86,15 @@ pairChecks s kind i j =
     ∷ record { number = 6; holds = shares s kind i j; carries = 0 }
     ∷ [])
 
-abbrev pub pieceChecks : Scene → Kind → ℕ → ℕ → ℕ → List Check
-pieceChecks s kind i j k =
-    sceneChecks s
-    ++ (record { number = 5; holds = notThere s kind i j || leb (pieceCount kind) k; carries = 0 }
+-- 5 and 6 of a piece that is asked for
+abbrev pub pieceAsked : Scene → Kind → ℕ → ℕ → ℕ → List Check
+pieceAsked s kind i j k =
+    record { number = 5; holds = notThere s kind i j || leb (pieceCount kind) k; carries = 0 }
     ∷ record { number = 6; holds = shares s kind i j; carries = 0 }
-    ∷ [])
+    ∷ []
+
+abbrev pub pieceChecks : Scene → Kind → ℕ → ℕ → ℕ → List Check
+pieceChecks s kind i j k = sceneChecks s ++ pieceAsked s kind i j k
 
 -- what is promised of the check of a scene, of a pair asked for, and of a piece of a pair
 abbrev pub SceneChecked : Scene → SceneAnswer → Type 0

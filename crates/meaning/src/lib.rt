@@ -25,6 +25,14 @@ pub const REPORT_ROOM: usize = 3072;
 
 pub const REPORT_BYTES: usize = 65536;
 
+// A weight of a claim: its digits, and the largest that is answered yes.
+pub const WEIGHT_DIGITS: usize = 13;
+
+pub const WEIGHT_LIMIT: u64 = 1099511627776;
+
+// The answers that the program of claims has room for.
+pub const CLAIM_ROOM: usize = 2048;
+
 // A pair is asked for by kind: a point and a triangle, or two edges.
 pub enum Kind {
     PointTriangle,
@@ -115,5 +123,12 @@ pub struct SceneCounts {
 // has none).
 pub enum TextAnswer {
     Read(SceneCounts),
+    Refused(Refusal, usize),
+}
+
+// The answer to "check these claims": how many were answered, or a refusal with its line, or with the count needed where it is NoRoom
+// (0 where it has neither).
+pub enum ClaimsAnswer {
+    Answered(usize),
     Refused(Refusal, usize),
 }

@@ -6,13 +6,13 @@ use Prim.Native.Nat.{ℕ, _<_}
 use native.Mathlib.Omega.{arith}
 use lib.Dec.{leb, ltb, eqb}
 use lib.IntN.{ℤ, pos, natAbs}
-use lib.ListN.{length, getD, take, List·getD-map}
-use lib.Seq.{getD-take}
+use lib.ListN.{getD}
 use Rattle.whole.specs.Vector.{Vector}
 use Rattle.meaning.specs.Limits.{coordinateLimit, vertexLimit, edgeLimit, triangleLimit}
 use Rattle.meaning.specs.Refusals.{Outcome, given, refused, Check, Answers, numberOf}
 use Rattle.meaning.specs.Text.{Entry, vertex, edge, triangle, coordinates, numbersOf, EntryJudged, late, excess, far, unknown, twice}
 use Rattle.meaning.specs.declared.SceneCounts.{SceneCounts}
+use Rattle.fields.specs.Tabbed.{SizedAs, sized-at}
 use Rattle.scene_line.specs.Reading.{sortOf}
 use Rattle.scene_line.specs.declared.Sort.{Sort}
 use Rattle.scene_line.specs.declared.Sort.the-variants.{Vertex, Edge, Triangle}
@@ -42,18 +42,11 @@ farIn l =
     || ltb coordinateLimit (getD l 4 0)
     || ltb coordinateLimit (getD l 5 0)
 
--- the sizes of the numbers are in front of the list
-abbrev pub SizedAs : List ℤ → List ℕ → Type 0
-SizedAs zs l = take (length zs) l ≡ map natAbs zs
-
 -- whatever record of this kind has these sizes is judged so
 unfoldable pub Judging : Sort → SceneCounts → List ℕ → Outcome (Unit {0}) → Type 0
 Judging Vertex c l o = (p q : Vector) → SizedAs (coordinates p q) l → EntryJudged c (vertex p q) o
 Judging Edge c l o = (i j : ℕ) → SizedAs (pos i ∷ pos j ∷ []) l → EntryJudged c (edge i j) o
 Judging Triangle c l o = (i j k : ℕ) → SizedAs (pos i ∷ pos j ∷ pos k ∷ []) l → EntryJudged c (triangle i j k) o
-
-pub sized-at : (zs : List ℤ) (l : List ℕ) (i : ℕ) → SizedAs zs l → i < length zs → getD l i 0 ≡ natAbs (getD zs i (pos 0))
-sized-at zs l i e h = sym (getD-take (length zs) l i 0 h) ∙ ap (λ (k : List ℕ). getD k i 0) e ∙ List·getD-map natAbs zs i (pos 0)
 
 module _ (c : SceneCounts) (l : List ℕ) (o : Outcome (Unit {0})) where
   by-entry : (r : Entry) → Judging (sortOf r) c l o → SizedAs (numbersOf r) l → EntryJudged c r o

@@ -3,7 +3,6 @@ use mathlib.Core.Bool.{Bool, true, false, true≢false}
 use mathlib.Core.List.{List, [], _∷_, _++_}
 use mathlib.Core.Path.{_≡_, refl, sym, ap, _∙_, subst}
 use Prim.Native.Nat.{ℕ, zero, suc, _+_, _≤_, _<_}
-use native.Mathlib.Nat.{suc-inj}
 use native.Mathlib.Omega.{arith}
 use lib.IntN.{ℤ, pos, negsuc, natAbs}
 use lib.ListN.{length, drop}
@@ -18,7 +17,8 @@ use Rattle.fields.specs.declared.Ending.{Ending}
 use Rattle.fields.specs.declared.Ending.the-variants.{At, Nowhere}
 use Rattle.meaning.specs.Limits.{digitLimit}
 use Rattle.meaning.specs.Text.{Entry, vertex, edge, triangle, coordinates, letterOf, numbersOf, lineOf, Short, tab, lineFeed}
-use Rattle.scene_line.specs.Rendered.{coordinateForm, numberForm, tab-parts, line-ends}
+use Rattle.fields.specs.Tabbed.{tab-parts, line-ends, first-of}
+use Rattle.scene_line.specs.Rendered.{coordinateForm, numberForm}
 use Rattle.scene_line.specs.declared.Sort.{Sort}
 use Rattle.scene_line.specs.declared.Sort.the-variants.{Vertex, Edge, Triangle}
 use Rattle.scene_line.specs.declared.Line.{Line}
@@ -126,10 +126,6 @@ record Made (sort : Sort) (zs : List ℤ) : Type 0 where
   entry : Entry
   sorted : sortOf entry ≡ sort
   numbers : numbersOf entry ≡ zs
-
-first-of : (zs : List ℤ) (n : ℕ) → length zs ≡ suc n → (z : ℤ) × (ws : List ℤ) × (zs ≡ z ∷ ws) × (length ws ≡ n)
-first-of [] n e = absurd (omega arith)
-first-of (z ∷ zs) n e = (z, zs, refl, suc-inj e)
 
 none-of : (zs : List ℤ) → length zs ≡ 0 → zs ≡ []
 none-of [] e = refl

@@ -10,7 +10,7 @@ use Rattle.whole.specs.Vector.{Vector}
 use Rattle.decimals.specs.Byte.{IsDigit}
 use Rattle.decimals.specs.Digits.{digits}
 use Rattle.decimals.specs.Value.{digits-canonical}
-use Rattle.fields.specs.Numerals.{Ends}
+use Rattle.fields.specs.Tabbed.{tab-parts, line-ends}
 use Rattle.fields.specs.Rows.{rowOf, row-cancel}
 use Rattle.fields.specs.declared.Form.{Form}
 use Rattle.meaning.specs.Limits.{digitLimit}
@@ -24,13 +24,6 @@ coordinateForm = record { separator = tab; signed = true; most = digitLimit }
 
 abbrev pub numberForm : Form
 numberForm = record { separator = tab; signed = false; most = digitLimit }
-
-pub tab-parts : ¬ IsDigit tab
-tab-parts d = omega (arith, d .low)
-
-pub line-ends : (x : List ℕ) → Ends (lineFeed ∷ x)
-unfolding Ends
-line-ends x d = omega (arith, d .low)
 
 -- a line: the letter, the row of the numbers, LF
 pub line-is : (r : Entry) (x : List ℕ) → lineOf r ++ x ≡ letterOf r ∷ (rowOf numberForm (numbersOf r) ++ (lineFeed ∷ x))

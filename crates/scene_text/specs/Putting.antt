@@ -20,7 +20,7 @@ use Rattle.meaning.specs.Refusals.{given}
 use Rattle.meaning.specs.Text.{Entry, vertex, edge, triangle, coordinates, numbersOf, EntryJudged, far, unknown, excess, counted, coordinatesIn, endsIn, cornersIn, shortBuffer}
 use Rattle.meaning.specs.declared.SceneCounts.{SceneCounts}
 use Rattle.scene_line.specs.Reading.{sortOf}
-use Rattle.scene_line.specs.Judging.{sized-at}
+use Rattle.fields.specs.Tabbed.{sized-at}
 use Rattle.scene_line.specs.Stepping.{Bounded, Faultless, faultless}
 use Rattle.scene_line.specs.declared.Sort.{Sort}
 use Rattle.scene_line.specs.declared.Sort.the-variants.{Vertex, Edge, Triangle}

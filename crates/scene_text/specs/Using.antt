@@ -5,8 +5,9 @@ use mathlib.Core.List.{List, _++_}
 use mathlib.Core.Logic.{_⊎_, inl, inr, ⊎-elim}
 use mathlib.Core.Path.{_≡_, refl, sym, ap, _∙_, subst}
 use Prim.Native.Nat.{ℕ, _*_, _≤_}
-use Rattle.meaning.specs.Limits.{vertexLimit, edgeLimit, triangleLimit}
+use Rattle.meaning.specs.Limits.{vertexLimit, edgeLimit, triangleLimit, textLimit}
 use native.Mathlib.Omega.{arith}
+use borrow.Author.Tests.{ltb-false}
 use lib.ListN.{length, take, drop}
 use lib.Seq.{take-append-seam}
 use Rattle.sequences.specs.Pick.{either}
@@ -128,3 +129,34 @@ read-counts-few {text} {lent} {left} {c} a =
     let (s, is, counts) = outcome-read (a .outcome) (a .says) in
     let sized : Sized s = accepted-sized (text-accepted (given-holds s (came text lent (a .outcome) (a .right)) is)) in
     rw counts (record { vertices = sized .fewVertices; edges = sized .fewEdges; triangles = sized .fewTriangles })
+
+-- ---- an answer that turned out so
+
+module _ {text : List ℕ} {lent left : Scene} {r : TextAnswer} {c : SceneCounts} (a : TextRead text lent left r) (e : r ≡ Read c) where
+  pub few-read : FewOf c
+  few-read = read-counts-few (subst (TextRead text lent left) e a)
+
+  pub holds-read : Holds text (frontOf c left)
+  holds-read = read-scene-of (subst (TextRead text lent left) e a) .0
+
+  pub accepted-read : Accepted (frontOf c left)
+  accepted-read = read-scene-of (subst (TextRead text lent left) e a) .1
+
+  -- such a text is not over its limit
+  pub short-read : length text ≤ textLimit
+  unfolding textSays countsTold
+  short-read = by-way (came text lent (a .outcome) (a .right))
+    where
+      says : given c ≡ countsTold (a .outcome)
+      says = subst (λ (q : TextAnswer). textSays q ≡ countsTold (a .outcome)) e (a .says)
+
+      not-refused : {n line : ℕ} → a .outcome ≡ refused n line → ⊥
+      not-refused p =
+          let q : _≡_ {A = Outcome SceneCounts} (given c) (countsTold (a .outcome)) = says in
+          let z : _≡_ {A = ℕ} 0 1 = cc (ap countsTold p) in
+          omega arith
+
+      by-way : Came text lent (a .outcome) → length text ≤ textLimit
+      by-way (byBuffers x p) = absurd (not-refused p)
+      by-way (byLength x y p) = absurd (not-refused p)
+      by-way (byLines x y t) = ltb-false textLimit (length text) y

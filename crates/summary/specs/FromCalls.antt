@@ -15,8 +15,7 @@ use Rattle.meaning.specs.Limits.{reportRoom, textLimit}
 use Rattle.meaning.specs.Scene.{Scene, sceneOf, Accepted}
 use Rattle.meaning.specs.Refusals.{Outcome, given, refused, numberOf, Answers}
 use Rattle.meaning.specs.List.{pairs, roomOf, listSays, leaves}
-use Rattle.meaning.specs.Text.{TextRead, TextIs, Holds, shortBuffer, longText, textSays, countsTold}
-use Rattle.meaning.specs.declared.SceneCounts.{SceneCounts}
+use Rattle.meaning.specs.Text.{TextRead, TextIs, shortBuffer, longText}
 use Rattle.meaning.specs.declared.TextAnswer.{TextAnswer}
 use Rattle.meaning.specs.Report.{ReportOf, refusedLine}
 use Rattle.meaning.specs.declared.Made.{Made}
@@ -28,7 +27,7 @@ use Rattle.scenes.specs.Answering.{is-refused, is-past}
 use Rattle.listing.specs.Answering.{roomChecks, IsCount, ListedIn}
 use Rattle.scene_words.specs.Listed.{ListStands, bytesOf, bytes-length, word-in-front}
 use Rattle.scene_words.specs.Answering.{SettledIn, MadeList, made-list, made-stands}
-use Rattle.scene_text.specs.Using.{Came, byBuffers, byLength, byLines, came, read-refusal-of, FewOf, read-counts-few, frontOf, read-scene-of}
+use Rattle.scene_text.specs.Using.{Came, byBuffers, byLength, byLines, read-refusal-of}
 use Rattle.summary.specs.Sizes.{Held}
 
 -- the program's own buffers have room for 3,072 pairs
@@ -94,36 +93,6 @@ report-of-refusal {text} {lent} {left} {x} {line} fits a = by-way (read-refusal-
         let none : line ≡ 0 = cc in
         rw (number, none) (ReportOf.tooLong (ltb-true textLimit (length text) d))
     by-way (byLines e d f) = ReportOf.faulty (numberOf x) line (ltb-false textLimit (length text) d) f
-
--- a text that was read
-module _ {text : List ℕ} {lent left : Scene} {r : TextAnswer} {c : SceneCounts} (a : TextRead text lent left r) (e : r ≡ TextAnswers.the-variants.Read c) where
-  pub few-read : FewOf c
-  few-read = read-counts-few (subst (TextRead text lent left) e a)
-
-  pub holds-read : Holds text (frontOf c left)
-  holds-read = read-scene-of (subst (TextRead text lent left) e a) .0
-
-  pub accepted-read : Accepted (frontOf c left)
-  accepted-read = read-scene-of (subst (TextRead text lent left) e a) .1
-
-  -- such a text is not over its limit
-  pub short-read : length text ≤ textLimit
-  unfolding textSays countsTold
-  short-read = by-way (came text lent (a .outcome) (a .right))
-    where
-      says : given c ≡ countsTold (a .outcome)
-      says = subst (λ (q : TextAnswer). textSays q ≡ countsTold (a .outcome)) e (a .says)
-
-      not-refused : {n line : ℕ} → a .outcome ≡ refused n line → ⊥
-      not-refused p =
-          let q : _≡_ {A = Outcome SceneCounts} (given c) (countsTold (a .outcome)) = says in
-          let z : _≡_ {A = ℕ} 0 1 = cc (ap countsTold p) in
-          omega arith
-
-      by-way : Came text lent (a .outcome) → length text ≤ textLimit
-      by-way (byBuffers x p) = absurd (not-refused p)
-      by-way (byLength x y p) = absurd (not-refused p)
-      by-way (byLines x y t) = ltb-false textLimit (length text) y
 
 pub refused-read : {text : List ℕ} {lent left : Scene} {r : TextAnswer} {x : Refusal} {line : ℕ} → shortBuffer lent ≡ false
     → TextRead text lent left r → r ≡ TextAnswers.the-variants.Refused x line → ReportOf text (refusedLine (numberOf x) line)

@@ -6,6 +6,7 @@ ghost use mathlib.Core.List.{[], _∷_};
 ghost use Rattle.decimals.specs.Digits.{digits};
 ghost use Rattle.sequences.specs.Wrote.{Wrote};
 ghost use Rattle.meaning.specs.List.{pair};
+ghost use Rattle.meaning.specs.Claims.{answerLine};
 ghost use Rattle.meaning.specs.Report.{kindWord, verdictWord, totalWord, reportLine, pairLine, refusedLine};
 use crate::words::put_byte;
 use crate::words::put_number;
@@ -86,4 +87,16 @@ pub fn refused_line(out: &mut [u8], at: usize, number: u64, third: u64) -> usize
     next = put_number(out, next, number);
     next = put_number(out, next, third);
     put_byte(out, next, 10)
+}
+
+// `yes` or `no`.
+pub fn answer_line(out: &mut [u8], at: usize, yes: bool) -> usize
+    requires { ⌜ at + 4 ≤ length (now out) ⌝ }
+    ensures { λ r. ⌜ Wrote (now (out .entry)) at (answerLine yes) (now (out .exit)) r ⌝ }
+{
+    if yes {
+        put_word(out, at, b"yes\n")
+    } else {
+        put_word(out, at, b"no\n")
+    }
 }

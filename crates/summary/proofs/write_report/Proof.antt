@@ -8,7 +8,8 @@ use borrow.Author.Needs.{needs}
 use Rattle.meaning.specs.Refusals.{numberOf}
 use Rattle.meaning.specs.Report.{refusedLine}
 use Rattle.wording.specs.Lines.{wrote-as}
-use Rattle.summary.specs.FromCalls.{few-read, holds-read, accepted-read, short-read, refused-read}
+use Rattle.scene_text.specs.Using.{few-read, holds-read, accepted-read, short-read}
+use Rattle.summary.specs.FromCalls.{refused-read}
 use Rattle.summary.specs.Whole.{scene-to-text, refused-text}
 use Rattle.summary.proofs.write_report.Statement.{statement}
 use Rattle.summary.proofs.write_report.Tie as tie

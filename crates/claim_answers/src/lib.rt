@@ -1,0 +1,147 @@
+// The answers to a text of claims beside a scene. It goes over the claims twice: first it looks at every line, and only where none is at
+// fault and there is room it answers them.
+ghost use Prim.Native.Nat.{_≤_};
+ghost use lib.ListN.{length, getD};
+ghost use mathlib.Core.Path.{_≡_};
+ghost use mathlib.Core.Bool.{false};
+ghost use Rattle.meaning.specs.Scene.{sceneIn, sceneAtEntry, Accepted};
+ghost use Rattle.meaning.specs.Pieces.{pieceOf};
+ghost use Rattle.meaning.specs.Refusals.{notThere};
+ghost use Rattle.meaning.specs.Claims.{AnswerIs, answerByte, ClaimsChecked};
+ghost use Rattle.claim_answers.specs.Inspecting.{Inspected};
+ghost use Rattle.claim_answers.specs.Weighing.{weightsFrom};
+ghost use Rattle.claim_answers.specs.Answering.{Roomy, Answered};
+use claim_line::Step;
+use claim_line::next_claim;
+use claim_sums::borne_out;
+use four_words::six::six_of;
+use meaning::ClaimsAnswer;
+use meaning::Kind;
+use meaning::Refusal;
+use meaning::SceneAnswer;
+use meaning::TEXT_LIMIT;
+
+// The first pass: how many claims there are, or the first faulty line with its fault.
+fn inspect(positions: &[i32], edges: &[u16], triangles: &[u16], text: &[u8]) -> ClaimsAnswer
+    ensures { λ r. ⌜ Inspected (sceneAtEntry positions edges triangles) (now (text .entry)) r ⌝ }
+{
+    let mut sizes = [0u64; 9];
+    let mut minus = [false; 9];
+    let mut count: usize = 0;
+    let mut at = 0;
+    while at < text.len() {
+        match next_claim(
+            positions,
+            edges,
+            triangles,
+            text,
+            at,
+            &mut sizes,
+            &mut minus,
+        ) {
+            Step::Fault(fault) => {
+                return ClaimsAnswer::Refused(fault, count + 1);
+            }
+            Step::Taken(_, behind) => {
+                count += 1;
+                at = behind;
+            }
+        }
+    }
+    ClaimsAnswer::Answered(count)
+}
+
+// Is the claim of this kind with these numbers borne out? They are two places, the piece, six weights.
+fn answer(
+    positions: &[i32],
+    edges: &[u16],
+    triangles: &[u16],
+    kind: Kind,
+    numbers: &[u64; 9],
+) -> bool
+    requires { ⌜ Accepted (sceneIn positions edges triangles) ⌝ }
+    requires { ⌜ notThere (sceneIn positions edges triangles) kind (getD (now numbers) 0 0) (getD (now numbers) 1 0) ≡ false ⌝ }
+    ensures { λ r. ⌜ AnswerIs (pieceOf (sceneAtEntry positions edges triangles) kind (getD (now (numbers .entry)) 0 0) (getD (now (numbers .entry)) 1 0) (getD (now (numbers .entry)) 2 0)) (weightsFrom (now (numbers .entry))) r ⌝ }
+{
+    let i = numbers[0] as usize;
+    let j = numbers[1] as usize;
+    let k = numbers[2] as usize;
+    let six = six_of(positions, edges, triangles, kind, i, j, k);
+    let weights = [
+        numbers[3],
+        numbers[4],
+        numbers[5],
+        numbers[6],
+        numbers[7],
+        numbers[8],
+    ];
+    borne_out(positions, six, &weights)
+}
+
+// An answer as a byte: no is 0, yes is 1.
+fn byte_of(yes: bool) -> u8
+    ensures { λ r. ⌜ r ≡ answerByte yes ⌝ }
+{
+    if yes { 1 } else { 0 }
+}
+
+// The second pass, over claims none of which is at fault: the buffer then holds their answers in front.
+fn answer_all(positions: &[i32], edges: &[u16], triangles: &[u16], text: &[u8], answers: &mut [u8])
+    requires { ⌜ Accepted (sceneIn positions edges triangles) ⌝ }
+    requires { ⌜ Roomy (sceneIn positions edges triangles) (now text) (now answers) ⌝ }
+    ensures { λ _. ⌜ Answered (sceneAtEntry positions edges triangles) (now (text .entry)) (now (answers .entry)) (now (answers .exit)) ⌝ }
+{
+    let mut sizes = [0u64; 9];
+    let mut minus = [false; 9];
+    let mut count: usize = 0;
+    let mut at = 0;
+    while at < text.len() {
+        match next_claim(
+            positions,
+            edges,
+            triangles,
+            text,
+            at,
+            &mut sizes,
+            &mut minus,
+        ) {
+            Step::Fault(_) => {
+                return;
+            }
+            Step::Taken(kind, next) => {
+                answers[count] = byte_of(answer(positions, edges, triangles, kind, &sizes));
+                count += 1;
+                at = next;
+            }
+        }
+    }
+}
+
+// Checks a text of claims beside a scene. The answer is how many there are, and the lent buffer then holds a byte for each in front, 1
+// for yes and 0 for no; or a refusal, and no claim is answered.
+pub fn check_claims(
+    positions: &[i32],
+    edges: &[u16],
+    triangles: &[u16],
+    text: &[u8],
+    answers: &mut [u8],
+) -> ClaimsAnswer
+    ensures { λ r. ⌜ ClaimsChecked (sceneAtEntry positions edges triangles) (now (text .entry)) (now (answers .entry)) (now (answers .exit)) r ⌝ }
+{
+    if let SceneAnswer::Refused(refusal) = scenes::check_scene(positions, edges, triangles) {
+        return ClaimsAnswer::Refused(refusal, 0);
+    }
+    if TEXT_LIMIT < text.len() {
+        return ClaimsAnswer::Refused(Refusal::LongText, 0);
+    }
+    match inspect(positions, edges, triangles, text) {
+        ClaimsAnswer::Refused(fault, line) => ClaimsAnswer::Refused(fault, line),
+        ClaimsAnswer::Answered(count) => {
+            if answers.len() < count {
+                return ClaimsAnswer::Refused(Refusal::NoRoom, count);
+            }
+            answer_all(positions, edges, triangles, text, answers);
+            ClaimsAnswer::Answered(count)
+        }
+    }
+}

@@ -1,0 +1,2 @@
+-- The lines of the answers to claims.
+pub mod Printed

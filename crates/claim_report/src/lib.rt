@@ -1,0 +1,75 @@
+// The answers to claims as bytes: a line `yes` or `no` for each; or the one line of a refusal.
+
+ghost use Prim.Native.Nat.{_≤_};
+ghost use mathlib.Core.Path.{_≡_};
+ghost use lib.ListN.{length};
+ghost use Rattle.sequences.specs.Gather.{gather};
+ghost use Rattle.sequences.specs.Wrote.{Wrote};
+ghost use Rattle.meaning.specs.Limits.{claimRoom};
+ghost use Rattle.meaning.specs.Scene.{sceneAtEntry};
+ghost use Rattle.meaning.specs.Claims.{AnswersReported};
+ghost use Rattle.claim_report.specs.Printed.{answersLength, lineAt, SceneAnswered};
+use meaning::CLAIM_ROOM;
+use meaning::ClaimsAnswer;
+use meaning::EDGE_NUMBERS;
+use meaning::POSITION_NUMBERS;
+use meaning::TRIANGLE_NUMBERS;
+use meaning::TextAnswer;
+use wording::lines::answer_line;
+use wording::lines::refused_line;
+use wording::number_of;
+
+// The bytes that hold the answers to any claims: `yes` and LF for each.
+pub const ANSWERS_BYTES: usize = 4 * CLAIM_ROOM;
+
+// A line for each of the first `count` answers.
+fn answer_lines(answers: &[u8], count: usize, out: &mut [u8]) -> usize
+    requires { ⌜ (count ≤ length (now answers)) × (count ≤ claimRoom) × (length (now out) ≡ answersLength) ⌝ }
+    ensures { λ r. ⌜ Wrote (now (out .entry)) 0 (gather (lineAt (now (answers .entry))) 0 count) (now (out .exit)) r ⌝ }
+{
+    let mut next = 0;
+    let mut k = 0;
+    while k < count {
+        next = answer_line(out, next, answers[k] == 1);
+        k += 1;
+    }
+    next
+}
+
+// The answers to claims beside a scene.
+fn scene_answers(
+    positions: &[i32],
+    edges: &[u16],
+    triangles: &[u16],
+    claims: &[u8],
+    out: &mut [u8],
+) -> usize
+    requires { ⌜ length (now out) ≡ answersLength ⌝ }
+    ensures { λ r. ⌜ SceneAnswered (sceneAtEntry positions edges triangles) (now (claims .entry)) (now (out .entry)) (now (out .exit)) r ⌝ }
+{
+    let mut answers = [0u8; CLAIM_ROOM];
+    match claim_answers::check_claims(positions, edges, triangles, claims, &mut answers) {
+        ClaimsAnswer::Answered(count) => answer_lines(&answers, count, out),
+        ClaimsAnswer::Refused(refusal, third) => {
+            refused_line(out, 0, number_of(refusal), third as u64)
+        }
+    }
+}
+
+// The answers to the claims of one text beside the scene of another.
+pub fn write_answers(scene: &[u8], claims: &[u8], out: &mut [u8; ANSWERS_BYTES]) -> usize
+    ensures { λ r. ⌜ AnswersReported (now (scene .entry)) (now (claims .entry)) (now (out .entry)) (now (out .exit)) r ⌝ }
+{
+    let mut positions = [0i32; POSITION_NUMBERS];
+    let mut edges = [0u16; EDGE_NUMBERS];
+    let mut triangles = [0u16; TRIANGLE_NUMBERS];
+    match scene_text::read_scene(scene, &mut positions, &mut edges, &mut triangles) {
+        TextAnswer::Read(counts) => {
+            let p = 6 * counts.vertices;
+            let e = 2 * counts.edges;
+            let t = 3 * counts.triangles;
+            scene_answers(&positions[..p], &edges[..e], &triangles[..t], claims, out)
+        }
+        TextAnswer::Refused(refusal, line) => refused_line(out, 0, number_of(refusal), line as u64),
+    }
+}

@@ -1,0 +1,2 @@
+-- What the program says of a file that was read.
+pub mod Files
