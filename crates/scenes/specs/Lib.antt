@@ -6,3 +6,4 @@ pub mod Speaking
 pub mod Alone
 pub mod Accepting
 pub mod Facts
+pub mod Rising
