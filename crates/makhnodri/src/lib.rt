@@ -80,11 +80,11 @@ pub extern "C" fn makhnodri_settle_scene(
     edges: &[u16],
     triangles: &[u16],
     list: &mut [u32],
-    verdicts: &mut [u8],
+    words: &mut [u8],
 ) -> u64
-    ensures { λ r. ⌜ Told listNumber (SettledScene (sceneAtEntry positions edges triangles) (now (list .entry)) (now (list .exit)) (now (verdicts .entry)) (now (verdicts .exit))) r ⌝ }
+    ensures { λ r. ⌜ Told listNumber (SettledScene (sceneAtEntry positions edges triangles) (now (list .entry)) (now (list .exit)) (now (words .entry)) (now (words .exit))) r ⌝ }
 {
-    list_number(scene_words::settle_scene(positions, edges, triangles, list, verdicts))
+    list_number(scene_words::settle_scene(positions, edges, triangles, list, words))
 }
 
 // ---- the verdict of a pair and of a piece: hit, miss or degenerate. A kind has functions of its own, so that no bad kind can be asked for
