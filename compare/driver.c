@@ -53,6 +53,7 @@ static uint64_t answer(const struct question *q) {
     case 12: return makhnodri_read_scene(lent(TEXT), q->length[TEXT], SCENE, lent(COUNTS));
     case 13: return makhnodri_write_report(lent(TEXT), q->length[TEXT], lent(REPORT));
     case 14: return makhnodri_turn_scene(SCENE);
+    case 15: return makhnodri_check_claims(SCENE, lent(TEXT), q->length[TEXT], lent(WORDS), q->length[WORDS]);
     }
     give_up("no such call");
     return 0;

@@ -35,6 +35,8 @@ extern "C" {
 #define MAKHNODRI_REPORT_ROOM 3072 /* pairs that a report has room for */
 #define MAKHNODRI_PAIR_LIMIT 785920 /* no scene lists more: 512 x 512 of points and triangles, 1024 x 1023 / 2 of edges */
 
+#define MAKHNODRI_WEIGHT_LIMIT 1099511627776 /* 2^40: a claim with a larger weight is answered no */
+
 /* the lengths of the buffers that a text is read into, in numbers */
 #define MAKHNODRI_POSITIONS_LENGTH 3072 /* 512 x 6 */
 #define MAKHNODRI_EDGES_LENGTH 2048     /* 1024 x 2 */
@@ -81,7 +83,7 @@ extern "C" {
  *     list_pairs       84,848      settle_pt, settle_pt_piece   2,800
  *     settle_scene     85,184      settle_ee, settle_ee_piece   2,448
  *     read_scene          680      write_report               120,048
- *     turn_scene          168
+ *     turn_scene          168      check_claims                   832
  *
  * ---- An answer ----
  *
@@ -130,6 +132,12 @@ enum {
     MAKHNODRI_EE = 1  /* two edges */
 };
 
+/* The answers to claims. */
+enum {
+    MAKHNODRI_NO = 0, /* the weights do not bear the claim out */
+    MAKHNODRI_YES = 1 /* they do, and the piece meets */
+};
+
 /*
  * An entry of the list: one number, 2^20 for two edges or 0 for a point and a triangle, plus 2^10 times the first place, plus the
  * second. Both places of a scene's pair are below 1,024, so that no two pairs have the same number; in a list the numbers rise.
@@ -145,15 +153,16 @@ static inline uint32_t makhnodri_entry_second(uint32_t entry) { return entry & 1
  * Refusals. Each is given exactly when its condition holds and no check before it refuses.
  * Of scene slices: 1, 2, 3, 4, each over the whole scene before the next; then 5, 6; 7 last.
  * Of a text: 12, 8, then the first faulty line, and in it 9, 10, 11, 2, 3, 4.
+ * Of claims: the scene's, 8, then the first faulty line, and in it 9, 5, 6; 7 last.
  */
 enum {
     MAKHNODRI_SHAPE = 1,           /* positions not a multiple of 6 long, edges of 2, triangles of 3, or a count over its size */
     MAKHNODRI_COORDINATE = 2,      /* a coordinate outside its range; of a text, with the line */
     MAKHNODRI_UNKNOWN_VERTEX = 3,  /* a vertex number not below the vertex count (of a text, the count of v lines above, and with the line) */
     MAKHNODRI_REPEATED_VERTEX = 4, /* a vertex twice in one edge or triangle; of a text, with the line */
-    MAKHNODRI_NOT_THERE = 5,       /* a vertex, edge, triangle or piece asked for that is not there */
-    MAKHNODRI_SHARED_VERTEX = 6,   /* the pair asked for shares a vertex (an edge with itself too) */
-    MAKHNODRI_NO_ROOM = 7,         /* more listed pairs than room; with the count needed */
+    MAKHNODRI_NOT_THERE = 5,       /* a vertex, edge, triangle or piece asked for that is not there; of claims, with the line */
+    MAKHNODRI_SHARED_VERTEX = 6,   /* the pair asked for shares a vertex (an edge with itself too); of claims, with the line */
+    MAKHNODRI_NO_ROOM = 7,         /* more listed pairs, or claims, than room; with the count needed */
     MAKHNODRI_LONG_TEXT = 8,       /* a text over 32,768 bytes */
     MAKHNODRI_BAD_LINE = 9,        /* a line not of the form, or a last line without LF; with the line */
     MAKHNODRI_LATE_RECORD = 10,    /* a record after one of a later kind; with the line */
@@ -296,6 +305,18 @@ makhnodri_answer makhnodri_read_scene(const uint8_t *text, size_t text_length, i
  * listed pairs and the totals, or the one line of a refusal. Returns its length; what lies behind is unchanged.
  */
 size_t makhnodri_write_report(const uint8_t *text, size_t text_length, uint8_t out[MAKHNODRI_AT_LEAST(MAKHNODRI_REPORT_LENGTH)]);
+
+/*
+ * Checks a partner's claims of contact beside a scene. The text of claims (docs/FORMAT.md) has a line for each: pt or ee, two places,
+ * the piece, six weights in the order of the piece's points. A claim is answered by its weights alone: MAKHNODRI_YES exactly when each
+ * is at most MAKHNODRI_WEIGHT_LIMIT, both simplices have the same sum above 0, and the weighted x, y, z and time agree. A yes means
+ * that the piece meets: it is hit or touch. A no says nothing of the piece.
+ * The answer is the count of claims, and answers[i] is that of line i + 1; the rest of answers is unchanged. Or a refusal, and no claim
+ * is answered: 1, 2, 3, 4 for the scene, 8, then 9, 5 or 6 with the line, last 7 with the count needed where answers has no room.
+ */
+makhnodri_answer makhnodri_check_claims(const int32_t *positions, size_t positions_length, const uint16_t *edges,
+                                        size_t edges_length, const uint16_t *triangles, size_t triangles_length,
+                                        const uint8_t *claims, size_t claims_length, uint8_t *answers, size_t answers_length);
 
 #ifdef __cplusplus
 }

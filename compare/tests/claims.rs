@@ -4,6 +4,7 @@ use compare::claims::making::{fixed, own_weights, point_on_point, seeded, true_w
 use compare::claims::mistakes::{self, ALL};
 use compare::claims::{printed, yes, WEIGHT_LIMIT};
 use compare::generate;
+use compare::kept;
 use compare::listing::boxes_meet;
 use compare::pieces::pieces;
 use compare::scene::all_pairs;
@@ -104,4 +105,19 @@ fn points_on_points() {
         pairs.flat_map(|pair| pieces(&scene, pair)).any(|piece| own_weights(&piece).is_none() && point_on_point(&piece).is_some())
     });
     assert!(found);
+}
+
+/// The claims beside the example scenes have their answers, and the page tells of each.
+#[test]
+fn the_example_claims_have_their_answers() {
+    let page = std::fs::read_to_string(kept::folder().join("README.md")).unwrap();
+    let mut found = 0;
+    for (name, path) in kept::scenes() {
+        let Ok(claims) = std::fs::read(path.with_extension("claims")) else { continue };
+        let wanted = std::fs::read_to_string(path.with_extension("answers")).unwrap();
+        assert_eq!(printed(&std::fs::read(&path).unwrap(), &claims), wanted, "{name}");
+        assert!(page.contains(&format!("- {name}: ")), "{name} has no line");
+        found += 1;
+    }
+    assert_eq!(found, page.lines().filter(|line| line.starts_with("- ")).count());
 }

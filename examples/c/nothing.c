@@ -38,6 +38,7 @@ int main(void) {
     hold("settle_ee", makhnodri_settle_ee(NO_SCENE, 0, 0), MAKHNODRI_NOT_THERE, 0);
     hold("settle_pt_piece", makhnodri_settle_pt_piece(NO_SCENE, 0, 0, 0), MAKHNODRI_NOT_THERE, 0);
     hold("settle_ee_piece", makhnodri_settle_ee_piece(NO_SCENE, 0, 0, 0), MAKHNODRI_NOT_THERE, 0);
+    hold("check_claims", makhnodri_check_claims(NO_SCENE, NULL, 0, NULL, 0), 0, 0);
     hold("read_scene, no buffers", makhnodri_read_scene(NULL, 0, NO_SCENE, counts), MAKHNODRI_SHORT_BUFFER, 0);
     hold("read_scene, no text",
          makhnodri_read_scene(NULL, 0, positions, MAKHNODRI_POSITIONS_LENGTH, edges, MAKHNODRI_EDGES_LENGTH, triangles,

@@ -50,6 +50,10 @@ static void read_text(void) {
 }
 static void write_report(void) { makhnodri_write_report((const uint8_t *)text, text_length, report); }
 
+static char claims[MAKHNODRI_TEXT_LIMIT];
+static size_t claims_length;
+static void check_claims(void) { makhnodri_check_claims(SCENE, (const uint8_t *)claims, claims_length, words, sizeof words); }
+
 static uint8_t stack[STACK];
 
 /* as the C library for x86-64 has it, also where another processor's headers are taken, which may have more behind */
@@ -107,6 +111,20 @@ static void write_text(unsigned seed) {
     text_length = (size_t)at;
 }
 
+/* claims that may be asked for: pieces of a point and a triangle, and of two edges, that share no vertex; every fourth text has a fault at its end */
+static void write_claims(unsigned seed) {
+    int at = 0;
+    for (size_t i = 0; i < 250; i++) {
+        size_t v = (i + seed) % 512;
+        const uint16_t *t = triangles + 3 * i, *e = edges + 2 * v, *f = edges + 2 * (512 + i);
+        if (t[0] != v && t[1] != v && t[2] != v) at += sprintf(claims + at, "pt\t%zu\t%zu\t%zu\t%u\t1\t0\t2\t1\t1\n", v, i, i % 3, seed);
+        if (e[0] != f[0] && e[0] != f[1] && e[1] != f[0] && e[1] != f[1])
+            at += sprintf(claims + at, "ee\t%zu\t%zu\t%zu\t1\t1\t0\t2\t1099511627776\t%u\n", 512 + i, v, i % 4, seed);
+    }
+    if (seed % 4 == 3) at += sprintf(claims + at, "ee\t0\n");
+    claims_length = (size_t)at;
+}
+
 static const struct {
     const char *name;
     void (*call)(void);
@@ -127,6 +145,7 @@ static const struct {
     {"read_scene", read_text, 40},
     {"write_report", write_report, 40},
     {"turn_scene", turn, 4},
+    {"check_claims", check_claims, 40},
 };
 
 enum { SCENES = 20 };
@@ -138,6 +157,7 @@ static size_t most_of(size_t i) {
         fill((unsigned)seed);
         for (int run = seed; run < calls[i].runs; run += SCENES) {
             write_text((unsigned)run);
+            write_claims((unsigned)run);
             place = (size_t)run;
             size_t used = used_by(calls[i].call);
             if (most < used) most = used;

@@ -101,6 +101,19 @@ pub enum TextRefusal {
     Line { refusal: Refusal, line: usize },
 }
 
+/// Why no claim was answered.
+#[derive(Clone, Copy, Debug, PartialEq, Eq, Hash)]
+pub enum ClaimsRefusal {
+    /// 1, 2, 3 or 4, of the scene.
+    Scene(Refusal),
+    /// 8: the text of claims is too long.
+    LongText,
+    /// 9, 5 or 6 in a line of claims, counted from 1.
+    Line { refusal: Refusal, line: usize },
+    /// 7, with the count of claims that need room.
+    NoRoom { needed: usize },
+}
+
 const REFUSALS: [(Refusal, &str); 12] = [
     (Refusal::Shape, "positions not a multiple of 6 long, edges of 2, triangles of 3, or a count over its size"),
     (Refusal::Coordinate, "a coordinate outside its range"),
@@ -139,6 +152,25 @@ impl ListRefusal {
     }
 }
 
+impl ClaimsRefusal {
+    pub fn refusal(self) -> Refusal {
+        match self {
+            ClaimsRefusal::Scene(refusal) | ClaimsRefusal::Line { refusal, .. } => refusal,
+            ClaimsRefusal::LongText => Refusal::LongText,
+            ClaimsRefusal::NoRoom { .. } => Refusal::NoRoom,
+        }
+    }
+
+    pub(crate) fn heard((refusal, carried): (Refusal, usize)) -> ClaimsRefusal {
+        match refusal {
+            Refusal::LongText => ClaimsRefusal::LongText,
+            Refusal::NoRoom => ClaimsRefusal::NoRoom { needed: carried },
+            Refusal::BadLine | Refusal::NotThere | Refusal::SharedVertex => ClaimsRefusal::Line { refusal, line: carried },
+            refusal => ClaimsRefusal::Scene(refusal),
+        }
+    }
+}
+
 impl TextRefusal {
     pub fn refusal(self) -> Refusal {
         match self {
@@ -173,6 +205,17 @@ impl Display for TextRefusal {
     }
 }
 
+impl Display for ClaimsRefusal {
+    fn fmt(&self, f: &mut Formatter) -> fmt::Result {
+        match self {
+            ClaimsRefusal::Line { refusal, line } => write!(f, "line {line}: {refusal}"),
+            ClaimsRefusal::NoRoom { needed } => write!(f, "{}, {needed} needed", Refusal::NoRoom),
+            other => other.refusal().fmt(f),
+        }
+    }
+}
+
+impl Error for ClaimsRefusal {}
 impl Error for Refusal {}
 impl Error for ListRefusal {}
 impl Error for TextRefusal {}

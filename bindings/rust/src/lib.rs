@@ -26,6 +26,9 @@
 //! let within = Scene { positions: &positions, ..scene };
 //! assert_eq!(within.judge_pair(Kind::PointTriangle, 3, 0), Ok(Verdict::Degenerate));
 //! assert_eq!(within.settle_pair(Kind::PointTriangle, 3, 0), Ok(Settled::Touch));
+//!
+//! // a partner claims that the point meets piece 1, with weights; the answer goes by the weights alone
+//! assert_eq!(scene.claims_answered(b"pt\t3\t0\t1\t2\t2\t2\t0\t1\t1\n"), Ok(vec![true]));
 //! ```
 //!
 //! The names are those of the C functions, without `makhnodri_`; and a pair may also be asked for by its [`Kind`]. What begins with
@@ -44,7 +47,7 @@ mod raw;
 mod scenes;
 mod texts;
 
-pub use answers::{Kind, ListRefusal, Pair, Refusal, Settled, TextRefusal, Verdict};
+pub use answers::{ClaimsRefusal, Kind, ListRefusal, Pair, Refusal, Settled, TextRefusal, Verdict};
 pub use scenes::{turn_scene, Scene};
 pub use texts::{read_scene, report, write_report, Counts, OwnedScene};
 
@@ -60,6 +63,8 @@ pub const TRIANGLE_LIMIT: usize = 512;
 pub const TEXT_LIMIT: usize = 32_768;
 /// Pairs that a report has room for.
 pub const REPORT_ROOM: usize = 3_072;
+/// A claim with a weight above this is answered no.
+pub const WEIGHT_LIMIT: u64 = 1 << 40;
 /// No scene lists more.
 pub const PAIR_LIMIT: usize = 785_920;
 

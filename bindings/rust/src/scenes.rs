@@ -1,7 +1,7 @@
 //! A scene as slices, and what can be asked of it.
 
 use crate::answers::{heard, settled, verdict};
-use crate::{raw, Kind, ListRefusal, Pair, Refusal, Settled, Verdict};
+use crate::{raw, ClaimsRefusal, Kind, ListRefusal, Pair, Refusal, Settled, Verdict};
 
 /// Six numbers a vertex (start x, y, z, end x, y, z), two vertex numbers an edge, three a triangle, the latter in any order.
 /// Whether it may be used is found by each call: none is made from a scene that is refused.
@@ -57,6 +57,24 @@ impl Scene<'_> {
         let (mut list, mut words) = (vec![0; count], vec![0; count]);
         self.settle_scene(&mut list, &mut words).map_err(ListRefusal::refusal)?;
         Ok(list.into_iter().map(Pair::of_entry).zip(words.iter().map(|&byte| settled(byte as usize))).collect())
+    }
+}
+
+/// A partner's claims of contact, each answered by its weights alone.
+impl Scene<'_> {
+    /// Answers each line of a text of claims in front of `answers`, 1 for yes and 0 for no, and returns their count. The rest of
+    /// `answers` is unchanged, and all of it after a refusal. A yes means that the piece meets, singular or not.
+    pub fn check_claims(self, claims: &[u8], answers: &mut [u8]) -> Result<usize, ClaimsRefusal> {
+        let (a, n) = (answers.as_mut_ptr(), answers.len());
+        heard(ask!(self, makhnodri_check_claims, claims.as_ptr(), claims.len(), a, n)).map_err(ClaimsRefusal::heard)
+    }
+
+    /// The answers, with room of their own.
+    pub fn claims_answered(self, claims: &[u8]) -> Result<Vec<bool>, ClaimsRefusal> {
+        // a claim has its LF at least
+        let mut answers = vec![0; claims.iter().filter(|&&byte| byte == b'\n').count()];
+        let count = self.check_claims(claims, &mut answers)?;
+        Ok(answers[..count].iter().map(|&byte| byte == 1).collect())
     }
 }
 

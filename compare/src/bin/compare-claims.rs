@@ -53,14 +53,22 @@ fn compare(program: &str, seeds: u64, launcher: &[String]) {
         differences += 1;
         println!("claims: the answers differ, and the two texts are in {}", folder.display());
         let parts = given.lines().zip(wanted.lines()).position(|(a, b)| a != b);
-        println!("    at line {:?}: {:?} and should be {:?}", parts.map(|at| at + 1), first(&given, parts), first(&wanted, parts));
-        let like: Vec<_> = ALL.iter().filter(|&&mistake| mistakes::printed(mistake, &trial.scene, &trial.claims) == given).collect();
+        println!(
+            "    at line {:?}: {:?} and should be {:?}",
+            parts.map(|at| at + 1),
+            first(&given, parts),
+            first(&wanted, parts)
+        );
+        let like: Vec<_> =
+            ALL.iter().filter(|&&mistake| mistakes::printed(mistake, &trial.scene, &trial.claims) == given).collect();
         println!("    it looks like {like:?}");
         if differences == MOST_SHOWN {
             exit(1);
         }
     }
-    for word in ["yes", "no", "refused 2", "refused 3", "refused 4", "refused 5", "refused 6", "refused 8", "refused 9", "refused 10"] {
+    for word in
+        ["yes", "no", "refused 2", "refused 3", "refused 4", "refused 5", "refused 6", "refused 8", "refused 9", "refused 10"]
+    {
         if !wanted_words.contains_key(word) {
             println!("claims: never wanted: {word}");
             differences += 1;

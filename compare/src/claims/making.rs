@@ -3,7 +3,7 @@
 use super::*;
 use crate::random::Random;
 use crate::signs;
-use crate::{cases, generate};
+use crate::{cases, generate, kept};
 
 /// A scene and claims beside it, each as text.
 pub struct Trial {
@@ -35,7 +35,8 @@ fn divisor(a: u128, b: u128) -> u128 {
 /// A point of the first simplex that is one of the second: each has weight 1. Singular pieces have such ones too.
 pub fn point_on_point(piece: &Piece) -> Option<[u64; 6]> {
     let split = piece.first.len();
-    let (i, j) = (0..split).flat_map(|i| (0..6 - split).map(move |j| (i, j))).find(|&(i, j)| piece.first[i] == piece.second[j])?;
+    let (i, j) =
+        (0..split).flat_map(|i| (0..6 - split).map(move |j| (i, j))).find(|&(i, j)| piece.first[i] == piece.second[j])?;
     let mut weights = [0; 6];
     weights[i] = 1;
     weights[split + j] = 1;
@@ -108,7 +109,8 @@ fn written(scene: &Scene, claims: &[Claim]) -> Trial {
 
 /// A field of a line that is wrong, or just right.
 const FIELDS: [&str; 14] = [
-    "1099511627776", "1099511627777", "9999999999999", "10000000000000", "00", "01", "-1", "-0", "+1", "", " 1", "1 ", "999999999", "1000000000",
+    "1099511627776", "1099511627777", "9999999999999", "10000000000000", "00", "01", "-1", "-0", "+1", "", " 1", "1 ",
+    "999999999", "1000000000",
 ];
 
 /// A text with one fault, or two, in lines picked at random.
@@ -185,22 +187,52 @@ pub fn fixed() -> Vec<Trial> {
     let past = "pt\t3\t0\t1\t1099511627778\t1099511627778\t1099511627778\t0\t549755813889\t549755813889\n";
     let long = |lines: usize, rest: usize| one.repeat(lines) + &"x".repeat(rest);
     let texts = [
-        String::new(), one.into(), largest.into(), past.into(), "\n".into(), one.repeat(3), one.trim_end().into(),
-        "pt\t3\t0\t1\t0\t0\t0\t0\t0\t0\n".into(), "pt\t3\t0\t3\t2\t2\t2\t0\t1\t1\n".into(), "pt\t4\t0\t1\t2\t2\t2\t0\t1\t1\n".into(),
-        "pt\t0\t0\t1\t2\t2\t2\t0\t1\t1\n".into(), "pt\t0\t0\t3\t2\t2\t2\t0\t1\t1\n".into(), "ee\t0\t1\t0\t1\t1\t1\t1\t1\t1\n".into(),
-        "ee\t1\t0\t0\t2\t0\t2\t2\t0\t2\n".into(), "ee\t0\t0\t0\t1\t1\t1\t1\t1\t1\n".into(), "ee\t0\t2\t4\t1\t1\t1\t1\t1\t1\n".into(),
-        "pt\t3\t0\t1\t2\t2\t2\t0\t1\t10000000000000\n".into(), "pt\t3\t0\t1\t2\t2\t2\t0\t1\t9999999999999\n".into(),
-        "pt\t1000000000\t0\t1\t2\t2\t2\t0\t1\t1\n".into(), "pt\t999999999\t0\t1\t2\t2\t2\t0\t1\t1\n".into(),
-        format!("{one}pt\t9\t0\t1\t2\t2\t2\t0\t1\t1\npt\t3\n"), format!("{one}pt\t3\n{one}pt\t9\t0\t1\t2\t2\t2\t0\t1\t1\n"),
-        long(1_560, 8), long(1_560, 9), long(1_560, 0), "x".repeat(32_769), "pt\t0\t0\t0\t0\t0\t0\t0\t0\t0\n".repeat(1_560),
+        String::new(),
+        one.into(),
+        largest.into(),
+        past.into(),
+        "\n".into(),
+        one.repeat(3),
+        one.trim_end().into(),
+        "pt\t3\t0\t1\t0\t0\t0\t0\t0\t0\n".into(),
+        "pt\t3\t0\t3\t2\t2\t2\t0\t1\t1\n".into(),
+        "pt\t4\t0\t1\t2\t2\t2\t0\t1\t1\n".into(),
+        "pt\t0\t0\t1\t2\t2\t2\t0\t1\t1\n".into(),
+        "pt\t0\t0\t3\t2\t2\t2\t0\t1\t1\n".into(),
+        "ee\t0\t1\t0\t1\t1\t1\t1\t1\t1\n".into(),
+        "ee\t1\t0\t0\t2\t0\t2\t2\t0\t2\n".into(),
+        "ee\t0\t0\t0\t1\t1\t1\t1\t1\t1\n".into(),
+        "ee\t0\t2\t4\t1\t1\t1\t1\t1\t1\n".into(),
+        "pt\t3\t0\t1\t2\t2\t2\t0\t1\t10000000000000\n".into(),
+        "pt\t3\t0\t1\t2\t2\t2\t0\t1\t9999999999999\n".into(),
+        "pt\t1000000000\t0\t1\t2\t2\t2\t0\t1\t1\n".into(),
+        "pt\t999999999\t0\t1\t2\t2\t2\t0\t1\t1\n".into(),
+        format!("{one}pt\t9\t0\t1\t2\t2\t2\t0\t1\t1\npt\t3\n"),
+        format!("{one}pt\t3\n{one}pt\t9\t0\t1\t2\t2\t2\t0\t1\t1\n"),
+        long(1_560, 8),
+        long(1_560, 9),
+        long(1_560, 0),
+        "x".repeat(32_769),
+        "pt\t0\t0\t0\t0\t0\t0\t0\t0\t0\n".repeat(1_560),
     ];
     let one_vertex = "v\t0\t0\t0\t0\t0\t0\n";
     let faulty = [
-        "v\t524288\t0\t0\t0\t0\t0\n".into(), format!("{one_vertex}e\t0\t1\n"), format!("{one_vertex}e\t0\t0\n"), "v\t0\n".into(),
-        format!("{one_vertex}{one_vertex}e\t0\t1\n{one_vertex}"), one_vertex.repeat(513), "x".repeat(32_769), "x".repeat(32_768),
+        "v\t524288\t0\t0\t0\t0\t0\n".into(),
+        format!("{one_vertex}e\t0\t1\n"),
+        format!("{one_vertex}e\t0\t0\n"),
+        "v\t0\n".into(),
+        format!("{one_vertex}{one_vertex}e\t0\t1\n{one_vertex}"),
+        one_vertex.repeat(513),
+        "x".repeat(32_769),
+        "x".repeat(32_768),
     ];
     let scenes: Vec<String> = [first, printed.to_string(), String::new()].into_iter().chain(faulty).collect();
     let mut out = vec![far_away()];
+    for (_, path) in kept::scenes() {
+        if let Ok(claims) = std::fs::read(path.with_extension("claims")) {
+            out.push(Trial { scene: std::fs::read(path).unwrap(), claims });
+        }
+    }
     for scene in &scenes {
         out.extend(texts.iter().map(|text| Trial { scene: scene.clone().into_bytes(), claims: text.clone().into_bytes() }));
     }

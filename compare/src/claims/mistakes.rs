@@ -29,9 +29,9 @@ pub enum Mistake {
 use Mistake::*;
 
 pub const ALL: [Mistake; 19] = [
-    HeightNotLookedAt, TimeNotLookedAt, SumsNotCompared, SumOfNothing, SecondSimplexBackwards, CornersAsWritten, EdgesAsWritten, LimitShort,
-    NoLimit, FourteenDigitsAreNo, AnswersBeforeTheFault, SharedBeforeThere, LinesFromNought, OwnVerdictAsked, SumsInDoubles, SumsIn32Bits,
-    EndWithoutLineFeed, PieceNotLookedAt, ClaimsBeforeTheScene,
+    HeightNotLookedAt, TimeNotLookedAt, SumsNotCompared, SumOfNothing, SecondSimplexBackwards, CornersAsWritten, EdgesAsWritten,
+    LimitShort, NoLimit, FourteenDigitsAreNo, AnswersBeforeTheFault, SharedBeforeThere, LinesFromNought, OwnVerdictAsked,
+    SumsInDoubles, SumsIn32Bits, EndWithoutLineFeed, PieceNotLookedAt, ClaimsBeforeTheScene,
 ];
 
 fn wrong_sums(mistake: Mistake, piece: &Piece, weights: [u64; 6]) -> bool {

@@ -151,7 +151,11 @@ fn limits() -> Vec<Mistake> {
         with("size-one-less", "the last record of its size refused", sizes(-1)),
         with("range-one-more", "524288 taken", range(1)),
         with("range-one-less", "524287 refused", range(-1)),
-        with("range-as-before", "the limit kept as it was before coordinates had 19 bits", Limits { coordinate: FIRST_COORDINATE_LIMIT, ..LIMITS }),
+        with(
+            "range-as-before",
+            "the limit kept as it was before coordinates had 19 bits",
+            Limits { coordinate: FIRST_COORDINATE_LIMIT, ..LIMITS },
+        ),
         reading("range-at-the-end", "the limit kept as it was for end positions", |text| {
             let scene = text::read(text)?;
             let far = scene.vertices.iter().position(|v| v[3..].iter().any(|n| n.abs() > FIRST_COORDINATE_LIMIT));

@@ -2,6 +2,7 @@
 
 use super::harm::{harm, SCENE_CHECKS};
 use super::question::*;
+use crate::claims::{self, making};
 use crate::damage::damaged;
 use crate::faults::cells;
 use crate::random::Random;
@@ -90,6 +91,30 @@ fn whole(random: &mut Random, scene: &Scene) -> Vec<Question> {
     if count <= LONGEST_JUDGED {
         out.push(with_room(Call::SettleScene, &backwards::turned(scene), count, count));
     }
+    // numbers of their own, so that the other questions are those that they would be without claims
+    out.extend(about_claims(&mut random.clone(), scene));
+    out
+}
+
+/// Claims beside the scene: room that is just enough, one too little, none, more than enough; the same with faults.
+fn about_claims(random: &mut Random, scene: &Scene) -> Vec<Question> {
+    let made = making::claims(random, scene);
+    let text: String = made.iter().map(claims::line).collect();
+    let ask = |text: &[u8], room: usize| {
+        let lent = Lent { text: text.to_vec(), words: marks(room), ..Lent::of_scene(scene) };
+        Question::new(Call::CheckClaims, lent)
+    };
+    let more = made.len() + 1 + random.below(20);
+    let mut out: Vec<Question> =
+        [made.len(), made.len().saturating_sub(1), 0, more].map(|room| ask(text.as_bytes(), room)).into();
+    for _ in 0..3 {
+        out.push(ask(&making::damaged(random, &text), random.pick(&[0, more])));
+    }
+    // one byte more than a text may have
+    let line = made.first().map_or("x\n".to_string(), claims::line);
+    let mut long = line.repeat(1 + TEXT_LIMIT / line.len()).into_bytes();
+    long.resize(TEXT_LIMIT + random.below(2), b'\n');
+    out.push(ask(&long, more));
     out
 }
 
@@ -203,6 +228,11 @@ fn on_harmed(random: &mut Random, call: Call, harmed: &Lent) -> Vec<Question> {
     }
     if call == Call::SettleScene {
         lent.words = marks(random.pick(&[0, 1_000]));
+    }
+    if call == Call::CheckClaims {
+        let mut own = random.clone();
+        lent.text = own.pick(&[b"x\n".repeat(20_000).as_slice(), b"x\n", b""]).to_vec();
+        lent.words = marks(own.below(3));
     }
     let Some(asked) = call.asked() else { return vec![Question::new(call, lent)] };
     let shared = match asked.kind() {

@@ -30,6 +30,7 @@ pub fn all() -> Vec<Damage> {
     out.extend(buffers());
     out.extend(bytes());
     out.extend(turning());
+    out.extend(claims());
     out
 }
 
@@ -53,6 +54,47 @@ fn numbers() -> Vec<Damage> {
         damage("the count with the room in it", |question, answer| {
             if question.call == Call::CountPairs && answer.refusal() == 0 {
                 answer.number *= 3;
+            }
+        }),
+    ]
+}
+
+/// Answers to claims.
+fn claims() -> Vec<Damage> {
+    let answered = |question: &Question, answer: &Answer| question.call == Call::CheckClaims && answer.refusal() == 0;
+    vec![
+        damage("a yes is a no", move |question, answer| {
+            if answered(question, answer) {
+                let count = answer.number as usize;
+                answer.buffers[WORDS][MARGIN..MARGIN + count].iter_mut().for_each(|byte| *byte = 0);
+            }
+        }),
+        damage("a no is 2", move |question, answer| {
+            if answered(question, answer) {
+                let count = answer.number as usize;
+                answer.buffers[WORDS][MARGIN..MARGIN + count].iter_mut().for_each(|byte| *byte = 2 - *byte);
+            }
+        }),
+        damage("a byte behind the answers is 0", move |question, answer| {
+            let count = answer.number as usize;
+            if answered(question, answer) && question.lent.words.len() > count {
+                answer.buffers[WORDS][MARGIN + count] = 0;
+            }
+        }),
+        damage("the claims above a faulty line are answered", |question, answer| {
+            let line = answer.number as u32;
+            if question.call == Call::CheckClaims && answer.refusal() == BAD_LINE && line > 1 && !question.lent.words.is_empty() {
+                answer.buffers[WORDS][MARGIN] = 0;
+            }
+        }),
+        damage("lines of claims from 0", |question, answer| {
+            if question.call == Call::CheckClaims && answer.refusal() == BAD_LINE {
+                answer.number -= 1;
+            }
+        }),
+        damage("claims that are too many are answered as far as there is room", |question, answer| {
+            if question.call == Call::CheckClaims && answer.refusal() == NO_ROOM {
+                answer.number = question.lent.words.len() as u64;
             }
         }),
     ]

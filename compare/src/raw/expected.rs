@@ -6,7 +6,7 @@ use crate::scene::*;
 use crate::settled::{self, Settled};
 use crate::slices::{self, Slices};
 use crate::verdict::{self, Verdict};
-use crate::{backwards, listing, report, text};
+use crate::{backwards, claims, listing, report, text};
 use std::collections::HashMap;
 
 /// Remembers the words of the last scene's pieces, which take their time.
@@ -59,6 +59,7 @@ impl Expecting {
             Call::ReadScene => read(lent),
             Call::WriteReport => Ok(write(lent)),
             Call::TurnScene => turn(lent),
+            Call::CheckClaims => check_claims(lent),
         }
     }
 
@@ -120,6 +121,13 @@ fn read(lent: &mut Lent) -> Result<u64, Refusal> {
 fn turn(lent: &mut Lent) -> Result<u64, Refusal> {
     *lent = Lent::of_scene(&backwards::turned(&scene(lent)?));
     Ok(0)
+}
+
+/// The answers in front of their buffer: 1 for yes, 0 for no.
+fn check_claims(lent: &mut Lent) -> Result<u64, Refusal> {
+    let answers = claims::answers(&scene(lent)?, &lent.text, lent.words.len())?;
+    lent.words.iter_mut().zip(&answers).for_each(|(byte, &yes)| *byte = yes as u8);
+    Ok(answers.len() as u64)
 }
 
 fn write(lent: &mut Lent) -> u64 {

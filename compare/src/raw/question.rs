@@ -17,6 +17,7 @@ pub enum Call {
     ReadScene,
     WriteReport,
     TurnScene,
+    CheckClaims,
 }
 
 /// Of a pair, or of a piece of one.
@@ -56,7 +57,7 @@ pub fn calls() -> Vec<Call> {
     let mut out = vec![Call::CheckScene, Call::CountPairs, Call::ListPairs, Call::SettleScene];
     out.extend(ASKED.map(Call::Judge));
     out.extend(ASKED.map(Call::Settle));
-    out.extend([Call::ReadScene, Call::WriteReport, Call::TurnScene]);
+    out.extend([Call::ReadScene, Call::WriteReport, Call::TurnScene, Call::CheckClaims]);
     out
 }
 
@@ -89,6 +90,7 @@ impl Call {
             Call::ReadScene => "read_scene".into(),
             Call::WriteReport => "write_report".into(),
             Call::TurnScene => "turn_scene".into(),
+            Call::CheckClaims => "check_claims".into(),
         }
     }
 }

@@ -14,9 +14,10 @@ pub type Sorts = BTreeMap<String, usize>;
 /// Every sort, asked for no time.
 pub fn none_yet() -> Sorts {
     let mut out = Vec::new();
+    out.extend(of_claim_calls());
     for call in calls() {
         let name = call.name();
-        if call.takes_a_scene() {
+        if call.takes_a_scene() && call != Call::CheckClaims {
             out.extend([format!("{name}: answered"), format!("{name}: a scene of full size")]);
             out.extend(of_scenes(call));
         }
@@ -115,6 +116,7 @@ fn can_be_given(call: Call, cell: Cell) -> bool {
 pub fn of(question: &Question, answer: &Answer) -> Vec<String> {
     match question.call {
         Call::ReadScene => of_reading(question, answer),
+        Call::CheckClaims => of_claims(question, answer),
         Call::WriteReport => {
             let mut out = texts_cells(question);
             let report = &answer.buffers[REPORT][MARGIN..];
@@ -123,6 +125,45 @@ pub fn of(question: &Question, answer: &Answer) -> Vec<String> {
         }
         _ => of_slices(question, answer),
     }
+}
+
+/// Claims: each refusal, each of the scene's before the text's length, yes and no, each room.
+fn of_claim_calls() -> Vec<String> {
+    let mut out: Vec<String> =
+        ["answered", "a scene of full size", "yes", "no", "just the room", "room left over", "one too few", "no room at all"]
+            .map(|sort| format!("check_claims: {sort}"))
+            .into();
+    out.extend([1, 2, 3, 4, 5, 6, 7, 8, 9].map(|number| format!("check_claims: refused {number}")));
+    for (i, number) in SCENE_CHECKS.iter().enumerate() {
+        let others = SCENE_CHECKS[i + 1..].iter().chain(&[TEXT_TOO_LONG]);
+        out.extend(others.map(|other| format!("check_claims: {number} before {other}")));
+    }
+    out
+}
+
+fn of_claims(question: &Question, answer: &Answer) -> Vec<String> {
+    let lent = &question.lent;
+    let mut out = Vec::new();
+    let mut add = |holds: bool, sort: String| out.extend(holds.then(|| format!("check_claims: {sort}")));
+    let (given, count, room) = (answer.refusal(), answer.number as u32 as usize, lent.words.len());
+    let mut faults: Vec<u64> = of_scene(lent).iter().map(|fault| fault.0).collect();
+    faults.extend((lent.text.len() > TEXT_LIMIT).then_some(TEXT_TOO_LONG));
+    add(given > 0, format!("refused {given}"));
+    for &other in faults.iter().filter(|&&other| other > given) {
+        add(SCENE_CHECKS.contains(&given), format!("{given} before {other}"));
+    }
+    let sizes = [lent.positions.len(), lent.edges.len(), lent.triangles.len()];
+    add(given == 0 && sizes == [6 * VERTEX_LIMIT, 2 * EDGE_LIMIT, 3 * TRIANGLE_LIMIT], "a scene of full size".into());
+    add(given == 0, "answered".into());
+    let answers = &answer.buffers[WORDS][MARGIN..MARGIN + if given == 0 { count } else { 0 }];
+    add(answers.contains(&1), "yes".into());
+    add(answers.contains(&0), "no".into());
+    let counted = (given == 0 || given == NO_ROOM) && count > 0;
+    add(counted && room == count, "just the room".into());
+    add(counted && room > count, "room left over".into());
+    add(counted && room + 1 == count, "one too few".into());
+    add(counted && room == 0, "no room at all".into());
+    out
 }
 
 fn texts_cells(question: &Question) -> Vec<String> {
