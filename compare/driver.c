@@ -15,7 +15,7 @@
 enum { MARGIN = 24, CAPACITY = 1 << 22 };
 
 enum { POSITIONS, EDGES, TRIANGLES, LIST, WORDS, TEXT, COUNTS, REPORT, BUFFERS };
-static const size_t size_of[BUFFERS] = {4, 2, 2, 2, 1, 1, sizeof(size_t), 1};
+static const size_t size_of[BUFFERS] = {4, 2, 2, 4, 1, 1, sizeof(size_t), 1};
 
 struct question {
     uint64_t call, asked[3], length[BUFFERS];
@@ -52,7 +52,8 @@ static uint64_t answer(const struct question *q) {
     case 11: return makhnodri_settle_ee_piece(PAIR, q->asked[2]);
     case 12: return makhnodri_read_scene(lent(TEXT), q->length[TEXT], SCENE, lent(COUNTS));
     case 13: return makhnodri_write_report(lent(TEXT), q->length[TEXT], lent(REPORT));
-    case 14: return makhnodri_check_claims(SCENE, lent(TEXT), q->length[TEXT], lent(WORDS), q->length[WORDS]);
+    case 14: return makhnodri_turn_scene(SCENE);
+    case 15: return makhnodri_check_claims(SCENE, lent(TEXT), q->length[TEXT], lent(WORDS), q->length[WORDS]);
     }
     give_up("no such call");
     return 0;

@@ -21,9 +21,9 @@ extern "C" {
 /* ---- Version: of this header and of the library that was installed with it; docs/CHANGES.md tells what changed ---- */
 
 #define MAKHNODRI_VERSION_MAJOR 0
-#define MAKHNODRI_VERSION_MINOR 2
+#define MAKHNODRI_VERSION_MINOR 3
 #define MAKHNODRI_VERSION_PATCH 0
-#define MAKHNODRI_VERSION "0.2.0"
+#define MAKHNODRI_VERSION "0.3.0"
 
 /* ---- Sizes ---- */
 
@@ -32,7 +32,7 @@ extern "C" {
 #define MAKHNODRI_EDGE_LIMIT 1024
 #define MAKHNODRI_TRIANGLE_LIMIT 512
 #define MAKHNODRI_TEXT_LIMIT 32768 /* bytes of a scene text */
-#define MAKHNODRI_REPORT_ROOM 2048 /* pairs that a report has room for */
+#define MAKHNODRI_REPORT_ROOM 3072 /* pairs that a report has room for */
 #define MAKHNODRI_PAIR_LIMIT 785920 /* no scene lists more: 512 x 512 of points and triangles, 1024 x 1023 / 2 of edges */
 
 #define MAKHNODRI_WEIGHT_LIMIT 1099511627776 /* 2^40: a claim with a larger weight is answered no */
@@ -78,12 +78,12 @@ extern "C" {
  * with the same corners left each step is asked once at most, so that the calls are never more than 14 deep.
  * MAKHNODRI_STACK bytes of stack are enough for any call. As measured by `examples/c/run stack`, in bytes:
  *
- *     check_scene         120      judge_pt, judge_pt_piece       504
- *     count_pairs      49,400      judge_ee, judge_ee_piece       584
- *     list_pairs       49,512      settle_pt, settle_pt_piece   2,576
- *     settle_scene     50,024      settle_ee, settle_ee_piece   2,352
- *     read_scene          680      write_report                83,864
- *     check_claims        832
+ *     check_scene         120      judge_pt, judge_pt_piece       480
+ *     count_pairs      52,016      judge_ee, judge_ee_piece       480
+ *     list_pairs       84,848      settle_pt, settle_pt_piece   2,800
+ *     settle_scene     85,184      settle_ee, settle_ee_piece   2,448
+ *     read_scene          680      write_report               120,048
+ *     turn_scene          168      check_claims                   832
  *
  * ---- An answer ----
  *
@@ -126,7 +126,7 @@ enum {
  * In four words: a hit if any of its pieces is; else touch if any is; else apart if any is; else a miss.
  */
 
-/* The first number of a list's entry. */
+/* A kind of pair. */
 enum {
     MAKHNODRI_PT = 0, /* a point and a triangle */
     MAKHNODRI_EE = 1  /* two edges */
@@ -137,6 +137,17 @@ enum {
     MAKHNODRI_NO = 0, /* the weights do not bear the claim out */
     MAKHNODRI_YES = 1 /* they do, and the piece meets */
 };
+
+/*
+ * An entry of the list: one number, 2^20 for two edges or 0 for a point and a triangle, plus 2^10 times the first place, plus the
+ * second. Both places of a scene's pair are below 1,024, so that no two pairs have the same number; in a list the numbers rise.
+ */
+static inline uint32_t makhnodri_entry(uint32_t kind, uint32_t first, uint32_t second) { return (kind << 20) + (first << 10) + second; }
+
+/* and back: MAKHNODRI_PT or MAKHNODRI_EE, and the two places */
+static inline uint32_t makhnodri_entry_kind(uint32_t entry) { return entry >> 20; }
+static inline uint32_t makhnodri_entry_first(uint32_t entry) { return entry >> 10 & 1023; }
+static inline uint32_t makhnodri_entry_second(uint32_t entry) { return entry & 1023; }
 
 /*
  * Refusals. Each is given exactly when its condition holds and no check before it refuses.
@@ -200,27 +211,37 @@ static inline const char *makhnodri_refusal_words(uint32_t refusal) {
 makhnodri_answer makhnodri_check_scene(const int32_t *positions, size_t positions_length, const uint16_t *edges,
                                        size_t edges_length, const uint16_t *triangles, size_t triangles_length);
 
+/*
+ * Turns a scene round where it stands, so that a clip is played backwards: start and end are swapped, the vertices numbered from
+ * last to first, edges and triangles stay in their places. 0, or a refusal, after which nothing has changed. Turned twice it is
+ * the scene. It has the same contacts: pt v t of the one is pt (vertices - 1 - v) t of the other, and ee i j is ee i j; piece k of
+ * the one is piece 2 - k of a pt pair, and piece 3 - k of an ee pair, of the other. Vertices must be numbered anew because a face
+ * is cut by the order of its corners' numbers: with start and end swapped and nothing else, a verdict may change.
+ */
+makhnodri_answer makhnodri_turn_scene(int32_t *positions, size_t positions_length, uint16_t *edges, size_t edges_length,
+                                      uint16_t *triangles, size_t triangles_length);
+
 /* How many pairs are listed: those whose swept boxes meet, equal ends included, and that share no vertex. */
 makhnodri_answer makhnodri_count_pairs(const int32_t *positions, size_t positions_length, const uint16_t *edges,
                                        size_t edges_length, const uint16_t *triangles, size_t triangles_length);
 
 /*
- * Makes the list. An entry is three numbers: MAKHNODRI_PT or MAKHNODRI_EE, then the two places. Room is list_length / 3.
+ * Makes the list, one number an entry (makhnodri_entry_kind and its neighbours take it apart). Room is list_length.
  * Order: pt by vertex then triangle, then ee by first then second edge, first below second.
  * The answer is the count of entries, which stand in front of the list; the rest of it is unchanged. Or 7, with the count needed.
  */
 makhnodri_answer makhnodri_list_pairs(const int32_t *positions, size_t positions_length, const uint16_t *edges,
                                       size_t edges_length, const uint16_t *triangles, size_t triangles_length,
-                                      uint16_t *list, size_t list_length);
+                                      uint32_t *list, size_t list_length);
 
 /*
  * Makes the list and settles each pair of it, in four words: words[i] is the word of entry i. Room is the smaller of
- * list_length / 3 and words_length. The answer is the count, and the rest of both buffers is unchanged; or 7, with the count
+ * list_length and words_length. The answer is the count, and the rest of both buffers is unchanged; or 7, with the count
  * needed.
  */
 makhnodri_answer makhnodri_settle_scene(const int32_t *positions, size_t positions_length, const uint16_t *edges,
                                         size_t edges_length, const uint16_t *triangles, size_t triangles_length,
-                                        uint16_t *list, size_t list_length, uint8_t *words, size_t words_length);
+                                        uint32_t *list, size_t list_length, uint8_t *words, size_t words_length);
 
 /*
  * ---- Pairs and pieces, listed or not: these may also refuse with 5 and 6; else the answer is one of three words ----

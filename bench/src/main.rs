@@ -17,10 +17,10 @@ mod wide;
 
 use compare::cubic;
 use compare::random::Random;
-use compare::scene::{Scene, REPORT_ROOM};
+use compare::scene::{Scene, EDGE_LIMIT, REPORT_ROOM, TRIANGLE_LIMIT, VERTEX_LIMIT};
 use compare::text::write;
 use product::Product;
-use slices::Slices;
+use slices::{parts, Slices};
 use timing::{shortest, Timed, Way};
 
 /// The tolerance of the cubic that is timed.
@@ -70,10 +70,10 @@ impl Bench {
     }
 
     fn verdicts(&self, name: &str, slices: &Slices) {
-        let mut list = vec![0; 3 * 20_000];
+        let mut list = vec![0; 20_000];
         let count = plain::list(slices, &mut list);
-        let list = &list[..3 * count];
-        let right: Vec<u8> = list.chunks_exact(3).map(|entry| plain_rest::settle(slices, entry).byte()).collect();
+        let list = &list[..count];
+        let right: Vec<u8> = list.iter().map(|&entry| plain_rest::settle(slices, entry).byte()).collect();
         let (mut made, mut words, mut made_alone) = (vec![0; list.len()], vec![0; count], vec![0; list.len()]);
         let mut ways = baselines(slices, list);
         if let Some(product) = &self.product {
@@ -96,8 +96,8 @@ impl Bench {
         for fold in [32, 8, 2] {
             let slices = Slices::of(&scenes::full_size(&mut Random::new(fold as u64), fold));
             let count = plain::list(&slices, &mut []);
-            let (mut plain, mut ours) = (vec![0; 3 * count], vec![0; 3 * count]);
-            let mut ways = vec![Way::new("the same algorithm in plain safe Rust", || plain::list(&slices, &mut plain) as u64)];
+            let (mut plain, mut ours) = (vec![0; count], vec![0; count]);
+            let mut ways = vec![Way::new("every pair tested, in plain safe Rust", || plain::list(&slices, &mut plain) as u64)];
             if let Some(product) = &self.product {
                 ways.push(Way::new(OURS, || product.list(&slices, &mut ours).expect("there is room") as u64));
             }
@@ -114,13 +114,35 @@ impl Bench {
             ("points and triangles in layers", scenes::layers(&mut random, 4, 4, 1_000, false)),
             ("edges in layers", scenes::layers(&mut random, 3, 3, 1_000, true)),
         ];
+        for (name, scene) in &scenes {
+            self.read(name, write(scene).as_bytes());
+        }
         for (name, scene) in scenes {
             self.report(name, write(&scene).as_bytes());
         }
     }
 
+    fn read(&self, name: &str, text: &[u8]) {
+        let mut ours = Slices::with_room(6 * VERTEX_LIMIT, 2 * EDGE_LIMIT, 3 * TRIANGLE_LIMIT);
+        let (mut plain, mut counts) = (Slices::default(), [0; 3]);
+        let mut ways = vec![Way::new("plain Rust, one pass", || {
+            plain = plain_report::read(text).unwrap_or_default();
+            plain.positions.len() as u64
+        })];
+        if let Some(product) = &self.product {
+            ways.push(Way::new(OURS, || product.read(text, &mut ours, &mut counts).expect("a scene") as u64));
+        }
+        let times = shortest(ways, self.rounds);
+        let [vertices, edges, triangles] = counts;
+        let same = plain.positions == ours.positions[..6 * vertices]
+            && plain.edges == ours.edges[..2 * edges]
+            && plain.triangles == ours.triangles[..3 * triangles];
+        assert!(self.product.is_none() || same, "the library reads what plain Rust reads");
+        table(&format!("reading alone, {name} ({} bytes)", text.len()), ("us", 1e6), &times);
+    }
+
     fn report(&self, name: &str, text: &[u8]) {
-        let mut list = [0; 3 * REPORT_ROOM];
+        let mut list = [0; REPORT_ROOM];
         let (mut plain, mut ours, mut length) = (Vec::new(), [0; product::REPORT_BYTES], 0);
         let mut ways = vec![Way::new("plain Rust", || {
             plain.clear();
@@ -158,8 +180,8 @@ impl Bench {
 }
 
 /// The ways beside the library, on the same pairs.
-fn baselines<'a>(slices: &'a Slices, list: &'a [u16]) -> Vec<Way<'a>> {
-    let pairs = move || list.chunks_exact(3);
+fn baselines<'a>(slices: &'a Slices, list: &'a [u32]) -> Vec<Way<'a>> {
+    let pairs = move || list.iter().copied();
     vec![
         Way::new("a cubic in doubles, tolerance 1e-6", move || pairs().map(|e| by_cubic(slices, e) as u64).sum()),
         Way::new("128-bit whole numbers, straightforwardly", move || {
@@ -169,16 +191,16 @@ fn baselines<'a>(slices: &'a Slices, list: &'a [u16]) -> Vec<Way<'a>> {
             pairs().for_each(|entry| floor_of(slices, entry));
             0
         }),
-        Way::new("the same way in plain Rust, 64 bits", move || {
+        Way::new("the same way in plain Rust, sharing too", move || {
             pairs().map(|entry| plain_rest::settle(slices, entry).byte() as u64).sum()
         }),
     ]
 }
 
-fn by_cubic(slices: &Slices, entry: &[u16]) -> bool {
+fn by_cubic(slices: &Slices, entry: u32) -> bool {
     let moving = |vertex: usize| &slices.moving[vertex];
-    let (first, second) = (entry[1] as usize, entry[2] as usize);
-    if entry[0] == 0 {
+    let (kind, first, second) = parts(entry);
+    if kind == 0 {
         cubic::point_triangle(moving(first), slices.corners(second).map(moving), TOLERANCE)
     } else {
         cubic::edge_edge(slices.ends(first).map(moving), slices.ends(second).map(moving), TOLERANCE)
@@ -186,8 +208,9 @@ fn by_cubic(slices: &Slices, entry: &[u16]) -> bool {
 }
 
 /// As many multiplications as a pair takes at the least, on numbers of the scene.
-fn floor_of(slices: &Slices, entry: &[u16]) {
-    let count = if entry[0] == 0 { floor::POINT_TRIANGLE } else { floor::EDGE_EDGE };
-    let at = (6 * entry[1] as usize).min(slices.wide.len() - count);
+fn floor_of(slices: &Slices, entry: u32) {
+    let (kind, first, _) = parts(entry);
+    let count = if kind == 0 { floor::POINT_TRIANGLE } else { floor::EDGE_EDGE };
+    let at = (6 * first).min(slices.wide.len() - count);
     floor::multiplications(&slices.wide[at..at + count]);
 }

@@ -1,6 +1,6 @@
 //! The library's own way in plain safe Rust: what the proofs are held to cost nothing beside.
 
-use crate::slices::Slices;
+use crate::slices::{entry, parts, Slices};
 use compare::verdict::Verdict;
 
 pub type Vector = [i64; 3];
@@ -18,15 +18,23 @@ fn seen(positions: &[i32], vertex: usize, base: usize, when: When) -> Vector {
     [0, 1, 2].map(|axis| positions[6 * vertex + when + axis] as i64 - positions[6 * base + when + axis] as i64)
 }
 
+/// The three minors of two vectors.
 #[inline]
-fn volume(a: Vector, b: Vector, c: Vector) -> i64 {
-    a[0] * (b[1] * c[2] - b[2] * c[1]) - a[1] * (b[0] * c[2] - b[2] * c[0]) + a[2] * (b[0] * c[1] - b[1] * c[0])
+fn minors(a: Vector, b: Vector) -> Vector {
+    [a[1] * b[2] - a[2] * b[1], a[0] * b[2] - a[2] * b[0], a[0] * b[1] - a[1] * b[0]]
+}
+
+/// The determinant of a vector and the two that the minors are of.
+#[inline]
+fn with(a: Vector, minors: Vector) -> i64 {
+    a[0] * minors[0] - a[1] * minors[1] + a[2] * minors[2]
 }
 
 /// The four signed volumes of four vectors, each of the other three.
 #[inline]
 pub fn volumes(v: [Vector; 4]) -> [i64; 4] {
-    [volume(v[1], v[2], v[3]), -volume(v[0], v[2], v[3]), volume(v[0], v[1], v[3]), -volume(v[0], v[1], v[2])]
+    let (former, latter) = (minors(v[0], v[1]), minors(v[2], v[3]));
+    [with(v[1], latter), -with(v[0], latter), with(v[3], former), -with(v[2], former)]
 }
 
 #[inline]
@@ -55,51 +63,53 @@ pub fn joined(verdicts: impl Iterator<Item = Verdict>) -> Verdict {
     out
 }
 
-/// The verdicts of the pieces, each found when it is asked for.
+/// The verdicts of the three pieces; 10 determinants, each worked out once.
 #[inline]
-pub fn point_verdicts(positions: &[i32], point: usize, mut corners: [usize; 3]) -> impl Iterator<Item = Verdict> + '_ {
+pub fn point_verdicts(positions: &[i32], point: usize, mut corners: [usize; 3]) -> [Verdict; 3] {
     corners.sort_unstable();
-    let [low, middle, high] = corners;
-    let piece = move |points: [Corner; 4]| {
-        let volumes = volumes(points.map(|(vertex, when)| seen(positions, vertex, point, when)));
-        by_signs(volumes.iter().sum(), &volumes)
-    };
+    let [a, b, c] = corners.map(|vertex| seen(positions, vertex, point, START));
+    let [d, e, f] = corners.map(|vertex| seen(positions, vertex, point, END));
+    let (ab, ad, cf, ef) = (minors(a, b), minors(a, d), minors(c, f), minors(e, f));
+    let (abf, aef) = (with(f, ab), -with(a, ef));
     let pieces = [
-        [(low, START), (middle, START), (high, START), (high, END)],
-        [(low, START), (middle, START), (middle, END), (high, END)],
-        [(low, START), (low, END), (middle, END), (high, END)],
+        [with(b, cf), -with(a, cf), abf, -with(c, ab)],
+        [with(b, ef), aef, abf, -with(e, ab)],
+        [with(d, ef), aef, with(f, ad), -with(e, ad)],
     ];
-    pieces.into_iter().map(piece)
+    pieces.map(|volumes| by_signs(volumes.iter().sum(), &volumes))
 }
 
-/// The two triangles of a moving edge: the vertex that is there at both times, and the other point.
+/// The verdicts of the four pieces; 12 determinants, each worked out once. Starts are seen from the first edge's lower end, ends from its
+/// higher end.
 #[inline]
-fn halves(mut ends: [usize; 2]) -> [(usize, Corner); 2] {
-    ends.sort_unstable();
-    [(ends[1], (ends[0], START)), (ends[0], (ends[1], END))]
-}
-
-#[inline]
-pub fn edge_verdicts(positions: &[i32], first: [usize; 2], second: [usize; 2]) -> impl Iterator<Item = Verdict> + '_ {
-    let piece = move |(base, other): (usize, Corner), (both, third): (usize, Corner)| {
-        let points = [other, (both, START), (both, END), third];
-        let v = volumes(points.map(|(vertex, when)| seen(positions, vertex, base, when)));
-        let at = |when: When| (0..4).map(|i| if points[i].1 == when { v[i] } else { 0 }).sum::<i64>();
-        by_signs(v[1] + v[2] + v[3], &[-v[0], v[1], v[2], v[3], at(START), at(END)])
-    };
-    let [a, b] = halves(first);
-    let [c, d] = halves(second);
-    [(a, c), (a, d), (b, c), (b, d)].into_iter().map(move |(one, other)| piece(one, other))
+pub fn edge_verdicts(positions: &[i32], mut first: [usize; 2], mut second: [usize; 2]) -> [Verdict; 4] {
+    first.sort_unstable();
+    second.sort_unstable();
+    let [low, high] = first;
+    let [r, g, h] = [high, second[0], second[1]].map(|vertex| seen(positions, vertex, low, START));
+    let [s, k, l] = [low, second[0], second[1]].map(|vertex| seen(positions, vertex, high, END));
+    let (rg, sg, hl, kl) = (minors(r, g), minors(s, g), minors(h, l), minors(k, l));
+    let (ghl, gkl, rgl, sgl) = (with(g, hl), with(g, kl), with(l, rg), with(l, sg));
+    let pieces = [
+        ([ghl, -with(r, hl), rgl, -with(h, rg)], [false, false, false, true]),
+        ([gkl, -with(r, kl), rgl, -with(k, rg)], [false, false, true, true]),
+        ([ghl, -with(s, hl), sgl, -with(h, sg)], [true, false, false, true]),
+        ([gkl, -with(s, kl), sgl, -with(k, sg)], [true, false, true, true]),
+    ];
+    pieces.map(|(v, ends)| {
+        let at = |end: bool| (0..4).map(|i| if ends[i] == end { v[i] } else { 0 }).sum::<i64>();
+        by_signs(v[1] + v[2] + v[3], &[-v[0], v[1], v[2], v[3], at(false), at(true)])
+    })
 }
 
 /// The verdict of an entry of the list.
 #[inline]
-pub fn judge(slices: &Slices, entry: &[u16]) -> Verdict {
-    let (first, second) = (entry[1] as usize, entry[2] as usize);
-    if entry[0] == 0 {
-        joined(point_verdicts(&slices.positions, first, slices.corners(second)))
+pub fn judge(slices: &Slices, entry: u32) -> Verdict {
+    let (kind, first, second) = parts(entry);
+    if kind == 0 {
+        joined(point_verdicts(&slices.positions, first, slices.corners(second)).into_iter())
     } else {
-        joined(edge_verdicts(&slices.positions, slices.ends(first), slices.ends(second)))
+        joined(edge_verdicts(&slices.positions, slices.ends(first), slices.ends(second)).into_iter())
     }
 }
 
@@ -134,7 +144,7 @@ impl Boxes {
 
 /// Every listed pair in order.
 #[inline]
-fn each_listed(slices: &Slices, boxes: &Boxes, mut take: impl FnMut(u16, usize, usize)) {
+fn each_listed(slices: &Slices, boxes: &Boxes, mut take: impl FnMut(u32, usize, usize)) {
     for (vertex, one) in boxes.vertices.iter().enumerate() {
         for (triangle, other) in boxes.triangles.iter().enumerate() {
             if meet(one, other) && !slices.corners(triangle).contains(&vertex) {
@@ -156,15 +166,13 @@ fn each_listed(slices: &Slices, boxes: &Boxes, mut take: impl FnMut(u16, usize, 
 }
 
 /// Counts, then writes. Nothing is written where there is no room; the count is handed back all the same.
-pub fn list(slices: &Slices, room: &mut [u16]) -> usize {
+pub fn list(slices: &Slices, room: &mut [u32]) -> usize {
     let boxes = Boxes::of(slices);
     let mut count = 0;
     each_listed(slices, &boxes, |_, _, _| count += 1);
-    if count <= room.len() / 3 {
-        let mut entries = room.chunks_exact_mut(3);
-        each_listed(slices, &boxes, |kind, first, second| {
-            entries.next().unwrap().copy_from_slice(&[kind, first as u16, second as u16]);
-        });
+    if count <= room.len() {
+        let mut entries = room.iter_mut();
+        each_listed(slices, &boxes, |kind, first, second| *entries.next().unwrap() = entry(kind, first, second));
     }
     count
 }

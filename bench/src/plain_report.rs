@@ -2,13 +2,13 @@
 
 use crate::plain;
 use crate::plain_rest::settle;
-use crate::slices::Slices;
+use crate::slices::{parts, Slices};
 use compare::refusal::*;
 use compare::scene::{COORDINATE_LIMIT, EDGE_LIMIT, REPORT_ROOM, TEXT_LIMIT, TRIANGLE_LIMIT, VERTEX_LIMIT};
 use compare::settled::Settled;
 
 /// The report, behind what `out` holds; `list` is the room that is lent for pairs.
-pub fn report(text: &[u8], list: &mut [u16; 3 * REPORT_ROOM], out: &mut Vec<u8>) {
+pub fn report(text: &[u8], list: &mut [u32; REPORT_ROOM], out: &mut Vec<u8>) {
     let slices = match read(text) {
         Ok(slices) => slices,
         Err(refusal) => return refused(out, refusal),
@@ -18,10 +18,11 @@ pub fn report(text: &[u8], list: &mut [u16; 3 * REPORT_ROOM], out: &mut Vec<u8>)
         return refused(out, Refusal::new(NO_ROOM, count as u64));
     }
     let (mut hits, mut misses, mut touch, mut apart) = (0, 0, 0, 0);
-    for entry in list.chunks_exact(3).take(count) {
-        out.extend_from_slice(if entry[0] == 0 { b"pt\t" } else { b"ee\t" });
-        number(out, entry[1] as u64, b'\t');
-        number(out, entry[2] as u64, b'\t');
+    for &entry in list.iter().take(count) {
+        let (kind, first, second) = parts(entry);
+        out.extend_from_slice(if kind == 0 { b"pt\t" } else { b"ee\t" });
+        number(out, first as u64, b'\t');
+        number(out, second as u64, b'\t');
         let (word, total): (&[u8], &mut u64) = match settle(&slices, entry) {
             Settled::Hit => (b"hit\n", &mut hits),
             Settled::Miss => (b"miss\n", &mut misses),
@@ -60,7 +61,8 @@ fn number(out: &mut Vec<u8>, mut n: u64, after: u8) {
     out.push(after);
 }
 
-fn read(text: &[u8]) -> Result<Slices, Refusal> {
+/// The scene of a text, in one pass.
+pub fn read(text: &[u8]) -> Result<Slices, Refusal> {
     if text.len() > TEXT_LIMIT {
         return Err(Refusal::bare(TEXT_TOO_LONG));
     }

@@ -2,7 +2,7 @@
 //! volumes decide.
 
 use crate::plain::{edge_verdicts, judge, point_verdicts, volumes, Corner, Vector, END, START};
-use crate::slices::Slices;
+use crate::slices::{parts, Slices};
 use compare::settled::Settled;
 use compare::verdict::Verdict;
 
@@ -24,7 +24,7 @@ enum Leaf {
 
 /// The word of an entry of the list.
 #[inline]
-pub fn settle(slices: &Slices, entry: &[u16]) -> Settled {
+pub fn settle(slices: &Slices, entry: u32) -> Settled {
     match judge(slices, entry) {
         Verdict::Hit => Settled::Hit,
         Verdict::Miss => Settled::Miss,
@@ -34,18 +34,18 @@ pub fn settle(slices: &Slices, entry: &[u16]) -> Settled {
 }
 
 /// Whether a degenerate piece of a pair touches.
-fn touches(slices: &Slices, entry: &[u16]) -> bool {
-    let (first, second) = (entry[1] as usize, entry[2] as usize);
+fn touches(slices: &Slices, entry: u32) -> bool {
+    let (kind, first, second) = parts(entry);
     let positions = &slices.positions[..];
     let asked = |verdict: Verdict, corners: [Corner; 6], first: usize| {
         verdict == Verdict::Degenerate && Six { positions, corners, first }.step(true, [true; 6], false)
     };
-    if entry[0] == 0 {
+    if kind == 0 {
         let corners = slices.corners(second);
-        point_verdicts(positions, first, corners).zip(point_pieces(first, corners)).any(|(v, six)| asked(v, six, 2))
+        point_verdicts(positions, first, corners).into_iter().zip(point_pieces(first, corners)).any(|(v, six)| asked(v, six, 2))
     } else {
         let (first, second) = (slices.ends(first), slices.ends(second));
-        edge_verdicts(positions, first, second).zip(edge_pieces(first, second)).any(|(v, six)| asked(v, six, 3))
+        edge_verdicts(positions, first, second).into_iter().zip(edge_pieces(first, second)).any(|(v, six)| asked(v, six, 3))
     }
 }
 
@@ -140,9 +140,9 @@ impl Six<'_> {
 }
 
 /// What the library's call does for a whole scene: lists, and settles each pair.
-pub fn settle_scene(slices: &Slices, list: &mut [u16], words: &mut [u8]) -> usize {
+pub fn settle_scene(slices: &Slices, list: &mut [u32], words: &mut [u8]) -> usize {
     let count = crate::plain::list(slices, list);
-    for (entry, word) in list.chunks_exact(3).zip(words).take(count) {
+    for (&entry, word) in list.iter().zip(words).take(count) {
         *word = settle(slices, entry).byte();
     }
     count

@@ -5,10 +5,11 @@
 //!
 //! | function | takes | gives |
 //! |---|---|---|
-//! | makhnodri_settle_scene | positions i32, edges u16, triangles u16, list u16, words u8 | an answer; the list's entries, and for each its word: 0 hit, 1 miss, 3 touch, 4 apart |
-//! | makhnodri_list_pairs | positions i32, edges u16, triangles u16, list u16 | an answer; the list's entries |
+//! | makhnodri_settle_scene | positions i32, edges u16, triangles u16, list u32, words u8 | an answer; the list's entries, and for each its word: 0 hit, 1 miss, 3 touch, 4 apart |
+//! | makhnodri_list_pairs | positions i32, edges u16, triangles u16, list u32 | an answer; the list's entries |
 //! | makhnodri_settle_pt, makhnodri_settle_ee | positions i32, edges u16, triangles u16, two places | an answer: the pair's word |
 //! | makhnodri_settle_pt_piece, makhnodri_settle_ee_piece | positions i32, edges u16, triangles u16, two places, a piece | an answer: the piece's word |
+//! | makhnodri_read_scene | text u8, positions i32, edges u16, triangles u16 of full size, three counts | an answer; the scene and its counts |
 //! | makhnodri_write_report | text u8, 65,536 bytes for the report | the length of the report |
 //!
 //! An answer is the count or the word in the lower 32 bits, or a refusal: its number above them and what it carries in them.
@@ -30,7 +31,7 @@ pub use missing::Product;
 #[cfg(feature = "product")]
 mod linked {
     use super::{Answer, REPORT_BYTES};
-    use crate::slices::Slices;
+    use crate::slices::{parts, Slices};
 
     extern "C" {
         fn makhnodri_settle_scene(
@@ -40,7 +41,7 @@ mod linked {
             edges_len: usize,
             triangles: *const u16,
             triangles_len: usize,
-            list: *mut u16,
+            list: *mut u32,
             list_len: usize,
             words: *mut u8,
             words_len: usize,
@@ -94,8 +95,19 @@ mod linked {
             edges_len: usize,
             triangles: *const u16,
             triangles_len: usize,
-            list: *mut u16,
+            list: *mut u32,
             list_len: usize,
+        ) -> u64;
+        fn makhnodri_read_scene(
+            text: *const u8,
+            text_len: usize,
+            positions: *mut i32,
+            positions_len: usize,
+            edges: *mut u16,
+            edges_len: usize,
+            triangles: *mut u16,
+            triangles_len: usize,
+            counts: *mut usize,
         ) -> u64;
         fn makhnodri_write_report(text: *const u8, text_len: usize, report: *mut u8) -> usize;
     }
@@ -114,7 +126,7 @@ mod linked {
             Some(Product)
         }
 
-        pub fn settle_scene(&self, s: &Slices, list: &mut [u16], words: &mut [u8]) -> Answer {
+        pub fn settle_scene(&self, s: &Slices, list: &mut [u32], words: &mut [u8]) -> Answer {
             // SAFETY: each pointer comes with the length of its own slice, and no two overlap
             answer(unsafe {
                 makhnodri_settle_scene(
@@ -133,8 +145,9 @@ mod linked {
         }
 
         /// The word of an entry of the list, asked for by itself.
-        pub fn settle(&self, s: &Slices, entry: &[u16]) -> Answer {
-            let ask = if entry[0] == 0 { makhnodri_settle_pt } else { makhnodri_settle_ee };
+        pub fn settle(&self, s: &Slices, entry: u32) -> Answer {
+            let (kind, first, second) = parts(entry);
+            let ask = if kind == 0 { makhnodri_settle_pt } else { makhnodri_settle_ee };
             // SAFETY: as above
             answer(unsafe {
                 ask(
@@ -144,15 +157,16 @@ mod linked {
                     s.edges.len(),
                     s.triangles.as_ptr(),
                     s.triangles.len(),
-                    entry[1].into(),
-                    entry[2].into(),
+                    first,
+                    second,
                 )
             })
         }
 
         /// The word of a piece of an entry.
-        pub fn settle_piece(&self, s: &Slices, entry: &[u16], piece: usize) -> Answer {
-            let ask = if entry[0] == 0 { makhnodri_settle_pt_piece } else { makhnodri_settle_ee_piece };
+        pub fn settle_piece(&self, s: &Slices, entry: u32, piece: usize) -> Answer {
+            let (kind, first, second) = parts(entry);
+            let ask = if kind == 0 { makhnodri_settle_pt_piece } else { makhnodri_settle_ee_piece };
             // SAFETY: as above
             answer(unsafe {
                 ask(
@@ -162,14 +176,14 @@ mod linked {
                     s.edges.len(),
                     s.triangles.as_ptr(),
                     s.triangles.len(),
-                    entry[1].into(),
-                    entry[2].into(),
+                    first,
+                    second,
                     piece,
                 )
             })
         }
 
-        pub fn list(&self, s: &Slices, list: &mut [u16]) -> Answer {
+        pub fn list(&self, s: &Slices, list: &mut [u32]) -> Answer {
             // SAFETY: as above
             answer(unsafe {
                 makhnodri_list_pairs(
@@ -181,6 +195,24 @@ mod linked {
                     s.triangles.len(),
                     list.as_mut_ptr(),
                     list.len(),
+                )
+            })
+        }
+
+        /// The scene of a text stands in front of the buffers, which are of full size.
+        pub fn read(&self, text: &[u8], s: &mut Slices, counts: &mut [usize; 3]) -> Answer {
+            // SAFETY: as above, and there are three counts
+            answer(unsafe {
+                makhnodri_read_scene(
+                    text.as_ptr(),
+                    text.len(),
+                    s.positions.as_mut_ptr(),
+                    s.positions.len(),
+                    s.edges.as_mut_ptr(),
+                    s.edges.len(),
+                    s.triangles.as_mut_ptr(),
+                    s.triangles.len(),
+                    counts.as_mut_ptr(),
                 )
             })
         }
@@ -205,19 +237,23 @@ mod missing {
             None
         }
 
-        pub fn settle_scene(&self, _: &Slices, _: &mut [u16], _: &mut [u8]) -> Answer {
+        pub fn settle_scene(&self, _: &Slices, _: &mut [u32], _: &mut [u8]) -> Answer {
             match *self {}
         }
 
-        pub fn settle(&self, _: &Slices, _: &[u16]) -> Answer {
+        pub fn settle(&self, _: &Slices, _: u32) -> Answer {
             match *self {}
         }
 
-        pub fn settle_piece(&self, _: &Slices, _: &[u16], _: usize) -> Answer {
+        pub fn settle_piece(&self, _: &Slices, _: u32, _: usize) -> Answer {
             match *self {}
         }
 
-        pub fn list(&self, _: &Slices, _: &mut [u16]) -> Answer {
+        pub fn list(&self, _: &Slices, _: &mut [u32]) -> Answer {
+            match *self {}
+        }
+
+        pub fn read(&self, _: &[u8], _: &mut Slices, _: &mut [usize; 3]) -> Answer {
             match *self {}
         }
 

@@ -19,11 +19,11 @@ fn plain_and_wide_verdicts_and_lists_are_the_exact_ones() {
     for seed in 0..190 {
         let scene = generate::scene(seed);
         let (slices, right) = (Slices::of(&scene), listed(&scene));
-        let mut list = vec![0; 3 * right.len() + 2];
+        let mut list = vec![0; right.len() + 2];
         assert_eq!(plain::list(&slices, &mut list), right.len());
-        for (entry, pair) in list.chunks_exact(3).zip(right).take(300) {
-            let kind = (pair.kind == PairKind::EdgeEdge) as u16;
-            assert_eq!(entry, [kind, pair.first as u16, pair.second as u16]);
+        for (&entry, pair) in list.iter().zip(right).take(300) {
+            let kind = (pair.kind == PairKind::EdgeEdge) as u32;
+            assert_eq!(entry, 1_048_576 * kind + 1_024 * pair.first as u32 + pair.second as u32);
             let verdict = of_pair(&scene, pair);
             assert_eq!((plain::judge(&slices, entry), wide::judge(&slices, entry)), (verdict, verdict), "seed {seed}");
             assert_eq!(plain_rest::settle(&slices, entry), settled::of_pair(&scene, pair), "seed {seed}");
@@ -39,7 +39,7 @@ fn a_full_size_scene_at_rest_is_at_rest() {
         assert!(moving.vertices.iter().zip(&rest.vertices).all(|(m, r)| m[..3] == r[..3] && r[..3] == r[3..]));
         let slices = Slices::of(&rest);
         let right = listed(&rest);
-        let (mut list, mut words) = (vec![0; 3 * right.len()], vec![0; right.len()]);
+        let (mut list, mut words) = (vec![0; right.len()], vec![0; right.len()]);
         assert_eq!(plain_rest::settle_scene(&slices, &mut list, &mut words), right.len());
         for (&pair, &word) in right.iter().zip(&words).step_by(1 + right.len() / 2_000) {
             assert_eq!(word, settled::of_pair(&rest, pair).byte(), "{name}, {pair:?}");
@@ -53,7 +53,7 @@ fn the_plain_report_is_the_exact_one() {
     let seeded = (0..200).flat_map(trials::seeded);
     for trial in trials::fixed().into_iter().chain(seeded) {
         let mut out = Vec::new();
-        plain_report::report(&trial.text, &mut [0; 3 * REPORT_ROOM], &mut out);
+        plain_report::report(&trial.text, &mut [0; REPORT_ROOM], &mut out);
         assert_eq!(String::from_utf8(out).unwrap(), report(&trial.text, REPORT_ROOM), "{}", trial.name);
     }
 }

@@ -2,7 +2,7 @@
 //! is a signed determinant of the other five points. Three words: what is degenerate it leaves undecided.
 
 use crate::plain::joined;
-use crate::slices::Slices;
+use crate::slices::{parts, Slices};
 use compare::verdict::Verdict;
 
 /// x, y, z and the time.
@@ -75,9 +75,9 @@ pub fn edge_pieces(positions: &[i32], first: [usize; 2], second: [usize; 2]) -> 
 }
 
 /// The verdict of an entry of the list.
-pub fn judge(slices: &Slices, entry: &[u16]) -> Verdict {
-    let (first, second) = (entry[1] as usize, entry[2] as usize);
-    if entry[0] == 0 {
+pub fn judge(slices: &Slices, entry: u32) -> Verdict {
+    let (kind, first, second) = parts(entry);
+    if kind == 0 {
         joined(point_pieces(&slices.positions, first, slices.corners(second)).into_iter())
     } else {
         joined(edge_pieces(&slices.positions, slices.ends(first), slices.ends(second)).into_iter())

@@ -124,7 +124,7 @@ fn long(random: &mut Random) -> Sections {
 fn crowded(random: &mut Random) -> Sections {
     let points = 33 + random.below(4);
     let vertices = vec!["v\t0\t0\t0\t0\t0\t0\n".to_string(); points + 3];
-    [vertices, vec!["e\t0\t1\n".into()], vec!["t\t0\t1\t2\n".into(); 64]]
+    [vertices, vec!["e\t0\t1\n".into()], vec!["t\t0\t1\t2\n".into(); 96]]
 }
 
 fn crowded_and_long(random: &mut Random) -> Sections {

@@ -1,7 +1,7 @@
 //! A pair's word with its reasons: the pieces of each listed pair with their weights, and what doubles make of a volume.
 
 use crate::listing;
-use crate::pieces::{pieces, Piece};
+use crate::pieces::{corners, pieces, Corner, Piece};
 use crate::scene::{Kind, Pair, Scene};
 use crate::search::{searched, Way};
 use crate::settled::{of_pair, of_piece, Settled};
@@ -17,21 +17,21 @@ fn of_listed(scene: &Scene, pair: Pair) -> String {
         Kind::EdgeEdge => "ee",
     };
     let mut out = format!("{kind} {} {}: {}\n", pair.first, pair.second, of_pair(scene, pair).word());
-    for (number, piece) in pieces(scene, pair).iter().enumerate() {
-        out += &format!("  piece {number}: {}\n", of_one(piece));
+    for (number, (piece, corners)) in pieces(scene, pair).iter().zip(corners(scene, pair)).enumerate() {
+        out += &format!("  piece {number}: {}\n", of_one(piece, &corners));
     }
     if pair.kind == Kind::PointTriangle {
         let [a, b, c] = scene.triangles[pair.second];
         for (when, offset) in [("start", 0), ("end", 3)] {
-            let place = |v: usize| [0, 1, 2].map(|axis| scene.vertices[v][offset + axis]);
-            out += &volume(when, [place(a), place(b), place(c), place(pair.first)]);
+            let position = |v: usize| [0, 1, 2].map(|axis| scene.vertices[v][offset + axis]);
+            out += &volume(when, [position(a), position(b), position(c), position(pair.first)]);
         }
     }
     out
 }
 
-/// The weights as whole numbers without a common divisor, so signed that the sum is above 0.
-fn of_one(piece: &Piece) -> String {
+/// The weights as whole numbers without a common divisor, so signed that the sum is above 0, and the corners that they belong to.
+fn of_one(piece: &Piece, corners: &[Vec<Corner>; 2]) -> String {
     let word = of_piece(piece);
     let (weights, sum) = match word {
         Settled::Apart => return "apart, the determinant is 0, no weights".to_string(),
@@ -45,7 +45,9 @@ fn of_one(piece: &Piece) -> String {
     let words: Vec<String> = weights.iter().map(|weight| (weight / divisor).to_string()).collect();
     let (first, second) = words.split_at(piece.first.len());
     let singular = if word == Settled::Touch { "the determinant is 0, " } else { "" };
-    format!("{}, {singular}weights {} against {}", word.word(), first.join(", "), second.join(", "))
+    let [of_first, of_second] = corners.each_ref().map(|corners| corners.iter().map(|c| c.name()).collect::<Vec<_>>().join(" "));
+    let (first, second) = (first.join(", "), second.join(", "));
+    format!("{}, {singular}weights {first} of {of_first} against {second} of {of_second}", word.word())
 }
 
 fn divisor(a: i128, b: i128) -> i128 {

@@ -106,9 +106,9 @@ pub fn largest_sums(random: &mut Random) -> Scene {
     scene
 }
 
-/// 2,047, 2,048 or 2,049 listed pairs: every box has the origin in it.
+/// 3,071, 3,072 or 3,073 listed pairs: every box has the origin in it.
 pub fn just_the_room(random: &mut Random) -> Scene {
-    let (points, triangles) = random.pick(&[(23, 89), (32, 64), (64, 32), (32, 64)]);
+    let (points, triangles) = random.pick(&[(37, 83), (32, 96), (96, 32), (32, 96)]);
     let edges = random.pick(&[&[][..], &[[0, 1], [1, 2]], &[[0, 1], [3, 2]]]);
     let through = |random: &mut Random| {
         let mut v = [0; 6];

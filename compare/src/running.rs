@@ -40,7 +40,9 @@ impl Program {
         }
         let (Some(printed), Some(status)) = (printed, status) else { return Err(Failed::ToEnd) };
         if !status.success() {
-            return Err(Failed::Otherwise(format!("it ended with {status}")));
+            return Err(Failed::Otherwise(format!(
+                "it ended with {status}, where a report program ends with status 0, refused or not"
+            )));
         }
         if printed.len() as u64 >= LONGEST {
             return Err(Failed::Otherwise(format!("it printed {LONGEST} bytes and more")));

@@ -7,7 +7,7 @@ pub const VERTEX_LIMIT: usize = 512;
 pub const EDGE_LIMIT: usize = 1_024;
 pub const TRIANGLE_LIMIT: usize = 512;
 pub const TEXT_LIMIT: usize = 32_768;
-pub const REPORT_ROOM: usize = 2_048;
+pub const REPORT_ROOM: usize = 3_072;
 
 #[derive(Clone, Debug, Default, PartialEq, Eq)]
 pub struct Scene {

@@ -101,17 +101,19 @@ pub fn piece_settled(slices: Slices, kind: Kind, first: u64, second: u64, piece:
     a_piece(slices, kind, first, second, piece).map(|(scene, pair, piece)| settled::of_pieces(&scene, pair)[piece])
 }
 
-/// The list as its entries: 0 for pt or 1 for ee, then the two places.
-pub fn list(slices: Slices, room: usize) -> Result<Vec<[u16; 3]>, Refusal> {
-    let scene = scene(slices)?;
-    let entry = |pair: &Pair| {
-        let kind = match pair.kind {
-            Kind::PointTriangle => 0,
-            Kind::EdgeEdge => 1,
-        };
-        [kind, pair.first as u16, pair.second as u16]
+/// An entry of the list in bits: the kind, then ten for the first place and ten for the second.
+pub fn entry(pair: Pair) -> u32 {
+    let kind = match pair.kind {
+        Kind::PointTriangle => "0",
+        Kind::EdgeEdge => "1",
     };
-    Ok(listing::list(&scene, room)?.iter().map(entry).collect())
+    u32::from_str_radix(&format!("{kind}{:010b}{:010b}", pair.first, pair.second), 2).expect("21 bits")
+}
+
+/// The list as its entries.
+pub fn list(slices: Slices, room: usize) -> Result<Vec<u32>, Refusal> {
+    let scene = scene(slices)?;
+    Ok(listing::list(&scene, room)?.into_iter().map(entry).collect())
 }
 
 /// A scene as the numbers that a caller lends.

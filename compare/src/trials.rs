@@ -1,6 +1,7 @@
 //! The texts on which a report program is held to document 01.
 
 use crate::affine::Affine;
+use crate::backwards::turned;
 use crate::damage::damaged;
 use crate::faults::cells;
 use crate::random::Random;
@@ -26,7 +27,7 @@ pub fn fixed() -> Vec<Trial> {
     shown.chain(kept).chain(edges).collect()
 }
 
-/// A scene and its image under an affine map, one of them damaged, and a text for a cell of the table of faults.
+/// A scene, its image under an affine map and the scene played backwards, one of the first two damaged, and a text for a cell of the table of faults.
 pub fn seeded(seed: u64) -> Vec<Trial> {
     let mut random = Random::new(!seed);
     let scene = generate::scene(seed);
@@ -41,6 +42,7 @@ pub fn seeded(seed: u64) -> Vec<Trial> {
     vec![
         trial(name("as made"), made),
         trial(name("sent on"), sent),
+        trial(name("played backwards"), write(&turned(&scene))),
         trial(name("damaged"), harmed),
         trial(format!("seed {seed}, {cell:?}"), crossed),
     ]

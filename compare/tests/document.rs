@@ -192,7 +192,7 @@ fn a_pair_or_a_piece_asked_for() {
     }
     let bad = Slices { positions: &positions[1..], edges: &edges, triangles: &triangles };
     assert_eq!(pair_verdict(bad, pt, 9, 9), Err(Refusal::bare(BAD_SHAPE)));
-    assert_eq!(list(slices, 2), Ok(vec![[0, 3, 0], [1, 0, 1]]));
+    assert_eq!(list(slices, 2), Ok(vec![3_072, 1_048_577]));
     assert_eq!(list(slices, 1), Err(Refusal::new(NO_ROOM, 2)));
     assert_eq!(list(bad, 0), Err(Refusal::bare(BAD_SHAPE)));
 }

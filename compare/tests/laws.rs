@@ -2,9 +2,10 @@
 //! from seeds.
 
 use compare::affine::{determinant, Affine};
+use compare::backwards;
 use compare::equations::{meet, Point, Solutions};
 use compare::generate::{self, rewritten, KINDS};
-use compare::listing::{is_culled, list};
+use compare::listing::{self, is_culled, list};
 use compare::pieces::{pieces, Piece};
 use compare::random::Random;
 use compare::report::{judged_scene, written};
@@ -209,6 +210,44 @@ fn demand_3_every_unshared_pair_and_piece_keeps_its_verdict() {
         pairs > 2000 && both_listed > 500 && one_listed > 50,
         "{pairs} pairs, {both_listed} listed in both, {one_listed} in one"
     );
+}
+
+/// §10 of document 02: the same list as a set, the same words of corresponding pairs and pieces, and turned twice the scene.
+#[test]
+fn played_backwards_every_corresponding_pair_and_piece_keeps_its_word() {
+    let (mut pairs, mut listed, mut changed) = (0, 0, 0);
+    for (seed, scene) in small_scenes(12) {
+        let back = backwards::turned(&scene);
+        assert_eq!(backwards::turned(&back), scene);
+        assert_eq!(read(write(&scene).as_bytes()).err().map(|r| r.number), read(write(&back).as_bytes()).err().map(|r| r.number));
+        let mut list: Vec<Pair> = listing::listed(&scene).into_iter().map(|pair| backwards::pair(&scene, pair)).collect();
+        list.sort_by_key(|pair| (pair.kind == Kind::EdgeEdge, pair.first, pair.second));
+        assert_eq!(list, listing::listed(&back), "seed {seed}");
+        listed += list.len();
+        for pair in unshared_pairs(&scene).into_iter().take(60) {
+            pairs += 1;
+            let other = backwards::pair(&scene, pair);
+            assert_eq!(of_pieces(&scene, pair), backwards::pieces(of_pieces(&back, other)), "seed {seed}, {pair:?}");
+            let words = settled::of_pieces(&scene, pair);
+            assert_eq!(words, backwards::pieces(settled::of_pieces(&back, other)), "seed {seed}, {pair:?}");
+            let swapped = settled::of_pieces(&backwards::swapped(&scene), pair);
+            changed += (settled::joined(&words) != settled::joined(&swapped)) as u32;
+        }
+    }
+    assert!(pairs > 2_000 && listed > 2_000, "{pairs} pairs, {listed} listed");
+    assert!(changed > 20, "start and end swapped alone changes {changed} words");
+}
+
+/// The lines of a report and of the report of the scene turned round correspond, and the last is the same.
+#[test]
+fn played_backwards_the_totals_are_the_same() {
+    for seed in 0..6 * KINDS.len() as u64 {
+        let scene = generate::scene(seed);
+        let report = |scene: &Scene| written(&judged_scene(scene, REPORT_ROOM));
+        let (one, other) = (report(&scene), report(&backwards::turned(&scene)));
+        assert_eq!(one.lines().last(), other.lines().last(), "seed {seed}");
+        assert_eq!(one.lines().count(), other.lines().count(), "seed {seed}");
+    }
 }
 
 #[test]

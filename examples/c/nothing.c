@@ -26,6 +26,7 @@ int main(void) {
     size_t counts[3] = {7, 7, 7};
 
     hold("check_scene", makhnodri_check_scene(NO_SCENE), 0, 0);
+    hold("turn_scene", makhnodri_turn_scene(NO_SCENE), 0, 0);
     hold("count_pairs", makhnodri_count_pairs(NO_SCENE), 0, 0);
     hold("list_pairs", makhnodri_list_pairs(NO_SCENE, NULL, 0), 0, 0);
     hold("settle_scene", makhnodri_settle_scene(NO_SCENE, NULL, 0, NULL, 0), 0, 0);

@@ -1,6 +1,6 @@
 /*
  * From a scene text on standard input to the word of each listed pair and of each of its pieces; then calls that are
- * refused, a point at rest in three words and in four, and the report.
+ * refused, a point at rest in three words and in four, the scene played backwards, and the report.
  *
  *     examples/c/run scene < scenes/printed.scene
  */
@@ -42,26 +42,26 @@ int main(void) {
     makhnodri_answer room = makhnodri_count_pairs(positions, p, edges, e, triangles, t);
     show("listed pairs", room);
     /* one entry more than needed: malloc(0) may give null, which here means that there is no memory */
-    uint16_t *list = malloc((room + 1) * 3 * sizeof *list);
+    uint32_t *list = malloc((room + 1) * sizeof *list);
     uint8_t *words = malloc(room + 1);
     if (!list || !words) return 1;
 
-    makhnodri_answer count = makhnodri_settle_scene(positions, p, edges, e, triangles, t, list, 3 * room, words, room);
+    makhnodri_answer count = makhnodri_settle_scene(positions, p, edges, e, triangles, t, list, room, words, room);
     for (size_t i = 0; i < count; i++) {
-        const uint16_t *entry = list + 3 * i;
-        int pt = entry[0] == MAKHNODRI_PT;
-        printf("%s %u %u %s, pieces", pt ? "pt" : "ee", entry[1], entry[2], makhnodri_word(words[i]));
+        uint32_t first = makhnodri_entry_first(list[i]), second = makhnodri_entry_second(list[i]);
+        int pt = makhnodri_entry_kind(list[i]) == MAKHNODRI_PT;
+        printf("%s %" PRIu32 " %" PRIu32 " %s, pieces", pt ? "pt" : "ee", first, second, makhnodri_word(words[i]));
         for (size_t piece = 0; piece < (pt ? 3 : 4); piece++) {
             makhnodri_answer answer =
-                pt ? makhnodri_settle_pt_piece(positions, p, edges, e, triangles, t, entry[1], entry[2], piece)
-                   : makhnodri_settle_ee_piece(positions, p, edges, e, triangles, t, entry[1], entry[2], piece);
+                pt ? makhnodri_settle_pt_piece(positions, p, edges, e, triangles, t, first, second, piece)
+                   : makhnodri_settle_ee_piece(positions, p, edges, e, triangles, t, first, second, piece);
             printf(" %s", word(answer));
         }
         printf("\n");
     }
 
     /* refused: nothing that was lent has changed */
-    show("room for one pair", makhnodri_list_pairs(positions, p, edges, e, triangles, t, list, 3));
+    show("room for one pair", makhnodri_list_pairs(positions, p, edges, e, triangles, t, list, 1));
     show("no such vertex", makhnodri_judge_pt(positions, p, edges, e, triangles, t, counts[0], 0));
     show("an edge with itself", makhnodri_judge_ee(positions, p, edges, e, triangles, t, 0, 0));
     show("half a vertex", makhnodri_check_scene(positions, 3, edges, 0, triangles, 0));
@@ -73,6 +73,16 @@ int main(void) {
         makhnodri_answer three = makhnodri_judge_pt(still, 30, edges, 0, corners, 3, vertex, 0);
         makhnodri_answer four = makhnodri_settle_pt(still, 30, edges, 0, corners, 3, vertex, 0);
         printf("at rest: judged %s, settled %s\n", word(three), word(four));
+    }
+
+    /* played backwards the same pairs have the same words, the pt pairs at their vertices' new numbers */
+    show("turned round", makhnodri_turn_scene(positions, p, edges, e, triangles, t));
+    count = makhnodri_settle_scene(positions, p, edges, e, triangles, t, list, room, words, room);
+    for (size_t i = 0; i < count; i++) {
+        uint32_t first = makhnodri_entry_first(list[i]), second = makhnodri_entry_second(list[i]);
+        int pt = makhnodri_entry_kind(list[i]) == MAKHNODRI_PT;
+        if (pt) first = (uint32_t)counts[0] - 1 - first;
+        printf("%s %" PRIu32 " %" PRIu32 " %s\n", pt ? "pt" : "ee", first, second, makhnodri_word(words[i]));
     }
 
     fwrite(report, 1, makhnodri_write_report(text, text_length, report), stdout);

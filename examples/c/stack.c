@@ -19,7 +19,7 @@ enum { STACK = 2 * MAKHNODRI_STACK, PAINT = 0xa5 };
 static int32_t positions[MAKHNODRI_POSITIONS_LENGTH];
 static uint16_t edges[MAKHNODRI_EDGES_LENGTH];
 static uint16_t triangles[MAKHNODRI_TRIANGLES_LENGTH];
-static uint16_t list[3 * MAKHNODRI_PAIR_LIMIT];
+static uint32_t list[MAKHNODRI_PAIR_LIMIT];
 static uint8_t words[MAKHNODRI_PAIR_LIMIT];
 static char text[MAKHNODRI_TEXT_LIMIT + 1];
 static uint8_t report[MAKHNODRI_REPORT_LENGTH];
@@ -31,6 +31,8 @@ static uint16_t read_edges[MAKHNODRI_EDGES_LENGTH], read_triangles[MAKHNODRI_TRI
 #define SCENE positions, MAKHNODRI_POSITIONS_LENGTH, edges, MAKHNODRI_EDGES_LENGTH, triangles, MAKHNODRI_TRIANGLES_LENGTH
 
 static void check(void) { makhnodri_check_scene(SCENE); }
+/* it stands there turned round then, as good a scene */
+static void turn(void) { makhnodri_turn_scene(SCENE); }
 static void count(void) { makhnodri_count_pairs(SCENE); }
 static void make_list(void) { makhnodri_list_pairs(SCENE, list, sizeof list / sizeof list[0]); }
 static void settle_scene(void) { makhnodri_settle_scene(SCENE, list, sizeof list / sizeof list[0], words, sizeof words); }
@@ -142,6 +144,7 @@ static const struct {
     {"settle_ee_piece", settle_ee_piece, 400},
     {"read_scene", read_text, 40},
     {"write_report", write_report, 40},
+    {"turn_scene", turn, 4},
     {"check_claims", check_claims, 40},
 };
 

@@ -47,6 +47,23 @@ pub struct Pair {
     pub second: usize,
 }
 
+/// An entry of the list is one number: 2^20 for two edges or 0 for a point and a triangle, plus 2^10 times the first place, plus the
+/// second. Nothing else makes one or takes one apart.
+impl Pair {
+    /// # Panics
+    ///
+    /// Where a place is 1,024 or more: no scene has it, and it would run into the other place.
+    pub fn entry(self) -> u32 {
+        assert!(self.first < 1_024 && self.second < 1_024, "a place of no scene");
+        ((self.kind as u32) << 20) + ((self.first as u32) << 10) + self.second as u32
+    }
+
+    pub fn of_entry(entry: u32) -> Pair {
+        let kind = if entry < 1 << 20 { Kind::PointTriangle } else { Kind::EdgeEdge };
+        Pair { kind, first: (entry >> 10 & 1_023) as usize, second: (entry & 1_023) as usize }
+    }
+}
+
 /// Why a call was refused, in the order of the numbers 1 to 12.
 #[derive(Clone, Copy, Debug, PartialEq, Eq, Hash)]
 pub enum Refusal {
@@ -226,10 +243,4 @@ pub(crate) fn settled(number: usize) -> Settled {
         4 => Settled::Apart,
         other => unreachable!("{other} is no word's number"),
     }
-}
-
-/// An entry of the list as its three numbers.
-pub(crate) fn pair(entry: &[u16]) -> Pair {
-    let kind = [Kind::PointTriangle, Kind::EdgeEdge][entry[0] as usize];
-    Pair { kind, first: entry[1] as usize, second: entry[2] as usize }
 }

@@ -48,7 +48,7 @@ mod scenes;
 mod texts;
 
 pub use answers::{ClaimsRefusal, Kind, ListRefusal, Pair, Refusal, Settled, TextRefusal, Verdict};
-pub use scenes::Scene;
+pub use scenes::{turn_scene, Scene};
 pub use texts::{read_scene, report, write_report, Counts, OwnedScene};
 
 /// The version of the wrapper, and of the header and library that it belongs to.
@@ -62,7 +62,7 @@ pub const TRIANGLE_LIMIT: usize = 512;
 /// Bytes of a scene text.
 pub const TEXT_LIMIT: usize = 32_768;
 /// Pairs that a report has room for.
-pub const REPORT_ROOM: usize = 2_048;
+pub const REPORT_ROOM: usize = 3_072;
 /// A claim with a weight above this is answered no.
 pub const WEIGHT_LIMIT: u64 = 1 << 40;
 /// No scene lists more.

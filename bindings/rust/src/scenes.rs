@@ -1,6 +1,6 @@
 //! A scene as slices, and what can be asked of it.
 
-use crate::answers::{heard, pair, settled, verdict};
+use crate::answers::{heard, settled, verdict};
 use crate::{raw, ClaimsRefusal, Kind, ListRefusal, Pair, Refusal, Settled, Verdict};
 
 /// Six numbers a vertex (start x, y, z, end x, y, z), two vertex numbers an edge, three a triangle, the latter in any order.
@@ -32,31 +32,31 @@ impl Scene<'_> {
         heard(ask!(self, makhnodri_count_pairs)).map_err(bare)
     }
 
-    /// Makes the list in front of `list`, three numbers an entry (0 for pt or 1 for ee, then the two places), and returns the count
-    /// of entries. The rest of `list` is unchanged, and all of it after a refusal.
-    pub fn list_pairs(self, list: &mut [u16]) -> Result<usize, ListRefusal> {
+    /// Makes the list in front of `list`, one number an entry ([`Pair::of_entry`] takes it apart), and returns the count of entries.
+    /// The rest of `list` is unchanged, and all of it after a refusal.
+    pub fn list_pairs(self, list: &mut [u32]) -> Result<usize, ListRefusal> {
         heard(ask!(self, makhnodri_list_pairs, list.as_mut_ptr(), list.len())).map_err(list_refusal)
     }
 
     /// Makes the list and settles it: `words[i]` is 0, 1, 3 or 4, for hit, miss, touch or apart, of entry i.
-    pub fn settle_scene(self, list: &mut [u16], words: &mut [u8]) -> Result<usize, ListRefusal> {
+    pub fn settle_scene(self, list: &mut [u32], words: &mut [u8]) -> Result<usize, ListRefusal> {
         let (l, w) = ((list.as_mut_ptr(), list.len()), (words.as_mut_ptr(), words.len()));
         heard(ask!(self, makhnodri_settle_scene, l.0, l.1, w.0, w.1)).map_err(list_refusal)
     }
 
     /// The list, with room of its own.
     pub fn listed(self) -> Result<Vec<Pair>, Refusal> {
-        let mut list = vec![0; 3 * self.count_pairs()?];
+        let mut list = vec![0; self.count_pairs()?];
         self.list_pairs(&mut list).map_err(ListRefusal::refusal)?;
-        Ok(list.chunks(3).map(pair).collect())
+        Ok(list.into_iter().map(Pair::of_entry).collect())
     }
 
     /// The list and its words, with room of their own.
     pub fn settled(self) -> Result<Vec<(Pair, Settled)>, Refusal> {
         let count = self.count_pairs()?;
-        let (mut list, mut words) = (vec![0; 3 * count], vec![0; count]);
+        let (mut list, mut words) = (vec![0; count], vec![0; count]);
         self.settle_scene(&mut list, &mut words).map_err(ListRefusal::refusal)?;
-        Ok(list.chunks(3).map(pair).zip(words.iter().map(|&byte| settled(byte as usize))).collect())
+        Ok(list.into_iter().map(Pair::of_entry).zip(words.iter().map(|&byte| settled(byte as usize))).collect())
     }
 }
 
@@ -151,6 +151,32 @@ impl Scene<'_> {
             Kind::EdgeEdge => self.settle_ee_piece(first, second, piece),
         }
     }
+}
+
+/// Turns a scene round where it stands, so that a clip is played backwards: start and end are swapped, the vertices numbered from last
+/// to first, edges and triangles stay in their places. A refusal is the scene's own, and changes nothing; turned twice it is the scene.
+///
+/// Every pair has its word under the numbers that it then has: pt `v`, `t` is pt `vertices - 1 - v`, `t`, and two edges keep theirs;
+/// piece k of a pt pair is piece 2 - k, of an ee pair 3 - k. Vertices are numbered anew because a face is cut by the order of its
+/// corners' numbers: with start and end swapped and nothing else, a word may change.
+///
+/// ```
+/// use makhnodri::{turn_scene, Kind, Scene};
+///
+/// let mut positions = vec![0, 0, 0, 0, 0, 0, 4, 0, 0, 4, 0, 0, 0, 4, 0, 0, 4, 0, 1, 1, 1, 1, 1, -1];
+/// let (mut edges, mut triangles) = (vec![], vec![0, 1, 2]);
+/// let word = Scene { positions: &positions, edges: &edges, triangles: &triangles }.settle_pair(Kind::PointTriangle, 3, 0);
+/// turn_scene(&mut positions, &mut edges, &mut triangles).unwrap();
+/// assert_eq!(triangles, [3, 2, 1]);
+/// let back = Scene { positions: &positions, edges: &edges, triangles: &triangles };
+/// assert_eq!(back.settle_pair(Kind::PointTriangle, 0, 0), word);
+/// ```
+pub fn turn_scene(positions: &mut [i32], edges: &mut [u16], triangles: &mut [u16]) -> Result<(), Refusal> {
+    let (p, e, t) = (positions.len(), edges.len(), triangles.len());
+    let (ps, es, ts) = (positions.as_mut_ptr(), edges.as_mut_ptr(), triangles.as_mut_ptr());
+    // SAFETY: each pointer goes with the length of its slice, and what is written is borrowed by `&mut`
+    let answer = unsafe { raw::makhnodri_turn_scene(ps, p, es, e, ts, t) };
+    heard(answer).map(drop).map_err(bare)
 }
 
 /// A refusal that carries nothing.

@@ -3,7 +3,7 @@
 use compare::scene::{self, all_pairs};
 use compare::slices::{self, Slices};
 use compare::{settled, verdict};
-use makhnodri::{Kind, ListRefusal, Refusal, Scene, Settled, TextRefusal, Verdict};
+use makhnodri::{turn_scene, Kind, ListRefusal, Refusal, Scene, Settled, TextRefusal, Verdict};
 
 /// A value, or a refusal's number with the line, the needed count, or 0.
 pub type Answer<T> = Result<T, (u64, u64)>;
@@ -81,30 +81,34 @@ pub fn painted<T: From<u8>>(length: usize) -> Vec<T> {
 }
 
 /// Makes the list with this room, and holds every number of the buffer, in front, behind and after a refusal, to what it must be.
-pub fn listed(flat: &Flat, room: usize, spare: usize) -> Answer<Vec<[u16; 3]>> {
-    let mut list: Vec<u16> = painted(3 * room + spare);
+pub fn listed(flat: &Flat, room: usize) -> Answer<Vec<u32>> {
+    let mut list: Vec<u32> = painted(room);
     let before = list.clone();
     let answer = flat.scene().list_pairs(&mut list).map_err(of_list);
-    let front = answer.map_or(0, |count| 3 * count);
+    let front = answer.unwrap_or(0);
     assert!(front <= list.len());
     assert_eq!(list[front..], before[front..], "behind the list");
-    answer.map(|_| entries(&list[..front]))
+    answer.map(|_| list[..front].to_vec())
 }
 
 /// The same of the list with its words.
-pub fn settled(flat: &Flat, room: usize, spare: usize, bytes: usize) -> Answer<(Vec<[u16; 3]>, Vec<u8>)> {
-    let (mut list, mut words): (Vec<u16>, Vec<u8>) = (painted(3 * room + spare), painted(bytes));
+pub fn settled(flat: &Flat, room: usize, bytes: usize) -> Answer<(Vec<u32>, Vec<u8>)> {
+    let (mut list, mut words): (Vec<u32>, Vec<u8>) = (painted(room), painted(bytes));
     let before = (list.clone(), words.clone());
     let answer = flat.scene().settle_scene(&mut list, &mut words).map_err(of_list);
     let count = answer.unwrap_or(0);
-    assert!(3 * count <= list.len() && count <= bytes);
-    assert_eq!(list[3 * count..], before.0[3 * count..], "behind the list");
+    assert!(count <= list.len() && count <= bytes);
+    assert_eq!(list[count..], before.0[count..], "behind the list");
     assert_eq!(words[count..], before.1[count..], "behind the words");
-    answer.map(|_| (entries(&list[..3 * count]), words[..count].to_vec()))
+    answer.map(|_| (list[..count].to_vec(), words[..count].to_vec()))
 }
 
-fn entries(list: &[u16]) -> Vec<[u16; 3]> {
-    list.chunks(3).map(|entry| entry.try_into().unwrap()).collect()
+/// The scene turned round, or a refusal, after which it stands as it was.
+pub fn turned(flat: &Flat) -> Answer<Flat> {
+    let mut turned = flat.clone();
+    let answer = turn_scene(&mut turned.positions, &mut turned.edges, &mut turned.triangles).map_err(bare);
+    assert!(answer.is_ok() || turned == *flat, "a refused scene was changed");
+    answer.map(|_| turned)
 }
 
 /// Every question that takes a scene, asked with plenty of room; what is asked of a pair is asked of places 0 and 1.
@@ -112,9 +116,10 @@ pub fn every_answer(flat: &Flat) -> Vec<(&'static str, Answer<()>)> {
     let scene = flat.scene();
     let mut out = vec![
         ("check", scene.check_scene().map_err(bare)),
+        ("turn", turned(flat).map(drop)),
         ("count", scene.count_pairs().map(drop).map_err(bare)),
-        ("list", listed(flat, 40, 2).map(drop)),
-        ("settle", settled(flat, 40, 1, 50).map(drop)),
+        ("list", listed(flat, 40).map(drop)),
+        ("settle", settled(flat, 40, 50).map(drop)),
     ];
     for kind in KINDS {
         out.push(("pair", scene.judge_pair(kind, 0, 1).map(drop).map_err(bare)));

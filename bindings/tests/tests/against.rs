@@ -1,12 +1,12 @@
 //! The library held against the independent program of compare/ on scenes from seeds: every pair and every piece, listed or not, in
-//! three words and in four, and the lists; the same under demand 3's maps; damaged scenes; and full-size scenes.
+//! three words and in four, and the lists; the same under demand 3's maps and played backwards; damaged scenes; and full-size scenes.
 
 use compare::affine::Affine;
 use compare::generate::{self, rewritten, KINDS as SCENES};
 use compare::random::Random;
 use compare::refusal::{NOT_THERE, SHARES_A_VERTEX};
-use compare::scene::{in_range, Kind, Scene};
-use compare::{settled, slices, verdict};
+use compare::scene::{in_range, Kind, Pair, Scene};
+use compare::{backwards, settled, slices, verdict};
 use makhnodri::{Refusal, Settled, Verdict};
 use makhnodri_tests::*;
 
@@ -70,17 +70,17 @@ fn hold_list(scene: &Scene) -> usize {
     let wanted = flat.independent(|slices| slices::list(slices, usize::MAX)).unwrap();
     let count = wanted.len();
     assert_eq!(flat.scene().count_pairs(), Ok(count));
-    assert_eq!(listed(&flat, count, 2).as_ref(), Ok(&wanted));
-    assert_eq!(listed(&flat, count + 9, 0).as_ref(), Ok(&wanted));
-    let pairs = wanted.iter().map(|entry| {
-        let kind = KINDS[entry[0] as usize];
-        flat.scene().settle_pair(kind, entry[1].into(), entry[2].into()).unwrap() as u8
+    assert_eq!(listed(&flat, count).as_ref(), Ok(&wanted));
+    assert_eq!(listed(&flat, count + 9).as_ref(), Ok(&wanted));
+    let pairs = wanted.iter().map(|&entry| {
+        let makhnodri::Pair { kind, first, second } = makhnodri::Pair::of_entry(entry);
+        flat.scene().settle_pair(kind, first, second).unwrap() as u8
     });
-    assert_eq!(settled(&flat, count + 1, 1, count + 3), Ok((wanted.clone(), pairs.collect())));
+    assert_eq!(settled(&flat, count + 1, count + 3), Ok((wanted.clone(), pairs.collect())));
     if count > 0 {
-        assert_eq!(listed(&flat, count - 1, 2), Err((7, count as u64)));
-        assert_eq!(settled(&flat, count - 1, 2, count), Err((7, count as u64)));
-        assert_eq!(settled(&flat, count, 2, count - 1), Err((7, count as u64)));
+        assert_eq!(listed(&flat, count - 1), Err((7, count as u64)));
+        assert_eq!(settled(&flat, count - 1, count), Err((7, count as u64)));
+        assert_eq!(settled(&flat, count, count - 1), Err((7, count as u64)));
     }
     count
 }
@@ -145,6 +145,41 @@ fn words_survive_maps_and_the_order_of_corners() {
 }
 
 /// Scenes with up to three faults: every function refuses as the independent one, or answers.
+/// The word of a pair, and those of its pieces.
+fn words_of(flat: &Flat, pair: Pair) -> (Answer<Settled>, Vec<Answer<Settled>>) {
+    let (scene, kind, pieces) = (flat.scene(), library_kind(pair.kind), if pair.kind == Kind::EdgeEdge { 4 } else { 3 });
+    let piece = |piece| scene.settle_piece(kind, pair.first, pair.second, piece).map_err(bare);
+    (scene.settle_pair(kind, pair.first, pair.second).map_err(bare), (0..pieces).map(piece).collect())
+}
+
+/// Played backwards: the library turns a scene round as document 02 says, and then lists and settles the corresponding pairs alike.
+#[test]
+fn played_backwards_a_scene_has_the_same_contacts() {
+    let (mut pairs, mut listed) = (0, 0);
+    for (seed, scene) in small_scenes(20).filter(|(_, scene)| kept_in_range(scene)) {
+        let flat = Flat::of(&scene);
+        let back = turned(&flat).unwrap();
+        assert_eq!(back, Flat::of(&backwards::turned(&scene)), "seed {seed}");
+        assert_eq!(turned(&back).as_ref(), Ok(&flat), "seed {seed}");
+        for pair in asked_for(&scene) {
+            let (word, pieces) = words_of(&flat, pair);
+            let other = words_of(&back, backwards::pair(&scene, pair));
+            assert_eq!((word, pieces), (other.0, backwards::pieces(other.1)), "seed {seed}, {pair:?}");
+            pairs += 1;
+        }
+        let ours = |(pair, word): (makhnodri::Pair, Settled)| {
+            (Pair { kind: kind_of(pair.kind), first: pair.first, second: pair.second }, word as u8)
+        };
+        let order = |(pair, _): &(Pair, u8)| (pair.kind == Kind::EdgeEdge, pair.first, pair.second);
+        let corresponding = |(pair, word): (Pair, u8)| (backwards::pair(&scene, pair), word);
+        let mut wanted: Vec<_> = flat.scene().settled().unwrap().into_iter().map(ours).map(corresponding).collect();
+        wanted.sort_by_key(order);
+        assert_eq!(back.scene().settled().unwrap().into_iter().map(ours).collect::<Vec<_>>(), wanted, "seed {seed}");
+        listed += wanted.len();
+    }
+    assert!(pairs > 10_000 && listed > 5_000, "{pairs} pairs, {listed} listed");
+}
+
 #[test]
 fn damaged_scenes_are_refused_alike() {
     let mut refused = [0; 7];
@@ -156,7 +191,7 @@ fn damaged_scenes_are_refused_alike() {
         }
         let wanted = flat.independent(slices::scene);
         assert_eq!(flat.scene().check_scene().map_err(bare), wanted.as_ref().map(|_| ()).map_err(|&r| r), "seed {seed}");
-        assert_eq!(listed(&flat, 5, 1), flat.independent(|s| slices::list(s, 5)), "seed {seed}");
+        assert_eq!(listed(&flat, 5), flat.independent(|s| slices::list(s, 5)), "seed {seed}");
         let (first, second, piece) = (random.below(9), random.below(9), random.below(6));
         for kind in KINDS {
             let ask = (kind_of(kind), first as u64, second as u64);
@@ -217,12 +252,12 @@ fn full_size_scenes() {
         scene.triangles = (0..512).map(|i| [(i + 1) % 512, i, (i + 2 + i % 3) % 512]).collect();
         let flat = Flat::of(&scene);
         let wanted = flat.independent(|slices| slices::list(slices, usize::MAX)).unwrap();
-        let (list, bytes) = settled(&flat, wanted.len(), 2, wanted.len()).unwrap();
+        let (list, bytes) = settled(&flat, wanted.len(), wanted.len()).unwrap();
         assert_eq!(list, wanted);
         assert!(list.len() <= makhnodri::PAIR_LIMIT);
-        for (entry, byte) in list.iter().zip(bytes).step_by(1 + list.len() / 2_000) {
-            let kind = kind_of(KINDS[entry[0] as usize]);
-            let pair = compare::scene::Pair { kind, first: entry[1].into(), second: entry[2].into() };
+        for (&entry, byte) in list.iter().zip(bytes).step_by(1 + list.len() / 2_000) {
+            let makhnodri::Pair { kind, first, second } = makhnodri::Pair::of_entry(entry);
+            let pair = compare::scene::Pair { kind: kind_of(kind), first, second };
             assert_eq!(byte, settled_of(settled::of_pair(&scene, pair)) as u8, "{pair:?}");
         }
     }

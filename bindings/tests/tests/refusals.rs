@@ -225,16 +225,14 @@ fn room_is_the_smaller_of_the_two_and_the_last_check() {
     let count = flat.scene().count_pairs().unwrap();
     assert!(count > 1);
     for room in 0..count {
-        for spare in 0..3 {
-            assert_eq!(listed(&flat, room, spare), Err((7, count as u64)));
-            assert_eq!(settled(&flat, room, spare, count + 5), Err((7, count as u64)));
-        }
-        assert_eq!(settled(&flat, count + 5, 1, room), Err((7, count as u64)));
+        assert_eq!(listed(&flat, room), Err((7, count as u64)));
+        assert_eq!(settled(&flat, room, count + 5), Err((7, count as u64)));
+        assert_eq!(settled(&flat, count + 5, room), Err((7, count as u64)));
     }
-    assert!(listed(&flat, count, 0).is_ok() && settled(&flat, count, 0, count).is_ok());
+    assert!(listed(&flat, count).is_ok() && settled(&flat, count, count).is_ok());
     let bad = with(|flat| flat.triangles[3] = flat.triangles[4]);
-    assert_eq!(listed(&bad, 0, 0), Err((4, 0)));
-    assert_eq!(settled(&bad, 0, 0, 0), Err((4, 0)));
+    assert_eq!(listed(&bad, 0), Err((4, 0)));
+    assert_eq!(settled(&bad, 0, 0), Err((4, 0)));
 }
 
 // ---- 12

@@ -70,6 +70,8 @@ struct Comparison<'a> {
     suspects: Vec<&'a Mistake>,
     texts: usize,
     differences: usize,
+    /// Differences that are no report, since the program failed.
+    failures: usize,
     /// By word, in the order in which the total names them.
     pairs: [usize; 4],
     cells: BTreeMap<Cell, usize>,
@@ -78,7 +80,7 @@ struct Comparison<'a> {
 impl<'a> Comparison<'a> {
     fn new(program: Program, mistakes: &'a [Mistake]) -> Comparison<'a> {
         let cells = faults::cells().into_iter().map(|cell| (cell, 0)).collect();
-        Comparison { program, suspects: mistakes.iter().collect(), texts: 0, differences: 0, pairs: [0; 4], cells }
+        Comparison { program, suspects: mistakes.iter().collect(), texts: 0, differences: 0, failures: 0, pairs: [0; 4], cells }
     }
 
     fn hold(&mut self, trial: &Trial) {
@@ -89,22 +91,29 @@ impl<'a> Comparison<'a> {
         match self.program.run(&trial.text, 1 + self.texts % 3) {
             Ok(bytes) => self.compare(trial, &wanted, &String::from_utf8_lossy(&bytes)),
             Err(Failed::ToStart(fault)) => {
-                eprintln!("it cannot be run: {fault}");
+                eprintln!("stopped: the program cannot be run: {fault}");
                 exit(2);
             }
             Err(Failed::ToEnd) => {
                 self.show(trial, &format!("it had not ended after {} s", self.program.limit.as_secs()));
-                println!("no further text is tried");
+                compare::say!(
+                    "stopped after {} texts: a program that does not end is not run again (--limit gives it more time)",
+                    self.texts
+                );
                 exit(1);
             }
             Err(Failed::Otherwise(fault)) => {
                 self.show(trial, &fault);
+                self.failures += 1;
                 self.suspects.clear();
             }
         }
         if self.differences == MOST_FOUND {
-            println!("{MOST_FOUND} differences in {} texts, and no further text is tried", self.texts);
             self.sum_up();
+            compare::say!(
+                "stopped after {} texts: {MOST_FOUND} differences are enough, and no further text is tried",
+                self.texts
+            );
             exit(1);
         }
     }
@@ -144,13 +153,16 @@ impl<'a> Comparison<'a> {
             Ok(()) => kept.display().to_string(),
             Err(error) => error.to_string(),
         };
-        println!("DIFFERENT: {} (kept as {kept_as})\n  {what}", trial.name);
+        compare::say!("DIFFERENT: {} (kept as {kept_as})\n  {what}", trial.name);
     }
 
     fn sum_up(&self) {
+        if self.failures > 0 {
+            compare::say!("in {} of {} the program failed: nothing was compared there", self.failures, self.differences);
+        }
         match &self.suspects[..] {
-            [] => println!("no single mistake known here explains them all"),
-            like => println!("all explained by: {}", named(like, "\n              or: ")),
+            [] => compare::say!("no single mistake known here explains them all"),
+            like => compare::say!("all explained by: {}", named(like, "\n              or: ")),
         }
     }
 
@@ -163,7 +175,7 @@ impl<'a> Comparison<'a> {
         if self.differences > 0 {
             self.sum_up();
         }
-        println!(
+        compare::say!(
             "compared {} reports, {seeds} seeds among them: {hits} hits, {misses} misses, {touch} touch, {apart} apart; {} of {} \
              faults and pairs of faults tried, {} differences",
             self.texts,
@@ -172,7 +184,7 @@ impl<'a> Comparison<'a> {
             self.differences
         );
         if !empty.is_empty() {
-            println!("not tried: {empty:?}; more seeds try more");
+            compare::say!("not tried: {empty:?}; more seeds try more");
         }
         exit((self.differences > 0 || !empty.is_empty()) as i32);
     }
@@ -184,13 +196,13 @@ impl<'a> Comparison<'a> {
             let counts = all.iter().map(|&other| self.cells.get(&cells(other)).map_or("-".to_string(), usize::to_string));
             counts.map(|count| format!("{count:>6}")).collect::<String>()
         };
-        println!("given   with{}", all.iter().map(|number| format!("{number:>6}")).collect::<String>());
+        compare::say!("given   with{}", all.iter().map(|number| format!("{number:>6}")).collect::<String>());
         for &given in &all {
             let alone = self.cells[&Cell::Given(given)];
-            println!("{given:>2}: {alone:>5} in all");
-            println!("   in one line{}", row(&|other| Cell::InOneLine(given, other)));
-            println!("  a later line{}", row(&|other| Cell::InTwoLines(given, other)));
-            println!("     the whole{}", row(&|other| Cell::InTheWhole(given, other)));
+            compare::say!("{given:>2}: {alone:>5} in all");
+            compare::say!("   in one line{}", row(&|other| Cell::InOneLine(given, other)));
+            compare::say!("  a later line{}", row(&|other| Cell::InTwoLines(given, other)));
+            compare::say!("     the whole{}", row(&|other| Cell::InTheWhole(given, other)));
         }
     }
 }

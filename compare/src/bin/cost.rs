@@ -14,12 +14,11 @@ fn main() {
         None => otherwise,
     };
     let (seeds, reach) = (number(0, 1_900) as u64, number(1, 1));
-    println!(
-        "{:<24}{:>10}{:>10}{:>29}{:>29}{:>29}",
-        "singular pieces", "", "", "on average", "most of a piece", "most of a pair"
+    compare::say!(
+        "{:<24}{:>10}{:>10}{:>29}{:>29}{:>29}", "singular pieces", "", "", "on average", "most of a piece", "most of a pair"
     );
     let columns = format!("{:>9}{:>8}{:>12}", "calls", "leaves", "3x3 dets");
-    println!("{:<24}{:>10}{:>10}{columns}{columns}{columns}", "", "all", "touch");
+    compare::say!("{:<24}{:>10}{:>10}{columns}{columns}{columns}", "", "all", "touch");
     let mut all = Tally::default();
     for (kind, (name, _)) in generate::KINDS.iter().enumerate() {
         let mut tally = Tally::default();
@@ -35,9 +34,9 @@ fn main() {
     }
     for kind in KINDS {
         for (number, shape) in shapes(kind).iter().enumerate() {
-            println!("{:<44}{:>29}{}", format!("at most, {} piece {number}", word(kind)), "", three(at_most(shape)));
+            compare::say!("{:<44}{:>29}{}", format!("at most, {} piece {number}", word(kind)), "", three(at_most(shape)));
         }
-        println!("{:<44}{:>58}{}", format!("at most, {} pair", word(kind)), "", three(at_most_of_a_pair(kind)));
+        compare::say!("{:<44}{:>58}{}", format!("at most, {} pair", word(kind)), "", three(at_most_of_a_pair(kind)));
     }
 }
 
@@ -56,7 +55,7 @@ fn row(name: &str, tally: &Tally, pairs: bool) {
     let mean = |sum: u64| if tally.pieces == 0 { 0.0 } else { sum as f64 / tally.pieces as f64 };
     let means = [tally.sum.calls, tally.sum.asked, tally.sum.determinants].map(mean);
     let pair = if pairs { three(tally.most_of_a_pair) } else { String::new() };
-    println!(
+    compare::say!(
         "{name:<24}{:>10}{:>10}{:>9.1}{:>8.1}{:>12.1}{}{pair}",
         tally.pieces,
         tally.touch,

@@ -1,16 +1,15 @@
 //! usage: explain < SCENE
-//! Why each listed pair has its verdict: its pieces with their weights.
+//! Why each listed pair has its word: its pieces with their weights. Or why the text is refused: the line, and what is wrong in it.
 
-use std::io::Read;
+use compare::streams::{input, print};
 use std::process::exit;
 
 fn main() {
-    let mut text = Vec::new();
-    std::io::stdin().read_to_end(&mut text).expect("standard input can be read");
+    let text = input();
     match compare::text::read(&text) {
-        Ok(scene) => print!("{}", compare::explain::explained(&scene)),
+        Ok(scene) => print(&compare::explain::explained(&scene)),
         Err(refusal) => {
-            println!("refused\t{}\t{}", refusal.number, refusal.third);
+            print(&compare::blame::in_words(&text, refusal));
             exit(1);
         }
     }

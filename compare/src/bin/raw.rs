@@ -37,14 +37,14 @@ fn main() {
         match Answer::read(&question, &mut output) {
             Ok(answer) => comparison.hold(&source, &question, &answer),
             Err(error) => {
-                println!("raw: {source}: {}: the driver gives no answer: {error}", question.in_words());
+                compare::say!("raw: {source}: {}: the driver gives no answer: {error}", question.in_words());
                 exit(1);
             }
         }
     }
     let sent = asking.join().is_ok_and(|sent| sent.is_ok());
     if !sent || !driver.wait().is_ok_and(|status| status.success()) {
-        println!("raw: the driver failed");
+        compare::say!("raw: the driver failed");
         exit(1);
     }
     comparison.close(seeds, table);
@@ -95,23 +95,23 @@ impl Comparison {
         }
         let Some(difference) = answer.difference(&wanted) else { return };
         self.differences += 1;
-        println!("raw: {source}: {}: it {difference}", question.in_words());
+        compare::say!("raw: {source}: {}: it {difference}", question.in_words());
         if self.differences == MOST_SHOWN {
-            println!("raw: {MOST_SHOWN} differences, and nothing further is asked");
+            compare::say!("raw: {MOST_SHOWN} differences, and nothing further is asked");
             exit(1);
         }
     }
 
     fn close(&self, seeds: u64, table: bool) {
         if table {
-            self.sorts.iter().for_each(|(sort, count)| println!("{count:>8} {sort}"));
+            self.sorts.iter().for_each(|(sort, count)| compare::say!("{count:>8} {sort}"));
         }
-        self.calls.iter().for_each(|(call, count)| println!("{count:>8} questions to {call}"));
+        self.calls.iter().for_each(|(call, count)| compare::say!("{count:>8} questions to {call}"));
         let never: Vec<&String> = self.sorts.iter().filter(|(_, count)| **count == 0).map(|(sort, _)| sort).collect();
-        never.iter().for_each(|sort| println!("raw: never asked: {sort}"));
+        never.iter().for_each(|sort| compare::say!("raw: never asked: {sort}"));
         let (questions, sorts, unasked) = (self.calls.values().sum::<usize>(), self.sorts.len(), never.len());
         let (differences, asked) = (self.differences, format!("{questions} questions of {sorts} sorts ({unasked} never asked)"));
-        println!("raw: {asked}, {seeds} seeds; each answer and every lent byte compared: {differences} differences");
+        compare::say!("raw: {asked}, {seeds} seeds; each answer and every lent byte compared: {differences} differences");
         exit((differences > 0 || !never.is_empty()) as i32);
     }
 }

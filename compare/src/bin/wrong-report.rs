@@ -3,14 +3,15 @@
 //! 2,048 where it is not given.
 
 use compare::mistakes::{self, Right};
+use compare::say;
 use compare::scene::REPORT_ROOM;
-use std::io::{Read, Write};
+use compare::streams::{input, print};
 use std::process::exit;
 
 fn main() {
     let words: Vec<String> = std::env::args().skip(1).collect();
     let Some(key) = words.first() else {
-        mistakes::all().iter().for_each(|mistake| println!("{:24} {}", mistake.key, mistake.says));
+        mistakes::all().iter().for_each(|mistake| say!("{:24} {}", mistake.key, mistake.says));
         return;
     };
     let Some(mistake) = mistakes::find(key) else {
@@ -18,8 +19,5 @@ fn main() {
         exit(2);
     };
     let room = words.get(1).map_or(REPORT_ROOM, |word| word.parse().expect("ROOM is a number of pairs"));
-    let mut text = Vec::new();
-    std::io::stdin().read_to_end(&mut text).expect("standard input can be read");
-    let report = mistake.report(&Right::of(&text, room));
-    std::io::stdout().write_all(report.as_bytes()).expect("standard output can be written");
+    print(&mistake.report(&Right::of(&input(), room)));
 }

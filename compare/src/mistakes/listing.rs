@@ -51,6 +51,7 @@ pub fn mistakes() -> Vec<Mistake> {
         printed("given-up", "7 with the count at which the list was given up", |listed, room, judge| {
             refused_with(room as u64 + 1, listed, room, judge)
         }),
+        printed("old-room", "the room of before, 2,048 pairs", |listed, room, judge| print_right(listed, room.min(2_048), judge)),
         printed("room-one-less", "a list that just fits refused", |listed, room, judge| print_right(listed, room - 1, judge)),
         printed("first-copied", "the first pair's word given for every pair", |listed, room, judge| {
             let first = listed.first().map(|&pair| judge(pair));

@@ -8,7 +8,7 @@ use crate::faults::cells;
 use crate::random::Random;
 use crate::scene::*;
 use crate::text::{self, write};
-use crate::{cases, crossed, generate, listing, trials};
+use crate::{backwards, cases, crossed, generate, listing, trials};
 
 /// Pairs that are asked about in one scene, and cells of the table of faults in texts that a seed takes.
 const MOST_PAIRS: usize = 24;
@@ -59,7 +59,7 @@ fn scene_calls() -> Vec<Call> {
 fn with_room(call: Call, scene: &Scene, list: usize, words: usize) -> Question {
     let mut lent = Lent::of_scene(scene);
     if call.lists() {
-        lent.list = marks_of_16(list);
+        lent.list = marks_of_32(list);
     }
     if call == Call::SettleScene {
         lent.words = marks(words);
@@ -67,25 +67,30 @@ fn with_room(call: Call, scene: &Scene, list: usize, words: usize) -> Question {
     Question::new(call, lent)
 }
 
-/// Questions about the scene as a whole: room that is just enough, one too little, none, more than enough.
+/// Questions about the scene as a whole: room that is just enough, one too little, none, more than enough; and, played backwards,
+/// room that is just enough again.
 fn whole(random: &mut Random, scene: &Scene) -> Vec<Question> {
     let count = listing::listed(scene).len();
-    let mut out = vec![with_room(Call::CheckScene, scene, 0, 0), with_room(Call::CountPairs, scene, 0, 0)];
+    let calls = [Call::CheckScene, Call::CountPairs, Call::TurnScene];
+    let mut out = calls.map(|call| with_room(call, scene, 0, 0)).to_vec();
     let more = 1 + random.below(40);
-    let mut lists = vec![3 * count, 3 * count + 1, 3 * count + 2, 3 * count + more, 0];
-    lists.extend([1, 2, 3].map(|less| (3 * count).saturating_sub(less)));
+    let mut lists = vec![count, count + 1, count + more, 0];
+    lists.extend([1, 2].map(|less| count.saturating_sub(less)));
     out.extend(lists.iter().map(|&list| with_room(Call::ListPairs, scene, list, 0)));
     let fewer = count.saturating_sub(1);
-    let mut rooms = vec![(0, 0), (3 * count, 0), (0, count), (3 * count, fewer), (3 * fewer + 2, count), (3 * fewer, fewer)];
+    let mut rooms = vec![(0, 0), (count, 0), (0, count), (count, fewer), (fewer, count), (fewer, fewer)];
     if count <= LONGEST_JUDGED {
         rooms.extend([
-            (3 * count, count),
-            (3 * count + more, count),
-            (3 * count + 2, count + more),
-            (3 * count + more, count + more),
+            (count, count),
+            (count + more, count),
+            (count, count + more),
+            (count + more, count + more),
         ]);
     }
     out.extend(rooms.into_iter().map(|(list, words)| with_room(Call::SettleScene, scene, list, words)));
+    if count <= LONGEST_JUDGED {
+        out.push(with_room(Call::SettleScene, &backwards::turned(scene), count, count));
+    }
     // numbers of their own, so that the other questions are those that they would be without claims
     out.extend(about_claims(&mut random.clone(), scene));
     out
@@ -219,7 +224,7 @@ fn harmed(random: &mut Random, scene: &Scene) -> Vec<Question> {
 fn on_harmed(random: &mut Random, call: Call, harmed: &Lent) -> Vec<Question> {
     let mut lent = harmed.clone();
     if call.lists() {
-        lent.list = marks_of_16(random.pick(&[0, 3_000]));
+        lent.list = marks_of_32(random.pick(&[0, 1_000]));
     }
     if call == Call::SettleScene {
         lent.words = marks(random.pick(&[0, 1_000]));

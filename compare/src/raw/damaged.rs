@@ -3,9 +3,10 @@
 use super::expected::{self, Expecting};
 use super::harm::{of_asked, of_scene, SCENE_CHECKS};
 use super::question::*;
+use crate::backwards;
 use crate::listing;
 use crate::refusal::*;
-use crate::scene::{Kind, Pair, COORDINATE_LIMIT, FIRST_COORDINATE_LIMIT};
+use crate::scene::{Pair, Scene, COORDINATE_LIMIT, FIRST_COORDINATE_LIMIT};
 
 /// Changes a right answer, or leaves it.
 type Change = Box<dyn Fn(&Question, &mut Answer)>;
@@ -28,6 +29,7 @@ pub fn all() -> Vec<Damage> {
     out.extend(texts());
     out.extend(buffers());
     out.extend(bytes());
+    out.extend(turning());
     out.extend(claims());
     out
 }
@@ -234,12 +236,12 @@ fn rooms() -> Vec<Damage> {
     vec![
         damage("7 with the room and not the count", |question, answer| {
             if question.call.lists() && answer.refusal() == NO_ROOM {
-                answer.number = (NO_ROOM << 32) + question.lent.list.len() as u64 / 3;
+                answer.number = (NO_ROOM << 32) + question.lent.list.len() as u64;
             }
         }),
         damage("a list filled up to its room, and refused after", |question, answer| {
-            if question.call.lists() && answer.refusal() == NO_ROOM && question.lent.list.len() >= 3 {
-                answer.buffers[LIST][MARGIN..MARGIN + 2].copy_from_slice(&[0, 0]);
+            if question.call.lists() && answer.refusal() == NO_ROOM && !question.lent.list.is_empty() {
+                answer.buffers[LIST][MARGIN..MARGIN + 4].fill(0);
             }
         }),
         damage("words filled up to their room, and refused after", |question, answer| {
@@ -248,9 +250,9 @@ fn rooms() -> Vec<Damage> {
             }
         }),
         damage("a number behind the list is 0", |question, answer| {
-            let end = MARGIN + 6 * answer.number as usize;
-            if lists(question, answer) && question.lent.list.len() > 3 * answer.number as usize {
-                answer.buffers[LIST][end..end + 2].copy_from_slice(&[0, 0]);
+            let end = MARGIN + 4 * answer.number as usize;
+            if lists(question, answer) && question.lent.list.len() > answer.number as usize {
+                answer.buffers[LIST][end..end + 4].fill(0);
             }
         }),
         damage("a byte behind the words is 0", |question, answer| {
@@ -261,17 +263,33 @@ fn rooms() -> Vec<Damage> {
     ]
 }
 
+/// The entry at a place of the list, made anew of its kind, 0 or 1, and its two places.
+fn rewrite(answer: &mut Answer, place: usize, make: impl Fn(u32, u32, u32) -> u32) {
+    let bytes = &mut answer.buffers[LIST][MARGIN + 4 * place..][..4];
+    let entry = u32::from_le_bytes(bytes.try_into().unwrap());
+    bytes.copy_from_slice(&make(entry >> 20, entry >> 10 & 1_023, entry & 1_023).to_le_bytes());
+}
+
+/// A list whose entries are made in another way.
+fn entries(name: &str, make: fn(u32, u32, u32) -> u32) -> Damage {
+    damage(name, move |question, answer| {
+        if lists(question, answer) {
+            (0..answer.number as usize).for_each(|place| rewrite(answer, place, make));
+        }
+    })
+}
+
 /// Which room counts, and what the list and the words are.
 fn counts() -> Vec<Damage> {
     vec![
         damage("just the room is refused", |question, answer| {
-            if lists(question, answer) && question.lent.list.len() / 3 == answer.number as usize && answer.number > 0 {
+            if lists(question, answer) && question.lent.list.len() == answer.number as usize && answer.number > 0 {
                 answer.number += NO_ROOM << 32;
             }
         }),
         damage("only the list's room counts", |question, answer| {
             let count = answer.number as u32 as usize;
-            if question.call == Call::SettleScene && answer.refusal() == NO_ROOM && question.lent.list.len() / 3 >= count {
+            if question.call == Call::SettleScene && answer.refusal() == NO_ROOM && question.lent.list.len() >= count {
                 answer.number = count as u64;
             }
         }),
@@ -281,18 +299,26 @@ fn counts() -> Vec<Damage> {
                 answer.number = count as u64;
             }
         }),
-        damage("room is rounded up", |question, answer| {
-            let count = answer.number as u32 as usize;
-            if question.call == Call::ListPairs && answer.refusal() == NO_ROOM && question.lent.list.len().div_ceil(3) >= count {
-                answer.number = count as u64;
+        damage("room is a third of the list, as it was", |question, answer| {
+            let count = answer.number;
+            if lists(question, answer) && question.lent.list.len() as u64 / 3 < count {
+                *answer = Answer { number: (NO_ROOM << 32) + count, buffers: question.lent.bytes() };
             }
         }),
         damage("the last entry's edges change places", |question, answer| {
-            let last = MARGIN + 6 * (answer.number as usize).saturating_sub(1);
-            if lists(question, answer) && answer.number > 0 && answer.buffers[LIST][last] == Kind::EdgeEdge as u8 {
-                answer.buffers[LIST][last + 2..last + 6].rotate_left(2);
+            if lists(question, answer) && answer.number > 0 {
+                let last = answer.number as usize - 1;
+                rewrite(answer, last, |kind, first, second| {
+                    let (first, second) = if kind == 1 { (second, first) } else { (first, second) };
+                    (kind << 20) + (first << 10) + second
+                });
             }
         }),
+        entries("the places of an entry exchanged", |kind, first, second| (kind << 20) + (second << 10) + first),
+        entries("the kind at another bit", |kind, first, second| (kind << 21) + (first << 10) + second),
+        entries("the kind at the lowest bit", |kind, first, second| (first << 11) + (second << 1) + kind),
+        entries("places that overlap, nine bits each", |kind, first, second| (kind << 20) + (first << 9) + second),
+        entries("no kind in an entry", |_, first, second| (first << 10) + second),
         damage("the words of a list in three", |question, answer| {
             if question.call == Call::SettleScene && answer.refusal() == 0 {
                 let words = &mut answer.buffers[WORDS][MARGIN..MARGIN + answer.number as usize];
@@ -355,6 +381,46 @@ fn buffers() -> Vec<Damage> {
             }
         }),
     ]
+}
+
+fn accepted(question: &Question) -> Scene {
+    expected::scene(&question.lent).expect("a scene that was turned round is one")
+}
+
+/// A scene that is not, or not wholly, turned round.
+fn turning() -> Vec<Damage> {
+    let wrong = |name: &str, lend: fn(&Question) -> Lent| {
+        damage(name, move |question: &Question, answer: &mut Answer| {
+            if question.call == Call::TurnScene && answer.number == 0 {
+                answer.buffers = lend(question).bytes();
+            }
+        })
+    };
+    let mut out = vec![
+        wrong("a scene stays as it was", |question| question.lent.clone()),
+        wrong("vertices keep their numbers", |question| Lent::of_scene(&backwards::swapped(&accepted(question)))),
+        wrong("starts stay starts", |question| Lent::of_scene(&backwards::turned(&backwards::swapped(&accepted(question))))),
+        wrong("the edges' numbers stay", |question| Lent {
+            edges: question.lent.edges.clone(),
+            ..Lent::of_scene(&backwards::turned(&accepted(question)))
+        }),
+        wrong("the triangles' numbers stay", |question| Lent {
+            triangles: question.lent.triangles.clone(),
+            ..Lent::of_scene(&backwards::turned(&accepted(question)))
+        }),
+        wrong("x and z change places", |question| {
+            let mut lent = question.lent.clone();
+            lent.positions.reverse();
+            lent
+        }),
+    ];
+    out.push(damage("a refused scene is turned round", |question, answer| {
+        let halves = question.lent.positions.len() / 6 * 24;
+        if question.call == Call::TurnScene && answer.number > 0 && halves > 0 {
+            answer.buffers[POSITIONS][MARGIN..MARGIN + 24].rotate_left(12);
+        }
+    }));
+    out
 }
 
 /// A byte of what is only read, and the bytes beside each buffer.

@@ -6,7 +6,7 @@ use crate::scene::*;
 use crate::settled::{self, Settled};
 use crate::slices::{self, Slices};
 use crate::verdict::{self, Verdict};
-use crate::{claims, listing, report, text};
+use crate::{backwards, claims, listing, report, text};
 use std::collections::HashMap;
 
 /// Remembers the words of the last scene's pieces, which take their time.
@@ -39,11 +39,11 @@ impl Expecting {
             Call::CheckScene => scene(lent).map(|_| 0),
             Call::CountPairs => scene(lent).map(|scene| listing::listed(&scene).len() as u64),
             Call::ListPairs => {
-                let room = lent.list.len() / 3;
+                let room = lent.list.len();
                 listed(lent, room).map(|(_, pairs)| pairs.len() as u64)
             }
             Call::SettleScene => {
-                let room = (lent.list.len() / 3).min(lent.words.len());
+                let room = lent.list.len().min(lent.words.len());
                 let (scene, pairs) = listed(lent, room)?;
                 for (word, &pair) in lent.words.iter_mut().zip(&pairs) {
                     *word = settled::joined(self.words(&scene, pair)).byte();
@@ -58,6 +58,7 @@ impl Expecting {
             Call::Settle(asked) => Ok(settled::joined(&self.words_asked(question, asked)?).byte() as u64),
             Call::ReadScene => read(lent),
             Call::WriteReport => Ok(write(lent)),
+            Call::TurnScene => turn(lent),
             Call::CheckClaims => check_claims(lent),
         }
     }
@@ -101,9 +102,8 @@ fn listed(lent: &mut Lent, room: usize) -> Result<(Scene, Vec<Pair>), Refusal> {
     if pairs.len() > room {
         return Err(Refusal::new(NO_ROOM, pairs.len() as u64));
     }
-    for (entry, pair) in lent.list.chunks_exact_mut(3).zip(&pairs) {
-        let kind = (pair.kind == Kind::EdgeEdge) as u16;
-        entry.copy_from_slice(&[kind, pair.first as u16, pair.second as u16]);
+    for (entry, &pair) in lent.list.iter_mut().zip(&pairs) {
+        *entry = slices::entry(pair);
     }
     Ok((scene, pairs))
 }
@@ -115,6 +115,11 @@ fn read(lent: &mut Lent) -> Result<u64, Refusal> {
     lent.edges[..read.edges.len()].copy_from_slice(&read.edges);
     lent.triangles[..read.triangles.len()].copy_from_slice(&read.triangles);
     lent.counts = [scene.vertices.len(), scene.edges.len(), scene.triangles.len()].map(|count| count as u64).to_vec();
+    Ok(0)
+}
+
+fn turn(lent: &mut Lent) -> Result<u64, Refusal> {
+    *lent = Lent::of_scene(&backwards::turned(&scene(lent)?));
     Ok(0)
 }
 

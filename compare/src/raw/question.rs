@@ -16,6 +16,7 @@ pub enum Call {
     Settle(Asked),
     ReadScene,
     WriteReport,
+    TurnScene,
     CheckClaims,
 }
 
@@ -56,7 +57,7 @@ pub fn calls() -> Vec<Call> {
     let mut out = vec![Call::CheckScene, Call::CountPairs, Call::ListPairs, Call::SettleScene];
     out.extend(ASKED.map(Call::Judge));
     out.extend(ASKED.map(Call::Settle));
-    out.extend([Call::ReadScene, Call::WriteReport, Call::CheckClaims]);
+    out.extend([Call::ReadScene, Call::WriteReport, Call::TurnScene, Call::CheckClaims]);
     out
 }
 
@@ -88,6 +89,7 @@ impl Call {
             Call::Settle(asked) => format!("settle_{}", of(asked)),
             Call::ReadScene => "read_scene".into(),
             Call::WriteReport => "write_report".into(),
+            Call::TurnScene => "turn_scene".into(),
             Call::CheckClaims => "check_claims".into(),
         }
     }
@@ -99,7 +101,7 @@ pub struct Lent {
     pub positions: Vec<i32>,
     pub edges: Vec<u16>,
     pub triangles: Vec<u16>,
-    pub list: Vec<u16>,
+    pub list: Vec<u32>,
     pub words: Vec<u8>,
     pub text: Vec<u8>,
     pub counts: Vec<u64>,
@@ -150,7 +152,7 @@ impl Lent {
             self.positions.iter().flat_map(|n| n.to_le_bytes()).collect(),
             short(&self.edges),
             short(&self.triangles),
-            short(&self.list),
+            self.list.iter().flat_map(|n| n.to_le_bytes()).collect(),
             self.words.clone(),
             self.text.clone(),
             self.counts.iter().flat_map(|n| n.to_le_bytes()).collect(),
@@ -167,6 +169,11 @@ pub fn marks(length: usize) -> Vec<u8> {
 
 pub fn marks_of_16(length: usize) -> Vec<u16> {
     (0..length).map(|i| (i * 4_099 + 50_001) as u16).collect()
+}
+
+/// Numbers that no list has: an entry has 21 bits.
+pub fn marks_of_32(length: usize) -> Vec<u32> {
+    (0..length).map(|i| (i * 268_603_651 + 3_276_865_537) as u32 | 1 << 31).collect()
 }
 
 #[derive(Clone, Debug)]

@@ -194,7 +194,7 @@ fn of_slices(question: &Question, answer: &Answer) -> Vec<String> {
     let call = question.call;
     let mut faults = of_scene(&question.lent);
     faults.extend(call.asked().map(|asked| of_asked(question, asked)).unwrap_or_default());
-    let no_room = call.lists() && (question.lent.list.len() < 3 || (call == Call::SettleScene && question.lent.words.is_empty()));
+    let no_room = call.lists() && (question.lent.list.is_empty() || (call == Call::SettleScene && question.lent.words.is_empty()));
     let mut out = Vec::new();
     let given = answer.refusal();
     if SCENE_CHECKS.contains(&given) {
@@ -240,7 +240,7 @@ fn of_told(question: &Question, asked: Asked, answer: &Answer) -> Vec<String> {
 
 fn of_room(question: &Question, count: usize) -> Vec<String> {
     let name = question.call.name();
-    let (list, words) = (question.lent.list.len() / 3, question.lent.words.len());
+    let (list, words) = (question.lent.list.len(), question.lent.words.len());
     let judges = question.call == Call::SettleScene;
     let room = if judges { list.min(words) } else { list };
     let mut out = Vec::new();

@@ -33,13 +33,13 @@ number-at l k (suc (suc (suc (suc (suc zero))))) h = ap (λ (n : ℕ). getD l n 
 number-at l k (suc (suc (suc (suc (suc (suc r)))))) h = absurd (omega arith)
 
 -- lists whose boxes up to n are the same have the same numbers there
-numbers-same : (l l′ : List ℤ) (n : ℕ) → ((k : ℕ) → k < n → boxAt l k ≡ boxAt l′ k) → (i : ℕ) → i < 6 * n → getD l i (pos 0) ≡ getD l′ i (pos 0)
+pub numbers-same : (l l′ : List ℤ) (n : ℕ) → ((k : ℕ) → k < n → boxAt l k ≡ boxAt l′ k) → (i : ℕ) → i < 6 * n → getD l i (pos 0) ≡ getD l′ i (pos 0)
 numbers-same l l′ n e i h =
     let place : 6 * (i / 6) + i % 6 ≡ i = omega arith in
     rw (← place)
     (number-at l (i / 6) (i % 6) (omega arith) ∙ ap (λ (b : Box). numberOf b (i % 6)) (e (i / 6) (omega arith)) ∙ sym (number-at l′ (i / 6) (i % 6) (omega arith)))
 
-holds-one : {l l′ : List ℤ} {first n : ℕ} {want : ℕ → Box} → Holds l first n want → Holds l′ first n want → (k : ℕ) → first ≤ k
+pub holds-one : {l l′ : List ℤ} {first n : ℕ} {want : ℕ → Box} → Holds l first n want → Holds l′ first n want → (k : ℕ) → first ≤ k
     → k < first + n → boxAt l k ≡ boxAt l′ k
 holds-one {l} {l′} {first} p q k h e =
     let place : first + (k - first) ≡ k = omega arith in

@@ -82,7 +82,7 @@ module _ (l : List ℤ) (k : ℕ) (b : Box) where
       }
 
 -- boxes whose six numbers are the same are the same
-same-box : (l l′ : List ℤ) (i : ℕ) → ((n : ℕ) → 6 * i ≤ n → n < 6 * i + 6 → getD l′ n (pos 0) ≡ getD l n (pos 0)) → boxAt l′ i ≡ boxAt l i
+pub same-box : (l l′ : List ℤ) (i : ℕ) → ((n : ℕ) → 6 * i ≤ n → n < 6 * i + 6 → getD l′ n (pos 0) ≡ getD l n (pos 0)) → boxAt l′ i ≡ boxAt l i
 same-box l l′ i e =
     let xl = e (6 * i) (omega arith) (omega arith) in
     let yl = e (6 * i + 1) (omega arith) (omega arith) in

@@ -68,7 +68,7 @@ sixOf s EdgeEdge i j k = edgesSix (endsOf s (min i j)) (k / 2) (endsOf s (max i 
 
 -- ---- the six points are the piece's, and as they are in every piece
 
-pub point-piece : (s : Scene) (p : ℕ) (c : Corners) (k : ℕ) → pieceAt (s .positions) (pointSix p c k) ≡ record { first = movingPoint s p; second = movingTriangle s c k }
+pub point-piece : (s : Scene) (p : ℕ) (c : Corners) (k : ℕ) → pieceAt (s .positions) (pointSix p c k) ≡ record { first = movingPoint (s .positions) p; second = movingTriangle (s .positions) c k }
 unfolding pointSix movingTriangle
 point-piece s p c zero = refl
 point-piece s p c (suc zero) = refl
@@ -80,7 +80,7 @@ point-timed p c zero = record { starts = refl; ends = refl; split = omega arith 
 point-timed p c (suc zero) = record { starts = refl; ends = refl; split = omega arith }
 point-timed p c (suc (suc k)) = record { starts = refl; ends = refl; split = omega arith }
 
-pub edges-piece : (s : Scene) (e : Ends) (i : ℕ) (f : Ends) (j : ℕ) → pieceAt (s .positions) (edgesSix e i f j) ≡ record { first = movingEdge s e i; second = movingEdge s f j }
+pub edges-piece : (s : Scene) (e : Ends) (i : ℕ) (f : Ends) (j : ℕ) → pieceAt (s .positions) (edgesSix e i f j) ≡ record { first = movingEdge (s .positions) e i; second = movingEdge (s .positions) f j }
 unfolding edgesSix movingEdge
 edges-piece s e zero f zero = refl
 edges-piece s e zero f (suc j) = refl

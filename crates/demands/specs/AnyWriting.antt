@@ -44,7 +44,7 @@ parts-there s PointTriangle i j there = are-there (vertexCount s) (triangleCount
 parts-there s EdgeEdge i j there = are-there (edgeCount s) (edgeCount s) i j there
 
 -- in an accepted scene they are well made
-well-made : {s : Scene} → Accepted s → (kind : Kind) (i j : ℕ) → notThere s kind i j ≡ false → WellMade s kind i j
+pub well-made : {s : Scene} → Accepted s → (kind : Kind) (i j : ℕ) → notThere s kind i j ≡ false → WellMade s kind i j
 unfolding notThere WellMade
 well-made {s} a PointTriangle i j there =
     let (h, k) = are-there (vertexCount s) (triangleCount s) i j there in
@@ -186,12 +186,14 @@ module _ {s t : Scene} (h : Rewritten s t) where
     words-alike ps (λ q m. made q (List·Memᴰ·tail m)) ws (j .1),
   )
 
-  -- so the words of both lists are the same
+  -- so the words of the one list are those of the other
+  pub words-as-written : Accepted s → (ws : List Settled) → AllSettled t (pairs t) ws → AllSettled s (pairs s) ws
+  words-as-written a ws k =
+      words-alike (pairs s) (λ p m. well-made a (p .kind) (p .first) (p .second) (list-is s .stands p .0 m .there)) ws
+      (subst (λ (ps : List Pair). AllSettled t ps ws) (rewritten-list h) k)
+
   one-words : Accepted s → (vs ws : List Settled) → AllSettled s (pairs s) vs → AllSettled t (pairs t) ws → vs ≡ ws
-  one-words a vs ws j k =
-      all-judged-one s (pairs s) vs ws j
-      (words-alike (pairs s) (λ p m. well-made a (p .kind) (p .first) (p .second) (list-is s .stands p .0 m .there)) ws
-      (subst (λ (ps : List Pair). AllSettled t ps ws) (rewritten-list h) k))
+  one-words a vs ws j k = all-judged-one s (pairs s) vs ws j (words-as-written a ws k)
 
   -- and of two calls that list and judge, with the same two lent buffers
   pub judging-as-written : (o o′ o″ b b′ b″ : List ℕ) (r r′ : ListAnswer) → SettledScene s o o′ b b′ r → SettledScene t o o″ b b″ r′

@@ -1,7 +1,7 @@
 -- 'Try these against it', of lists: a call that writes nothing, one that fills the list up to its room and refuses after, and one that judges
 -- the first pair and copies its verdict.
 use Prim.Native.Nat.{ℕ}
-use mathlib.Core.List.{List, [], _∷_, _++_, flatMap}
+use mathlib.Core.List.{List, [], _∷_, _++_}
 use mathlib.Core.Path.{_≡_, refl, _∙_}
 use native.Mathlib.Omega.{arith}
 use lib.IntN.{pos}
@@ -13,7 +13,7 @@ use Rattle.meaning.specs.Scene.{Scene, sceneOf, Accepted, someBelow}
 use Rattle.meaning.specs.Pieces.{pieceCount}
 use Rattle.meaning.specs.Refusals.{given, numberOf, shares}
 use Rattle.meaning.specs.Boxes.{meetOn}
-use Rattle.meaning.specs.List.{pair, pairs, entry, entries, kindNumber, listSays, leaves, Listing}
+use Rattle.meaning.specs.List.{pair, pairs, kindPart, number, entries, listSays, leaves, Listing}
 use Rattle.meaning.specs.SceneWords.{byteOf, AllSettled, SettledScene}
 use Rattle.meaning.specs.Text.{coordinates}
 use Rattle.meaning.specs.declared.Kind.the-variants.{PointTriangle}
@@ -34,25 +34,25 @@ use Rattle.demands.specs.Barred.{lists}
 
 -- ---- a list call that writes nothing
 
--- the printed scene's list, in a buffer of six nines
-pub list-written : (o′ : List ℕ) (r : ListAnswer) → Listing printedScene (9 ∷ 9 ∷ 9 ∷ 9 ∷ 9 ∷ 9 ∷ []) o′ r
-    → (r ≡ Listed (record { count = 2 })) × (o′ ≡ 0 ∷ 3 ∷ 0 ∷ 1 ∷ 0 ∷ 1 ∷ [])
-unfolding entry kindNumber leaves listSays flatMap
+-- the printed scene's list, in a buffer of two nines: pt 3 0 and ee 0 1
+pub list-written : (o′ : List ℕ) (r : ListAnswer) → Listing printedScene (9 ∷ 9 ∷ []) o′ r
+    → (r ≡ Listed (record { count = 2 })) × (o′ ≡ 3_072 ∷ 1_048_577 ∷ [])
+unfolding number kindPart leaves listSays
 list-written o′ r p =
     let made : r ≡ Listed (record { count = 2 }) =
     rw printed-pairs at (lists printedScene _ o′ r printed-accepted (rw printed-pairs (omega arith)) p) in
-    let buffer : o′ ≡ leaves (listSays r) (entries (pairs printedScene)) (9 ∷ 9 ∷ 9 ∷ 9 ∷ 9 ∷ 9 ∷ []) = p .buffer in
+    let buffer : o′ ≡ leaves (listSays r) (entries (pairs printedScene)) (9 ∷ 9 ∷ []) = p .buffer in
     (made, rw (made, printed-pairs) at buffer)
 
 -- ---- a list filled up to its room
 
 -- room for one pair: refused with the count needed, and the buffer is as it was
-pub list-refused : (o′ : List ℕ) (r : ListAnswer) → Listing printedScene (9 ∷ 9 ∷ 9 ∷ []) o′ r → (r ≡ Refused NoRoom 2) × (o′ ≡ 9 ∷ 9 ∷ 9 ∷ [])
+pub list-refused : (o′ : List ℕ) (r : ListAnswer) → Listing printedScene (9 ∷ []) o′ r → (r ≡ Refused NoRoom 2) × (o′ ≡ 9 ∷ [])
 unfolding listSays numberOf
 list-refused o′ r p =
-    let table = demand1-listing printedScene (9 ∷ 9 ∷ 9 ∷ []) o′ r p in
+    let table = demand1-listing printedScene (9 ∷ []) o′ r p in
     let says = table .no7 .1 (printed-accepted, rw printed-pairs (omega arith)) in
-    (list-says-one r (Refused NoRoom 2) (rw printed-pairs at says), listing-unchanged printedScene (9 ∷ 9 ∷ 9 ∷ []) o′ r p 7 _ says)
+    (list-says-one r (Refused NoRoom 2) (rw printed-pairs at says), listing-unchanged printedScene (9 ∷ []) o′ r p 7 _ says)
 
 -- ---- the first pair's verdict copied
 
@@ -78,7 +78,7 @@ unfolding AllSettled pieceCount pieceVerdict joinedBelow joined pointDifferences
 hit-then-miss = rw two-pairs (pair-word-is twoPoints PointTriangle 3 0 Hit .1 refl, (pair-word-is twoPoints PointTriangle 4 0 Miss .1 refl, tt))
 
 -- the bytes of a hit and of a miss
-pub verdicts-written : (o o′ b′ : List ℕ) (r : ListAnswer) → length o ≡ 6 → SettledScene twoPoints o o′ (9 ∷ 9 ∷ []) b′ r → b′ ≡ 0 ∷ 1 ∷ []
+pub verdicts-written : (o o′ b′ : List ℕ) (r : ListAnswer) → length o ≡ 2 → SettledScene twoPoints o o′ (9 ∷ 9 ∷ []) b′ r → b′ ≡ 0 ∷ 1 ∷ []
 unfolding leaves byteOf
 verdicts-written o o′ b′ r long p =
     let says : listSays r ≡ given 2 =

@@ -28,7 +28,7 @@ use Rattle.scenes.specs.Facts.{accepted-end, accepted-corner}
 use Rattle.listing.specs.InOrder.{are-there}
 
 -- in an accepted scene the vertices of a pair that is there are there
-vertices-there : {s : Scene} {B : ℕ} → AcceptedWithin B s → (kind : Kind) (i j : ℕ) → notThere s kind i j ≡ false → Known s kind i j
+pub vertices-there : {s : Scene} {B : ℕ} → AcceptedWithin B s → (kind : Kind) (i j : ℕ) → notThere s kind i j ≡ false → Known s kind i j
 unfolding notThere firstPart secondPart
 vertices-there {s} a PointTriangle i j there =
     let (h, k) = are-there (vertexCount s) (triangleCount s) i j there in

@@ -13,18 +13,18 @@ use Rattle.demands.specs.StillAccepted.{different-corners}
 pub record TouchesTriangle (s : Scene) (t : ℕ) (points : List Event) : Type 0 where
   pub piece : ℕ
   pub there : piece < 3
-  pub touch : Touch (movingTriangle s (cornersOf s t) piece) points
+  pub touch : Touch (movingTriangle (s .positions) (cornersOf s t) piece) points
 
 -- what touches a piece of the moving side a b touches a piece of every moving triangle that has the corners a and b
 pub side-touched : {s : Scene} → Accepted s → (a b t : ℕ) → t < triangleCount s → HasTwo s t a b
-    → (m : ℕ) (points : List Event) → Touch (movingEdge s (rising s a b) m) points → TouchesTriangle s t points
+    → (m : ℕ) (points : List Event) → Touch (movingEdge (s .positions) (rising s a b) m) points → TouchesTriangle s t points
 side-touched {s} accepted a b t there has m points touch =
     let face = side-pieces-are-faces s t a b (different-corners accepted t there) has m in
-    let (k, below, through) = touch-through s (cornersOf s t) (movingEdge s (rising s a b) m) points face touch in
+    let (k, below, through) = touch-through s (cornersOf s t) (movingEdge (s .positions) (rising s a b) m) points face touch in
     record { piece = k; there = below; touch = through }
 
 -- so of two triangles that have the corners a and b both are touched: there is no crack between them
 pub no-cracks : {s : Scene} → Accepted s → (a b t t′ : ℕ) → t < triangleCount s → t′ < triangleCount s → HasTwo s t a b → HasTwo s t′ a b
-    → (m : ℕ) (points : List Event) → Touch (movingEdge s (rising s a b) m) points → TouchesTriangle s t points × TouchesTriangle s t′ points
+    → (m : ℕ) (points : List Event) → Touch (movingEdge (s .positions) (rising s a b) m) points → TouchesTriangle s t points × TouchesTriangle s t′ points
 no-cracks accepted a b t t′ there there′ has has′ m points touch =
     (side-touched accepted a b t there has m points touch, side-touched accepted a b t′ there′ has′ m points touch)

@@ -7,8 +7,9 @@ use lib.ListN.{length}
 use Rattle.meaning.specs.Scene.{Scene}
 use Rattle.meaning.specs.Pieces.{pieceOf}
 use Rattle.meaning.specs.Verdicts.{PieceIs, PairIs}
-use Rattle.meaning.specs.Refusals.{Check, Answers, pairSays, sceneChecks, pairChecks, pieceChecks, SceneChecked, PairJudged, PieceJudged}
+use Rattle.meaning.specs.Refusals.{Check, Answers, sceneSays, pairSays, sceneChecks, pairChecks, pieceChecks, SceneChecked, PairJudged, PieceJudged}
 use Rattle.meaning.specs.Resting.{PieceSettled, PairSettled, settledSays, PairDecided, PieceDecided}
+use Rattle.meaning.specs.Backwards.{sceneLeft, Turning}
 use Rattle.meaning.specs.List.{Pair, pairs, entries, roomOf, listSays, listChecks, leaves, Counted, Listing}
 use Rattle.meaning.specs.SceneWords.{byteOf, AllSettled, SettledScene}
 use Rattle.meaning.specs.declared.Kind.{Kind}
@@ -36,6 +37,11 @@ settled-says-one (SettledAnswers.the-variants.Refused x) (SettledAnswers.the-var
 
 pub one-scene : (s : Scene) (r r′ : SceneAnswer) → SceneChecked s r → SceneChecked s r′ → r ≡ r′
 one-scene = one-scene-answer
+
+pub one-turning : (s t t′ : Scene) (r r′ : SceneAnswer) → Turning s t r → Turning s t′ r′ → (r ≡ r′) × (t ≡ t′)
+one-turning s t t′ r r′ p q =
+    let same : r ≡ r′ = one-scene s r r′ (p .answer) (q .answer) in
+    (same, p .scene ∙ ap (λ (x : SceneAnswer). sceneLeft (sceneSays x) s) same ∙ sym (q .scene))
 
 pub one-pair : (s : Scene) (kind : Kind) (i j : ℕ) (r r′ : PairAnswer) → PairJudged s kind i j r → PairJudged s kind i j r′ → r ≡ r′
 one-pair s kind i j r r′ p q =

@@ -4,12 +4,15 @@ use Prim.Native.Nat.{ℕ}
 use Prim.Native.Char.{code}
 use Prim.Native.String as Strings
 use Prim.Native.String.{String}
-use mathlib.Core.List.{List, [], _∷_, _++_, flatMap}
-use mathlib.Core.Path.{_≡_, refl, subst}
+use mathlib.Core.List.{List, [], _∷_, _++_, flatMap, append-nil}
+use mathlib.Core.Path.{_≡_, refl, sym, _∙_, ap, subst}
 use native.Mathlib.Omega.{arith}
 use lib.IntN.{pos}
+use lib.ListN.{length, take, drop}
+use lib.Seq.{take-append-seam}
 use Rattle.sequences.specs.Range.{times, over}
 use Rattle.sequences.specs.Gather.{gather}
+use Rattle.sequences.specs.Wrote.{written}
 use Rattle.decimals.specs.Digits.{digits, digitsWithin}
 use Rattle.whole.specs.Vector.{volume}
 use Rattle.meaning.specs.Scene.{Scene, Accepted}
@@ -18,9 +21,9 @@ use Rattle.meaning.specs.Refusals.{Answers, shares}
 use Rattle.meaning.specs.Boxes.{meetOn}
 use Rattle.meaning.specs.List.{pair, pairs}
 use Rattle.meaning.specs.Lines as Lines
-use Rattle.meaning.specs.Text.{Entry, vertex, edge, triangle, letterOf, numbersOf, numeral, further, lineOf, Short, late, excess, far, unknown, twice, counted, coordinatesIn, endsIn, cornersIn, sceneFrom, Holds}
+use Rattle.meaning.specs.Text.{Entry, vertex, edge, triangle, letterOf, numbersOf, numeral, further, lineOf, Short, late, excess, far, unknown, twice, counted, textOf, coordinatesIn, endsIn, cornersIn, sceneFrom, Holds}
 use Rattle.meaning.specs.SceneWords.{byteOf, AllSettled}
-use Rattle.meaning.specs.Report.{kindWord, verdictWord, pairLines, isOne, howMany, totalLine, ReportOf, judged}
+use Rattle.meaning.specs.Report.{kindWord, verdictWord, pairLines, isOne, howMany, totalLine, ReportOf, judged, Reported, ReportedRead}
 use Rattle.meaning.specs.declared.Kind.the-variants.{PointTriangle, EdgeEdge}
 use Rattle.meaning.specs.declared.Settled.the-variants.{Hit}
 use Rattle.theory.specs.Reading.{verdictOf, agreeing}
@@ -54,9 +57,13 @@ unfoldable pub printedScene : Scene
 unfolding records
 printedScene = sceneFrom records
 
+pub printed-lines : printedText ≡ textOf records
+unfolding bytesOf records numbersOf flatMap lineOf letterOf further numeral digits digitsWithin
+printed-lines = refl
+
 pub printed-holds : Holds printedText printedScene
-unfolding bytesOf records printedScene Lines.Sound Short numbersOf Answers late excess far unknown twice counted flatMap lineOf letterOf further numeral digits digitsWithin
-printed-holds = record { entries = records; records = record { sound = (omega arith, tt, (omega arith, tt, (omega arith, tt, (omega arith, tt, (omega arith, tt, (omega arith, tt, (omega arith, tt, (omega arith, tt, tt)))))))); lines = refl }; scene = refl }
+unfolding records printedScene Lines.Sound Short numbersOf Answers late excess far unknown twice counted digits digitsWithin
+printed-holds = record { entries = records; records = record { sound = (omega arith, tt, (omega arith, tt, (omega arith, tt, (omega arith, tt, (omega arith, tt, (omega arith, tt, (omega arith, tt, (omega arith, tt, tt)))))))); lines = printed-lines }; scene = refl }
 
 pub printed-accepted : Accepted printedScene
 printed-accepted = text-accepted printed-holds
@@ -80,3 +87,20 @@ printed-report =
 
 pub prints-exactly : {report : List ℕ} → ReportOf printedText report → report ≡ printedReport
 prints-exactly r = one-report r printed-report
+
+-- the same in the buffer that is filled: the report stands in front, its length is returned, and the rest is unchanged
+pub prints-into : (o o′ : List ℕ) (n : ℕ) → Reported printedText o o′ n → (n ≡ length printedReport) × (o′ ≡ written printedReport o)
+prints-into o o′ n p =
+    let e : p .report ≡ printedReport = prints-exactly (p .right) in
+    (p .length-is ∙ ap (length {A = ℕ}) e, p .buffer ∙ ap (λ (r : List ℕ). written r o) e)
+
+pub prints-in-front : (o o′ : List ℕ) (n : ℕ) → Reported printedText o o′ n → take n o′ ≡ printedReport
+prints-in-front o o′ n p =
+    let (long, is) = prints-into o o′ n p in
+    rw (long, is) (take-append-seam printedReport (drop (length printedReport) o))
+
+-- and from the buffer that the text was read into, with room behind it
+pub prints-what-was-read : (buffer o o′ : List ℕ) (n : ℕ) → take (length printedText) buffer ≡ printedText → ReportedRead buffer (length printedText) o o′ n
+    → (n ≡ length printedReport) × (o′ ≡ written printedReport o)
+prints-what-was-read buffer o o′ n front p =
+    prints-into o o′ n (p printedText (record { rest = []; front = sym (append-nil (take (length printedText) buffer) ∙ front); ended = λ below. refl }))

@@ -51,7 +51,7 @@ different-corners {s} a = corners-differ s (a .distinct)
 
 -- ---- and so of one written in another order
 
-every-rearranged : {A : Type 0} (P : A → Type 0) {k l : List A} → Rearranged k l → Every P k → Every P l
+pub every-rearranged : {A : Type 0} (P : A → Type 0) {k l : List A} → Rearranged k l → Every P k → Every P l
 every-rearranged P unmoved h = h
 every-rearranged P (moved e r) h = every-rearranged P r (every-exchanged P e h)
 
@@ -131,10 +131,36 @@ module _ {s t : Scene} (h : Rewritten s t) where
 
 -- ---- so each check says the same of both
 
-both-or-neither : (a b : Bool) → (a ≡ false → b ≡ false) → (b ≡ false → a ≡ false) → b ≡ a
+pub both-or-neither : (a b : Bool) → (a ≡ false → b ≡ false) → (b ≡ false → a ≡ false) → b ≡ a
 both-or-neither true true f g = refl
 both-or-neither true false f g = sym (g refl)
 both-or-neither false b f g = f refl
+
+-- two scenes of which 1, 2, 3 and 4 say the same
+pub record SameChecks (s t : Scene) : Type 0 where
+  pub shape : wrongShape t ≡ wrongShape s
+  pub range : outOfRange t ≡ outOfRange s
+  pub known : wrongShape s ≡ false → unknownVertex t ≡ unknownVertex s
+  pub repeated : repeatedVertex t ≡ repeatedVertex s
+
+-- where one of them is refused, so is the other
+pub refused-as : {s t : Scene} → SameChecks s t → {A : Type 0} {o o′ : Outcome A} → SceneRows s o → SceneRows t o′ → (Accepted s → o ≡ o′) → o ≡ o′
+refused-as {s} {t} h p q then =
+    holds-or-not (wrongShape s)
+    (λ e. p .no1 .1 e ∙ sym (q .no1 .1 (h .shape ∙ e)))
+    (λ h1.
+    let k1 = h .shape ∙ h1 in
+    holds-or-not (outOfRange s)
+    (λ e. p .no2 .1 (h1, e) ∙ sym (q .no2 .1 (k1, h .range ∙ e)))
+    (λ h2.
+    let k2 = h .range ∙ h2 in
+    holds-or-not (unknownVertex s)
+    (λ e. p .no3 .1 (h1, (h2, e)) ∙ sym (q .no3 .1 (k1, (k2, h .known h1 ∙ e))))
+    (λ h3.
+    let k3 = h .known h1 ∙ h3 in
+    holds-or-not (repeatedVertex s)
+    (λ e. p .no4 .1 (h1, (h2, (h3, e))) ∙ sym (q .no4 .1 (k1, (k2, (k3, h .repeated ∙ e)))))
+    (λ h4. then (record { shapely = h1; inRange = h2; known = h3; distinct = h4 })))))
 
 module _ {s t : Scene} (h : Rewritten s t) where
   -- 1: the lengths are the same
@@ -163,21 +189,8 @@ module _ {s t : Scene} (h : Rewritten s t) where
     distinct = repeated-alike ∙ a .distinct;
   }
 
-  -- where 1, 2, 3 or 4 refuses one of them, it refuses the other
+  same-checks : SameChecks s t
+  same-checks = record { shape = shape-alike; range = range-alike; known = known-alike; repeated = repeated-alike }
+
   pub refused-alike : {A : Type 0} {o o′ : Outcome A} → SceneRows s o → SceneRows t o′ → (Accepted s → o ≡ o′) → o ≡ o′
-  refused-alike p q then =
-      holds-or-not (wrongShape s)
-      (λ e. p .no1 .1 e ∙ sym (q .no1 .1 (shape-alike ∙ e)))
-      (λ h1.
-      let k1 = shape-alike ∙ h1 in
-      holds-or-not (outOfRange s)
-      (λ e. p .no2 .1 (h1, e) ∙ sym (q .no2 .1 (k1, range-alike ∙ e)))
-      (λ h2.
-      let k2 = range-alike ∙ h2 in
-      holds-or-not (unknownVertex s)
-      (λ e. p .no3 .1 (h1, (h2, e)) ∙ sym (q .no3 .1 (k1, (k2, known-alike h1 ∙ e))))
-      (λ h3.
-      let k3 = known-alike h1 ∙ h3 in
-      holds-or-not (repeatedVertex s)
-      (λ e. p .no4 .1 (h1, (h2, (h3, e))) ∙ sym (q .no4 .1 (k1, (k2, (k3, repeated-alike ∙ e)))))
-      (λ h4. then (record { shapely = h1; inRange = h2; known = h3; distinct = h4 })))))
+  refused-alike = refused-as same-checks

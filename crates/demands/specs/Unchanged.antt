@@ -7,17 +7,19 @@ use mathlib.Core.Path.{_≡_, refl, sym, _∙_, ap, subst}
 use native.Mathlib.Omega.{arith}
 use lib.ListN.{length}
 use borrow.Author.Tests.{ltb-false}
-use Rattle.sequences.specs.Flat.{flat-length}
 use Rattle.sequences.specs.Wrote.{Wrote, written, wrote-written}
 use Rattle.meaning.specs.Limits.{vertexLimit, edgeLimit, triangleLimit}
 use Rattle.meaning.specs.Scene.{Scene, vertexCount, edgeCount, triangleCount}
-use Rattle.meaning.specs.Refusals.{Outcome, given, refused}
-use Rattle.meaning.specs.List.{Pair, pairs, entry, entries, listSays, leaves, Listing}
+use Rattle.meaning.specs.Refusals.{Outcome, given, refused, sceneSays}
+use Rattle.meaning.specs.Backwards.{turnedRound, sceneLeft, Turning}
+use Rattle.meaning.specs.List.{pairs, entries, listSays, leaves, Listing}
 use Rattle.meaning.specs.SceneWords.{byteOf, SettledScene}
 use Rattle.meaning.specs.Text.{Holds, shortBuffer, countsOf, countsTold, textSays, filled, TextRead}
 use Rattle.meaning.specs.declared.SceneCounts.{SceneCounts}
 use Rattle.meaning.specs.declared.ListAnswer.{ListAnswer}
+use Rattle.meaning.specs.declared.SceneAnswer.{SceneAnswer}
 use Rattle.meaning.specs.declared.TextAnswer.{TextAnswer}
+use Rattle.entries.specs.Entries.{entries-length}
 use Rattle.scenes.specs.Below.{or-left, or-rest}
 use Rattle.scenes.specs.Facts.{accepted-sized}
 use Rattle.scene_text.specs.Accepted.{text-accepted}
@@ -47,20 +49,25 @@ judging-unchanged s o o′ b b′ r p n c e = (
 pub reading-unchanged : (text : List ℕ) (lent left : Scene) (r : TextAnswer) → TextRead text lent left r → (n line : ℕ) → textSays r ≡ refused n line → left ≡ lent
 reading-unchanged text lent left r p n line e = p .leaves ∙ filled-refused (p .outcome) lent n line (sym (p .says) ∙ e)
 
+pub turning-unchanged : (s t : Scene) (r : SceneAnswer) → Turning s t r → (n c : ℕ) → sceneSays r ≡ refused n c → t ≡ s
+unfolding sceneLeft
+turning-unchanged s t r p n c e = p .scene ∙ ap (λ (x : Outcome (Unit {0})). sceneLeft x s) e
+
 -- ---- after success
 
-entries-long : (ps : List Pair) → length (entries ps) ≡ length ps * 3
-unfolding entry
-entries-long = flat-length entry 3 (λ p. refl)
+-- the scene turned round stands where the scene stood
+pub turning-holds : (s t : Scene) (r : SceneAnswer) → Turning s t r → sceneSays r ≡ given tt → t ≡ turnedRound s
+unfolding sceneLeft
+turning-holds s t r p e = p .scene ∙ ap (λ (x : Outcome (Unit {0})). sceneLeft x s) e
 
 -- the list stands in front, as many entries as the count returned, and behind it nothing changed
 pub listing-holds : (s : Scene) (o o′ : List ℕ) (r : ListAnswer) → Listing s o o′ r → (n : ℕ) → listSays r ≡ given n
-    → Wrote o 0 (entries (pairs s)) o′ (n * 3)
+    → Wrote o 0 (entries (pairs s)) o′ n
 unfolding leaves
 listing-holds s o o′ r p n e =
     let (accepted, (room, count)) = demand1-listing s o o′ r p .listed n .0 e in
-    let long : length (entries (pairs s)) ≡ n * 3 = omega (arith, entries-long (pairs s)) in
-    let fits = wrote-written (entries (pairs s)) o (omega (arith, entries-long (pairs s))) in
+    let long : length (entries (pairs s)) ≡ n = omega (arith, entries-length (pairs s)) in
+    let fits = wrote-written (entries (pairs s)) o (omega (arith, entries-length (pairs s))) in
     rw (p .buffer ∙ ap (λ (x : Outcome ℕ). leaves x (entries (pairs s)) o) e, ← long) fits
 
 -- the text is a scene with these counts, and it stands in front: its positions, its ends and its corners, and behind them nothing changed

@@ -71,10 +71,10 @@ pub fn arrow_volumes(positions: &[i32], a: Arrow, b: Arrow, c: Arrow, d: Arrow) 
     ensures { λ r. ⌜ Holds r (arrowVolumes (now (positions .entry)) (four a b c d)) ⌝ }
 {
     let former = arrow_minors(positions, a, b);
+    let e2 = arrow_with(positions, d, former);
+    let e3 = arrow_with(positions, c, former);
     let latter = arrow_minors(positions, c, d);
     let e0 = arrow_with(positions, b, latter);
     let e1 = arrow_with(positions, a, latter);
-    let e2 = arrow_with(positions, d, former);
-    let e3 = arrow_with(positions, c, former);
     in_turn(e0, e1, e2, e3)
 }

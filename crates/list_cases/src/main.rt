@@ -40,7 +40,7 @@ const EDGES: [u16; 4] = [0, 1, 3, 4];
 
 const TRIANGLES: [u16; 3] = [0, 1, 2];
 
-fn wide(x: u16) -> u64 {
+fn wide(x: u32) -> u64 {
     x as u64
 }
 
@@ -52,7 +52,7 @@ fn end_line() {
     io::write_all(libc::STDOUT_FILENO, b"\n");
 }
 
-fn show_buffer(list: &[u16]) {
+fn show_buffer(list: &[u32]) {
     let mut i = 0;
     while i < list.len() {
         tab();
@@ -78,13 +78,13 @@ fn show_answer(answer: ListAnswer) {
 }
 
 // The printed scene, listed into a buffer.
-fn try_room(list: &mut [u16]) {
+fn try_room(list: &mut [u32]) {
     show_answer(listing::list_pairs(&POSITIONS, &EDGES, &TRIANGLES, list));
     show_buffer(list);
 }
 
 // The empty scene, whose list fits any buffer.
-fn try_empty(list: &mut [u16]) {
+fn try_empty(list: &mut [u32]) {
     let positions = [0i32; 1];
     let edges = [0u16; 1];
     let triangles = [0u16; 1];
@@ -93,30 +93,26 @@ fn try_empty(list: &mut [u16]) {
 }
 
 // A scene that is refused: its positions are no multiple of 6.
-fn try_bad(list: &mut [u16]) {
+fn try_bad(list: &mut [u32]) {
     show_answer(listing::list_pairs(&POSITIONS[..29], &EDGES, &TRIANGLES, list));
     show_buffer(list);
 }
 
 fn main() {
-    let mut one = [9u16; 1];
-    try_room(&mut one[..0]);
-    let mut two = [9u16; 2];
+    let mut none = [9u32; 1];
+    try_room(&mut none[..0]);
+    let mut one = [9u32; 1];
+    try_room(&mut one);
+    let mut two = [9u32; 2];
     try_room(&mut two);
-    let mut three = [9u16; 3];
+    let mut three = [9u32; 3];
     try_room(&mut three);
-    let mut five = [9u16; 5];
-    try_room(&mut five);
-    let mut six = [9u16; 6];
-    try_room(&mut six);
-    let mut seven = [9u16; 7];
-    try_room(&mut seven);
-    let mut eight = [9u16; 8];
-    try_room(&mut eight);
+    let mut four = [9u32; 4];
+    try_room(&mut four);
     show_answer(listing::count_pairs(&POSITIONS, &EDGES, &TRIANGLES));
     end_line();
-    try_empty(&mut one[..0]);
+    try_empty(&mut none[..0]);
     try_empty(&mut two);
-    let mut fresh = [9u16; 8];
+    let mut fresh = [9u32; 4];
     try_bad(&mut fresh);
 }

@@ -14,16 +14,16 @@ use Rattle.sequences.specs.Lists.{Lists, lists-as, lists-append, lists-unique, 
 use Rattle.meaning.specs.Scene.{Scene, vertexCount, edgeCount, triangleCount}
 use Rattle.meaning.specs.Refusals.{notThere, shares}
 use Rattle.meaning.specs.Boxes.{boxesMeet, listed}
-use Rattle.meaning.specs.List.{Pair, pair, pairs, kindNumber}
+use Rattle.meaning.specs.List.{Pair, pair, pairs, kindPart}
 use Rattle.scenes.specs.Below.{or-left, or-rest}
 use Rattle.meaning.specs.declared.Kind.{Kind}
 use Rattle.meaning.specs.declared.Kind.the-variants.{PointTriangle, EdgeEdge}
 
 -- pt by vertex then triangle, then ee by first then second edge
 pub data Earlier (p q : Pair) : Type 0 where
-  byKind : kindNumber (p .kind) < kindNumber (q .kind) → Earlier p q
-  byFirst : kindNumber (p .kind) ≡ kindNumber (q .kind) → p .first < q .first → Earlier p q
-  bySecond : kindNumber (p .kind) ≡ kindNumber (q .kind) → p .first ≡ q .first → p .second < q .second → Earlier p q
+  byKind : kindPart (p .kind) < kindPart (q .kind) → Earlier p q
+  byFirst : kindPart (p .kind) ≡ kindPart (q .kind) → p .first < q .first → Earlier p q
+  bySecond : kindPart (p .kind) ≡ kindPart (q .kind) → p .first ≡ q .first → p .second < q .second → Earlier p q
 
 pub never-itself : (p : Pair) → Earlier p p → ⊥
 never-itself p (byKind h) = omega arith
@@ -105,7 +105,7 @@ module _ (s : Scene) where
 
   -- it holds exactly these pairs, every earlier one smaller
   pub list-is : Lists Earlier (ToList s) (pairs s)
-  unfolding pairs kindNumber
+  unfolding pairs kindPart
   list-is =
       lists-as (λ p. (⊎-elim (in-pt p) (in-ee p), from-list (p .kind) (p .first) (p .second)))
       (lists-append

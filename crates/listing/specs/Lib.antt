@@ -1,10 +1,6 @@
--- The list: row by row, its entries, and what stands in it.
-pub mod Rows
-pub mod Meeting
-pub mod Entries
-pub mod Entering
-pub mod Stepping
+-- The list: what stands in it, and what its calls answer.
 pub mod Answering
+pub mod Own
 pub mod Once
 pub mod InOrder
 pub mod Sizes

@@ -1,4 +1,4 @@
--- How long the list of an accepted scene can be, and that its entries are numbers of 16 bits.
+-- How long the list of an accepted scene can be, and that its entries are numbers of 21 bits.
 use Prim.Native.Nat.{ℕ, suc, _+_, _*_, _-_, _/_, _^_, _≤_, _<_}
 use mathlib.Core.Bool.{false}
 use mathlib.Core.Path.{_≡_, refl}
@@ -7,17 +7,19 @@ use native.Mathlib.Omega.{arith}
 use lib.ListN.{length, getD, length-append}
 use Rattle.sequences.specs.Chosen.{chosen-short}
 use Rattle.sequences.specs.Gather.{gather, gather-none, gather-first, gather-short}
+use Rattle.sequences.specs.Mapped.{map-at}
 use Rattle.sequences.specs.Range.{towards}
+use Rattle.sequences.specs.Rising.{at-place}
 use Rattle.meaning.specs.Limits.{vertexLimit, edgeLimit, triangleLimit}
 use Rattle.meaning.specs.Scene.{Scene, Accepted, vertexCount, edgeCount, triangleCount}
 use Rattle.meaning.specs.Boxes.{listed}
-use Rattle.meaning.specs.List.{pair, pairs, entries}
+use Rattle.meaning.specs.List.{Pair, pair, pairs, number, entries}
 use Rattle.meaning.specs.Refusals.{notThere}
 use Rattle.meaning.specs.declared.Kind.{Kind}
 use Rattle.meaning.specs.declared.Kind.the-variants.{PointTriangle, EdgeEdge}
-use Rattle.listing.specs.Entries.{entries-below}
+use Rattle.entries.specs.Entries.{Narrow, AllNarrow, number-small}
 use Rattle.scenes.specs.Facts.{accepted-sized}
-use Rattle.listing.specs.Rows.{firstCount, secondCount, secondFrom, rowOf, rowsOf, row-short, pairs-length}
+use Rattle.walking.specs.Rows.{firstCount, secondCount, secondFrom, rowOf, rowsOf, row-short, pairs-length}
 use Rattle.listing.specs.InOrder.{are-there, list-is}
 
 -- each vertex with each triangle, and each two edges: 785,920
@@ -60,12 +62,20 @@ few-pairs s a =
 
 -- ---- the numbers of the entries
 
-small : (s : Scene) → Accepted s → (kind : Kind) (i j : ℕ) → notThere s kind i j ≡ false → (i < 2 ^ 16) × (j < 2 ^ 16)
+-- a pair of an accepted scene has places below 1,024
+pub there-narrow : (s : Scene) → Accepted s → (p : Pair) → notThere s (p .kind) (p .first) (p .second) ≡ false → Narrow p
 unfolding notThere
-small s a PointTriangle i j h = omega (arith, accepted-sized a, are-there (vertexCount s) (triangleCount s) i j h)
-small s a EdgeEdge i j h = omega (arith, accepted-sized a, are-there (edgeCount s) (edgeCount s) i j h)
+there-narrow s a p h = let (first, second) = small (p .kind) (p .first) (p .second) h in record { firstNarrow = first; secondNarrow = second }
+  where
+    small : (kind : Kind) (i j : ℕ) → notThere s kind i j ≡ false → (i < 1_024) × (j < 1_024)
+    small PointTriangle i j e = omega (arith, accepted-sized a, are-there (vertexCount s) (triangleCount s) i j e)
+    small EdgeEdge i j e = omega (arith, accepted-sized a, are-there (edgeCount s) (edgeCount s) i j e)
 
-pub entries-fit : (s : Scene) → Accepted s → (i : ℕ) → getD (entries (pairs s)) i 0 < 2 ^ 16
-entries-fit s a =
-    entries-below (2 ^ 16) (omega arith) (pairs s)
-    (λ p m. small s a (p .kind) (p .first) (p .second) (list-is s .stands p .0 m .there))
+pub pairs-narrow : (s : Scene) → Accepted s → AllNarrow (pairs s)
+pairs-narrow s a p m = there-narrow s a p (list-is s .stands p .0 m .there)
+
+-- of 21 bits
+pub entries-fit : (s : Scene) → Accepted s → (k : ℕ) → k < length (pairs s) → getD (entries (pairs s)) k 0 < 2 ^ 21
+entries-fit s a k h =
+    let p = getD (pairs s) k (pair PointTriangle 0 0) in
+    rw (map-at number (pairs s) k (pair PointTriangle 0 0) 0 h) (number-small p (pairs-narrow s a p (at-place (pairs s) k (pair PointTriangle 0 0) h)))

@@ -2,25 +2,57 @@
 
 ghost use Prim.Native.Nat.{_≤_};
 ghost use mathlib.Core.Path.{_≡_};
-ghost use lib.ListN.{length};
+ghost use lib.ListN.{length, take};
+ghost use Rattle.sequences.specs.Wrote.{written};
 ghost use Rattle.meaning.specs.Scene.{sceneIn, sceneAtEntry, Accepted};
-ghost use Rattle.meaning.specs.List.{pairs, roomOf};
+ghost use Rattle.meaning.specs.List.{pairs, entries, roomOf};
 ghost use Rattle.listing.specs.Answering.{ListedIn};
-use super::counting::count_all;
-use super::writing::write_all;
-use boxes::filling::BOX_NUMBERS;
-use boxes::filling::fill;
+ghost use Rattle.listing.specs.Own.{OwnList};
 use meaning::ListAnswer;
 use meaning::Made;
 use meaning::Refusal;
+use walking::walk_accepted;
+
+// Most lists are shorter: they are walked once, into an array of one's own, and copied when it is known that there is room.
+const OWN_ENTRIES: usize = 8192;
 
 pub fn count_accepted(positions: &[i32], edges: &[u16], triangles: &[u16]) -> usize
     requires { ⌜ Accepted (sceneIn positions edges triangles) ⌝ }
     ensures { λ r. ⌜ r ≡ length (pairs (sceneAtEntry positions edges triangles)) ⌝ }
 {
-    let mut boxes = [0i32; BOX_NUMBERS];
-    fill(positions, edges, triangles, &mut boxes);
-    count_all(positions, edges, triangles, &boxes)
+    let mut none = [0u32; 1];
+    walk_accepted(positions, edges, triangles, &mut none, 0)
+}
+
+// The first entries of one list, in front of another.
+fn copy_front(own: &[u32], list: &mut [u32], count: usize)
+    requires { ⌜ (count ≤ length (now own)) × (count ≤ length (now list)) ⌝ }
+    ensures { λ _. ⌜ now (list .exit) ≡ written (take count (now (own .entry))) (now (list .entry)) ⌝ }
+{
+    let mut k = 0;
+    while k < count {
+        list[k] = own[k];
+        k += 1;
+    }
+}
+
+// The list of so many pairs, copied where one's own has it whole; a longer one is walked again.
+fn enter(
+    positions: &[i32],
+    edges: &[u16],
+    triangles: &[u16],
+    own: &[u32],
+    list: &mut [u32],
+    count: usize,
+)
+    requires { ⌜ Accepted (sceneIn positions edges triangles) × OwnList (sceneIn positions edges triangles) (now own) count × (count ≤ length (now list)) ⌝ }
+    ensures { λ _. ⌜ now (list .exit) ≡ written (entries (pairs (sceneAtEntry positions edges triangles))) (now (list .entry)) ⌝ }
+{
+    if count <= own.len() {
+        copy_front(own, list, count);
+    } else {
+        walk_accepted(positions, edges, triangles, list, count);
+    }
 }
 
 // Nothing is written before it is known that all of it has room.
@@ -28,18 +60,17 @@ pub fn list_accepted(
     positions: &[i32],
     edges: &[u16],
     triangles: &[u16],
-    list: &mut [u16],
+    list: &mut [u32],
     room: usize,
 ) -> ListAnswer
     requires { ⌜ Accepted (sceneIn positions edges triangles) × (room ≤ roomOf (now list)) ⌝ }
     ensures { λ r. ⌜ ListedIn (sceneAtEntry positions edges triangles) room (now (list .entry)) (now (list .exit)) r ⌝ }
 {
-    let mut boxes = [0i32; BOX_NUMBERS];
-    fill(positions, edges, triangles, &mut boxes);
-    let count = count_all(positions, edges, triangles, &boxes);
+    let mut own = [0u32; OWN_ENTRIES];
+    let count = walk_accepted(positions, edges, triangles, &mut own, OWN_ENTRIES);
     if room < count {
         return ListAnswer::Refused(Refusal::NoRoom, count);
     }
-    write_all(positions, edges, triangles, &boxes, list);
+    enter(positions, edges, triangles, &own, list, count);
     ListAnswer::Listed(Made { count })
 }

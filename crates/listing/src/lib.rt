@@ -1,9 +1,5 @@
 // The list: the point-triangle and edge-edge pairs of a scene whose swept boxes meet, in order.
 
-mod candidates; // candidates.rt: which pairs there are, and whether one is listed
-mod counting; // counting.rt: how many are listed
-pub mod entries; // entries.rt: an entry in a buffer, and room for entries
-mod writing; // writing.rt: the listed pairs, entered
 pub mod accepted; // accepted.rt: the list of a scene that is accepted
 
 ghost use Rattle.meaning.specs.Scene.{sceneAtEntry};
@@ -33,7 +29,7 @@ pub fn list_pairs(
     positions: &[i32],
     edges: &[u16],
     triangles: &[u16],
-    list: &mut [u16],
+    list: &mut [u32],
 ) -> ListAnswer
     ensures { λ r. ⌜ Listing (sceneAtEntry positions edges triangles) (now (list .entry)) (now (list .exit)) r ⌝ }
 {

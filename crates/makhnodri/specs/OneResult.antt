@@ -9,6 +9,7 @@ use Rattle.meaning.specs.Pieces.{pieceOf}
 use Rattle.meaning.specs.Verdicts.{PieceIs, PairIs}
 use Rattle.meaning.specs.Refusals.{given, refused, Answers, sceneChecks, pairChecks, pieceChecks, SceneChecked, PairJudged, PieceJudged}
 use Rattle.meaning.specs.Resting.{PieceSettled, PairSettled, PairDecided, PieceDecided}
+use Rattle.meaning.specs.Backwards.{sceneLeft, Turning}
 use Rattle.meaning.specs.List.{pairs, entries, roomOf, listChecks, leaves, Counted, Listing}
 use Rattle.meaning.specs.SceneWords.{byteOf, SettledScene}
 use Rattle.meaning.specs.Text.{textSays}
@@ -17,7 +18,7 @@ use Rattle.meaning.specs.declared.SceneCounts.{SceneCounts}
 use Rattle.meaning.specs.declared.TextAnswer.{TextAnswer}
 use Rattle.meaning.specs.declared.TextAnswer.the-variants.{Read, Refused}
 use Rattle.scene_words.specs.Listed.{wordOfByte}
-use Rattle.demands.specs.OneAnswer.{one-scene, one-pair, one-piece, one-settled-pair, one-settled-piece, one-counted, one-listing, one-judging}
+use Rattle.demands.specs.OneAnswer.{one-scene, one-turning, one-pair, one-piece, one-settled-pair, one-settled-piece, one-counted, one-listing, one-judging}
 use Rattle.demands.specs.OneText.{one-reading}
 use Rattle.demands.specs.TextTable.{TextRows, demand1-text}
 use Rattle.demands.specs.Unchanged.{reading-unchanged, SceneInFront, reading-holds}
@@ -31,6 +32,11 @@ one-number {A} {number} p q e = p .is ∙ ap number e ∙ sym (q .is)
 
 pub one-check : (s : Scene) (r r′ : ℕ) → Told sceneNumber (SceneChecked s) r → Told sceneNumber (SceneChecked s) r′ → r ≡ r′
 one-check s r r′ p q = one-number p q (one-scene s (p .answer) (q .answer) (p .right) (q .right))
+
+pub one-turning-told : (s t t′ : Scene) (r r′ : ℕ) → Told sceneNumber (Turning s t) r → Told sceneNumber (Turning s t′) r′ → (r ≡ r′) × (t ≡ t′)
+one-turning-told s t t′ r r′ p q =
+    let (same, scene) = one-turning s t t′ (p .answer) (q .answer) (p .right) (q .right) in
+    (one-number p q same, scene)
 
 pub one-pair-told : (s : Scene) (kind : Kind) (i j r r′ : ℕ) → Told pairNumber (PairJudged s kind i j) r → Told pairNumber (PairJudged s kind i j) r′ → r ≡ r′
 one-pair-told s kind i j r r′ p q = one-number p q (one-pair s kind i j (p .answer) (q .answer) (p .right) (q .right))
@@ -68,6 +74,10 @@ one-reading-told text lent left left′ l l′ l″ r r′ p q =
 
 pub check-heard : (s : Scene) (r : ℕ) → Told sceneNumber (SceneChecked s) r → Answers (sceneChecks s) (λ t. Unit {0}) (heard noMore r)
 check-heard s r p = rw (p .is, scene-heard (p .answer)) (p .right)
+
+pub turning-heard : (s t : Scene) (r : ℕ) → Told sceneNumber (Turning s t) r
+    → Answers (sceneChecks s) (λ t. Unit {0}) (heard noMore r) × (t ≡ sceneLeft (heard noMore r) s)
+turning-heard s t r p = rw (p .is, scene-heard (p .answer)) (p .right .answer, p .right .scene)
 
 pub pair-told-heard : (s : Scene) (kind : Kind) (i j r : ℕ) → Told pairNumber (PairJudged s kind i j) r
     → Answers (pairChecks s kind i j) (PairIs s kind i j) (heard verdictNumbered r)

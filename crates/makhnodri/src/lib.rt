@@ -4,6 +4,7 @@ ghost use mathlib.Core.List.{[], _∷_};
 ghost use mathlib.Core.Path.{_≡_};
 ghost use Rattle.meaning.specs.Scene.{sceneAtEntry, sceneAtExit};
 ghost use Rattle.meaning.specs.Refusals.{SceneChecked, PairJudged, PieceJudged};
+ghost use Rattle.meaning.specs.Backwards.{Turning};
 ghost use Rattle.meaning.specs.Resting.{PairDecided, PieceDecided};
 ghost use Rattle.meaning.specs.List.{Counted, Listing};
 ghost use Rattle.meaning.specs.SceneWords.{SettledScene};
@@ -39,6 +40,18 @@ pub extern "C" fn makhnodri_check_scene(positions: &[i32], edges: &[u16], triang
     scene_number(scenes::check_scene(positions, edges, triangles))
 }
 
+// The scene turned round where it stands: start and end swapped, vertices numbered from last to first.
+#[no_mangle]
+pub extern "C" fn makhnodri_turn_scene(
+    positions: &mut [i32],
+    edges: &mut [u16],
+    triangles: &mut [u16],
+) -> u64
+    ensures { λ r. ⌜ Told sceneNumber (Turning (sceneAtEntry positions edges triangles) (sceneAtExit positions edges triangles)) r ⌝ }
+{
+    scene_number(turning::turn_scene(positions, edges, triangles))
+}
+
 // How many pairs are listed.
 #[no_mangle]
 pub extern "C" fn makhnodri_count_pairs(positions: &[i32], edges: &[u16], triangles: &[u16]) -> u64
@@ -53,7 +66,7 @@ pub extern "C" fn makhnodri_list_pairs(
     positions: &[i32],
     edges: &[u16],
     triangles: &[u16],
-    list: &mut [u16],
+    list: &mut [u32],
 ) -> u64
     ensures { λ r. ⌜ Told listNumber (Listing (sceneAtEntry positions edges triangles) (now (list .entry)) (now (list .exit))) r ⌝ }
 {
@@ -66,12 +79,12 @@ pub extern "C" fn makhnodri_settle_scene(
     positions: &[i32],
     edges: &[u16],
     triangles: &[u16],
-    list: &mut [u16],
-    verdicts: &mut [u8],
+    list: &mut [u32],
+    words: &mut [u8],
 ) -> u64
-    ensures { λ r. ⌜ Told listNumber (SettledScene (sceneAtEntry positions edges triangles) (now (list .entry)) (now (list .exit)) (now (verdicts .entry)) (now (verdicts .exit))) r ⌝ }
+    ensures { λ r. ⌜ Told listNumber (SettledScene (sceneAtEntry positions edges triangles) (now (list .entry)) (now (list .exit)) (now (words .entry)) (now (words .exit))) r ⌝ }
 {
-    list_number(scene_words::settle_scene(positions, edges, triangles, list, verdicts))
+    list_number(scene_words::settle_scene(positions, edges, triangles, list, words))
 }
 
 // ---- the verdict of a pair and of a piece: hit, miss or degenerate. A kind has functions of its own, so that no bad kind can be asked for

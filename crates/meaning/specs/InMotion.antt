@@ -52,20 +52,20 @@ module _ {A : Type 0} (f : A → ℤ) where
 
 -- the weights q - p and p of a vertex's segment: the time is p / q, and the place is where the vertex stands then
 pub record OnItsSegment (s : Scene) (p q v : ℕ) : Type 0 where
-  pub sum : total one (λ i. pos (weigh ((q - p) ∷ p ∷ []) i)) (movingPoint s v) ≡ pos q
-  pub time : total timeOf (λ i. pos (weigh ((q - p) ∷ p ∷ []) i)) (movingPoint s v) ≡ pos p
-  pub x : total xOf (λ i. pos (weigh ((q - p) ∷ p ∷ []) i)) (movingPoint s v) ≡ standing s p q v .x
-  pub y : total yOf (λ i. pos (weigh ((q - p) ∷ p ∷ []) i)) (movingPoint s v) ≡ standing s p q v .y
-  pub z : total zOf (λ i. pos (weigh ((q - p) ∷ p ∷ []) i)) (movingPoint s v) ≡ standing s p q v .z
+  pub sum : total one (λ i. pos (weigh ((q - p) ∷ p ∷ []) i)) (movingPoint (s .positions) v) ≡ pos q
+  pub time : total timeOf (λ i. pos (weigh ((q - p) ∷ p ∷ []) i)) (movingPoint (s .positions) v) ≡ pos p
+  pub x : total xOf (λ i. pos (weigh ((q - p) ∷ p ∷ []) i)) (movingPoint (s .positions) v) ≡ standing s p q v .x
+  pub y : total yOf (λ i. pos (weigh ((q - p) ∷ p ∷ []) i)) (movingPoint (s .positions) v) ≡ standing s p q v .y
+  pub z : total zOf (λ i. pos (weigh ((q - p) ∷ p ∷ []) i)) (movingPoint (s .positions) v) ≡ standing s p q v .z
 
 pub corners-move-alike : (s : Scene) (p q v : ℕ) → p ≤ q → OnItsSegment s p q v
 unfolding total weigh
 corners-move-alike s p q v within = record {
   sum = ap pos (omega arith);
   time = ap pos (omega arith);
-  x = of-two xOf (q - p) p (starting s v) (ending s v);
-  y = of-two yOf (q - p) p (starting s v) (ending s v);
-  z = of-two zOf (q - p) p (starting s v) (ending s v);
+  x = of-two xOf (q - p) p (starting (s .positions) v) (ending (s .positions) v);
+  y = of-two yOf (q - p) p (starting (s .positions) v) (ending (s .positions) v);
+  z = of-two zOf (q - p) p (starting (s .positions) v) (ending (s .positions) v);
 }
 
 -- at the start it stands at its start, at the end at its end

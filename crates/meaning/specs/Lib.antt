@@ -8,10 +8,14 @@ pub mod Resting
 pub mod Refusals
 pub mod Boxes
 pub mod Motion
+pub mod Runs
 pub mod List
 pub mod SceneWords
 pub mod Lines
+pub mod Backwards
 pub mod Text
 pub mod Report
+pub mod Contacts
 pub mod Claims
 pub mod InMotion
+pub mod ReadShown

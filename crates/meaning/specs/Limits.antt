@@ -26,7 +26,7 @@ digitLimit = 9
 
 -- the pairs that the report program has room for
 abbrev pub reportRoom : ℕ
-reportRoom = 2_048
+reportRoom = 3_072
 
 -- a weight of a claim is one to thirteen digits, and at most 2^40
 abbrev pub weightDigits : ℕ

@@ -1,6 +1,6 @@
 -- The list of pairs, in order, its entries in a lent buffer, and what making it promises.
-use Prim.Native.Nat.{ℕ, _+_, _/_}
-use mathlib.Core.List.{List, [], _∷_, _++_, flatMap}
+use Prim.Native.Nat.{ℕ, _+_, _*_, _^_}
+use mathlib.Core.List.{List, [], _∷_, _++_, map}
 use mathlib.Core.Path.{_≡_}
 use lib.Dec.{ltb}
 use lib.ListN.{length}
@@ -34,20 +34,20 @@ unfoldable pub pairs : Scene → List Pair
 unfolding gather
 pairs s = gather (pairsOfVertex s) 0 (vertexCount s) ++ gather (pairsOfEdge s) 0 (edgeCount s)
 
--- an entry is three u16 numbers: 0 for pt or 1 for ee, then the two places
-unfoldable pub kindNumber : Kind → ℕ
-kindNumber PointTriangle = 0
-kindNumber EdgeEdge = 1
+-- an entry is one u32: 2^20 for ee or 0 for pt, plus 2^10 times the first place, plus the second
+unfoldable pub kindPart : Kind → ℕ
+kindPart PointTriangle = 0
+kindPart EdgeEdge = 2 ^ 20
 
-unfoldable pub entry : Pair → List ℕ
-entry p = kindNumber (p .kind) ∷ p .first ∷ p .second ∷ []
+unfoldable pub number : Pair → ℕ
+number p = kindPart (p .kind) + 2 ^ 10 * p .first + p .second
 
 abbrev pub entries : List Pair → List ℕ
-entries ps = flatMap entry ps
+entries ps = map number ps
 
--- room is the lent length divided by 3, rounded down
+-- room is the lent length
 abbrev pub roomOf : List ℕ → ℕ
-roomOf o = length o / 3
+roomOf o = length o
 
 unfoldable pub listSays : ListAnswer → Outcome ℕ
 listSays (ListAnswers.the-variants.Listed l) = given (l .count)

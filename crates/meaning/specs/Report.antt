@@ -4,7 +4,7 @@ use mathlib.Core.Bool.{cond}
 use mathlib.Core.List.{List, [], _∷_, _++_}
 use mathlib.Core.Path.{_≡_}
 use lib.Dec.{eqb}
-use lib.ListN.{length}
+use lib.ListN.{length, take}
 use Rattle.decimals.specs.Digits.{digits}
 use Rattle.sequences.specs.Wrote.{written}
 use Rattle.meaning.specs.Limits.{textLimit, reportRoom}
@@ -82,3 +82,14 @@ pub record Reported (text o o′ : List ℕ) (n : ℕ) : Type 0 where
   pub right : ReportOf text report
   pub length-is : n ≡ length report
   pub buffer : o′ ≡ written report o
+
+-- what a program read of a text into a buffer: the first `count` bytes of the buffer are the text's front; where they do not fill it, the
+-- text ended there, else it may go on
+pub record ReadOf (text buffer : List ℕ) (count : ℕ) : Type 0 where
+  pub rest : List ℕ
+  pub front : text ≡ take count buffer ++ rest
+  pub ended : count < length buffer → rest ≡ []
+
+-- what is promised of a report of what was read: it is the report of every text of which that was read
+abbrev pub ReportedRead : List ℕ → ℕ → List ℕ → List ℕ → ℕ → Type 0
+ReportedRead buffer count o o′ n = (text : List ℕ) → ReadOf text buffer count → Reported text o o′ n

@@ -21,7 +21,7 @@ pub const EDGE_NUMBERS: usize = 2 * EDGE_LIMIT;
 pub const TRIANGLE_NUMBERS: usize = 3 * TRIANGLE_LIMIT;
 
 // The pairs that a report has room for, and the bytes that hold any report.
-pub const REPORT_ROOM: usize = 2048;
+pub const REPORT_ROOM: usize = 3072;
 
 pub const REPORT_BYTES: usize = 65536;
 

@@ -1,6 +1,7 @@
-// The report program: a scene text on standard input, its report on standard output.
+// The report program: a scene text on standard input, its report on standard output. It reads and writes, and `summary` does the rest.
+
 use meaning::REPORT_BYTES;
-use meaning::TEXT_LIMIT;
+use summary::READ_BYTES;
 
 // Whether the input was read to its end. `read_full` stops at the end of the input and at a read that fails; one more read tells the
 // two apart, so that a failed read does not look like a shorter scene.
@@ -11,10 +12,10 @@ fn is_at_end() -> bool {
 }
 
 fn main() {
-    // one byte more than a text may have: a full buffer decides refusal 8, and nothing is read for ever
-    let mut text = [0u8; TEXT_LIMIT + 1];
+    // a full buffer is enough for the report, so that nothing is read for ever
+    let mut text = [0u8; READ_BYTES];
     let count = io::read_full(libc::STDIN_FILENO, &mut text);
-    if count < TEXT_LIMIT + 1 && !is_at_end() {
+    if count < READ_BYTES && !is_at_end() {
         io::write_all(
             libc::STDERR_FILENO,
             b"report: standard input could not be read\n",
@@ -22,6 +23,12 @@ fn main() {
         return;
     }
     let mut out = [0u8; REPORT_BYTES];
-    let length = summary::write_report(&text[..count], &mut out);
-    io::write_all(libc::STDOUT_FILENO, &out[..length]);
+    let length = summary::report_read(&text, count, &mut out);
+    // a part of a report may have gone out, and it is no report
+    if !io::write_all(libc::STDOUT_FILENO, &out[..length]) {
+        io::write_all(
+            libc::STDERR_FILENO,
+            b"report: standard output could not be written\n",
+        );
+    }
 }

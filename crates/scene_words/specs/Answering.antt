@@ -15,9 +15,10 @@ use Rattle.meaning.specs.declared.ListAnswer as ListAnswers
 use Rattle.meaning.specs.declared.ListAnswer.{ListAnswer}
 use Rattle.scenes.specs.Accepting.{after-accepted, after-refused}
 use Rattle.listing.specs.Answering.{roomChecks, IsCount, ListedIn}
+use Rattle.listing.specs.Sizes.{pairs-narrow}
 use Rattle.scene_words.specs.Listed.{wordsOf, bytesOf, all-judged, ListStands, noPair}
 use Rattle.meaning.specs.declared.Made.{Made}
-use Rattle.listing.specs.Entries.{written-at, written-room}
+use Rattle.entries.specs.Entries.{written-at, written-room}
 use Rattle.scenes.specs.Answering.{is-given}
 use borrow.Author.Tests.{ltb-false}
 use native.Mathlib.Nat.{le-trans}
@@ -75,10 +76,10 @@ module _ {s : Scene} {room : ℕ} {o o′ : List ℕ} {r : ListAnswer} (l : List
   unfolding listSays leaves
   judged-without-room e = record { list = rw e at l; bytes = refl }
 
-pub made-stands : {s : Scene} {room : ℕ} {o o′ : List ℕ} {n : ℕ} → room ≤ roomOf o → MadeList s room o o′ n → ListStands s o′
-made-stands {s} {o} h m =
+pub made-stands : {s : Scene} {room : ℕ} {o o′ : List ℕ} {n : ℕ} → Accepted s → room ≤ roomOf o → MadeList s room o o′ n → ListStands s o′
+made-stands {s} {o} a h m =
     rw (m .front)
     (record {
       room = written-room (pairs s) o (le-trans (m .fits) h);
-      at = λ k below. written-at (pairs s) o k noPair below;
+      at = λ k below. written-at (pairs s) o (pairs-narrow s a) k noPair below;
     })

@@ -17,9 +17,11 @@ use Rattle.meaning.specs.SceneWords.{byteOf, AllSettled}
 use Rattle.meaning.specs.declared.Kind.the-variants.{PointTriangle}
 use Rattle.meaning.specs.declared.Settled.{Settled}
 use Rattle.meaning.specs.declared.Settled.the-variants.{Hit, Miss, Touch, Apart}
+use Rattle.scene_words.specs.declared.ByteAnswer.{ByteAnswer}
+use Rattle.scene_words.specs.declared.ByteAnswer.the-variants.{Word, NoWord}
 use Rattle.corner_search.specs.Decided.{pairWord, pair-word-is, settled-pair}
 use Rattle.listing.specs.InOrder.{ToList, list-is}
-use Rattle.listing.specs.Entries.{pairAt}
+use Rattle.entries.specs.Entries.{pairAt}
 
 abbrev pub wordOfPair : Scene → Pair → Settled
 wordOfPair s p = pairWord s (p .kind) (p .first) (p .second)
@@ -79,7 +81,12 @@ pub record WordByte (b : ℕ) : Type 0 where
   pub word : Settled
   pub stands : byteOf word ≡ b
 
--- a byte back to its word. It is asked of a word's byte alone; for any other number the answer says nothing
+-- what a byte says: its word, or none, where it is no word's
+unfoldable pub StandsFor : ℕ → ByteAnswer → Type 0
+StandsFor b (Word w) = byteOf w ≡ b
+StandsFor b NoWord = ¬ WordByte b
+
+-- a byte back to its word, for a byte that stands for one
 unfoldable pub wordOfByte : ℕ → Settled
 wordOfByte b = cond (eqb b 0) Hit (cond (eqb b 1) Miss (cond (eqb b 3) Touch Apart))
 
@@ -98,16 +105,33 @@ word-of-its-byte w e = sym (byte-back w) ∙ ap wordOfByte e
 pub byte-one : (v w : Settled) → byteOf v ≡ byteOf w → v ≡ w
 byte-one v w e = word-of-its-byte v e ∙ byte-back w
 
--- a word's byte that is not hit's, miss's or touch's is apart's
-pub else-apart : {b : ℕ} → WordByte b → ¬ (b ≡ 0) → ¬ (b ≡ 1) → ¬ (b ≡ 3) → byteOf Apart ≡ b
+-- so a byte has one answer
+pub one-byte-answer : (b : ℕ) (r r′ : ByteAnswer) → StandsFor b r → StandsFor b r′ → r ≡ r′
+unfolding StandsFor
+one-byte-answer b (Word v) (Word w) p q = ap Word (byte-one v w (p ∙ sym q))
+one-byte-answer b (Word v) NoWord p q = absurd (q (record { word = v; stands = p }))
+one-byte-answer b NoWord (Word w) p q = absurd (p (record { word = w; stands = q }))
+one-byte-answer b NoWord NoWord p q = refl
+
+-- a byte that is none of the four stands for no word
+pub no-word : {b : ℕ} → ¬ (b ≡ 0) → ¬ (b ≡ 1) → ¬ (b ≡ 3) → ¬ (b ≡ 4) → ¬ WordByte b
 unfolding byteOf
-else-apart {b} p hit miss touch = by-word (p .word) (p .stands)
+no-word {b} hit miss touch apart p = by-word (p .word) (p .stands)
   where
-    by-word : (w : Settled) → byteOf w ≡ b → byteOf Apart ≡ b
-    by-word Hit e = absurd (hit (sym e))
-    by-word Miss e = absurd (miss (sym e))
-    by-word Touch e = absurd (touch (sym e))
-    by-word Apart e = e
+    by-word : (w : Settled) → byteOf w ≡ b → ⊥
+    by-word Hit e = hit (sym e)
+    by-word Miss e = miss (sym e)
+    by-word Touch e = touch (sym e)
+    by-word Apart e = apart (sym e)
+
+-- the answer to a byte that stands for a word is that word
+pub answered-word : (b : ℕ) {r : ByteAnswer} (w : Settled) → r ≡ Word w → StandsFor b r → w ≡ wordOfByte b
+unfolding StandsFor
+answered-word b w e h = word-of-its-byte w (subst (StandsFor b) e h)
+
+pub answered-none : {b : ℕ} {r : ByteAnswer} → WordByte b → r ≡ NoWord → ¬ StandsFor b r
+unfolding StandsFor
+answered-none {b} p e h = subst (StandsFor b) e h p
 
 pub byte-small : (w : Settled) → byteOf w ≤ 4
 unfolding byteOf

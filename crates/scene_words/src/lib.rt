@@ -7,11 +7,17 @@ ghost use Rattle.sequences.specs.Wrote.{written};
 ghost use Rattle.meaning.specs.Scene.{sceneIn, sceneAtEntry, Accepted};
 ghost use Rattle.meaning.specs.List.{pairs, roomOf};
 ghost use Rattle.meaning.specs.SceneWords.{byteOf, SettledScene};
-ghost use Rattle.scene_words.specs.Listed.{bytesOf, ListStands, WordByte};
+ghost use Rattle.scene_words.specs.Listed.{bytesOf, ListStands, StandsFor};
 ghost use Rattle.scene_words.specs.Answering.{SettledIn};
 use meaning::ListAnswer;
 use meaning::SceneAnswer;
 use meaning::Settled;
+
+// The answer to "which word does this byte stand for?".
+pub enum ByteAnswer {
+    Word(Settled),
+    NoWord,
+}
 
 // A word as the byte that stands for it in a lent buffer. No byte is 2, the number of degenerate: a number never stands for two words.
 pub fn byte_of(w: Settled) -> u8
@@ -25,31 +31,34 @@ pub fn byte_of(w: Settled) -> u8
     }
 }
 
-// And back, from a byte that stands for a word.
-pub fn word_of(byte: u8) -> Settled
-    requires { ⌜ WordByte byte ⌝ }
-    ensures { λ r. ⌜ byteOf r ≡ byte ⌝ }
+// And back: a buffer may hold any byte, and most stand for no word.
+pub fn word_of(byte: u8) -> ByteAnswer
+    ensures { λ r. ⌜ StandsFor byte r ⌝ }
 {
     if byte == 0 {
-        return Settled::Hit;
+        return ByteAnswer::Word(Settled::Hit);
     }
     if byte == 1 {
-        return Settled::Miss;
+        return ByteAnswer::Word(Settled::Miss);
     }
     if byte == 3 {
-        return Settled::Touch;
+        return ByteAnswer::Word(Settled::Touch);
     }
-    Settled::Apart
+    if byte == 4 {
+        return ByteAnswer::Word(Settled::Apart);
+    }
+    ByteAnswer::NoWord
 }
 
 // The k-th entry of the list, judged.
-fn settle_entry(positions: &[i32], edges: &[u16], triangles: &[u16], list: &[u16], k: usize) -> u8
+fn settle_entry(positions: &[i32], edges: &[u16], triangles: &[u16], list: &[u32], k: usize) -> u8
     requires { ⌜ Accepted (sceneIn positions edges triangles) × ListStands (sceneIn positions edges triangles) (now list) × (k < length (pairs (sceneIn positions edges triangles))) ⌝ }
     ensures { λ r. ⌜ r ≡ getD (bytesOf (sceneAtEntry positions edges triangles) (pairs (sceneAtEntry positions edges triangles))) k 0 ⌝ }
 {
-    let kind = listing::entries::entry_kind(list, k);
-    let first = listing::entries::entry_first(list, k);
-    let second = listing::entries::entry_second(list, k);
+    let entry = list[k];
+    let kind = entries::kind_of(entry);
+    let first = entries::first_of(entry);
+    let second = entries::second_of(entry);
     byte_of(four_words::accepted::pair(positions, edges, triangles, kind, first, second))
 }
 
@@ -58,7 +67,7 @@ fn settle_entries(
     positions: &[i32],
     edges: &[u16],
     triangles: &[u16],
-    list: &[u16],
+    list: &[u32],
     out: &mut [u8],
     count: usize,
 )
@@ -83,13 +92,13 @@ pub fn settle_accepted(
     positions: &[i32],
     edges: &[u16],
     triangles: &[u16],
-    list: &mut [u16],
+    list: &mut [u32],
     out: &mut [u8],
 ) -> ListAnswer
     requires { ⌜ Accepted (sceneIn positions edges triangles) ⌝ }
     ensures { λ r. ⌜ SettledIn (sceneAtEntry positions edges triangles) (min (roomOf (now (list .entry))) (length (now (out .entry)))) (now (list .entry)) (now (list .exit)) (now (out .entry)) (now (out .exit)) r ⌝ }
 {
-    let room = smaller(listing::entries::room(list), out.len());
+    let room = smaller(entries::room(list), out.len());
     match listing::accepted::list_accepted(positions, edges, triangles, list, room) {
         ListAnswer::Listed(made) => {
             settle_entries(positions, edges, triangles, list, out, made.count);
@@ -104,7 +113,7 @@ pub fn settle_scene(
     positions: &[i32],
     edges: &[u16],
     triangles: &[u16],
-    list: &mut [u16],
+    list: &mut [u32],
     out: &mut [u8],
 ) -> ListAnswer
     ensures { λ r. ⌜ SettledScene (sceneAtEntry positions edges triangles) (now (list .entry)) (now (list .exit)) (now (out .entry)) (now (out .exit)) r ⌝ }

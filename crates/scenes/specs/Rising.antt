@@ -1,4 +1,4 @@
--- The ends of an edge and the corners of a triangle of an accepted scene rise, and are vertices of it.
+-- The ends of an edge and the corners of a triangle of an accepted scene rise, and are vertices of it: what `endsOf` and `cornersOf` say of themselves.
 use Prim.Native.Nat.{ℕ, _≤_, _<_}
 use mathlib.Core.Bool.{Bool, true, false, cond}
 use mathlib.Core.Path.{_≡_, refl}

@@ -11,5 +11,6 @@ pub mod Counting
 pub mod Rising
 pub mod Lists
 pub mod Flat
+pub mod Mapped
 pub mod Rows
 pub mod Below

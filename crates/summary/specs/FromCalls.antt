@@ -30,8 +30,8 @@ use Rattle.scene_words.specs.Answering.{SettledIn, MadeList, made-list, made-st
 use Rattle.scene_text.specs.Using.{Came, byBuffers, byLength, byLines, read-refusal-of}
 use Rattle.summary.specs.Sizes.{Held}
 
--- the program's own buffers have room for 2,048 pairs
-pub own-room : min (roomOf (replicate 6144 0)) (length (replicate {A = ℕ} 2048 0)) ≡ reportRoom
+-- the program's own buffers have room for 3,072 pairs
+pub own-room : min (roomOf (replicate 3072 0)) (length (replicate {A = ℕ} 3072 0)) ≡ reportRoom
 own-room = refl
 
 -- a list that was made and judged
@@ -42,12 +42,12 @@ pub record JudgedList (s : Scene) (o′ b b′ : List ℕ) (n : ℕ) : Type 0 wh
   pub bytes : b′ ≡ written (bytesOf s (pairs s)) b
   pub held : Held o′ b′ n
 
-pub judged-list : {s : Scene} {room : ℕ} {o o′ b b′ : List ℕ} {r : ListAnswer} {m : Made} → room ≤ roomOf o → room ≤ reportRoom
+pub judged-list : {s : Scene} {room : ℕ} {o o′ b b′ : List ℕ} {r : ListAnswer} {m : Made} → Accepted s → room ≤ roomOf o → room ≤ reportRoom
     → SettledIn s room o o′ b b′ r → r ≡ ListAnswers.the-variants.Listed m → JudgedList s o′ b b′ (m .count)
 unfolding listSays leaves
-judged-list {s} {room} {o} {o′} {b} {b′} {r} {m} h k j e =
+judged-list {s} {room} {o} {o′} {b} {b′} {r} {m} accepted h k j e =
     let l : MadeList s room o o′ (m .count) = made-list (j .list) e in
-    let stands : ListStands s o′ = made-stands h l in
+    let stands : ListStands s o′ = made-stands accepted h l in
     let bytes : b′ ≡ written (bytesOf s (pairs s)) b = rw e at (j .bytes) in
     let long : length b′ ≡ length (written (bytesOf s (pairs s)) b) = ap length bytes in
     record {

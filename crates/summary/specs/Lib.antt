@@ -3,3 +3,5 @@ pub mod Rendered
 pub mod Sizes
 pub mod Whole
 pub mod FromCalls
+pub mod ReadSoFar
+pub mod Fits

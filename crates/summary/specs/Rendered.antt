@@ -12,7 +12,7 @@ use Rattle.meaning.specs.List.{Pair}
 use Rattle.meaning.specs.Report.{pairLine, pairLines}
 use Rattle.meaning.specs.declared.Settled.{Settled}
 use Rattle.meaning.specs.declared.Settled.the-variants.{Hit}
-use Rattle.listing.specs.Entries.{pairAt}
+use Rattle.entries.specs.Entries.{pairAt, places-small}
 use Rattle.scene_words.specs.Listed.{wordOfByte, noPair}
 use Rattle.wording.specs.Lines.{pair-line-short}
 
@@ -57,12 +57,13 @@ lines-are ps vs f long same i =
 
 -- ---- no line is long, and the verdicts are no more than there are
 
-pub line-short : (l b : List ℕ) → ((i : ℕ) → getD l i 0 < 2 ^ 16) → (k : ℕ) → length (lineAt l b k) ≤ 21
-line-short l b small k = pair-line-short (pairAt l k) (verdictAt b k) (small (k * 3 + 1)) (small (k * 3 + 2))
+pub line-short : (l b : List ℕ) (k : ℕ) → length (lineAt l b k) ≤ 21
+line-short l b k =
+    let (first, second) = places-small (getD l k 0) in
+    pair-line-short (pairAt l k) (verdictAt b k) (omega arith) (omega arith)
 
-pub lines-short : (l b : List ℕ) → ((i : ℕ) → getD l i 0 < 2 ^ 16) → (n : ℕ) → length (gather (lineAt l b) 0 n) ≤ n * 21
-lines-short l b small n =
-    rw (sub-zero n) at (gather-short (lineAt l b) 21 0 n (λ j p q. line-short l b small j))
+pub lines-short : (l b : List ℕ) (n : ℕ) → length (gather (lineAt l b) 0 n) ≤ n * 21
+lines-short l b n = rw (sub-zero n) at (gather-short (lineAt l b) 21 0 n (λ j p q. line-short l b j))
 
 pub verdicts-short : (b : List ℕ) (n : ℕ) → length (verdictsIn b 0 n) ≤ n
 verdicts-short b n =

@@ -15,7 +15,7 @@ use Rattle.meaning.specs.SceneWords.{AllSettled}
 use Rattle.meaning.specs.Report.{pairLine, pairLines, totalLine, refusedLine, ReportOf, Reported}
 use Rattle.meaning.specs.declared.Settled.{Settled}
 use Rattle.meaning.specs.declared.Settled.the-variants.{Hit}
-use Rattle.listing.specs.Entries.{pairAt}
+use Rattle.entries.specs.Entries.{pairAt}
 use Rattle.scene_words.specs.Listed.{ListStands, wordOfPair, wordsOf, bytesOf, all-judged, noPair, word-of-its-byte, byte-in-front}
 use Rattle.wording.specs.Lines.{wrote-as}
 use Rattle.summary.specs.Rendered.{verdictAt, lineAt, verdictsIn, gather-is, lines-are}

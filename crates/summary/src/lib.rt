@@ -2,10 +2,12 @@
 
 mod pairs; // pairs.rt: the lines of a list and its totals
 
+ghost use Prim.Native.Nat.{_<_};
 ghost use mathlib.Core.Path.{_≡_};
 ghost use lib.ListN.{length};
 ghost use Rattle.meaning.specs.Scene.{sceneIn, sceneAtEntry, Accepted};
-ghost use Rattle.meaning.specs.Report.{Reported};
+ghost use Rattle.meaning.specs.Limits.{textLimit};
+ghost use Rattle.meaning.specs.Report.{Reported, ReportedRead};
 ghost use Rattle.summary.specs.Sizes.{reportLength};
 ghost use Rattle.summary.specs.Whole.{SceneReported};
 use meaning::EDGE_NUMBERS;
@@ -13,18 +15,22 @@ use meaning::ListAnswer;
 use meaning::POSITION_NUMBERS;
 use meaning::REPORT_BYTES;
 use meaning::REPORT_ROOM;
+use meaning::TEXT_LIMIT;
 use meaning::TRIANGLE_NUMBERS;
 use meaning::TextAnswer;
 use pairs::pairs_report;
 use wording::lines::refused_line;
 use wording::number_of;
 
+// The bytes that a program reads into: one more than a text may have, so that a full buffer decides refusal 8.
+pub const READ_BYTES: usize = TEXT_LIMIT + 1;
+
 // The report of a scene that is accepted: 7 is found before anything is written.
 fn scene_report(positions: &[i32], edges: &[u16], triangles: &[u16], out: &mut [u8]) -> usize
     requires { ⌜ Accepted (sceneIn positions edges triangles) × (length (now out) ≡ reportLength) ⌝ }
     ensures { λ r. ⌜ SceneReported (sceneAtEntry positions edges triangles) (now (out .entry)) (now (out .exit)) r ⌝ }
 {
-    let mut list = [0u16; 3 * REPORT_ROOM];
+    let mut list = [0u32; REPORT_ROOM];
     let mut verdicts = [0u8; REPORT_ROOM];
     match scene_words::settle_accepted(positions, edges, triangles, &mut list, &mut verdicts) {
         ListAnswer::Listed(made) => pairs_report(&list, &verdicts, made.count, out),
@@ -48,4 +54,23 @@ pub fn write_report(text: &[u8], out: &mut [u8; REPORT_BYTES]) -> usize
         }
         TextAnswer::Refused(refusal, line) => refused_line(out, 0, number_of(refusal), line as u64),
     }
+}
+
+// The report of what was read of a text into a buffer that is longer than a text may be. Where it fills the buffer, the text is too long
+// however it goes on; else it is the text.
+fn front_report(read: &[u8], count: usize, out: &mut [u8; REPORT_BYTES]) -> usize
+    requires { ⌜ textLimit < length (now read) ⌝ }
+    ensures { λ r. ⌜ ReportedRead (now (read .entry)) count (now (out .entry)) (now (out .exit)) r ⌝ }
+{
+    if count < read.len() {
+        return write_report(&read[..count], out);
+    }
+    refused_line(out, 0, 8, 0)
+}
+
+// The report of what a program read: the first `count` bytes of its buffer.
+pub fn report_read(read: &[u8; READ_BYTES], count: usize, out: &mut [u8; REPORT_BYTES]) -> usize
+    ensures { λ r. ⌜ ReportedRead (now (read .entry)) count (now (out .entry)) (now (out .exit)) r ⌝ }
+{
+    front_report(read, count, out)
 }

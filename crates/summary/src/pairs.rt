@@ -11,26 +11,40 @@ ghost use Rattle.meaning.specs.List.{roomOf};
 ghost use Rattle.meaning.specs.Report.{totalLine};
 ghost use Rattle.scene_words.specs.Listed.{WordByte};
 ghost use Rattle.wording.specs.Counted.{TallyOf};
-ghost use Rattle.summary.specs.Rendered.{lineAt, verdictsIn};
+ghost use Rattle.summary.specs.Rendered.{verdictAt, lineAt, verdictsIn};
 ghost use Rattle.summary.specs.Sizes.{reportLength, Words, Held};
+use meaning::Settled;
+use scene_words::ByteAnswer;
 use wording::lines::pair_line;
 use wording::lines::total_line;
 use wording::tally::Tally;
 
+// The word of the k-th byte, which stands for one.
+fn verdict_at(verdicts: &[u8], k: usize) -> Settled
+    requires { ⌜ (k < length (now verdicts)) × WordByte (getD (now verdicts) k 0) ⌝ }
+    ensures { λ r. ⌜ r ≡ verdictAt (now (verdicts .entry)) k ⌝ }
+{
+    let ByteAnswer::Word(word) = scene_words::word_of(verdicts[k]) else {
+        return Settled::Apart; // never: the byte stands for a word
+    };
+    word
+}
+
 // The line of one entry.
-fn entry_line(list: &[u16], verdicts: &[u8], k: usize, out: &mut [u8], at: usize) -> usize
+fn entry_line(list: &[u32], verdicts: &[u8], k: usize, out: &mut [u8], at: usize) -> usize
     requires { ⌜ (k < roomOf (now list)) × (k < length (now verdicts)) × WordByte (getD (now verdicts) k 0) × (at + 51 ≤ length (now out)) ⌝ }
     ensures { λ r. ⌜ Wrote (now (out .entry)) at (lineAt (now (list .entry)) (now (verdicts .entry)) k) (now (out .exit)) r ⌝ }
 {
-    let kind = listing::entries::entry_kind(list, k);
-    let first = listing::entries::entry_first(list, k);
-    let second = listing::entries::entry_second(list, k);
-    let verdict = scene_words::word_of(verdicts[k]);
+    let entry = list[k];
+    let kind = entries::kind_of(entry);
+    let first = entries::first_of(entry);
+    let second = entries::second_of(entry);
+    let verdict = verdict_at(verdicts, k);
     pair_line(out, at, kind, first as u64, second as u64, verdict)
 }
 
 // A line for each of the first `count` entries.
-fn pair_lines(list: &[u16], verdicts: &[u8], count: usize, out: &mut [u8]) -> usize
+fn pair_lines(list: &[u32], verdicts: &[u8], count: usize, out: &mut [u8]) -> usize
     requires { ⌜ Held (now list) (now verdicts) count × (length (now out) ≡ reportLength) ⌝ }
     ensures { λ r. ⌜ Wrote (now (out .entry)) 0 (gather (lineAt (now (list .entry)) (now (verdicts .entry))) 0 count) (now (out .exit)) r × (r ≤ 21 * reportRoom) ⌝ }
 {
@@ -57,14 +71,14 @@ fn tally_of(verdicts: &[u8], count: usize) -> Tally
     };
     let mut k = 0;
     while k < count {
-        tally = tally.add(scene_words::word_of(verdicts[k]));
+        tally = tally.add(verdict_at(verdicts, k));
         k += 1;
     }
     tally
 }
 
 // The lines of the pairs, then the totals.
-pub fn pairs_report(list: &[u16], verdicts: &[u8], count: usize, out: &mut [u8]) -> usize
+pub fn pairs_report(list: &[u32], verdicts: &[u8], count: usize, out: &mut [u8]) -> usize
     requires { ⌜ Held (now list) (now verdicts) count × (length (now out) ≡ reportLength) ⌝ }
     ensures { λ r. ⌜ Wrote (now (out .entry)) 0 (gather (lineAt (now (list .entry)) (now (verdicts .entry))) 0 count ++ totalLine (verdictsIn (now (verdicts .entry)) 0 count)) (now (out .exit)) r ⌝ }
 {

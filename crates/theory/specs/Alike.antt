@@ -1,7 +1,7 @@
 -- Pieces that touch together and are degenerate together have the same verdicts, and so have pairs of such pieces. What keeps verdicts
 -- (another order of points, another place in space) is shown through this.
 use mathlib.Core.Path.{_≡_, subst}
-use mathlib.Core.Logic.{_↔_, Iff·rfl, Iff·symm, Iff·not, Iff·and}
+use mathlib.Core.Logic.{_↔_, Iff·rfl, Iff·symm, Iff·trans, Iff·not, Iff·and}
 use Prim.Native.Nat.{ℕ, _<_}
 use lib.IntN.{pos}
 use Rattle.meaning.specs.Scene.{Scene}
@@ -25,6 +25,9 @@ alike-same {p} e = subst (λ (q : Piece). Alike p q) e (record { vanishes = Iff�
 pub alike-back : {p q : Piece} → Alike p q → Alike q p
 alike-back a = record { vanishes = Iff·symm (a .vanishes); touches = Iff·symm (a .touches) }
 
+pub alike-then : {p q r : Piece} → Alike p q → Alike q r → Alike p r
+alike-then a b = record { vanishes = Iff·trans (a .vanishes) (b .vanishes); touches = Iff·trans (a .touches) (b .touches) }
+
 pub alike-piece : {p q : Piece} → Alike p q → (v : Verdict) → PieceIs p v ↔ PieceIs q v
 unfolding PieceIs
 alike-piece a Degenerate = a .vanishes
@@ -39,15 +42,29 @@ alike-word a Words.the-variants.Miss = alike-piece a Miss
 alike-word a Words.the-variants.Touch = Iff·and (alike-piece a Degenerate) (a .touches)
 alike-word a Words.the-variants.Apart = Iff·and (alike-piece a Degenerate) (Iff·not (a .touches))
 
--- two pairs of one kind, piece for piece
-abbrev pub AlikePairs : Kind → (ℕ → Piece) → (ℕ → Piece) → Type 0
-AlikePairs kind p q = (k : ℕ) → k < pieceCount kind → Alike (p k) (q k)
+-- a piece of the pair is alike to the piece x
+pub record SomeAlike (kind : Kind) (x : Piece) (q : ℕ → Piece) : Type 0 where
+  pub which : ℕ
+  pub there : which < pieceCount kind
+  pub alike : Alike x (q which)
+
+-- two pairs of one kind: each piece of the one is alike to a piece of the other
+pub record AlikePairs (kind : Kind) (p q : ℕ → Piece) : Type 0 where
+  pub there : (k : ℕ) → k < pieceCount kind → SomeAlike kind (p k) q
+  pub back : (k : ℕ) → k < pieceCount kind → SomeAlike kind (q k) p
+
+-- the pieces that have the same number, say
+pub piece-for-piece : {kind : Kind} {p q : ℕ → Piece} → ((k : ℕ) → k < pieceCount kind → Alike (p k) (q k)) → AlikePairs kind p q
+piece-for-piece a = record {
+  there = λ k h. record { which = k; there = h; alike = a k h };
+  back = λ k h. record { which = k; there = h; alike = alike-back (a k h) };
+}
 
 module _ (kind : Kind) (s t : Scene) (i j m n : ℕ) (a : AlikePairs kind (pieceOf s kind i j) (pieceOf t kind m n)) where
   pub some-alike : (v : Verdict) → SomePiece s kind i j v ↔ SomePiece t kind m n v
   some-alike v = (
-    λ p. record { which = p .which; there = p .there; has = alike-piece (a (p .which) (p .there)) v .0 (p .has) },
-    λ p. record { which = p .which; there = p .there; has = alike-piece (a (p .which) (p .there)) v .1 (p .has) },
+    λ p. let b = a .there (p .which) (p .there) in record { which = b .which; there = b .there; has = alike-piece (b .alike) v .0 (p .has) },
+    λ p. let b = a .back (p .which) (p .there) in record { which = b .which; there = b .there; has = alike-piece (b .alike) v .0 (p .has) },
   )
 
   pub alike-pair : (v : Verdict) → PairIs s kind i j v ↔ PairIs t kind m n v
@@ -58,8 +75,8 @@ module _ (kind : Kind) (s t : Scene) (i j m n : ℕ) (a : AlikePairs kind (piece
 
   some-word-alike : (w : Settled) → SomeSettled s kind i j w ↔ SomeSettled t kind m n w
   some-word-alike w = (
-    λ p. record { which = p .which; there = p .there; has = alike-word (a (p .which) (p .there)) w .0 (p .has) },
-    λ p. record { which = p .which; there = p .there; has = alike-word (a (p .which) (p .there)) w .1 (p .has) },
+    λ p. let b = a .there (p .which) (p .there) in record { which = b .which; there = b .there; has = alike-word (b .alike) w .0 (p .has) },
+    λ p. let b = a .back (p .which) (p .there) in record { which = b .which; there = b .there; has = alike-word (b .alike) w .0 (p .has) },
   )
 
   pub alike-pair-word : (w : Settled) → PairSettled s kind i j w ↔ PairSettled t kind m n w

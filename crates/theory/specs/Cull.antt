@@ -44,13 +44,13 @@ module _ (s : Scene) (a : Axis) where
   pub boxed : (p q : Span) (f g : List Event) → meet p q ≡ false → Every (λ e. Holds p (a (e .place))) f → Every (λ e. Holds q (a (e .place))) g → Boxed (λ e. a (e .place)) f g
   boxed p q f g m h k = record { p = p; q = q; apart = not-meeting p q m; inFirst = h; inSecond = k }
 
-  pub edge-in : (j k : ℕ) → Every (λ e. Holds (edgeSpan s a j) (a (e .place))) (movingEdge s (endsOf s j) k)
+  pub edge-in : (j k : ℕ) → Every (λ e. Holds (edgeSpan s a j) (a (e .place))) (movingEdge (s .positions) (endsOf s j) k)
   edge-in j k =
       let held = edge-in-its-box s a j in
       let both = rising-keeps s (HoldsVertex s a (edgeSpan s a j)) (edgeEnd s j 0) (edgeEnd s j 1) (held .0) (held .1 .0) in
       moving-edge-in s a (edgeSpan s a j) (endsOf s j) (both .0) (both .1) k
 
-  pub triangle-in : (j k : ℕ) → Every (λ e. Holds (triangleSpan s a j) (a (e .place))) (movingTriangle s (cornersOf s j) k)
+  pub triangle-in : (j k : ℕ) → Every (λ e. Holds (triangleSpan s a j) (a (e .place))) (movingTriangle (s .positions) (cornersOf s j) k)
   triangle-in j k =
       let P : ℕ → Type 0 = HoldsVertex s a (triangleSpan s a j) in
       let held = triangle-in-its-box s a j in
@@ -63,10 +63,10 @@ module _ (s : Scene) (a : Axis) where
   piece-boxed PointTriangle i j k h =
       boxed (vertexSpan s a i) (triangleSpan s a j) _ _ h (moving-point-in s a (vertexSpan s a i) i (vertex-in-its-box s a i)) (triangle-in j k)
   piece-boxed EdgeEdge i j k h =
-      lower-first (λ m n. Boxed (λ e. a (e .place)) (movingEdge s (endsOf s m) (k / 2)) (movingEdge s (endsOf s n) (k % 2))) i j (edges i j h)
+      lower-first (λ m n. Boxed (λ e. a (e .place)) (movingEdge (s .positions) (endsOf s m) (k / 2)) (movingEdge (s .positions) (endsOf s n) (k % 2))) i j (edges i j h)
       (edges j i (and-comm (leZ (edgeSpan s a j .low) (edgeSpan s a i .high)) (leZ (edgeSpan s a i .low) (edgeSpan s a j .high)) ∙ h))
     where
-      edges : (m n : ℕ) → meet (edgeSpan s a m) (edgeSpan s a n) ≡ false → Boxed (λ e. a (e .place)) (movingEdge s (endsOf s m) (k / 2)) (movingEdge s (endsOf s n) (k % 2))
+      edges : (m n : ℕ) → meet (edgeSpan s a m) (edgeSpan s a n) ≡ false → Boxed (λ e. a (e .place)) (movingEdge (s .positions) (endsOf s m) (k / 2)) (movingEdge (s .positions) (endsOf s n) (k % 2))
       edges m n h = boxed (edgeSpan s a m) (edgeSpan s a n) _ _ h (edge-in m (k / 2)) (edge-in n (k % 2))
 
   module _ (lin : Linear a) (p q : ℕ) (within : p ≤ q) (positive : 0 < q) where

@@ -18,7 +18,7 @@ use Rattle.meaning.specs.declared.PairAnswer.{PairAnswer}
 use Rattle.meaning.specs.declared.Verdict.{Verdict}
 use Rattle.meaning.specs.declared.Settled.{Settled}
 use Rattle.meaning.specs.declared.SettledAnswer.{SettledAnswer}
-use Rattle.theory.specs.Alike.{alike-same, alike-pair, alike-pair-word}
+use Rattle.theory.specs.Alike.{alike-same, piece-for-piece, alike-pair, alike-pair-word}
 use Rattle.theory.specs.Written.{same-either-way}
 
 -- an answer stays right where what is right of a value follows
@@ -42,7 +42,7 @@ module _ (s : Scene) (i j : ℕ) where
   piece-either-order k = rw (min-comm i j, max-comm i j)
 
   pub pair-either-order : (v : Verdict) → PairIs s EdgeEdge i j v ↔ PairIs s EdgeEdge j i v
-  pair-either-order v = alike-pair EdgeEdge s s i j j i (λ k h. alike-same (piece-either-order k)) v
+  pair-either-order v = alike-pair EdgeEdge s s i j j i (piece-for-piece (λ k h. alike-same (piece-either-order k))) v
 
   pub shares-either-order : shares s EdgeEdge i j ≡ shares s EdgeEdge j i
   unfolding shares
@@ -73,7 +73,7 @@ module _ (s : Scene) (i j : ℕ) where
   piece-answer-either-order k r h = rw (← notThere-either-order, ← shares-either-order, ← piece-either-order k) h
 
   pub word-either-order : (w : Settled) → PairSettled s EdgeEdge i j w ↔ PairSettled s EdgeEdge j i w
-  word-either-order w = alike-pair-word EdgeEdge s s i j j i (λ k h. alike-same (piece-either-order k)) w
+  word-either-order w = alike-pair-word EdgeEdge s s i j j i (piece-for-piece (λ k h. alike-same (piece-either-order k))) w
 
   pub settled-either-order : (r : SettledAnswer) → PairDecided s EdgeEdge i j r → PairDecided s EdgeEdge j i r
   settled-either-order r h =

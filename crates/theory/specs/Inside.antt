@@ -54,15 +54,15 @@ module _ (s : Scene) (a : Axis) where
 -- ---- pieces
 
 module _ (s : Scene) (a : Axis) (p : Span) where
-  pub moving-point-in : (v : ℕ) → HoldsVertex s a p v → Every (λ e. Holds p (a (e .place))) (movingPoint s v)
+  pub moving-point-in : (v : ℕ) → HoldsVertex s a p v → Every (λ e. Holds p (a (e .place))) (movingPoint (s .positions) v)
   moving-point-in v h = (h .starts, (h .ends, tt))
 
-  pub moving-edge-in : (e : Ends) → HoldsVertex s a p (e .low) → HoldsVertex s a p (e .high) → (k : ℕ) → Every (λ e. Holds p (a (e .place))) (movingEdge s e k)
+  pub moving-edge-in : (e : Ends) → HoldsVertex s a p (e .low) → HoldsVertex s a p (e .high) → (k : ℕ) → Every (λ e. Holds p (a (e .place))) (movingEdge (s .positions) e k)
   unfolding movingEdge
   moving-edge-in e l h zero = (l .starts, (h .starts, (h .ends, tt)))
   moving-edge-in e l h (suc k) = (l .starts, (l .ends, (h .ends, tt)))
 
-  pub moving-triangle-in : (c : Corners) → HoldsVertex s a p (c .low) → HoldsVertex s a p (c .middle) → HoldsVertex s a p (c .high) → (k : ℕ) → Every (λ e. Holds p (a (e .place))) (movingTriangle s c k)
+  pub moving-triangle-in : (c : Corners) → HoldsVertex s a p (c .low) → HoldsVertex s a p (c .middle) → HoldsVertex s a p (c .high) → (k : ℕ) → Every (λ e. Holds p (a (e .place))) (movingTriangle (s .positions) c k)
   unfolding movingTriangle
   moving-triangle-in c l m h zero = (l .starts, (m .starts, (h .starts, (h .ends, tt))))
   moving-triangle-in c l m h (suc zero) = (l .starts, (m .starts, (m .ends, (h .ends, tt))))

@@ -25,7 +25,7 @@ use Rattle.meaning.specs.declared.Settled as Words
 use Rattle.meaning.specs.declared.Settled.{Settled}
 use Rattle.theory.specs.Bounds.{Every}
 use Rattle.theory.specs.Cull.{culled-never-hit, culled-never-meets}
-use Rattle.theory.specs.Alike.{Alike, alike-piece, alike-pair, alike-word, alike-pair-word}
+use Rattle.theory.specs.Alike.{Alike, alike-piece, piece-for-piece, alike-pair, alike-word, alike-pair-word}
 use Rattle.theory.specs.Differences.{atStart, atEnd}
 use Rattle.theory.specs.MovingParts.{Follows, SameParts, piece-follows}
 use Rattle.theory.specs.Sent.{sent}
@@ -89,13 +89,13 @@ module _ {m : Matrix} {a b : Vector} {s t : Scene} (h : Moves m a b s t) where
     moved-keeps-pieces k v = alike-piece (moved-alike k) v
 
     pub moved-keeps-pairs : (v : Verdict) → PairIs s kind i j v ↔ PairIs t kind i j v
-    moved-keeps-pairs v = alike-pair kind s t i j i j (λ k below. moved-alike k) v
+    moved-keeps-pairs v = alike-pair kind s t i j i j (piece-for-piece (λ k below. moved-alike k)) v
 
     pub moved-keeps-words : (k : ℕ) (w : Settled) → PieceSettled (pieceOf s kind i j k) w ↔ PieceSettled (pieceOf t kind i j k) w
     moved-keeps-words k w = alike-word (moved-alike k) w
 
     pub moved-keeps-pair-words : (w : Settled) → PairSettled s kind i j w ↔ PairSettled t kind i j w
-    moved-keeps-pair-words w = alike-pair-word kind s t i j i j (λ k below. moved-alike k) w
+    moved-keeps-pair-words w = alike-pair-word kind s t i j i j (piece-for-piece (λ k below. moved-alike k)) w
 
     -- neither hit nor touch
     abbrev NeverMeets : Scene → Type 0

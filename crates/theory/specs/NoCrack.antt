@@ -34,9 +34,9 @@ pub record FaceOf (s : Scene) (c : Corners) (f : List Event) : Type 0 where
   pub there : piece < 3
   pub leftOut : ℕ
   pub oneOfFour : leftOut < 4
-  pub is : without leftOut (movingTriangle s c piece) ≡ f
+  pub is : without leftOut (movingTriangle (s .positions) c piece) ≡ f
 
-pub edge-pieces-are-faces : (s : Scene) (c : Corners) (e : Ends) → EdgeOf c e → (m : ℕ) → FaceOf s c (movingEdge s e m)
+pub edge-pieces-are-faces : (s : Scene) (c : Corners) (e : Ends) → EdgeOf c e → (m : ℕ) → FaceOf s c (movingEdge (s .positions) e m)
 unfolding without movingEdge movingTriangle
 edge-pieces-are-faces s c e lowMiddle zero = record { piece = 1; there = omega arith; leftOut = 3; oneOfFour = omega arith; is = refl }
 edge-pieces-are-faces s c e lowMiddle (suc m) = record { piece = 2; there = omega arith; leftOut = 3; oneOfFour = omega arith; is = refl }
@@ -63,7 +63,7 @@ has-two s t a b d h =
     subst (λ (c : Corners). EdgeOf c (rising s a b)) (corners-any-order s (h .corners) (different-rearranged s (rearranged-back (h .corners)) d)) (among-has-edge s (rising s a b) (h .opposite))
 
 -- the very same cut of the side a b in every triangle that has both corners, whether or not the scene has an edge there
-pub side-pieces-are-faces : (s : Scene) (t a b : ℕ) → Different s (cornersWritten s t) → HasTwo s t a b → (m : ℕ) → FaceOf s (cornersOf s t) (movingEdge s (rising s a b) m)
+pub side-pieces-are-faces : (s : Scene) (t a b : ℕ) → Different s (cornersWritten s t) → HasTwo s t a b → (m : ℕ) → FaceOf s (cornersOf s t) (movingEdge (s .positions) (rising s a b) m)
 side-pieces-are-faces s t a b d h = edge-pieces-are-faces s (cornersOf s t) (rising s a b) (has-two s t a b d h)
 
 -- a triangle has every two of its corners, in either order
@@ -112,5 +112,5 @@ touch-of-face i l b t = record {
 }
 
 -- so what touches a face of a triangle's piece touches a piece of the triangle
-pub touch-through : (s : Scene) (c : Corners) (f b : List Event) → FaceOf s c f → Touch f b → (k : ℕ) × (k < 3) × Touch (movingTriangle s c k) b
-touch-through s c f b h t = (h .piece, h .there, touch-of-face (h .leftOut) (movingTriangle s c (h .piece)) b (rw (h .is) t))
+pub touch-through : (s : Scene) (c : Corners) (f b : List Event) → FaceOf s c f → Touch f b → (k : ℕ) × (k < 3) × Touch (movingTriangle (s .positions) c k) b
+touch-through s c f b h t = (h .piece, h .there, touch-of-face (h .leftOut) (movingTriangle (s .positions) c (h .piece)) b (rw (h .is) t))

@@ -41,13 +41,13 @@ pub record OfForm (p : Piece) : Type 0 where
   pub others : Four Event
   pub is : formed form start end others ≡ p
 
-point-form : (s : Scene) (i : ℕ) (c : Corners) (k : ℕ) → OfForm (record { first = movingPoint s i; second = movingTriangle s c k })
+point-form : (s : Scene) (i : ℕ) (c : Corners) (k : ℕ) → OfForm (record { first = movingPoint (s .positions) i; second = movingTriangle (s .positions) c k })
 unfolding formed movingTriangle
 point-form s i c zero = record { form = alone; start = _; end = _; others = _; is = refl }
 point-form s i c (suc zero) = record { form = alone; start = _; end = _; others = _; is = refl }
 point-form s i c (suc (suc k)) = record { form = alone; start = _; end = _; others = _; is = refl }
 
-edge-form : (s : Scene) (e : Ends) (i : ℕ) (f : Ends) (j : ℕ) → OfForm (record { first = movingEdge s e i; second = movingEdge s f j })
+edge-form : (s : Scene) (e : Ends) (i : ℕ) (f : Ends) (j : ℕ) → OfForm (record { first = movingEdge (s .positions) e i; second = movingEdge (s .positions) f j })
 unfolding formed movingEdge
 edge-form s e zero f zero = record { form = around; start = _; end = _; others = _; is = refl }
 edge-form s e zero f (suc j) = record { form = around; start = _; end = _; others = _; is = refl }

@@ -20,7 +20,7 @@ use Rattle.meaning.specs.declared.Kind.the-variants.{PointTriangle, EdgeEdge}
 use Rattle.meaning.specs.declared.Verdict.{Verdict}
 use Rattle.meaning.specs.declared.Settled.{Settled}
 use Rattle.theory.specs.Bounds.{Every}
-use Rattle.theory.specs.Alike.{alike-same, alike-piece, alike-pair, alike-word, alike-pair-word}
+use Rattle.theory.specs.Alike.{alike-same, alike-piece, piece-for-piece, alike-pair, alike-word, alike-pair-word}
 use Rattle.theory.specs.MovingParts.{Follows, SameParts, mapped, piece-follows}
 use Rattle.theory.specs.Rearranged.{Rearranged, rearranged-back}
 use Rattle.theory.specs.Written.{endsWritten, cornersWritten, Different, ends-any-order, corners-any-order}
@@ -68,8 +68,8 @@ WellMade s EdgeEdge i j = (i < edgeCount s) × Different s (endsWritten s i) × 
 module _ {s t : Scene} (h : Rewritten s t) where
   pub follows : Follows s t (λ e. e) (λ v. Unit {0})
   follows = record {
-    starts = λ v k. ap (λ (l : List ℤ). starting (sceneOf l [] []) v) (h .positions);
-    ends = λ v k. ap (λ (l : List ℤ). ending (sceneOf l [] []) v) (h .positions);
+    starts = λ v k. ap (λ (l : List ℤ). starting l v) (h .positions);
+    ends = λ v k. ap (λ (l : List ℤ). ending l v) (h .positions);
   }
 
   pub same-parts : (kind : Kind) (i j : ℕ) → WellMade s kind i j → SameParts s t kind i j
@@ -99,13 +99,13 @@ module _ {s t : Scene} (h : Rewritten s t) where
   rewritten-keeps-pieces kind i j w k v = alike-piece (alike-same (sym (rewritten-piece kind i j w k))) v
 
   pub rewritten-keeps-pairs : (kind : Kind) (i j : ℕ) → WellMade s kind i j → (v : Verdict) → PairIs s kind i j v ↔ PairIs t kind i j v
-  rewritten-keeps-pairs kind i j w v = alike-pair kind s t i j i j (λ k below. alike-same (sym (rewritten-piece kind i j w k))) v
+  rewritten-keeps-pairs kind i j w v = alike-pair kind s t i j i j (piece-for-piece (λ k below. alike-same (sym (rewritten-piece kind i j w k)))) v
 
   pub rewritten-keeps-words : (kind : Kind) (i j : ℕ) → WellMade s kind i j → (k : ℕ) (v : Settled) → PieceSettled (pieceOf s kind i j k) v ↔ PieceSettled (pieceOf t kind i j k) v
   rewritten-keeps-words kind i j w k v = alike-word (alike-same (sym (rewritten-piece kind i j w k))) v
 
   pub rewritten-keeps-pair-words : (kind : Kind) (i j : ℕ) → WellMade s kind i j → (v : Settled) → PairSettled s kind i j v ↔ PairSettled t kind i j v
-  rewritten-keeps-pair-words kind i j w v = alike-pair-word kind s t i j i j (λ k below. alike-same (sym (rewritten-piece kind i j w k))) v
+  rewritten-keeps-pair-words kind i j w v = alike-pair-word kind s t i j i j (piece-for-piece (λ k below. alike-same (sym (rewritten-piece kind i j w k)))) v
 
   -- ---- the checks of a pair, and the list
 

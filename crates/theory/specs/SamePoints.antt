@@ -169,12 +169,12 @@ pub six-points : (s : Scene) (kind : Kind) (i j k : ℕ) → pointsOf (pieceOf s
 unfolding pieceOf movingEdge movingTriangle
 six-points s PointTriangle i j k = ap (λ n. 2 + n) (four (cornersOf s j) k)
   where
-    four : (c : Corners) (k : ℕ) → length (movingTriangle s c k) ≡ 4
+    four : (c : Corners) (k : ℕ) → length (movingTriangle (s .positions) c k) ≡ 4
     four c zero = refl
     four c (suc zero) = refl
     four c (suc (suc k)) = refl
 six-points s EdgeEdge i j k = ap₂ _+_ (three (endsOf s (min i j)) (k / 2)) (three (endsOf s (max i j)) (k % 2))
   where
-    three : (e : Ends) (k : ℕ) → length (movingEdge s e k) ≡ 3
+    three : (e : Ends) (k : ℕ) → length (movingEdge (s .positions) e k) ≡ 3
     three e zero = refl
     three e (suc k) = refl

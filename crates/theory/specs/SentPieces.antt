@@ -113,13 +113,13 @@ module _ (m : Matrix) (a b : Vector) where
     abbrev pub AlikeWhenSent : Piece → Type 0
     AlikeWhenSent p = Alike p (sentPiece m a b p)
 
-    pub point-alike : (s : Scene) (p : ℕ) (c : Corners) (k : ℕ) → AlikeWhenSent (record { first = movingPoint s p; second = movingTriangle s c k })
+    pub point-alike : (s : Scene) (p : ℕ) (c : Corners) (k : ℕ) → AlikeWhenSent (record { first = movingPoint (s .positions) p; second = movingTriangle (s .positions) c k })
     unfolding movingTriangle formed
     point-alike s p c zero = formed-alike alone _ _ _
     point-alike s p c (suc zero) = formed-alike alone _ _ _
     point-alike s p c (suc (suc k)) = formed-alike alone _ _ _
 
-    pub edge-alike : (s : Scene) (e : Ends) (i : ℕ) (f : Ends) (j : ℕ) → AlikeWhenSent (record { first = movingEdge s e i; second = movingEdge s f j })
+    pub edge-alike : (s : Scene) (e : Ends) (i : ℕ) (f : Ends) (j : ℕ) → AlikeWhenSent (record { first = movingEdge (s .positions) e i; second = movingEdge (s .positions) f j })
     unfolding movingEdge formed
     edge-alike s e zero f zero = formed-alike around _ _ _
     edge-alike s e zero f (suc j) = formed-alike around _ _ _

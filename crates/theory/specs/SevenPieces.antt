@@ -50,7 +50,7 @@ judged-seen form {p} {q} o d a0 a1 a2 a3 l h =
       toEnd = record { k0 = a0 .toEnd; k1 = a1 .toEnd; k2 = a2 .toEnd; k3 = a3 .toEnd };
     }
 
-pub judged-point : (s : Scene) (p : ℕ) (c : Corners) (k : ℕ) → PieceIs (record { first = movingPoint s p; second = movingTriangle s c k }) (pointVerdict (volumes (pointDifferences s p c k)))
+pub judged-point : (s : Scene) (p : ℕ) (c : Corners) (k : ℕ) → PieceIs (record { first = movingPoint (s .positions) p; second = movingTriangle (s .positions) c k }) (pointVerdict (volumes (pointDifferences s p c k)))
 unfolding movingTriangle pointDifferences formed factor tested
 judged-point s p c zero = judged-seen alone _ _ start start start end all (λ n. refl)
 judged-point s p c (suc zero) = judged-seen alone _ _ start start end end all (λ n. refl)
@@ -80,7 +80,7 @@ end-sum-is (suc i) (suc j) n = ring (all n) (search quotes depth 40 fits 9000) r
 numbers-are : (i j : ℕ) (n : Four ℤ) → negℤ (n .v0) ∷ n .v1 ∷ n .v2 ∷ n .v3 ∷ dot4 n (each (λ t. pos 1 -ℤ t) (edgeTimes i j)) ∷ dot4 n (edgeTimes i j) ∷ [] ≡ edgeNumbers i j n
 numbers-are i j n = λ k. negℤ (n .v0) ∷ n .v1 ∷ n .v2 ∷ n .v3 ∷ start-sum-is i j n k ∷ end-sum-is i j n k ∷ []
 
-pub judged-edge : (s : Scene) (e : Ends) (i : ℕ) (f : Ends) (j : ℕ) → PieceIs (record { first = movingEdge s e i; second = movingEdge s f j }) (edgeVerdict i j (volumes (edgeDifferences s e i f j)))
+pub judged-edge : (s : Scene) (e : Ends) (i : ℕ) (f : Ends) (j : ℕ) → PieceIs (record { first = movingEdge (s .positions) e i; second = movingEdge (s .positions) f j }) (edgeVerdict i j (volumes (edgeDifferences s e i f j)))
 unfolding movingEdge edgeDifferences formed factor tested
 judged-edge s e zero f zero = judged-seen around _ _ start start start end (edgeNumbers 0 0) (numbers-are 0 0)
 judged-edge s e zero f (suc j) = judged-seen around _ _ start start end end (edgeNumbers 0 (suc j)) (numbers-are 0 (suc j))

@@ -63,28 +63,28 @@ edge-reading i j E =
 
 module _ (s : Scene) where
   pub point-right : (p : ℕ) (c : Corners) (k : ℕ) (v : Verdict) → v ≡ pointVerdict (volumes (pointDifferences s p c k))
-      → PieceIs (record { first = movingPoint s p; second = movingTriangle s c k }) v
+      → PieceIs (record { first = movingPoint (s .positions) p; second = movingTriangle (s .positions) c k }) v
   unfolding pointVerdict
   point-right p c k v h =
       let E : Four ℤ = volumes (pointDifferences s p c k) in
-      subst (PieceIs (record { first = movingPoint s p; second = movingTriangle s c k }))
+      subst (PieceIs (record { first = movingPoint (s .positions) p; second = movingTriangle (s .positions) c k }))
       (sym (h ∙ reading-is (sum E) (all E))) (judged-point s p c k)
 
   pub edges-right : (e : Ends) (i : ℕ) (f : Ends) (j : ℕ) (v : Verdict)
       → v ≡ edgeVerdict (flags i j) (volumes (edgeDifferences s e i f j))
-      → PieceIs (record { first = movingEdge s e i; second = movingEdge s f j }) v
+      → PieceIs (record { first = movingEdge (s .positions) e i; second = movingEdge (s .positions) f j }) v
   edges-right e i f j v h =
-      subst (PieceIs (record { first = movingEdge s e i; second = movingEdge s f j }))
+      subst (PieceIs (record { first = movingEdge (s .positions) e i; second = movingEdge (s .positions) f j }))
       (sym (h ∙ edge-reading i j (volumes (edgeDifferences s e i f j)))) (judged-edge s e i f j)
 
   -- the same of volumes that the machine holds
   pub point-held : (p : ℕ) (c : Corners) (k : ℕ) {w : Volumes} (v : Verdict) → Holds w (volumes (pointDifferences s p c k)) → v ≡ pointVerdict (fourOf w)
-      → PieceIs (record { first = movingPoint s p; second = movingTriangle s c k }) v
+      → PieceIs (record { first = movingPoint (s .positions) p; second = movingTriangle (s .positions) c k }) v
   point-held p c k v h e = point-right p c k v (e ∙ ap pointVerdict (holds-same h))
 
   pub edges-held : (e : Ends) (i : ℕ) (f : Ends) (j : ℕ) {w : Volumes} (v : Verdict) → Holds w (volumes (edgeDifferences s e i f j))
       → v ≡ edgeVerdict (flags i j) (fourOf w)
-      → PieceIs (record { first = movingEdge s e i; second = movingEdge s f j }) v
+      → PieceIs (record { first = movingEdge (s .positions) e i; second = movingEdge (s .positions) f j }) v
   edges-held e i f j v h q = edges-right e i f j v (q ∙ ap (edgeVerdict (flags i j)) (holds-same h))
 
 -- a piece's number is 0, or 1, or more: the code's tests

@@ -1,9 +1,6 @@
 // The verdict of one piece. The first simplex of every piece holds a point at the start and one at the end that all pieces of its pair hold. The
 // four other points are seen from these, a start from the one and an end from the other.
 
-ghost use Prim.Native.Nat.{ℕ, _<_};
-ghost use mathlib.Core.List.{List};
-ghost use Rattle.meaning.specs.Scene.{sceneOf};
 ghost use Rattle.meaning.specs.Pieces.{movingPoint, movingTriangle, movingEdge};
 ghost use Rattle.meaning.specs.Verdicts.{PieceIs};
 ghost use Rattle.three_words.specs.Ready.{PointReady, EdgesReady};
@@ -16,7 +13,7 @@ use sign_sums::judge_point;
 // Point p against piece k of a triangle: the base is p.
 pub fn point_piece(positions: &[i32], p: usize, c: Corners, k: usize) -> Verdict
     requires { ⌜ PointReady (now positions) p c ⌝ }
-    ensures { λ r. ⌜ ((e t : List ℕ) → PieceIs (record { first = movingPoint (sceneOf (now (positions .entry)) e t) p; second = movingTriangle (sceneOf (now (positions .entry)) e t) c k }) r) ⌝ }
+    ensures { λ r. ⌜ PieceIs (record { first = movingPoint (now (positions .entry)) p; second = movingTriangle (now (positions .entry)) c k }) r ⌝ }
 {
     let from = 6 * p;
     let to = from + 3;
@@ -36,7 +33,7 @@ pub fn point_piece(positions: &[i32], p: usize, c: Corners, k: usize) -> Verdict
 // at the end: these are the base.
 pub fn edges_piece(positions: &[i32], e: Ends, i: usize, f: Ends, j: usize) -> Verdict
     requires { ⌜ EdgesReady (now positions) e f ⌝ }
-    ensures { λ r. ⌜ ((es ts : List ℕ) → PieceIs (record { first = movingEdge (sceneOf (now (positions .entry)) es ts) e i; second = movingEdge (sceneOf (now (positions .entry)) es ts) f j }) r) ⌝ }
+    ensures { λ r. ⌜ PieceIs (record { first = movingEdge (now (positions .entry)) e i; second = movingEdge (now (positions .entry)) f j }) r ⌝ }
 {
     if i == 0 {
         if j == 0 {
@@ -55,7 +52,7 @@ pub fn edges_piece(positions: &[i32], e: Ends, i: usize, f: Ends, j: usize) -> V
 
 fn both_a(positions: &[i32], e: Ends, f: Ends) -> Verdict
     requires { ⌜ EdgesReady (now positions) e f ⌝ }
-    ensures { λ r. ⌜ ((es ts : List ℕ) → PieceIs (record { first = movingEdge (sceneOf (now (positions .entry)) es ts) e 0; second = movingEdge (sceneOf (now (positions .entry)) es ts) f 0 }) r) ⌝ }
+    ensures { λ r. ⌜ PieceIs (record { first = movingEdge (now (positions .entry)) e 0; second = movingEdge (now (positions .entry)) f 0 }) r ⌝ }
 {
     let from = 6 * e.low;
     let other = 6 * e.high;
@@ -81,7 +78,7 @@ fn both_a(positions: &[i32], e: Ends, f: Ends) -> Verdict
 
 fn a_against_b(positions: &[i32], e: Ends, f: Ends) -> Verdict
     requires { ⌜ EdgesReady (now positions) e f ⌝ }
-    ensures { λ r. ⌜ ((es ts : List ℕ) → PieceIs (record { first = movingEdge (sceneOf (now (positions .entry)) es ts) e 0; second = movingEdge (sceneOf (now (positions .entry)) es ts) f 1 }) r) ⌝ }
+    ensures { λ r. ⌜ PieceIs (record { first = movingEdge (now (positions .entry)) e 0; second = movingEdge (now (positions .entry)) f 1 }) r ⌝ }
 {
     let from = 6 * e.low;
     let other = 6 * e.high;
@@ -107,7 +104,7 @@ fn a_against_b(positions: &[i32], e: Ends, f: Ends) -> Verdict
 
 fn b_against_a(positions: &[i32], e: Ends, f: Ends) -> Verdict
     requires { ⌜ EdgesReady (now positions) e f ⌝ }
-    ensures { λ r. ⌜ ((es ts : List ℕ) → PieceIs (record { first = movingEdge (sceneOf (now (positions .entry)) es ts) e 1; second = movingEdge (sceneOf (now (positions .entry)) es ts) f 0 }) r) ⌝ }
+    ensures { λ r. ⌜ PieceIs (record { first = movingEdge (now (positions .entry)) e 1; second = movingEdge (now (positions .entry)) f 0 }) r ⌝ }
 {
     let from = 6 * e.low;
     let to = 6 * e.high + 3;
@@ -133,7 +130,7 @@ fn b_against_a(positions: &[i32], e: Ends, f: Ends) -> Verdict
 
 fn both_b(positions: &[i32], e: Ends, f: Ends) -> Verdict
     requires { ⌜ EdgesReady (now positions) e f ⌝ }
-    ensures { λ r. ⌜ ((es ts : List ℕ) → PieceIs (record { first = movingEdge (sceneOf (now (positions .entry)) es ts) e 1; second = movingEdge (sceneOf (now (positions .entry)) es ts) f 1 }) r) ⌝ }
+    ensures { λ r. ⌜ PieceIs (record { first = movingEdge (now (positions .entry)) e 1; second = movingEdge (now (positions .entry)) f 1 }) r ⌝ }
 {
     let from = 6 * e.low;
     let to = 6 * e.high + 3;

@@ -8,7 +8,7 @@ use Rattle.scene_words.proofs.settle_accepted.Lts as lts
 use Rattle.scene_words.proofs.settle_entries.Reads as settle-entries-reads
 use Rattle.scene_words.proofs.smaller.Reads as smaller-reads
 use Rattle.listing.proofs.accepted.list_accepted.Reads as list-accepted-reads
-use Rattle.listing.proofs.entries.room.Reads as room-reads
+use Rattle.entries.proofs.room.Reads as room-reads
 
 -- src/lib.rt:74:24
 room-requires : tie.Need-room-requires
@@ -31,7 +31,7 @@ settle-entries-requires : tie.Need-settle-entries-requires
 settle-entries-requires c κs =
     let m = made-list (c .before .before .before .before .before .before .before .list-accepted .ensures) {m = c .before .before .before .made .given .0 .0} (search) in (
       c .before .before .before .before .before .before .before .before .before .before .before .before .before .before .before .before .pre,
-      made-stands (rw (c .before .before .before .before .before .before .before .before .before .smaller .ensures, c .before .before .before .before .before .before .before .before .before .before .room .ensures) (omega arith)) m,
+      made-stands (c .before .before .before .before .before .before .before .before .before .before .before .before .before .before .before .before .pre) (rw (c .before .before .before .before .before .before .before .before .before .smaller .ensures, c .before .before .before .before .before .before .before .before .before .before .room .ensures) (omega arith)) m,
       m .counts,
       omega (arith, m .counts, m .fits, c .before .before .before .before .before .before .before .before .before .smaller .ensures),
     )

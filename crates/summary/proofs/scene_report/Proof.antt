@@ -37,7 +37,7 @@ slice-aggregate-pairs-report-2 c = search needs
 
 -- src/lib.rt:50:37
 pairs-report-requires : tie.Need-pairs-report-requires
-pairs-report-requires c κs = ((judged-list {m = c .before .before .before .before .made .given .0 .0} (omega arith) (omega (arith, own-room)) (c .before .before .before .before .before .before .before .before .settle-accepted .ensures) (search)) .held, c .before .before .before .before .before .before .before .before .before .before .before .before .before .before .pre .1)
+pairs-report-requires c κs = ((judged-list {m = c .before .before .before .before .made .given .0 .0} (c .before .before .before .before .before .before .before .before .before .before .before .before .before .before .pre .0) (omega arith) (omega (arith, own-room)) (c .before .before .before .before .before .before .before .before .settle-accepted .ensures) (search)) .held, c .before .before .before .before .before .before .before .before .before .before .before .before .before .before .pre .1)
 
 -- src/lib.rt:51:32
 enum-known-needed : tie.Need-enum-known-needed
@@ -54,7 +54,7 @@ same-length c = search needs
 -- src/lib.rt:43:1
 returns : tie.Need-returns
 returns c =
-    let j = (judged-list {m = c .before .before .before .before .before .before .before .made .given .0 .0} (omega arith) (omega (arith, own-room)) (c .before .before .before .before .before .before .before .before .before .before .before .settle-accepted .ensures) (search)) in
+    let j = (judged-list {m = c .before .before .before .before .before .before .before .made .given .0 .0} (c .before .before .before .before .before .before .before .before .before .before .before .before .before .before .before .before .before .pre .0) (omega arith) (omega (arith, own-room)) (c .before .before .before .before .before .before .before .before .before .before .before .settle-accepted .ensures) (search)) in
     report-stands (sceneOf (c .before .before .before .before .before .before .before .before .before .before .before .before .before .before .before .before .before .args .positions .now) (c .before .before .before .before .before .before .before .before .before .before .before .before .before .before .before .before .before .args .edges .now) (c .before .before .before .before .before .before .before .before .before .before .before .before .before .before .before .before .before .args .triangles .now)) _ (j .stands) (j .bytes) (j .counts) (j .few) (c .before .before .pairs-report .ensures)
 
 -- src/lib.rt:43:1

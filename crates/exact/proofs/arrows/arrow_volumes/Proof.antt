@@ -1,4 +1,5 @@
 -- Four volumes: the minors of the first two with each of the others standing last, those of the last two with each of the others standing first.
+use borrow.Author.Needs.{needs}
 use Rattle.exact.specs.Minors.{minors-small, standing-first, standing-last}
 use Rattle.exact.specs.Volumes.{held-small, held-in-turn}
 use Rattle.exact.proofs.arrows.arrow_volumes.Statement.{statement}
@@ -8,20 +9,20 @@ pub arrow-volumes-spec : {M : Type 1} → statement M
 arrow-volumes-spec =
     tie.close
     (tie.spec
-    (λ c κs. let p = c .pre in (p .0 .stands0, p .0 .stands1, p .1))
-    (λ c κs. let p = c .before .pre in (p .0 .stands2, p .0 .stands3, p .1))
-    (λ c κs. let p = c .before .before .pre in (p .0 .stands1, minors-small (c .arrow-minors2 .ensures), p .1))
-    (λ c κs. let p = c .before .before .before .pre in (p .0 .stands0, minors-small (c .before .arrow-minors2 .ensures), p .1))
-    (λ c κs. let p = c .before .before .before .before .pre in (p .0 .stands3, minors-small (c .before .before .before .arrow-minors .ensures), p .1))
-    (λ c κs. let p = c .before .before .before .before .before .pre in (p .0 .stands2, minors-small (c .before .before .before .before .arrow-minors .ensures), p .1))
+    (λ c κs. search needs)
+    (λ c κs. let p = c .before .pre in (p .0 .stands3, minors-small (c .arrow-minors .ensures), p .1))
+    (λ c κs. let p = c .before .before .pre in (p .0 .stands2, minors-small (c .before .arrow-minors .ensures), p .1))
+    (λ c κs. search needs)
+    (λ c κs. let p = c .before .before .before .before .pre in (p .0 .stands1, minors-small (c .arrow-minors2 .ensures), p .1))
+    (λ c κs. let p = c .before .before .before .before .before .pre in (p .0 .stands0, minors-small (c .before .arrow-minors2 .ensures), p .1))
     (λ c κs.
-    held-small (standing-first (c .before .before .before .arrow-with .ensures) (c .before .before .before .before .arrow-minors2 .ensures))
-    (standing-first (c .before .before .arrow-with2 .ensures) (c .before .before .before .before .arrow-minors2 .ensures))
-    (standing-last (c .before .arrow-with3 .ensures) (c .before .before .before .before .before .arrow-minors .ensures))
-    (standing-last (c .arrow-with4 .ensures) (c .before .before .before .before .before .arrow-minors .ensures)))
+    held-small (standing-first (c .before .arrow-with3 .ensures) (c .before .before .arrow-minors2 .ensures))
+    (standing-first (c .arrow-with4 .ensures) (c .before .before .arrow-minors2 .ensures))
+    (standing-last (c .before .before .before .before .arrow-with .ensures) (c .before .before .before .before .before .arrow-minors .ensures))
+    (standing-last (c .before .before .before .arrow-with2 .ensures) (c .before .before .before .before .before .arrow-minors .ensures)))
     (λ c.
-    held-in-turn (standing-first (c .before .before .before .before .arrow-with .ensures) (c .before .before .before .before .before .arrow-minors2 .ensures))
-    (standing-first (c .before .before .before .arrow-with2 .ensures) (c .before .before .before .before .before .arrow-minors2 .ensures))
-    (standing-last (c .before .before .arrow-with3 .ensures) (c .before .before .before .before .before .before .arrow-minors .ensures))
-    (standing-last (c .before .arrow-with4 .ensures) (c .before .before .before .before .before .before .arrow-minors .ensures))
+    held-in-turn (standing-first (c .before .before .arrow-with3 .ensures) (c .before .before .before .arrow-minors2 .ensures))
+    (standing-first (c .before .arrow-with4 .ensures) (c .before .before .before .arrow-minors2 .ensures))
+    (standing-last (c .before .before .before .before .before .arrow-with .ensures) (c .before .before .before .before .before .before .arrow-minors .ensures))
+    (standing-last (c .before .before .before .before .arrow-with2 .ensures) (c .before .before .before .before .before .before .arrow-minors .ensures))
     (c .in-turn .ensures)))

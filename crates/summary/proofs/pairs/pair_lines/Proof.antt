@@ -21,7 +21,7 @@ loop-holds : tie.Need-loop-holds Inv-loop μ-loop
 loop-holds c = (
   omega arith,
   omega arith,
-  writing-starts-front _ _ (omega (arith, c .before .before .before .pre .0 .few, c .before .before .before .pre .1, lines-short (c .before .before .before .args .list .now) (c .before .before .before .args .verdicts .now) (λ i. omega (arith, c .before .before .shared-slice-known .given i)) (c .before .before .before .args .count))),
+  writing-starts-front _ _ (omega (arith, c .before .before .before .pre .0 .few, c .before .before .before .pre .1, lines-short (c .before .before .before .args .list .now) (c .before .before .before .args .verdicts .now) (c .before .before .before .args .count))),
 )
 
 -- src/pairs.rt:40:9
@@ -49,7 +49,7 @@ loop-again c =
     let i = c .before .before .before .before .before .loop .inv in
     let w = c .before .before .entry-line .ensures in (
       omega arith,
-      omega (arith, w .place, i .1, line-short (c .before .before .before .before .before .before .before .before .before .args .list .now) (c .before .before .before .before .before .before .before .before .before .args .verdicts .now) (λ i. omega (arith, c .before .before .before .before .before .before .before .before .shared-slice-known .given i)) (c .before .before .before .before .before .loop .k)),
+      omega (arith, w .place, i .1, line-short (c .before .before .before .before .before .before .before .before .before .args .list .now) (c .before .before .before .before .before .before .before .before .before .args .verdicts .now) (c .before .before .before .before .before .loop .k)),
       writing-steps (writing-as (gather-first (lineAt (c .before .before .before .before .before .before .before .before .before .args .list .now) (c .before .before .before .before .before .before .before .before .before .args .verdicts .now)) (c .before .before .before .before .before .loop .k) (c .before .before .before .before .before .before .before .before .before .args .count) (c .before .before .before .before .loop-test .taken)) (i .2)) w,
     )
 

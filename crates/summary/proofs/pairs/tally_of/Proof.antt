@@ -4,14 +4,13 @@ use mathlib.Core.Path.{_≡_}
 use native.Mathlib.Omega.{arith}
 use borrow.Author.Needs.{needs}
 use Rattle.sequences.specs.Gather.{gather-none, gather-last}
-use Rattle.scene_words.specs.Listed.{word-of-its-byte}
 use Rattle.summary.specs.Rendered.{verdictAt, verdictsIn, verdicts-short}
 use Rattle.wording.specs.Counted.{TallyOf, tally-starts, tally-goes}
 use Rattle.summary.proofs.pairs.tally_of.Statement.{statement}
 use Rattle.summary.proofs.pairs.tally_of.Tie as tie
 use Rattle.summary.proofs.pairs.tally_of.Reads as reads
 use Rattle.summary.proofs.pairs.tally_of.Lts as lts
-use Rattle.scene_words.proofs.word_of.Reads as word-of-reads
+use Rattle.summary.proofs.pairs.verdict_at.Reads as verdict-at-reads
 use Rattle.wording.proofs.tally.Tally.add.Reads as add-reads
 
 abbrev Inv-loop : tie.InvT-loop
@@ -24,14 +23,10 @@ abbrev μ-loop : tie.MeasureT-loop
 loop-holds : tie.Need-loop-holds Inv-loop μ-loop
 loop-holds c = (omega arith, rw (gather-none (λ k. verdictAt (c .before .args .verdicts .now) k ∷ []) 0 0 (omega arith)) tally-starts)
 
--- src/pairs.rt:58:47
-shared-slice-read-word-of : tie.Need-shared-slice-read-word-of Inv-loop μ-loop
-shared-slice-read-word-of c = omega (arith, c .before .before .before .before .pre .0 .there)
-
 -- src/pairs.rt:58:27
-word-of-requires : tie.Need-word-of-requires Inv-loop μ-loop
-word-of-requires c κs =
-    c .before .before .before .before .pre .0 .at (c .before .before .loop .k) (omega arith)
+verdict-at-requires : tie.Need-verdict-at-requires Inv-loop μ-loop
+verdict-at-requires c κs =
+    (omega (arith, c .before .before .before .pre .0 .there), c .before .before .before .pre .0 .at (c .before .loop .k) (omega arith))
 
 -- src/pairs.rt:58:9
 add-requires : tie.Need-add-requires Inv-loop μ-loop
@@ -48,11 +43,11 @@ loop-less c = omega arith
 -- src/pairs.rt:57:5
 loop-again : tie.Need-loop-again Inv-loop μ-loop
 loop-again c =
-    let b = c .before .before .before .before .before .before .args .verdicts .now in
-    let k = c .before .before .before .before .loop .k in (
+    let b = c .before .before .before .before .before .args .verdicts .now in
+    let k = c .before .before .before .loop .k in (
       omega arith,
-      rw (gather-last (λ k. verdictAt (c .before .before .before .before .before .before .args .verdicts .now) k ∷ []) 0 k (omega arith), c .add .ensures, word-of-its-byte _ (c .before .word-of .ensures))
-          (tally-goes (verdictAt b k) (omega (arith, verdicts-short b k, c .before .before .before .before .before .before .pre .1)) (c .before .before .before .before .loop .inv .1)),
+      rw (gather-last (λ k. verdictAt (c .before .before .before .before .before .args .verdicts .now) k ∷ []) 0 k (omega arith), c .add .ensures, c .before .verdict-at .ensures)
+          (tally-goes (verdictAt b k) (omega (arith, verdicts-short b k, c .before .before .before .before .before .pre .1)) (c .before .before .before .loop .inv .1)),
     )
 
 -- src/pairs.rt:47:1
@@ -68,8 +63,7 @@ tally-of-spec =
     Inv-loop
     μ-loop
     loop-holds
-    shared-slice-read-word-of
-    word-of-requires
+    verdict-at-requires
     add-requires
     add-k
     loop-less

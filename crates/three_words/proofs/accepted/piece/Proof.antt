@@ -66,7 +66,7 @@ unfolding pieceOf
 returns c =
     let a = c .before .before .before .before .before .before .args in
     rw (c .before .before .enum-told .given .1, ← c .before .corners-of .ensures)
-    (c .point-piece .ensures (a .edges .now) (a .triangles .now))
+    (c .point-piece .ensures)
 
 -- src/accepted.rt:63:1
 returns-2 : tie.Need-returns-2
@@ -74,7 +74,7 @@ unfolding pieceOf
 returns-2 c =
     let a = c .before .before .before .before .before .before .before .before .before .args in
     rw (c .before .before .before .before .before .enum-told2 .given .1, ← rw (c .before .before .before .before .smaller .ensures) at (c .before .before .before .ends-of .ensures), ← rw (c .before .before .larger .ensures) at (c .before .ends-of2 .ensures))
-    (c .edges-piece .ensures (a .edges .now) (a .triangles .now))
+    (c .edges-piece .ensures)
 
 pub piece-spec : {M : Type 1} → statement M
 piece-spec =

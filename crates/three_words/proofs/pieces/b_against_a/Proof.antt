@@ -1,4 +1,5 @@
 use native.Mathlib.Omega.{arith}
+use mathlib.Core.List.{[]}
 use borrow.Author.Needs.{needs}
 use Rattle.meaning.specs.Scene.{Scene, sceneOf}
 use Rattle.theory.specs.Computed.{edgeDifferences}
@@ -10,8 +11,7 @@ returns : tie.Need-returns
 unfolding flags edgeDifferences
 returns c =
     let a = c .before .before .before .before .before .args in
-    λ es ts.
-    let s : Scene = sceneOf (a .positions .now) es ts in
+    let s : Scene = sceneOf (a .positions .now) [] [] in
     edges-right s (a .e) 1 (a .f) 0 (c .judge-edges .result) (c .judge-edges .ensures)
 
 pub b-against-a-spec : {M : Type 1} → statement M

@@ -1,0 +1,34 @@
+-- `marked_reads::show_part` is safe: a part of a buffer has the length that was asked for.
+use native.Mathlib.Omega.{arith}
+use lib.ListN.{length-take}
+use borrow.Author.Needs.{needs}
+use Rattle.marked_reads.proofs.show_part.Statement.{statement}
+use Rattle.marked_reads.proofs.show_part.Tie as tie
+
+slice-aggregate-show-in-4 : tie.Need-slice-aggregate-show-in-4
+slice-aggregate-show-in-4 c = simp length-take (omega arith)
+
+slice-aggregate-show-in-5 : tie.Need-slice-aggregate-show-in-5
+slice-aggregate-show-in-5 c = simp length-take (omega arith)
+
+slice-aggregate-show-in-6 : tie.Need-slice-aggregate-show-in-6
+slice-aggregate-show-in-6 c = simp length-take (omega arith)
+
+pub show-part-spec : {M : Type 1} → statement M
+show-part-spec =
+    tie.close
+    (tie.spec
+    (λ c. search needs)
+    (λ c. search needs)
+    (λ c. search needs)
+    (λ c. search needs)
+    slice-aggregate-show-in-4
+    (λ c. search needs)
+    slice-aggregate-show-in-5
+    (λ c. search needs)
+    slice-aggregate-show-in-6
+    (λ c κs. search needs)
+    (λ c. search needs)
+    (λ c. search needs)
+    (λ c. search needs)
+    (λ c. search needs))

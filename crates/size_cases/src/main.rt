@@ -1,0 +1,13 @@
+// Runs the reader of scene texts on texts at the sizes and one past them, and into buffers of other lengths. What it must print stands in the
+// file stdout.
+
+mod cases; // cases.rt: the texts and the buffers
+mod texts; // texts.rt: texts made of lines, each so many times
+
+fn main() {
+    cases::long();
+    cases::longer();
+    cases::longest();
+    cases::buffers();
+    marked_reads::marks::print(b"\n");
+}

@@ -1,0 +1,104 @@
+// The pairs that can be listed, and the test of one of them.
+
+ghost use Prim.Native.Nat.{_<_};
+ghost use mathlib.Core.Path.{_≡_};
+ghost use Rattle.meaning.specs.Scene.{sceneIn, sceneAtEntry, vertexCount, edgeCount, triangleCount};
+ghost use Rattle.meaning.specs.Boxes.{listed};
+ghost use Rattle.meaning.specs.declared.Kind.the-variants.{PointTriangle, EdgeEdge};
+ghost use Rattle.boxes.specs.Kept.{Boxed};
+ghost use Rattle.walking.specs.Rows.{firstCount, secondCount, secondFrom};
+use boxes::kept::boxes_meet;
+use meaning::Kind;
+use scenes::parts::edge_count;
+use scenes::parts::shares_ee;
+use scenes::parts::shares_pt;
+use scenes::parts::triangle_count;
+use scenes::parts::vertex_count;
+
+// The boxes are tested first: most pairs are apart on an axis.
+fn listed_pt(
+    positions: &[i32],
+    edges: &[u16],
+    triangles: &[u16],
+    boxes: &[i32],
+    v: usize,
+    j: usize,
+) -> bool
+    requires { ⌜ Boxed (sceneIn positions edges triangles) (now boxes) × (v < vertexCount (sceneIn positions edges triangles)) × (j < triangleCount (sceneIn positions edges triangles)) ⌝ }
+    ensures { λ r. ⌜ r ≡ listed (sceneAtEntry positions edges triangles) PointTriangle v j ⌝ }
+{
+    let place = vertex_count(positions) + edge_count(edges) + j;
+    if boxes_meet(boxes, v, place) {
+        !shares_pt(triangles, v, j)
+    } else {
+        false
+    }
+}
+
+fn listed_ee(
+    positions: &[i32],
+    edges: &[u16],
+    triangles: &[u16],
+    boxes: &[i32],
+    i: usize,
+    j: usize,
+) -> bool
+    requires { ⌜ Boxed (sceneIn positions edges triangles) (now boxes) × (i < edgeCount (sceneIn positions edges triangles)) × (j < edgeCount (sceneIn positions edges triangles)) ⌝ }
+    ensures { λ r. ⌜ r ≡ listed (sceneAtEntry positions edges triangles) EdgeEdge i j ⌝ }
+{
+    let first = vertex_count(positions);
+    if boxes_meet(boxes, first + i, first + j) {
+        !shares_ee(edges, i, j)
+    } else {
+        false
+    }
+}
+
+// Whether the pair of a kind and two places is listed.
+pub(crate) fn is_listed(
+    positions: &[i32],
+    edges: &[u16],
+    triangles: &[u16],
+    boxes: &[i32],
+    kind: Kind,
+    i: usize,
+    j: usize,
+) -> bool
+    requires { ⌜ Boxed (sceneIn positions edges triangles) (now boxes) × (i < firstCount (sceneIn positions edges triangles) kind) × (j < secondCount (sceneIn positions edges triangles) kind) ⌝ }
+    ensures { λ r. ⌜ r ≡ listed (sceneAtEntry positions edges triangles) kind i j ⌝ }
+{
+    match kind {
+        Kind::PointTriangle => listed_pt(positions, edges, triangles, boxes, i, j),
+        Kind::EdgeEdge => listed_ee(positions, edges, triangles, boxes, i, j),
+    }
+}
+
+// How many first places there are, and how many second places.
+pub(crate) fn first_count(positions: &[i32], edges: &[u16], triangles: &[u16], kind: Kind) -> usize
+    ensures { λ r. ⌜ r ≡ firstCount (sceneAtEntry positions edges triangles) kind ⌝ }
+{
+    match kind {
+        Kind::PointTriangle => vertex_count(positions),
+        Kind::EdgeEdge => edge_count(edges),
+    }
+}
+
+pub(crate) fn second_count(positions: &[i32], edges: &[u16], triangles: &[u16], kind: Kind) -> usize
+    ensures { λ r. ⌜ r ≡ secondCount (sceneAtEntry positions edges triangles) kind ⌝ }
+{
+    match kind {
+        Kind::PointTriangle => triangle_count(triangles),
+        Kind::EdgeEdge => edge_count(edges),
+    }
+}
+
+// The first second place: each two edges make one pair.
+pub(crate) fn second_from(kind: Kind, i: usize) -> usize
+    requires { ⌜ i < 65536 ⌝ }
+    ensures { λ r. ⌜ r ≡ secondFrom kind i ⌝ }
+{
+    match kind {
+        Kind::PointTriangle => 0,
+        Kind::EdgeEdge => i + 1,
+    }
+}
