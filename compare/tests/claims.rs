@@ -121,3 +121,29 @@ fn the_example_claims_have_their_answers() {
     }
     assert_eq!(found, page.lines().filter(|line| line.starts_with("- ")).count());
 }
+
+/// What docs/FORMAT.md says of lines of claims is what is answered beside the scene that it shows.
+#[test]
+fn the_page_tells_of_claims() {
+    let page = std::fs::read_to_string(concat!(env!("CARGO_MANIFEST_DIR"), "/../docs/FORMAT.md")).unwrap();
+    let part = page.split("## A partner's claims").nth(1).unwrap().split("\n## ").next().unwrap();
+    let scene = compare::cases::PRINTED_SCENE.as_bytes();
+    let answer = |line: &str| printed(scene, format!("{line}\n").as_bytes());
+    let mut held = 0;
+    for row in part.lines().filter(|row| row.starts_with("| `") && row.contains('>')) {
+        let cells: Vec<&str> = row.split(" | ").collect();
+        let line = cells[0].trim_start_matches("| ").trim_matches('`').replace('>', "\t");
+        let wanted = match cells[1] {
+            "no" => "no\n".to_string(),
+            number => format!("refused\t{number}\t1\n"),
+        };
+        assert_eq!(answer(&line), wanted, "{row}");
+        held += 1;
+    }
+    for row in part.lines().filter(|row| row.starts_with("    pt\t")) {
+        let (line, word) = row.trim_start().rsplit_once('\t').unwrap();
+        assert_eq!(answer(line), format!("{word}\n"), "{row}");
+        held += 1;
+    }
+    assert_eq!(held, 11);
+}
