@@ -5,7 +5,7 @@ use std::process::{Child, Command, Stdio};
 use std::sync::mpsc;
 use std::time::{Duration, Instant};
 
-/// The longest report that is waited for; one of 2,048 pairs is well below.
+/// The longest report that is waited for; one of 3,072 pairs is well below.
 const LONGEST: u64 = 1 << 20;
 
 pub struct Program {

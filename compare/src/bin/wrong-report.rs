@@ -1,6 +1,6 @@
 //! usage: wrong-report [MISTAKE [ROOM]] < SCENE
 //! The report of a program that is wrong in one respect. Without a word it tells which mistakes it knows. ROOM is
-//! 2,048 where it is not given.
+//! 3,072 where it is not given.
 
 use compare::mistakes::{self, Right};
 use compare::say;
