@@ -8,7 +8,7 @@ ghost use Rattle.meaning.specs.Scene.{Accepted};
 ghost use Rattle.scenes.specs.Alone.{tabledIn, tabledAtEntry};
 ghost use Rattle.meaning.specs.Runs.{runsOf};
 ghost use Rattle.boxes.specs.Kept.{meetBoxes};
-ghost use Rattle.walking.specs.Rows.{firstCount, secondCount};
+ghost use Rattle.candidates.specs.Rows.{firstCount, secondCount};
 ghost use Rattle.walking.specs.Skipping.{firstPlace, runPlace, firstBox, runBox, walkNumbers};
 ghost use Rattle.walking.specs.Skipping.{Prepared};
 use boxes::filling::BOX_NUMBERS;
