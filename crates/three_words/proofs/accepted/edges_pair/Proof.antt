@@ -14,8 +14,8 @@ unfolding pieceOf flags edgeDifferences
 returns c =
     let a = c .before .before .before .before .before .before .before .before .before .before .before .before .before .before .before .before .args in
     let v = c .before .before .before .before .before .before .before .before .before .before .before .edge-volumes .ensures in
-    λ e t i j one two.
-    let s : Scene = sceneOf (a .positions .now) e t in
+    λ e t w i j one two.
+    let s : Scene = sceneOf (a .positions .now) e t w in
     rw (c .joined3 .ensures, c .before .joined2 .ensures, c .before .before .joined .ensures)
     (of-four s i j (c .before .before .before .before .before .before .edge-verdict .result) (c .before .before .before .before .before .edge-verdict2 .result) (c .before .before .before .before .edge-verdict3 .result) (c .before .before .before .edge-verdict4 .result)
     (rw (one, two) (edges-held s (a .first) 0 (a .second) 0 (c .before .before .before .before .before .before .edge-verdict .result) (v .holds0) (c .before .before .before .before .before .before .edge-verdict .ensures)))

@@ -14,8 +14,8 @@ unfolding pieceOf pointDifferences
 returns c =
     let a = c .before .before .before .before .before .before .before .before .before .before .before .before .args in
     let v = c .before .before .before .before .before .before .before .before .point-volumes .ensures in
-    λ e t j same.
-    let s : Scene = sceneOf (a .positions .now) e t in
+    λ e t w j same.
+    let s : Scene = sceneOf (a .positions .now) e t w in
     rw (c .joined2 .ensures, c .before .joined .ensures)
     (of-three s (a .p) j (c .before .before .before .before .point-verdict .result) (c .before .before .before .point-verdict2 .result) (c .before .before .point-verdict3 .result)
     (rw same (point-held s (a .p) (a .c) 0 (c .before .before .before .before .point-verdict .result) (v .holds0) (c .before .before .before .before .point-verdict .ensures)))
