@@ -1,52 +1,49 @@
+-- `settle_pair`: refused as its verdict is, or decided from it over the same table.
+use mathlib.Core.Bool.{false}
+use mathlib.Core.Path.{_≡_}
 use borrow.Author.Needs.{needs}
+use Rattle.meaning.specs.Scene.{Scene, sceneIn, Accepted}
+use Rattle.meaning.specs.Refusals.{notThere}
+use Rattle.meaning.specs.Verdicts.{PairIs}
+use Rattle.meaning.specs.Resting.{PairSettled}
+use Rattle.scenes.specs.Sewing.{blank-table}
+use Rattle.scenes.specs.Checking.{to-table, from-table}
+use Rattle.four_words.specs.Deciding.{pair-given, pair-decided, pair-refused}
 use Rattle.four_words.proofs.settle_pair.Statement.{statement}
 use Rattle.four_words.proofs.settle_pair.Tie as tie
-use Rattle.four_words.proofs.settle_pair.Reads as reads
-use Rattle.four_words.proofs.settle_pair.Lts as lts
-use Rattle.four_words.proofs.accepted.pair_word.Reads as pair-word-reads
-use Rattle.three_words.proofs.pair_into.Reads as pair-into-reads
 
--- src/lib.rt:31:9
-slice-aggregate-pair-into : tie.Need-slice-aggregate-pair-into
-slice-aggregate-pair-into c = search needs
-
--- src/lib.rt:26:9
-pair-into-requires : tie.Need-pair-into-requires
-pair-into-requires c κs = ?
-
--- src/lib.rt:37:28
-enum-known-judged : tie.Need-enum-known-judged
-enum-known-judged c = search needs
-
--- src/lib.rt:42:17
-slice-aggregate-pair-word : tie.Need-slice-aggregate-pair-word
-slice-aggregate-pair-word c = search needs
-
--- src/lib.rt:38:17
 pair-word-requires : tie.Need-pair-word-requires
-pair-word-requires c κs = ?
+pair-word-requires c κs =
+    let a = c .before .before .before .before .before .before .before .before .before .before .args in
+    let s = sceneIn (a .positions) (a .edges) (a .triangles) (a .seams) in
+    let called = c .before .before .before .before .before .pair-into .ensures in
+    let given = pair-given s (a .kind) (a .first) (a .second) _ (called .0) {v = c .before .before .judged .given .0 .0} (search) in
+    to-table (λ (u : Scene). Accepted u × (notThere u (a .kind) (a .first) (a .second) ≡ false) × PairIs u (a .kind) (a .first) (a .second) (c .before .before .judged .given .0 .0)) (called .1) (given .0) given
 
--- src/lib.rt:50:29
-enum-known-judged-2 : tie.Need-enum-known-judged-2
-enum-known-judged-2 c = search needs
-
--- src/lib.rt:14:1
 returns : tie.Need-returns
-returns c = ?
+returns c =
+    let a = c .before .before .before .before .before .before .before .before .before .before .before .args in
+    let s = sceneIn (a .positions) (a .edges) (a .triangles) (a .seams) in
+    let called = c .before .before .before .before .before .before .pair-into .ensures in
+    let given = pair-given s (a .kind) (a .first) (a .second) _ (called .0) {v = c .before .before .before .judged .given .0 .0} (search) in
+    pair-decided s (a .kind) (a .first) (a .second) _ (called .0) {v = c .before .before .before .judged .given .0 .0} (search) (c .pair-word .result)
+    (from-table (λ (u : Scene). PairSettled u (a .kind) (a .first) (a .second) (c .pair-word .result)) (called .1) (given .0) (c .pair-word .ensures))
 
--- src/lib.rt:14:1
 returns-2 : tie.Need-returns-2
-returns-2 c = ?
+returns-2 c =
+    let a = c .before .before .before .before .before .before .before .before .before .args in
+    let s = sceneIn (a .positions) (a .edges) (a .triangles) (a .seams) in
+    pair-refused s (a .kind) (a .first) (a .second) _ (c .before .before .before .before .pair-into .ensures .0) {x = c .before .judged2 .given .0 .0} (search)
 
 pub settle-pair-spec : {M : Type 1} → statement M
 settle-pair-spec =
     tie.close
     (tie.spec
-    slice-aggregate-pair-into
-    pair-into-requires
-    enum-known-judged
-    slice-aggregate-pair-word
+    (λ c. search needs)
+    (λ c κs. blank-table _)
+    (λ c. search needs)
+    (λ c. search needs)
     pair-word-requires
-    enum-known-judged-2
+    (λ c. search needs)
     returns
     returns-2)
