@@ -89,7 +89,7 @@ fn read_line(text: &[u8], at: usize, sizes: &mut [u64], minus: &mut [bool]) -> L
 }
 
 // What a record is, below the records above it.
-enum Judged {
+pub enum Judged {
     Good,
     Fault(Refusal),
 }
