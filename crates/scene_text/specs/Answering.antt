@@ -52,7 +52,7 @@ copied-filled {lent} {left} {s} f k =
 
 -- ---- the answer
 
-module _ {text : List ℕ} {own : Scene} {table : List ℕ} {r : TextAnswer} (d : DraftIs text own table r) where
+module _ (text : List ℕ) (own : Scene) (table : List ℕ) {r : TextAnswer} (d : DraftIs text own table r) where
   faulty : {x : Refusal} {line : ℕ} → r ≡ Refused x line → FaultyAt text (numberOf x) line
   unfolding DraftIs
   faulty e = rw e at d
@@ -74,23 +74,29 @@ module _ (text : List ℕ) (lent : Scene) where
     unfolding textSays countsTold filled numberOf
     read-long h = record { outcome = refused 8 0; right = rw (wide, lt-ltb textLimit (length text) h) refl; says = refl; leaves = refl }
 
-    module _ (brief : length text ≤ textLimit) {own : Scene} {table : List ℕ} {r : TextAnswer} (d : DraftIs text own table r) where
+    module _ (brief : length text ≤ textLimit) where
       -- what the draft found is the outcome
       outcome : (o : Outcome Scene) → TextIs text o → TextOutcome text lent o
       outcome o t = rw (wide, le-ltb textLimit (length text) brief) t
 
-      pub read-refused : {x : Refusal} {line : ℕ} → r ≡ Refused x line → TextRead text lent lent (Refused x line)
-      unfolding TextIs textSays countsTold filled
-      read-refused {x} {line} e =
-          record { outcome = refused (numberOf x) line; right = outcome (refused (numberOf x) line) (faulty d e); says = refl; leaves = refl }
+      module _ (own : Scene) (table : List ℕ) {r : TextAnswer} (d : DraftIs text own table r) where
+        pub read-refused : {x : Refusal} {line : ℕ} → r ≡ Refused x line → TextRead text lent lent (Refused x line)
+        unfolding TextIs textSays countsTold filled
+        read-refused {x} {line} e =
+            record {
+              outcome = refused (numberOf x) line;
+              right = outcome (refused (numberOf x) line) (faulty text own table d e);
+              says = refl;
+              leaves = refl;
+            }
 
-      pub read-given : {c : SceneCounts} {left : Scene} → r ≡ Read c → Copied c own lent left → TextRead text lent left (Read c)
-      unfolding TextIs textSays countsTold
-      read-given e k =
-          let h : DraftRead text own table _ = held d e in
-          record {
-            outcome = given (h .scene);
-            right = outcome (given (h .scene)) (h .holds);
-            says = ap given (lengths-count (h .drafted .above .lengths));
-            leaves = copied-filled (h .drafted .fronts) k;
-          }
+        pub read-given : {c : SceneCounts} {left : Scene} → r ≡ Read c → Copied c own lent left → TextRead text lent left (Read c)
+        unfolding TextIs textSays countsTold
+        read-given e k =
+            let h : DraftRead text own table _ = held text own table d e in
+            record {
+              outcome = given (h .scene);
+              right = outcome (given (h .scene)) (h .holds);
+              says = ap given (lengths-count (h .drafted .above .lengths));
+              leaves = copied-filled (h .drafted .fronts) k;
+            }

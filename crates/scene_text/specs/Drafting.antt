@@ -37,8 +37,8 @@ use Rattle.scene_line.specs.declared.Step as Steps
 use Rattle.scene_line.specs.declared.Step.{Step}
 use Rattle.scene_text.specs.Putting.{Roomy, Ready, Put, PutEntry, put-entry, ready-entry}
 use Rattle.scene_text.specs.Holding.{newFirst, newSecond, AtSeam, breaks, repeats, TwoAre, SeamHeld, HoldReady, Held}
-use Rattle.scene_text.specs.draft.declared.Taken.{Taken}
-use Rattle.scene_text.specs.draft.declared.Taken.the-variants.{Fault, Next}
+use Rattle.scene_text.specs.declared.draft.Taken.{Taken}
+use Rattle.scene_text.specs.declared.draft.Taken.the-variants.{Fault, Next}
 
 -- ---- the scene in front
 
@@ -195,6 +195,10 @@ module _ {b₀ b : Scene} {table : List ℕ} {s : Scene} {c : SceneCounts} (d : 
 
 -- ---- a record of any kind
 
+table-kept : {b : Scene} {table table′ : List ℕ} {s : Scene} {c : SceneCounts} → Drafted b table s c → (r : Entry) → table′ ≡ table → seamIn r ≡ []
+    → seamsOf table′ ≡ s .seams ++ seamIn r
+table-kept {s} d r e n = ap seamsOf e ∙ d .sewn ∙ sym (append-nil (s .seams)) ∙ ap (λ (l : List ℕ). s .seams ++ l) (sym n)
+
 module _ {b₀ b : Scene} {table : List ℕ} {s : Scene} {c : SceneCounts} (d : Drafted b₀ table s c) where
   pub hold-ready : (r : Entry) → Begun s r (given tt) → PutEntry c r b₀ b → Roomy b → HoldReady (sortOf r) c b
   unfolding HoldReady sortOf Begun SeamJudging
@@ -203,34 +207,31 @@ module _ {b₀ b : Scene} {table : List ℕ} {s : Scene} {c : SceneCounts} (d : 
   hold-ready (triangle i j k) g w room = tt
   hold-ready (seam i j) g w room = at-seam d i j w g room
 
-  pub held-judged : (r : Entry) → Begun s r (given tt) → PutEntry c r b₀ b → {table′ : List ℕ} (o : Outcome (Unit {0})) → Held (sortOf r) c b table table′ o
+  pub held-judged : (r : Entry) → Begun s r (given tt) → PutEntry c r b₀ b → (table′ : List ℕ) (o : Outcome (Unit {0})) → Held (sortOf r) c b table table′ o
       → EntryJudged s r o
   unfolding Held sortOf Begun SeamJudging
-  held-judged (vertex p q) g w o h = subst (EntryJudged s (vertex p q)) (sym (h .0)) g
-  held-judged (edge i j) g w o h = subst (EntryJudged s (edge i j)) (sym (h .0)) g
-  held-judged (triangle i j k) g w o h = subst (EntryJudged s (triangle i j k)) (sym (h .0)) g
-  held-judged (seam i j) g w o h = seam-judged d i j w g o h
+  held-judged (vertex p q) g w table′ o h = subst (EntryJudged s (vertex p q)) (sym (h .0)) g
+  held-judged (edge i j) g w table′ o h = subst (EntryJudged s (edge i j)) (sym (h .0)) g
+  held-judged (triangle i j k) g w table′ o h = subst (EntryJudged s (triangle i j k)) (sym (h .0)) g
+  held-judged (seam i j) g w table′ o h = seam-judged d i j w g o h
 
-  table-kept : {table′ : List ℕ} (r : Entry) → table′ ≡ table → seamIn r ≡ [] → seamsOf table′ ≡ s .seams ++ seamIn r
-  table-kept r e n = ap seamsOf e ∙ d .sewn ∙ sym (append-nil (s .seams)) ∙ ap (λ (l : List ℕ). s .seams ++ l) (sym n)
-
-  pub held-sewn : (r : Entry) → Begun s r (given tt) → PutEntry c r b₀ b → {table′ : List ℕ} → Held (sortOf r) c b table table′ (given tt)
+  pub held-sewn : (r : Entry) → Begun s r (given tt) → PutEntry c r b₀ b → (table′ : List ℕ) → Held (sortOf r) c b table table′ (given tt)
       → seamsOf table′ ≡ s .seams ++ seamIn r
   unfolding Held sortOf Begun SeamJudging seamIn
-  held-sewn (vertex p q) g w h = table-kept (vertex p q) (h .1) refl
-  held-sewn (edge i j) g w h = table-kept (edge i j) (h .1) refl
-  held-sewn (triangle i j k) g w h = table-kept (triangle i j k) (h .1) refl
-  held-sewn (seam i j) g w h = seam-sewn d i j w g h
+  held-sewn (vertex p q) g w table′ h = table-kept d (vertex p q) (h .1) refl
+  held-sewn (edge i j) g w table′ h = table-kept d (edge i j) (h .1) refl
+  held-sewn (triangle i j k) g w table′ h = table-kept d (triangle i j k) (h .1) refl
+  held-sewn (seam i j) g w table′ h = seam-sewn d i j w g h
 
   -- the draft then holds the scene with it
   pub drafted-more : (r : Entry) → Begun s r (given tt) → PutEntry c r b₀ b → {table′ : List ℕ} → Held (sortOf r) c b table table′ (given tt)
       → length table′ ≡ length table
       → Drafted b table′ (sceneWith s r) (countedBy c (sortOf r))
-  drafted-more r g w h same =
+  drafted-more r g w {table′} h same =
       record {
-        above = above-more r (d .above) (held-judged r g w (given tt) h);
+        above = above-more r (d .above) (held-judged r g w table′ (given tt) h);
         fronts = fronts-put r (d .fronts) w;
-        sewn = held-sewn r g w h;
+        sewn = held-sewn r g w table′ h;
         wide = omega (arith, same, d .wide);
       }
 
@@ -243,7 +244,15 @@ roomy-put room w =
       seams = omega (arith, room .seams, w .seams .same);
     }
 
--- ---- what one line promises
+-- ---- what one line asks and promises
+
+-- there is a line, room for its numbers, and a draft with room for its record
+pub record LineReady (text : List ℕ) (at : ℕ) (c : SceneCounts) (sizes : List ℕ) (minus : List Bool) (b : Scene) (table : List ℕ) : Type 0 where
+  pub inside : at < length text
+  pub sized : 6 ≤ length sizes
+  pub signed : 6 ≤ length minus
+  pub roomy : Roomy b
+  pub draft : DraftOf c b table
 
 -- a record stands here, not at fault, and the draft holds the scene with it
 pub record TookLine (text : List ℕ) (at : ℕ) (c : SceneCounts) (s b : Scene) (table : List ℕ) (after : SceneCounts) (next : ℕ) : Type 0 where
@@ -262,10 +271,10 @@ TakenAs text at c s b table (Next after next) = TookLine text at c s b table aft
 abbrev pub LineTaken : List ℕ → ℕ → SceneCounts → Scene → List ℕ → Scene → List ℕ → Taken → Type 0
 LineTaken text at c b₀ table₀ b table r = (s : Scene) → Drafted b₀ table₀ s c → TakenAs text at c s b table r
 
-module _ {text : List ℕ} {at : ℕ} {c : SceneCounts} {sizes : List ℕ} {minus : List Bool} {r : Step} (step : LineStepped text at c sizes minus r) where
-  pub take-fault : {f : Refusal} {b₀ b : Scene} {table₀ table : List ℕ} → r ≡ Steps.the-variants.Fault f → LineTaken text at c b₀ table₀ b table (Fault f)
+module _ (text : List ℕ) (at : ℕ) (c : SceneCounts) (sizes : List ℕ) (minus : List Bool) {r : Step} (step : LineStepped text at c sizes minus r) where
+  pub take-fault : {f : Refusal} (b₀ b : Scene) (table₀ table : List ℕ) → r ≡ Steps.the-variants.Fault f → LineTaken text at c b₀ table₀ b table (Fault f)
   unfolding Stepped TakenAs
-  take-fault {f} e s d = let a : Stepped text at s c sizes minus r = step s (d .above) in rw e at a
+  take-fault {f} b₀ b table₀ table e s d = let a : Stepped text at s c sizes minus r = step s (d .above) in rw e at a
 
   module _ {sort : Sort} {after : SceneCounts} {next : ℕ} (e : r ≡ Steps.the-variants.Taken sort after next) where
     took : (s : Scene) → Above s c → Took text at s c sizes minus sort after next
@@ -281,7 +290,7 @@ module _ {text : List ℕ} {at : ℕ} {c : SceneCounts} {sizes : List ℕ} {minu
           fits = rw (t .line .sorted) at (ready-entry (t .line .entry) (d .drafted .above) (t .begun) (t .line .front));
         }
 
-    module _ {b₀ b : Scene} (put : Put sort c sizes minus b₀ b) where
+    module _ (b₀ b : Scene) (put : Put sort c sizes minus b₀ b) where
       entered : (s : Scene) (t : Took text at s c sizes minus sort after next) → PutEntry c (t .line .entry) b₀ b
       entered s t = put-entry c sizes minus b₀ (t .line .entry) (t .line .sorted) (t .line .front) put
 
@@ -291,7 +300,7 @@ module _ {text : List ℕ} {at : ℕ} {c : SceneCounts} {sizes : List ℕ} {minu
           let w : PutEntry c (t .line .entry) b₀ b = entered (d .scene) t in
           rw (t .line .sorted) at (hold-ready (d .drafted) (t .line .entry) (t .begun) w (roomy-put room w))
 
-      module _ {table₀ table : List ℕ} {j : Judged} (held : Held sort c b table₀ table (judgedSays j)) where
+      module _ (table₀ table : List ℕ) {j : Judged} (held : Held sort c b table₀ table (judgedSays j)) where
         pub take-refused : {f : Refusal} → j ≡ Judgements.the-variants.Fault f → LineTaken text at c b₀ table₀ b table (Fault f)
         unfolding TakenAs judgedSays
         take-refused {f} q s d =
@@ -300,7 +309,7 @@ module _ {text : List ℕ} {at : ℕ} {c : SceneCounts} {sizes : List ℕ} {minu
             subst (λ (x : Sort). Held x c b table₀ table (refused (numberOf f) 0)) (sym (t .line .sorted))
             (subst (λ (x : Judged). Held sort c b table₀ table (judgedSays x)) q held) in
             misplaced (t .line .entry) (drop next text) (t .line .short) (t .line .stands .here)
-            (held-judged d (t .line .entry) (t .begun) (entered s t) (refused (numberOf f) 0) h)
+            (held-judged d (t .line .entry) (t .begun) (entered s t) table (refused (numberOf f) 0) h)
 
         pub take-goes : j ≡ Judgements.the-variants.Good → length table ≡ length table₀ → LineTaken text at c b₀ table₀ b table (Next after next)
         unfolding TakenAs judgedSays
@@ -314,7 +323,7 @@ module _ {text : List ℕ} {at : ℕ} {c : SceneCounts} {sizes : List ℕ} {minu
               entry = t .line .entry;
               short = t .line .short;
               stands = t .line .stands;
-              good = held-judged d (t .line .entry) (t .begun) w (given tt) h;
+              good = held-judged d (t .line .entry) (t .begun) w table (given tt) h;
               drafted = subst (λ (k : SceneCounts). Drafted b table (sceneWith s (t .line .entry)) k) (sym (t .adds)) (drafted-more d (t .line .entry) (t .begun) w h same);
               counts = t .adds;
             }

@@ -7,7 +7,11 @@ use native.Mathlib.Omega.{arith}
 use lib.ListN.{length, take, getD}
 use lib.Seq.{getD-take, length-take-le}
 use Rattle.meaning.specs.Scene.{Scene, repeatedVertex}
-use Rattle.meaning.specs.Refusals.{Outcome, given, Check, Answers}
+use Rattle.meaning.specs.Refusals.{Outcome, given, refused, Check, Answers, numberOf}
+use Rattle.meaning.specs.declared.Refusal.the-variants.{BrokenSeam, RepeatedVertex}
+use Rattle.scene_line.specs.Judging.{judgedSays}
+use Rattle.scene_line.specs.declared.Judged.the-variants.{Good, Fault}
+use lib.IntN.{ℤ}
 use Rattle.meaning.specs.declared.SceneCounts.{SceneCounts}
 use Rattle.scenes.specs.Alone.{tabled}
 use Rattle.scenes.specs.OneMore.{leastOf}
@@ -86,3 +90,52 @@ least-some w (suc n) h room =
     ∙ more
     ∙ ap suc (sym (getD-take (2 * suc n) w (2 * n) 0 (omega arith)))
     ∙ ap (leastOf (λ k. getD (take (2 * suc n) w) (2 * k) 0)) (sym half)
+
+-- a vertex of the scene is one of the positions in front
+pub vertex-in-front : (l : List ℤ) (n v : ℕ) → 6 * n ≤ length l → v < n → v < length (take (6 * n) l) / 6
+vertex-in-front l n v room h = let long : length (take (6 * n) l) ≡ 6 * n = length-take-le (6 * n) l room in omega (arith, long)
+
+module _ (c : SceneCounts) (b : Scene) (table table′ : List ℕ) {least : ℕ} {r : Bool}
+    (least-is : least ≡ leastAfter (take (2 * c .seams) (b .seams)))
+    (broken-is : r ≡ breaksRules (take (6 * c .vertices) (b .positions)) table least (newFirst c b) (newSecond c b))
+    (sewn : table′ ≡ sewnTo table (newFirst c b) (newSecond c b)) where
+  by-least : breaks c b table ≡ r
+  by-least =
+      sym (broken-is
+      ∙ ap (λ (n : ℕ). breaksRules (take (6 * c .vertices) (b .positions)) table n (newFirst c b) (newSecond c b)) least-is)
+
+  pub held-broken : r ≡ true → SeamHeld c b table table′ (judgedSays (Fault BrokenSeam))
+  unfolding Answers judgedSays numberOf
+  held-broken e = record { judged = rw (by-least ∙ e) refl; sewn = sewn }
+
+  module _ (e : r ≡ false) {q : Bool}
+      (repeated-is : q ≡ repeatedVertex (tabled [] (take (2 * c .edges) (b .edges)) (take (3 * c .triangles) (b .triangles)) table′)) where
+    by-table : repeats c b table ≡ q
+    by-table =
+        ap (λ (l : List ℕ). repeatedVertex (tabled [] (take (2 * c .edges) (b .edges)) (take (3 * c .triangles) (b .triangles)) l)) (sym sewn)
+        ∙ sym repeated-is
+
+    pub held-repeated : q ≡ true → SeamHeld c b table table′ (judgedSays (Fault RepeatedVertex))
+    unfolding Answers judgedSays numberOf
+    held-repeated f = record { judged = rw (by-least ∙ e, by-table ∙ f) refl; sewn = sewn }
+
+    pub held-good : q ≡ false → SeamHeld c b table table′ (judgedSays Good)
+    unfolding Answers judgedSays numberOf
+    held-good f = record { judged = rw (by-least ∙ e, by-table ∙ f) tt; sewn = sewn }
+
+module _ {sort : Sort} (c : SceneCounts) (b : Scene) (table : List ℕ) where
+  pub held-vertex : sort ≡ Vertex → Held sort c b table table (judgedSays Good)
+  unfolding Held judgedSays
+  held-vertex e = rw e (refl, refl)
+
+  pub held-edge : sort ≡ Edge → Held sort c b table table (judgedSays Good)
+  unfolding Held judgedSays
+  held-edge e = rw e (refl, refl)
+
+  pub held-triangle : sort ≡ Triangle → Held sort c b table table (judgedSays Good)
+  unfolding Held judgedSays
+  held-triangle e = rw e (refl, refl)
+
+  pub held-seam : (table′ : List ℕ) (o : Outcome (Unit {0})) → sort ≡ Seam → SeamHeld c b table table′ o → Held sort c b table table′ o
+  unfolding Held
+  held-seam table′ o e h = rw e h

@@ -153,7 +153,8 @@ Put Seam c sizes minus lent left = (a b : ℕ) → InFront (pos a ∷ pos b ∷ 
 -- a vertex number of a record that is not at fault
 small : {c : SceneCounts} → Bounded c → (zs : List ℤ) (sizes : List ℕ) (i : ℕ) → take (length zs) sizes ≡ map natAbs zs → i < length zs
     → leb (c .vertices) (natAbs (getD zs i (pos 0))) ≡ false → getD sizes i 0 < vertexLimit
-small b zs sizes i e h known = rw (sized-at zs sizes i e h) (omega (arith, leb-false _ _ known, b .vertices))
+small {c} b zs sizes i e h k =
+    rw (sized-at zs sizes i e h) (omega (arith, leb-false (c .vertices) (natAbs (getD zs i (pos 0))) k, b .vertices))
 
 -- a record that may stand below a scene can be put
 pub ready-entry : {s : Scene} {c : SceneCounts} {sizes : List ℕ} {minus : List Bool} (r : Entry) → Above s c → Begun s r (given tt)

@@ -34,22 +34,22 @@ fn copy_numbers(own: &[u16], lent: &mut [u16], count: usize)
 // The scene with these counts, from the four buffers of a draft to the four that are lent.
 pub(crate) fn copy_scene(
     c: SceneCounts,
-    own_positions: &[i32],
-    own_edges: &[u16],
-    own_triangles: &[u16],
-    own_seams: &[u16],
+    p: &[i32],
+    e: &[u16],
+    t: &[u16],
+    w: &[u16],
     positions: &mut [i32],
     edges: &mut [u16],
     triangles: &mut [u16],
     seams: &mut [u16],
 )
     requires { ⌜ Bounded c ⌝ }
-    requires { ⌜ Roomy (sceneIn own_positions own_edges own_triangles own_seams) ⌝ }
+    requires { ⌜ Roomy (sceneIn p e t w) ⌝ }
     requires { ⌜ Roomy (sceneIn positions edges triangles seams) ⌝ }
-    ensures { λ _. ⌜ Copied c (sceneAtEntry own_positions own_edges own_triangles own_seams) (sceneAtEntry positions edges triangles seams) (sceneAtExit positions edges triangles seams) ⌝ }
+    ensures { λ _. ⌜ Copied c (sceneAtEntry p e t w) (sceneAtEntry positions edges triangles seams) (sceneAtExit positions edges triangles seams) ⌝ }
 {
-    copy_positions(own_positions, positions, 6 * c.vertices);
-    copy_numbers(own_edges, edges, 2 * c.edges);
-    copy_numbers(own_triangles, triangles, 3 * c.triangles);
-    copy_numbers(own_seams, seams, 2 * c.seams);
+    copy_positions(p, positions, 6 * c.vertices);
+    copy_numbers(e, edges, 2 * c.edges);
+    copy_numbers(t, triangles, 3 * c.triangles);
+    copy_numbers(w, seams, 2 * c.seams);
 }

@@ -1,11 +1,10 @@
 // A text is read into a draft: arrays that hold the scene of the lines above in front, and the table of its seams.
-ghost use Prim.Native.Nat.{_+_, _≤_, _<_};
-ghost use lib.ListN.{length};
+ghost use Prim.Native.Nat.{_+_};
 ghost use mathlib.Core.Path.{_≡_};
 ghost use Rattle.meaning.specs.Scene.{sceneIn, sceneAtEntry, sceneAtExit};
 ghost use Rattle.scene_line.specs.Above.{Bounded};
 ghost use Rattle.scene_text.specs.Putting.{Roomy};
-ghost use Rattle.scene_text.specs.Drafting.{DraftOf, LineTaken};
+ghost use Rattle.scene_text.specs.Drafting.{LineReady, LineTaken};
 ghost use Rattle.scene_text.specs.Reading.{BlankTable, DraftIs, total};
 use meaning::Refusal;
 use meaning::SceneCounts;
@@ -34,10 +33,7 @@ fn take_line(
     seams: &mut [u16],
     stands: &mut [u16],
 ) -> Taken
-    requires { ⌜ at < length (now text) ⌝ }
-    requires { ⌜ (6 ≤ length (now sizes)) × (6 ≤ length (now minus)) ⌝ }
-    requires { ⌜ Roomy (sceneIn positions edges triangles seams) ⌝ }
-    requires { ⌜ DraftOf c (sceneIn positions edges triangles seams) (now stands) ⌝ }
+    requires { ⌜ LineReady (now text) at c (now sizes) (now minus) (sceneIn positions edges triangles seams) (now stands) ⌝ }
     ensures { λ r. ⌜ LineTaken (now (text .entry)) at c (sceneAtEntry positions edges triangles seams) (now (stands .entry)) (sceneAtExit positions edges triangles seams) (now (stands .exit)) r ⌝ }
 {
     match next_line(text, at, c, sizes, minus) {

@@ -1,5 +1,5 @@
 // A seam that has been put in its place is held to 15, and then, by the table that it changed, every edge and triangle to 4.
-ghost use Prim.Native.Nat.{_*_, _≤_};
+ghost use Prim.Native.Nat.{_+_, _*_, _≤_};
 ghost use lib.ListN.{length, take};
 ghost use mathlib.Core.Path.{_≡_};
 ghost use Rattle.meaning.specs.Scene.{sceneIn, sceneAtEntry};
@@ -12,7 +12,12 @@ use scene_line::Judged;
 use scene_line::Sort;
 use scenes::faults::repeated_vertex;
 use scenes::table::sew_next;
-use scenes::written::wide;
+
+fn above(v: u16) -> usize
+    ensures { λ r. ⌜ r ≡ v + 1 ⌝ }
+{
+    v as usize + 1
+}
 
 // The lowest number that the first vertex of a seam behind so many may have.
 fn least_after(seams: &[u16], count: usize) -> usize
@@ -20,7 +25,7 @@ fn least_after(seams: &[u16], count: usize) -> usize
     ensures { λ r. ⌜ r ≡ leastAfter (take (2 * count) (now (seams .entry))) ⌝ }
 {
     if 0 < count {
-        return wide(seams[2 * count - 2]) + 1;
+        return above(seams[2 * count - 2]);
     }
     0
 }
