@@ -6,14 +6,14 @@ ghost use Rattle.scene_line.specs.Above.{Bounded};
 ghost use Rattle.scene_text.specs.Putting.{Roomy};
 ghost use Rattle.scene_text.specs.Drafting.{LineReady, LineTaken};
 ghost use Rattle.scene_text.specs.Reading.{BlankTable, DraftIs, total};
+use super::place::put;
+use super::sewing::hold;
 use meaning::Refusal;
 use meaning::SceneCounts;
 use meaning::TextAnswer;
 use scene_line::Judged;
 use scene_line::Step;
 use scene_line::next_line;
-use super::place::put;
-use super::sewing::hold;
 
 // What a line gives: its fault; or the counts of the scene with its record, which the draft then holds, and the place of the next line.
 enum Taken {
@@ -80,7 +80,16 @@ pub(crate) fn draft_text(
     let mut at = 0;
     while at < text.len() {
         match take_line(
-            text, at, c, &mut sizes, &mut minus, positions, edges, triangles, seams, stands,
+            text,
+            at,
+            c,
+            &mut sizes,
+            &mut minus,
+            positions,
+            edges,
+            triangles,
+            seams,
+            stands,
         ) {
             Taken::Fault(fault) => {
                 return TextAnswer::Refused(fault, line_number(c));

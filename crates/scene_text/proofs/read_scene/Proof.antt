@@ -21,14 +21,16 @@ copy-scene-requires : tie.Need-copy-scene-requires
 copy-scene-requires c κs =
     let d = c .before .before .before .before .before .before .before .before .before .before .before .before .before .before .before .before in (
       draft-bounded _ _ _ (d .draft-text .ensures) (c .before .before .before .before .before .before .before .before .before .c .given .1),
-      same-roomy {table₀ = []} {table = []} own-room (record {
-        positions = d .draft-text .kept .1 .0;
-        edges = d .draft-text .kept .1 .1 .0;
-        triangles = d .draft-text .kept .1 .1 .1 .0;
-        seams = d .draft-text .kept .1 .1 .1 .1 .0;
-        sewn = refl;
-      }),
-      roomy _ (d .before .before .before .before .before .before .before .if1 .left),
+      (
+        same-roomy {table₀ = []} {table = []} own-room (record {
+          positions = d .draft-text .kept .1 .0;
+          edges = d .draft-text .kept .1 .1 .0;
+          triangles = d .draft-text .kept .1 .1 .1 .0;
+          seams = d .draft-text .kept .1 .1 .1 .1 .0;
+          sewn = refl;
+        }),
+        roomy _ (d .before .before .before .before .before .before .before .if1 .left),
+      ),
     )
 
 returns-3 : tie.Need-returns-3

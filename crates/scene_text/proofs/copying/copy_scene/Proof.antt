@@ -7,7 +7,7 @@ use Rattle.scene_text.proofs.copying.copy_scene.Tie as tie
 copy-numbers-requires-3 : tie.Need-copy-numbers-requires-3
 copy-numbers-requires-3 c κs =
     let p = c .before .before .before .before .before .before .before .before .before .before .before .before .before .before .before .before .before .before .before .before .before .before .pre in
-    (omega (arith, p .0 .seams, p .1 .seams), omega (arith, p .0 .seams, p .2 .seams))
+    (omega (arith, p .0 .seams, p .1 .0 .seams), omega (arith, p .0 .seams, p .1 .1 .seams))
 
 pub copy-scene-spec : {M : Type 1} → statement M
 copy-scene-spec =
