@@ -24,8 +24,8 @@ next-claim-requires c κs =
     let i = c .before .before .before .loop .inv in
     (c .before .before .loop-test .taken, (omega (arith, i .1), omega (arith, i .2)))
 
-add-t18 : tie.Need-add-t18 Inv-loop μ-loop
-add-t18 c = omega (arith, c .before .before .before .before .before .before .before .before .before .loop .inv .0 .few)
+add-t19 : tie.Need-add-t19 Inv-loop μ-loop
+add-t19 c = omega (arith, c .before .before .before .before .before .before .before .before .before .loop .inv .0 .few)
 
 returns : tie.Need-returns Inv-loop μ-loop
 returns c =
@@ -63,7 +63,7 @@ inspect-spec =
     (λ c. search needs)
     next-claim-requires
     (λ c. search needs)
-    add-t18
+    add-t19
     returns
     (λ c. search needs)
     add-count

@@ -1,10 +1,10 @@
 use borrow.Author.Needs.{needs}
 use Rattle.answer_numbers.specs.Small.{judging-small}
-use Rattle.makhnodri.proofs.makhnodri_settle_scene.Statement.{statement}
-use Rattle.makhnodri.proofs.makhnodri_settle_scene.Tie as tie
+use Rattle.makhnodri.proofs.makhnodri_settle_scene_slices.Statement.{statement}
+use Rattle.makhnodri.proofs.makhnodri_settle_scene_slices.Tie as tie
 
-pub makhnodri-settle-scene-spec : {M : Type 1} → statement M
-makhnodri-settle-scene-spec =
+pub makhnodri-settle-scene-slices-spec : {M : Type 1} → statement M
+makhnodri-settle-scene-slices-spec =
     tie.close
     (tie.spec
     (λ c κs. search needs)

@@ -1,7 +1,7 @@
 use borrow.Author.Needs.{needs}
 use Rattle.answer_numbers.specs.Telling.{text-line, text-read, text-refused}
-use Rattle.makhnodri.proofs.makhnodri_read_scene.Statement.{statement}
-use Rattle.makhnodri.proofs.makhnodri_read_scene.Tie as tie
+use Rattle.makhnodri.proofs.makhnodri_read_scene_slices.Statement.{statement}
+use Rattle.makhnodri.proofs.makhnodri_read_scene_slices.Tie as tie
 
 refused-requires : tie.Need-refused-requires
 refused-requires c κs = text-line (c .before .before .before .before .before .before .before .before .read-scene .ensures) (c .before .why .given .1)
@@ -12,8 +12,8 @@ returns c = text-read (c .before .before .before .before .before .before .before
 returns-2 : tie.Need-returns-2
 returns-2 c = text-refused (c .before .before .before .before .before .before .before .before .before .read-scene .ensures) (c .before .before .why .given .1) (c .refused .ensures)
 
-pub makhnodri-read-scene-spec : {M : Type 1} → statement M
-makhnodri-read-scene-spec =
+pub makhnodri-read-scene-slices-spec : {M : Type 1} → statement M
+makhnodri-read-scene-slices-spec =
     tie.close
     (tie.spec
     (λ c κs. search needs)
