@@ -13,7 +13,7 @@ use Rattle.meaning.specs.List.{pairs, roomOf, listSays, listChecks, Counted, Li
 use Rattle.meaning.specs.SceneWords.{SettledScene}
 use Rattle.meaning.specs.Text.{textOf, FaultyAt, TextIs, shortBuffer, longText, TextOutcome, countsTold, textSays, TextRead}
 use Rattle.meaning.specs.declared.Refusal.{Refusal}
-use Rattle.meaning.specs.declared.Refusal.the-variants.{Shape, Coordinate, UnknownVertex, RepeatedVertex, NotThere, SharedVertex, NoRoom, LongText, BadLine, LateRecord, TooMany, ShortBuffer}
+use Rattle.meaning.specs.declared.Refusal.the-variants.{Shape, Coordinate, UnknownVertex, RepeatedVertex, NotThere, SharedVertex, NoRoom, LongText, BadLine, LateRecord, TooMany, ShortBuffer, BeyondOldRange}
 use Rattle.meaning.specs.declared.ListAnswer.{ListAnswer}
 use Rattle.meaning.specs.declared.TextAnswer.{TextAnswer}
 use Rattle.scenes.specs.Answering.{is-refused, is-past}
@@ -33,7 +33,7 @@ toldIn (refused n c) = c
 -- a number of document 01's table
 pub record InTable (n : ℕ) : Type 0 where
   pub some : 0 < n
-  pub few : n ≤ 12
+  pub few : n ≤ 16
 
 pub number-in-table : (x : Refusal) → InTable (numberOf x)
 unfolding numberOf
@@ -49,6 +49,7 @@ number-in-table BadLine = record { some = omega arith; few = omega arith }
 number-in-table LateRecord = record { some = omega arith; few = omega arith }
 number-in-table TooMany = record { some = omega arith; few = omega arith }
 number-in-table ShortBuffer = record { some = omega arith; few = omega arith }
+number-in-table BeyondOldRange = record { some = omega arith; few = omega arith }
 
 -- ---- the list
 
