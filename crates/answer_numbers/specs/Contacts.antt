@@ -30,23 +30,24 @@ pub record ContactInto (s : Scene) (kind : Kind) (i j : ℕ) (o o′ : List ℕ)
   pub found : MeetingFound s kind i j r
   pub row : o′ ≡ rowAfter (meetingSays r) o
 
-right-in : {s : Scene} {kind : Kind} {i j : ℕ} (ks : List Check) (m : Meeting) → Answers ks (MeetingIs s kind i j) (given m) → MeetingIs s kind i j m
-unfolding Answers
-right-in [] m a = a
-right-in {s} {kind} {i} {j} (k ∷ ks) m a = right-in ks m (is-given (MeetingIs s kind i j) k ks m a .1)
+module _ (s : Scene) (kind : Kind) (i j : ℕ) where
+  right-in : (ks : List Check) (m : Meeting) → Answers ks (MeetingIs s kind i j) (given m) → MeetingIs s kind i j m
+  unfolding Answers
+  right-in [] m a = a
+  right-in (k ∷ ks) m a = right-in ks m (is-given (MeetingIs s kind i j) k ks m a .1)
 
-module _ {s : Scene} {kind : Kind} {i j : ℕ} {a : MeetingAnswer} (h : MeetingFound s kind i j a) where
-  pub found-small : (m : Meeting) → a ≡ Found m → SmallMeeting m
-  unfolding meetingSays
-  found-small m e =
-      meeting-small s kind i j m (right-in (contactChecks s kind i j) m (subst (MeetingFound s kind i j) e h))
+  module _ (a : MeetingAnswer) (h : MeetingFound s kind i j a) where
+    pub found-small : (m : Meeting) → a ≡ Found m → SmallMeeting m
+    unfolding meetingSays
+    found-small m e =
+        meeting-small s kind i j m (right-in (contactChecks s kind i j) m (subst (MeetingFound s kind i j) e h))
 
-  pub contact-told : {m : Meeting} {o o′ : List ℕ} {r : ℕ} → a ≡ Found m → o′ ≡ rowLeft m o → r ≡ wordNumber m → Told meetingNumber (ContactInto s kind i j o o′) r
-  unfolding meetingNumber meetingSays numberFor rowAfter
-  contact-told {m} e row is =
-      record { answer = Found m; right = record { found = subst (MeetingFound s kind i j) e h; row = row }; is = is }
+    pub contact-told : (m : Meeting) (o o′ : List ℕ) (r : ℕ) → a ≡ Found m → o′ ≡ rowLeft m o → r ≡ wordNumber m → Told meetingNumber (ContactInto s kind i j o o′) r
+    unfolding meetingNumber meetingSays numberFor rowAfter
+    contact-told m o o′ r e row is =
+        record { answer = Found m; right = record { found = subst (MeetingFound s kind i j) e h; row = row }; is = is }
 
-  pub contact-refused-told : {x : Refusal} {o : List ℕ} {r : ℕ} → a ≡ Refused x → r ≡ numberOf x * upper + 0 → Told meetingNumber (ContactInto s kind i j o o) r
-  unfolding meetingNumber meetingSays numberFor rowAfter
-  contact-refused-told {x} e is =
-      record { answer = Refused x; right = record { found = subst (MeetingFound s kind i j) e h; row = refl }; is = is }
+    pub contact-refused-told : (x : Refusal) (o : List ℕ) (r : ℕ) → a ≡ Refused x → r ≡ numberOf x * upper + 0 → Told meetingNumber (ContactInto s kind i j o o) r
+    unfolding meetingNumber meetingSays numberFor rowAfter
+    contact-refused-told x o r e is =
+        record { answer = Refused x; right = record { found = subst (MeetingFound s kind i j) e h; row = refl }; is = is }
