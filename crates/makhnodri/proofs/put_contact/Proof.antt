@@ -3,7 +3,7 @@ use borrow.Author.Needs.{needs}
 use Prim.Native.Nat.{ℕ, _<_}
 use native.Mathlib.Nat.{lt-trans}
 use native.Mathlib.Omega.{arith}
-use mathlib.Core.Path.{_≡_, refl, sym}
+use mathlib.Core.Path.{_≡_, refl}
 use mathlib.Core.Logic.{⊎-elim}
 use mathlib.Core.List.{List, [], _∷_}
 use types.Run.{OneOf}
@@ -38,4 +38,11 @@ its-row : (m : Meeting) (h : Moment) (o : List ℕ) → m ≡ Hit h → rowOf h 
 unfolding rowLeft
 its-row m h o e = rw e refl
 
-cast-t6 : ?
+pub put-contact-spec : {M : Type 1} → statement M
+put-contact-spec =
+    tie.close
+    (tie.spec
+    (λ c. search needs)
+    (λ c. let s = c .before .before .before .before in small-fits (s .args .meeting) (c .before .before .meeting .given .0 .0) (search) (s .pre))
+    (λ c. let s = c .before .before .before .before .before in its-row (s .args .meeting) (c .before .before .before .meeting .given .0 .0) (s .args .contact .now) (search))
+    (λ c. as-it-was (c .before .args .meeting) (c .before .args .contact .now) (c .match .keys2)))
