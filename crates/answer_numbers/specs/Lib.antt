@@ -2,5 +2,6 @@
 pub mod Numbers
 pub mod Small
 pub mod Claims
+pub mod Contacts
 pub mod Telling
 pub mod Back

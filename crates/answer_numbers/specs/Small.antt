@@ -12,8 +12,9 @@ use Rattle.meaning.specs.Refusals.{Outcome, given, refused, Check, Answers, num
 use Rattle.meaning.specs.List.{pairs, roomOf, listSays, listChecks, Counted, Listing}
 use Rattle.meaning.specs.SceneWords.{SettledScene}
 use Rattle.meaning.specs.Text.{textOf, FaultyAt, TextIs, shortBuffer, longText, TextOutcome, countsTold, textSays, TextRead}
+use Rattle.meaning.specs.Meetings.{rangeCheck, roomCheck, metRoom, metChecks, MetScene}
 use Rattle.meaning.specs.declared.Refusal.{Refusal}
-use Rattle.meaning.specs.declared.Refusal.the-variants.{Shape, Coordinate, UnknownVertex, RepeatedVertex, NotThere, SharedVertex, NoRoom, LongText, BadLine, LateRecord, TooMany, ShortBuffer, BrokenSeam}
+use Rattle.meaning.specs.declared.Refusal.the-variants.{Shape, Coordinate, UnknownVertex, RepeatedVertex, NotThere, SharedVertex, NoRoom, LongText, BadLine, LateRecord, TooMany, ShortBuffer, BrokenSeam, BeyondOldRange}
 use Rattle.meaning.specs.declared.ListAnswer.{ListAnswer}
 use Rattle.meaning.specs.declared.TextAnswer.{TextAnswer}
 use Rattle.scenes.specs.Answering.{is-refused, is-past}
@@ -33,7 +34,7 @@ toldIn (refused n c) = c
 -- a number of the table
 pub record InTable (n : ℕ) : Type 0 where
   pub some : 0 < n
-  pub few : n ≤ 15
+  pub few : n ≤ 16
 
 pub number-in-table : (x : Refusal) → InTable (numberOf x)
 unfolding numberOf
@@ -50,6 +51,7 @@ number-in-table LateRecord = record { some = omega arith; few = omega arith }
 number-in-table TooMany = record { some = omega arith; few = omega arith }
 number-in-table ShortBuffer = record { some = omega arith; few = omega arith }
 number-in-table BrokenSeam = record { some = omega arith; few = omega arith }
+number-in-table BeyondOldRange = record { some = omega arith; few = omega arith }
 
 -- ---- the list
 
@@ -96,6 +98,24 @@ module _ (s : Scene) where
       holds-or-not _
       (λ h. let e = is-refused IsCount _ [] o h q in rw e (pairs-few a))
       (λ h. counted-right o a (is-past IsCount _ [] o h q)))
+
+  met-listed-small : (room : ℕ) (o : Outcome ℕ) → Answers (metChecks s room) IsCount o → toldIn o < upper
+  unfolding IsCount toldIn
+  met-listed-small room o =
+      small-after _ o (λ a q.
+      holds-or-not _
+      (λ h. nothing-carried (is-refused IsCount (rangeCheck s) _ o h q))
+      (λ h. near a (is-past IsCount (rangeCheck s) _ o h q)))
+    where
+      near : Accepted s → Answers (roomCheck s room ∷ []) IsCount o → toldIn o < upper
+      near a q =
+          holds-or-not _
+          (λ h. let e = is-refused IsCount (roomCheck s room) [] o h q in rw e (pairs-few a))
+          (λ h. counted-right o a (is-past IsCount (roomCheck s room) [] o h q))
+
+pub met-small : {s : Scene} {o o′ b b′ c c′ : List ℕ} {r : ListAnswer} → MetScene s o o′ b b′ c c′ r → toldIn (listSays r) < upper
+unfolding IsCount
+met-small {s} {o} {o′} {b} {b′} {c} {c′} {r} p = met-listed-small s (metRoom o b c) (listSays r) (p .answer)
 
 pub listing-small : {s : Scene} {o o′ : List ℕ} {r : ListAnswer} → Listing s o o′ r → toldIn (listSays r) < upper
 unfolding IsCount

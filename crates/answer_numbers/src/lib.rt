@@ -8,8 +8,10 @@ ghost use Rattle.meaning.specs.Claims.{claimsSays};
 ghost use Rattle.answer_numbers.specs.Numbers.{upper, verdictNumber, sceneNumber, pairNumber, settledNumber, listNumber};
 ghost use Rattle.answer_numbers.specs.Small.{toldIn};
 ghost use Rattle.answer_numbers.specs.Claims.{claimsNumber};
+ghost use Rattle.answer_numbers.specs.Contacts.{wordNumber};
 use meaning::ClaimsAnswer;
 use meaning::ListAnswer;
+use meaning::Meeting;
 use meaning::PairAnswer;
 use meaning::Refusal;
 use meaning::SceneAnswer;
@@ -60,6 +62,13 @@ pub fn settled_number(answer: SettledAnswer) -> u64
         SettledAnswer::Decided(word) => scene_words::byte_of(word) as u64,
         SettledAnswer::Refused(why) => refused(why, 0),
     }
+}
+
+// The word of a contact; its numbers stand in a lent array.
+pub fn word_number(meeting: Meeting) -> u64
+    ensures { λ r. ⌜ r ≡ wordNumber meeting ⌝ }
+{
+    scene_words::byte_of(scene_contacts::rows::settled_of(meeting)) as u64
 }
 
 pub fn list_number(answer: ListAnswer) -> u64

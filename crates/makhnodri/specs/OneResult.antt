@@ -23,6 +23,10 @@ use Rattle.demands.specs.OneAnswer.{one-scene, one-turning, one-pair, one-piece
 use Rattle.demands.specs.OneText.{one-reading}
 use Rattle.demands.specs.TextTable.{TextRows, demand1-text}
 use Rattle.demands.specs.Unchanged.{reading-unchanged, SceneInFront, reading-holds}
+use Rattle.meaning.specs.Meetings.{meetingSays, MetScene}
+use Rattle.meaning.specs.declared.MeetingAnswer.{MeetingAnswer}
+use Rattle.contact_demands.specs.OneContact.{one-meeting-answer, one-met-scene}
+use Rattle.answer_numbers.specs.Contacts.{meetingNumber, rowAfter, ContactInto}
 use Rattle.answer_numbers.specs.Numbers.{sceneNumber, pairNumber, settledNumber, listNumber, textNumber, countsLeft, ReadInto, Told}
 use Rattle.answer_numbers.specs.Small.{counted-small, listing-small, judging-small, line-small}
 use Rattle.answer_numbers.specs.Back.{heard, noMore, count, countsIn, verdictNumbered, scene-heard, pair-heard, settled-heard, list-heard, text-heard}
@@ -68,6 +72,18 @@ pub one-judging-told : (s : Scene) (o o′ o″ b b′ b″ : List ℕ) (r r′ 
 one-judging-told s o o′ o″ b b′ b″ r r′ p q =
     let (same, list, bytes) = one-judging s o o′ o″ b b′ b″ (p .answer) (q .answer) (p .right) (q .right) in
     (one-number p q same, list, bytes)
+
+pub one-contact-told : (s : Scene) (kind : Kind) (i j : ℕ) (o o′ o″ : List ℕ) (r r′ : ℕ) → Told meetingNumber (ContactInto s kind i j o o′) r
+    → Told meetingNumber (ContactInto s kind i j o o″) r′ → (r ≡ r′) × (o′ ≡ o″)
+one-contact-told s kind i j o o′ o″ r r′ p q =
+    let same = one-meeting-answer s kind i j (p .answer) (q .answer) (p .right .found) (q .right .found) in
+    (one-number p q same, p .right .row ∙ ap (λ (a : MeetingAnswer). rowAfter (meetingSays a) o) same ∙ sym (q .right .row))
+
+pub one-met-told : (s : Scene) (o o′ o″ b b′ b″ c c′ c″ : List ℕ) (r r′ : ℕ) → Told listNumber (MetScene s o o′ b b′ c c′) r
+    → Told listNumber (MetScene s o o″ b b″ c c″) r′ → (r ≡ r′) × (o′ ≡ o″) × (b′ ≡ b″) × (c′ ≡ c″)
+one-met-told s o o′ o″ b b′ b″ c c′ c″ r r′ p q =
+    let (same, list, bytes, rows) = one-met-scene s o o′ o″ b b′ b″ c c′ c″ (p .answer) (q .answer) (p .right) (q .right) in
+    (one-number p q same, list, bytes, rows)
 
 pub one-reading-told : (text : List ℕ) (lent left left′ : Scene) (l l′ l″ : List ℕ) (r r′ : ℕ) → Told textNumber (ReadInto text lent left l l′) r
     → Told textNumber (ReadInto text lent left′ l l″) r′ → (r ≡ r′) × (left ≡ left′) × (l′ ≡ l″)

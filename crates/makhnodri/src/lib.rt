@@ -14,7 +14,10 @@ ghost use Rattle.meaning.specs.SceneWords.{SettledScene};
 ghost use Rattle.meaning.specs.declared.Kind.the-variants.{PointTriangle, EdgeEdge};
 ghost use Rattle.meaning.specs.Report.{Reported};
 ghost use Rattle.meaning.specs.Claims.{ClaimsChecked};
+ghost use Rattle.meaning.specs.Meetings.{rowLeft, MetScene};
 ghost use Rattle.answer_numbers.specs.Claims.{claimsNumber};
+ghost use Rattle.answer_numbers.specs.Contacts.{meetingNumber, ContactInto};
+ghost use Rattle.scene_contacts.specs.Rows.{SmallMeeting};
 ghost use Rattle.answer_numbers.specs.Numbers.{sceneNumber, pairNumber, settledNumber, listNumber, textNumber, ReadInto, Told};
 use answer_numbers::claims_number;
 use answer_numbers::list_number;
@@ -22,8 +25,12 @@ use answer_numbers::pair_number;
 use answer_numbers::refused;
 use answer_numbers::scene_number;
 use answer_numbers::settled_number;
+use answer_numbers::word_number;
 use meaning::Kind;
+use meaning::Meeting;
+use meaning::MeetingAnswer;
 use meaning::REPORT_BYTES;
+use meaning::ROW_NUMBERS;
 use meaning::SceneCounts;
 use meaning::TextAnswer;
 
@@ -277,6 +284,95 @@ pub extern "C" fn makhnodri_settle_ee_piece_slices(
         first,
         second,
         piece,
+    ))
+}
+
+// ---- when and where a pair is hit: its word as the answer, and the numbers of a hit in a lent array that nothing else changes
+
+fn put_contact(contact: &mut [u32; ROW_NUMBERS], meeting: Meeting)
+    requires { ⌜ SmallMeeting meeting ⌝ }
+    ensures { λ _. ⌜ now (contact .exit) ≡ rowLeft meeting (now (contact .entry)) ⌝ }
+{
+    if let Meeting::Hit(m) = meeting {
+        *contact = [m.piece as u32, m.k, m.first, m.second, m.third];
+    }
+}
+
+fn contact_told(
+    positions: &[i32],
+    edges: &[u16],
+    triangles: &[u16],
+    kind: Kind,
+    first: usize,
+    second: usize,
+    contact: &mut [u32; ROW_NUMBERS],
+) -> u64
+    ensures { λ r. ⌜ Told meetingNumber (ContactInto (sceneAtEntry positions edges triangles) kind first second (now (contact .entry)) (now (contact .exit))) r ⌝ }
+{
+    match meetings::meeting_pair(positions, edges, triangles, kind, first, second) {
+        MeetingAnswer::Found(meeting) => {
+            put_contact(contact, meeting);
+            word_number(meeting)
+        }
+        MeetingAnswer::Refused(why) => refused(why, 0),
+    }
+}
+
+#[no_mangle]
+pub extern "C" fn makhnodri_contact_pt(
+    positions: &[i32],
+    edges: &[u16],
+    triangles: &[u16],
+    vertex: usize,
+    triangle: usize,
+    contact: &mut [u32; ROW_NUMBERS],
+) -> u64
+    ensures { λ r. ⌜ Told meetingNumber (ContactInto (sceneAtEntry positions edges triangles) PointTriangle vertex triangle (now (contact .entry)) (now (contact .exit))) r ⌝ }
+{
+    contact_told(
+        positions,
+        edges,
+        triangles,
+        Kind::PointTriangle,
+        vertex,
+        triangle,
+        contact,
+    )
+}
+
+#[no_mangle]
+pub extern "C" fn makhnodri_contact_ee(
+    positions: &[i32],
+    edges: &[u16],
+    triangles: &[u16],
+    first: usize,
+    second: usize,
+    contact: &mut [u32; ROW_NUMBERS],
+) -> u64
+    ensures { λ r. ⌜ Told meetingNumber (ContactInto (sceneAtEntry positions edges triangles) EdgeEdge first second (now (contact .entry)) (now (contact .exit))) r ⌝ }
+{
+    contact_told(positions, edges, triangles, Kind::EdgeEdge, first, second, contact)
+}
+
+// The list, the word of each listed pair, and for each hit its five numbers in its row.
+#[no_mangle]
+pub extern "C" fn makhnodri_contact_scene(
+    positions: &[i32],
+    edges: &[u16],
+    triangles: &[u16],
+    list: &mut [u32],
+    words: &mut [u8],
+    contacts: &mut [u32],
+) -> u64
+    ensures { λ r. ⌜ Told listNumber (MetScene (sceneAtEntry positions edges triangles) (now (list .entry)) (now (list .exit)) (now (words .entry)) (now (words .exit)) (now (contacts .entry)) (now (contacts .exit))) r ⌝ }
+{
+    list_number(scene_contacts::meet_scene(
+        positions,
+        edges,
+        triangles,
+        list,
+        words,
+        contacts,
     ))
 }
 

@@ -31,6 +31,7 @@ fn number_of(refusal: Refusal) -> usize {
         Refusal::TooMany => 11,
         Refusal::ShortBuffer => 12,
         Refusal::BrokenSeam => 15,
+        Refusal::BeyondOldRange => 16,
     }
 }
 

@@ -16,6 +16,8 @@ pub mod Backwards
 pub mod Text
 pub mod Report
 pub mod Contacts
+pub mod Meetings
+pub mod ContactLines
 pub mod Claims
 pub mod InMotion
 pub mod ReadShown

@@ -3,6 +3,9 @@
 // The sizes of document 01. specs/Limits.antt has the same numbers for promises and proofs.
 pub const COORDINATE_LIMIT: i32 = 524287;
 
+// The range that coordinates had at first, in which contacts are given.
+pub const CONTACT_LIMIT: i32 = 262143;
+
 pub const VERTEX_LIMIT: usize = 512;
 
 pub const EDGE_LIMIT: usize = 1024;
@@ -28,6 +31,11 @@ pub const SEAM_NUMBERS: usize = 2 * SEAM_LIMIT;
 pub const REPORT_ROOM: usize = 3072;
 
 pub const REPORT_BYTES: usize = 65536;
+
+// The numbers of a contact in a lent buffer, and the bytes that hold the lines of any contacts.
+pub const ROW_NUMBERS: usize = 5;
+
+pub const CONTACTS_BYTES: usize = 147456;
 
 // A weight of a claim: its digits, and the largest that is answered yes.
 pub const WEIGHT_DIGITS: usize = 13;
@@ -58,7 +66,7 @@ pub enum Settled {
     Apart,
 }
 
-// The refusals of documents 01 and 02, in the order of their numbers: 1 to 12, then 15.
+// The refusals of documents 01 and 02, in the order of their numbers: 1 to 12, then 15 and 16.
 pub enum Refusal {
     Shape,
     Coordinate,
@@ -73,6 +81,7 @@ pub enum Refusal {
     TooMany,
     ShortBuffer,
     BrokenSeam,
+    BeyondOldRange,
 }
 
 // The answer to "may this scene be used?".
@@ -137,4 +146,56 @@ pub enum TextAnswer {
 pub enum ClaimsAnswer {
     Answered(usize),
     Refused(Refusal, usize),
+}
+
+// When and where a pair is hit: the piece, k, and three shares, each number in whole 2^20ths. Of a point and a triangle the shares are the
+// corners', in rising number. Of two edges each has its share at its higher end, the edge with the lower place first, and the third is 0.
+pub struct Moment {
+    pub piece: usize,
+    pub k: u32,
+    pub first: u32,
+    pub second: u32,
+    pub third: u32,
+}
+
+// The four words, the hit with its numbers.
+pub enum Meeting {
+    Hit(Moment),
+    Miss,
+    Touch,
+    Apart,
+}
+
+pub enum MeetingAnswer {
+    Found(Meeting),
+    Refused(Refusal),
+}
+
+// What a contact of a point and a triangle carries: the time handed out, and the share of each corner, in rising number.
+pub struct PointContact {
+    pub time: f64,
+    pub low: f64,
+    pub middle: f64,
+    pub high: f64,
+}
+
+// What a contact of two edges carries: the time handed out, and each edge's share at its higher-numbered end, the lower place first.
+pub struct EdgeContact {
+    pub time: f64,
+    pub first: f64,
+    pub second: f64,
+}
+
+// A hit carries its piece, k itself and beside it the time and the place; the other words carry nothing.
+pub enum Contact {
+    PointHit(usize, u32, PointContact),
+    EdgeHit(usize, u32, EdgeContact),
+    Miss,
+    Touch,
+    Apart,
+}
+
+pub enum ContactAnswer {
+    Given(Contact),
+    Refused(Refusal),
 }

@@ -27,7 +27,7 @@ of-cut s w n c =
     record { notAbove = omega arith; near = omega arith }
 
 -- P over D is the same share as S over W, and its number the same
-in-sizes : (S W P D : ℤ) → S *ℤ D ≡ W *ℤ P → natAbs P * natAbs W ≡ natAbs S * natAbs D
+pub in-sizes : (S W P D : ℤ) → S *ℤ D ≡ W *ℤ P → natAbs P * natAbs W ≡ natAbs S * natAbs D
 in-sizes S W P D e =
     mul-comm (natAbs P) (natAbs W) ∙ sym (natAbs-mul W P) ∙ ap natAbs (sym e) ∙ natAbs-mul S D
 
@@ -37,7 +37,7 @@ whole-number (negsuc n) h =
     let a : 0 + suc n ≤ 0 + 0 = le-parts h in
     absurd (omega arith)
 
-positive-number : (z : ℤ) → pos 0 <ℤ z → 0 < natAbs z
+pub positive-number : (z : ℤ) → pos 0 <ℤ z → 0 < natAbs z
 positive-number z h =
     let a : 0 + M z < P z + 0 = lt-parts h in
     natAbs-positive z (λ e. absurd (nothing (rw e at h)))
@@ -60,3 +60,15 @@ cut-by-determinants S W P D n s w d e c =
     in
     subst (λ (x : ℤ). Cut x W n) (sym (whole-number S s))
     (subst (λ (x : ℤ). Cut (pos (natAbs S)) x n) (sym (whole-number W (not-below W w))) (cut-of (natAbs S) (natAbs W) n k))
+
+-- a number that is not negative is no larger in size than a larger one
+pub size-rises : (S W : ℤ) → pos 0 ≤ℤ S → S ≤ℤ W → natAbs S ≤ natAbs W
+size-rises (pos s) (pos w) h k =
+    let a : s + 0 ≤ w + 0 = le-parts k in
+    omega arith
+size-rises (pos s) (negsuc w) h k =
+    let a : s + suc w ≤ 0 + 0 = le-parts k in
+    absurd (omega arith)
+size-rises (negsuc s) W h k =
+    let a : 0 + suc s ≤ 0 + 0 = le-parts h in
+    absurd (omega arith)

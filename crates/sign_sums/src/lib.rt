@@ -91,7 +91,7 @@ fn keep_if(counts: bool, e: i64) -> i64
 }
 
 // The volumes that count, and 0 for the others.
-fn keep_where(v: Volumes, t0: bool, t1: bool, t2: bool, t3: bool) -> Volumes
+pub fn keep_where(v: Volumes, t0: bool, t1: bool, t2: bool, t3: bool) -> Volumes
     requires { ⌜ Small v ⌝ }
     ensures { λ r. ⌜ Holds r (kept (four t0 t1 t2 t3) (fourOf v)) ⌝ }
 {

@@ -23,32 +23,33 @@ use Rattle.theory.specs.Judged.{Timely, tested, judged}
 use Rattle.theory.specs.Computed.{pointDifferences, pointVerdict, edgeDifferences, edgeVerdict, edgeNumbers, startSum, endSum, pieceVerdict}
 
 -- an event at the start or at the end, and its difference
-record Seen (p q : Vector) (e : Event) (d : Vector) : Type 0 where
-  differs : difference p q e ≡ d
-  fromStart : pos 0 ≤ℤ (e .time)
-  toEnd : pos 0 ≤ℤ (pos 1 -ℤ e .time)
+pub record Seen (p q : Vector) (e : Event) (d : Vector) : Type 0 where
+  pub differs : difference p q e ≡ d
+  pub fromStart : pos 0 ≤ℤ (e .time)
+  pub toEnd : pos 0 ≤ℤ (pos 1 -ℤ e .time)
 
-start : {p q a : Vector} → Seen p q (atStart a) (minus a p)
+pub start : {p q a : Vector} → Seen p q (atStart a) (minus a p)
 start {p} {q} {a} = record { differs = difference-start p q a; fromStart = leZ-yes tt; toEnd = leZ-yes tt }
 
-end : {p q a : Vector} → Seen p q (atEnd a) (minus a q)
+pub end : {p q a : Vector} → Seen p q (atEnd a) (minus a q)
 end {p} {q} {a} = record { differs = difference-end p q a; fromStart = leZ-yes tt; toEnd = leZ-yes tt }
+
+module _ (p q : Vector) (o : Four Event) (d : Four Vector) (a0 : Seen p q (o .v0) (d .v0)) (a1 : Seen p q (o .v1) (d .v1)) (a2 : Seen p q (o .v2) (d .v2)) (a3 : Seen p q (o .v3) (d .v3)) where
+  pub seen-differences : differences p q o ≡ d
+  seen-differences = λ i. record { v0 = a0 .differs i; v1 = a1 .differs i; v2 = a2 .differs i; v3 = a3 .differs i }
+
+  pub seen-timely : Timely o
+  seen-timely = record {
+    fromStart = record { k0 = a0 .fromStart; k1 = a1 .fromStart; k2 = a2 .fromStart; k3 = a3 .fromStart };
+    toEnd = record { k0 = a0 .toEnd; k1 = a1 .toEnd; k2 = a2 .toEnd; k3 = a3 .toEnd };
+  }
 
 -- the verdict of a form with its differences and its numbers as code has them
 judged-seen : (form : Form) {p q : Vector} (o : Four Event) (d : Four Vector) → Seen p q (o .v0) (d .v0) → Seen p q (o .v1) (d .v1) → Seen p q (o .v2) (d .v2) → Seen p q (o .v3) (d .v3) → (l : Four ℤ → List ℤ) → ((n : Four ℤ) → tested form o n ≡ l n) → PieceIs (formed form p q o) (verdictOf (sgn (factor form (volumes d))) (map sgn (l (volumes d))))
 judged-seen form {p} {q} o d a0 a1 a2 a3 l h =
     subst (λ (m : List ℤ). PieceIs (formed form p q o) (verdictOf (sgn (factor form (volumes d))) (map sgn m))) (h (volumes d))
-    (subst (λ (c : Four Vector). PieceIs (formed form p q o) (verdictOf (sgn (factor form (volumes c))) (map sgn (tested form o (volumes c))))) same
-    (judged form p q o timely))
-  where
-    same : differences p q o ≡ d
-    same = λ i. record { v0 = a0 .differs i; v1 = a1 .differs i; v2 = a2 .differs i; v3 = a3 .differs i }
-
-    timely : Timely o
-    timely = record {
-      fromStart = record { k0 = a0 .fromStart; k1 = a1 .fromStart; k2 = a2 .fromStart; k3 = a3 .fromStart };
-      toEnd = record { k0 = a0 .toEnd; k1 = a1 .toEnd; k2 = a2 .toEnd; k3 = a3 .toEnd };
-    }
+    (subst (λ (c : Four Vector). PieceIs (formed form p q o) (verdictOf (sgn (factor form (volumes c))) (map sgn (tested form o (volumes c))))) (seen-differences p q o d a0 a1 a2 a3)
+    (judged form p q o (seen-timely p q o d a0 a1 a2 a3)))
 
 pub judged-point : (s : Scene) (p : ℕ) (c : Corners) (k : ℕ) → PieceIs (record { first = movingPoint (s .positions) p; second = movingTriangle (s .positions) c k }) (pointVerdict (volumes (pointDifferences s p c k)))
 unfolding movingTriangle pointDifferences formed factor tested

@@ -26,5 +26,6 @@ pub fn number_of(refusal: Refusal) -> u64
         Refusal::TooMany => 11,
         Refusal::ShortBuffer => 12,
         Refusal::BrokenSeam => 15,
+        Refusal::BeyondOldRange => 16,
     }
 }

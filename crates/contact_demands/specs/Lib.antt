@@ -1,0 +1,6 @@
+-- What was asked of contacts, as theorems.
+pub mod Carried
+pub mod Demand3
+pub mod Numbers
+pub mod OneContact
+pub mod Demand1

@@ -1,0 +1,15 @@
+use borrow.Author.Needs.{needs}
+use Rattle.answer_numbers.specs.Small.{met-small}
+use Rattle.makhnodri.proofs.makhnodri_contact_scene.Statement.{statement}
+use Rattle.makhnodri.proofs.makhnodri_contact_scene.Tie as tie
+
+pub makhnodri-contact-scene-spec : {M : Type 1} → statement M
+makhnodri-contact-scene-spec =
+    tie.close
+    (tie.spec
+    (λ c κs. search needs)
+    (λ c κs. met-small (c .before .before .before .before .before .before .meet-scene .ensures))
+    (λ c. search needs)
+    (λ c. search needs)
+    (λ c. search needs)
+    (λ c. search needs))

@@ -1,0 +1,89 @@
+// The contact of a pair that is asked for: a hit with its time and its place, or one of the other words with nothing; and refusal 16.
+
+pub mod accepted; // accepted.rt: the contact of a pair of a scene that was checked already
+mod handed; // handed.rt: a contact as it is handed out, with f64s
+
+ghost use Prim.Native.Nat.{_<_};
+ghost use mathlib.Core.Path.{_≡_};
+ghost use lib.IntN.{pos};
+ghost use lib.ListN.{length, getD};
+ghost use Rattle.meaning.specs.Limits.{contactLimit};
+ghost use Rattle.meaning.specs.Scene.{sceneAtEntry, beyond, reachesBeyond};
+ghost use Rattle.meaning.specs.Meetings.{MeetingFound, ContactGiven};
+ghost use Rattle.scenes.specs.Alone.{onlyPositions};
+use accepted::met;
+use handed::contact_of;
+use meaning::CONTACT_LIMIT;
+use meaning::ContactAnswer;
+use meaning::Kind;
+use meaning::MeetingAnswer;
+use meaning::Refusal;
+use meaning::SettledAnswer;
+
+fn beyond(positions: &[i32], i: usize) -> bool
+    requires { ⌜ i < length (now positions) ⌝ }
+    ensures { λ r. ⌜ r ≡ beyond contactLimit (getD (now (positions .entry)) i (pos 0)) ⌝ }
+{
+    let c = positions[i];
+    (c < -CONTACT_LIMIT) | (CONTACT_LIMIT < c)
+}
+
+// 16: a coordinate of the scene beyond the old range.
+pub fn beyond_old_range(positions: &[i32]) -> bool
+    ensures { λ r. ⌜ r ≡ reachesBeyond contactLimit (onlyPositions (now (positions .entry))) ⌝ }
+{
+    let mut found = false;
+    let mut i = 0;
+    while i < positions.len() {
+        found = found | beyond(positions, i);
+        i += 1;
+    }
+    found
+}
+
+// The four words, the hit with its numbers, for a scene that may be anything. The refusals are those of a verdict, then 16.
+pub fn meeting_pair(
+    positions: &[i32],
+    edges: &[u16],
+    triangles: &[u16],
+    kind: Kind,
+    first: usize,
+    second: usize,
+) -> MeetingAnswer
+    ensures { λ r. ⌜ MeetingFound (sceneAtEntry positions edges triangles) kind first second r ⌝ }
+{
+    match four_words::settle_pair(positions, edges, triangles, kind, first, second) {
+        SettledAnswer::Refused(refusal) => MeetingAnswer::Refused(refusal),
+        SettledAnswer::Decided(word) => {
+            if beyond_old_range(positions) {
+                return MeetingAnswer::Refused(Refusal::BeyondOldRange);
+            }
+            MeetingAnswer::Found(met(
+                positions,
+                edges,
+                triangles,
+                kind,
+                first,
+                second,
+                word,
+            ))
+        }
+    }
+}
+
+// The same with the time and the shares as they are handed out.
+pub fn contact_pair(
+    positions: &[i32],
+    edges: &[u16],
+    triangles: &[u16],
+    kind: Kind,
+    first: usize,
+    second: usize,
+) -> ContactAnswer
+    ensures { λ r. ⌜ ContactGiven (sceneAtEntry positions edges triangles) kind first second r ⌝ }
+{
+    match meeting_pair(positions, edges, triangles, kind, first, second) {
+        MeetingAnswer::Refused(refusal) => ContactAnswer::Refused(refusal),
+        MeetingAnswer::Found(meeting) => ContactAnswer::Given(contact_of(kind, meeting)),
+    }
+}

@@ -1,0 +1,31 @@
+-- The entry is taken apart, and its pair is the one in that place of the list.
+use borrow.Author.Needs.{needs}
+use Rattle.meaning.specs.List.{pair}
+use Rattle.scene_words.specs.Listed.{entry-there}
+use Rattle.scene_contacts.specs.Listed.{entry-met}
+use Rattle.scene_contacts.proofs.entry_meeting.Statement.{statement}
+use Rattle.scene_contacts.proofs.entry_meeting.Tie as tie
+
+meeting-requires : tie.Need-meeting-requires
+meeting-requires c κs =
+    let start = c .before .before .before .before .before .before .before in
+    let p = start .pre in
+    (p .0, entry-there (p .1) (start .args .k) (p .2) (pair (c .before .before .kind-of .result) (c .before .first-of .result) (c .second-of .result)) (c .before .before .kind-of .ensures) (c .before .first-of .ensures) (c .second-of .ensures))
+
+returns : tie.Need-returns
+returns c =
+    let start = c .before .before .before .before .before .before .before .before in
+    let p = start .pre in
+    entry-met (p .1) (start .args .k) (p .2) (pair (c .before .before .before .kind-of .result) (c .before .before .first-of .result) (c .before .second-of .result)) (c .before .before .before .kind-of .ensures) (c .before .before .first-of .ensures) (c .before .second-of .ensures) (c .meeting .result) (c .meeting .ensures)
+
+pub entry-meeting-spec : {M : Type 1} → statement M
+entry-meeting-spec =
+    tie.close
+    (tie.spec
+    (λ c. search needs)
+    (λ c. search needs)
+    (λ c κs. search needs)
+    (λ c κs. search needs)
+    (λ c κs. search needs)
+    meeting-requires
+    returns)

@@ -1,0 +1,102 @@
+-- Each entry in turn: its byte is the next of the words, and its row the next of the rows.
+use borrow.Author.Needs.{needs}
+use Prim.Native.Nat.{_-_, _+_, _≤_, _<_}
+use native.Mathlib.Omega.{arith}
+use mathlib.Core.Path.{_≡_, sym, ap, _∙_}
+use mathlib.Core.List.{List, [], _∷_}
+use lib.ListN.{length, drop, getD, drop-of-length-le}
+use Rattle.sequences.specs.Parts.{drop-next}
+use Rattle.sequences.specs.Writing.{Writing, writing-starts-front, writing-as, writing-room, writing-step, writing-ends-front}
+use Rattle.meaning.specs.Scene.{Scene, sceneOf}
+use Rattle.meaning.specs.List.{pairs}
+use Rattle.meaning.specs.SceneWords.{byteOf}
+use Rattle.meaning.specs.Meetings.{wordOf}
+use Rattle.meaning.specs.declared.Meeting.{Meeting}
+use Rattle.meaning.specs.declared.Meeting.the-variants.{Miss}
+use Rattle.scene_contacts.specs.Rows.{RowsGoing, rows-start, rows-step, rows-end}
+use Rattle.scene_contacts.specs.Listed.{meetingsOf, metBytes, meetings-length, met-bytes-length, met-bytes-at, listed-small}
+use Rattle.scene_contacts.proofs.meet_entries.Statement.{statement}
+use Rattle.scene_contacts.proofs.meet_entries.Tie as tie
+
+abbrev Inv-loop : tie.InvT-loop
+Inv-loop positions edges triangles list words₀ contacts₀ count k₀ words contacts k =
+    (k ≤ count) × Writing words₀ (metBytes (sceneOf positions edges triangles) (pairs (sceneOf positions edges triangles))) words k (drop k (metBytes (sceneOf positions edges triangles) (pairs (sceneOf positions edges triangles))))
+    × RowsGoing (meetingsOf (sceneOf positions edges triangles) (pairs (sceneOf positions edges triangles))) contacts₀ contacts k
+
+abbrev μ-loop : tie.MeasureT-loop
+μ-loop positions edges triangles list words₀ contacts₀ count k₀ words contacts k = count - k
+
+loop-holds : tie.Need-loop-holds Inv-loop μ-loop
+loop-holds c =
+    let start = c .before .before .before .before .before in
+    let s : Scene = (sceneOf (start .args .positions .now) (start .args .edges .now) (start .args .triangles .now)) in
+    (omega arith, writing-starts-front _ _ (rw (met-bytes-length s (pairs s)) (omega (arith, start .pre .2, start .pre .3))), rows-start _ _)
+
+entry-meeting-requires : tie.Need-entry-meeting-requires Inv-loop μ-loop
+entry-meeting-requires c κs =
+    let p = c .before .before .before .before .before .before .before .pre in
+    (p .0, p .1, omega (arith, p .2, c .loop-test .taken))
+
+slice-write-words : tie.Need-slice-write-words Inv-loop μ-loop
+slice-write-words c =
+    let start = c .before .before .before .before .before .before .before .before .before .before in
+    let s : Scene = (sceneOf (start .args .positions .now) (start .args .edges .now) (start .args .triangles .now)) in
+    let k = c .before .before .before .before .loop .k in
+    let inv = c .before .before .before .before .loop .inv in
+    let below : k < length (pairs s) = omega (arith, start .pre .2, c .before .before .before .loop-test .taken) in
+    writing-room (writing-as (drop-next (metBytes s (pairs s)) k 0 (rw (met-bytes-length s (pairs s)) below)) (inv .1))
+
+mul-put-meeting : tie.Need-mul-put-meeting Inv-loop μ-loop
+mul-put-meeting c = search needs
+
+put-meeting-requires : tie.Need-put-meeting-requires Inv-loop μ-loop
+put-meeting-requires c κs =
+    let start = c .before .before .before .before .before .before .before .before .before .before .before in
+    let s : Scene = (sceneOf (start .args .positions .now) (start .args .edges .now) (start .args .triangles .now)) in
+    let k = c .before .before .before .before .before .loop .k in
+    let inv = c .before .before .before .before .before .loop .inv in
+    let below : k < length (pairs s) = omega (arith, start .pre .2, c .before .before .before .before .loop-test .taken) in
+    (omega (arith, start .pre .4, c .before .before .before .before .loop-test .taken, inv .2 .same), rw (c .before .before .before .entry-meeting .ensures) (listed-small s k below))
+
+loop-again : tie.Need-loop-again Inv-loop μ-loop
+loop-again c =
+    let start = c .before .before .before .before .before .before .before .before .before .before .before .before .before .before in
+    let s : Scene = (sceneOf (start .args .positions .now) (start .args .edges .now) (start .args .triangles .now)) in
+    let k = c .before .before .before .before .before .before .before .before .loop .k in
+    let inv = c .before .before .before .before .before .before .before .before .loop .inv in
+    let below : k < length (pairs s) = omega (arith, start .pre .2, c .before .before .before .before .before .before .before .loop-test .taken) in
+    let met = c .before .before .before .before .before .before .entry-meeting .ensures in
+    let byte : c .before .before .before .before .byte-of .result ≡ getD (metBytes s (pairs s)) k 0 =
+    c .before .before .before .before .byte-of .ensures ∙ ap byteOf (c .before .before .before .before .before .settled-of .ensures ∙ ap wordOf met) ∙ sym (met-bytes-at s (pairs s) k below) in
+    let next : drop k (meetingsOf s (pairs s)) ≡ c .before .before .before .before .before .before .entry-meeting .result ∷ drop (k + 1) (meetingsOf s (pairs s)) =
+    drop-next (meetingsOf s (pairs s)) k Miss (rw (meetings-length s (pairs s)) below) ∙ ap (λ (m : Meeting). m ∷ drop (k + 1) (meetingsOf s (pairs s))) (sym met) in
+    (omega (arith, c .before .before .before .before .before .before .before .loop-test .taken), rw byte (writing-step (writing-as (drop-next (metBytes s (pairs s)) k 0 (rw (met-bytes-length s (pairs s)) below)) (inv .1))), rows-step (meetingsOf s (pairs s)) _ next (inv .2) (c .before .before .put-meeting .ensures))
+
+returns : tie.Need-returns Inv-loop μ-loop
+returns c =
+    let start = c .before .before .before .before .before .before .before in
+    let s : Scene = (sceneOf (start .args .positions .now) (start .args .edges .now) (start .args .triangles .now)) in
+    let inv = c .before .loop .inv in (
+      writing-ends-front (writing-as (drop-of-length-le (metBytes s (pairs s)) {i = c .before .loop .k} (rw (met-bytes-length s (pairs s)) (omega (arith, start .pre .2, c .loop-test .left)))) (inv .1)),
+      rows-end (meetingsOf s (pairs s)) (drop-of-length-le (meetingsOf s (pairs s)) {i = c .before .loop .k} (rw (meetings-length s (pairs s)) (omega (arith, start .pre .2, c .loop-test .left)))) (inv .2),
+    )
+
+pub meet-entries-spec : {M : Type 1} → statement M
+meet-entries-spec =
+    tie.close
+    (tie.spec
+    Inv-loop
+    μ-loop
+    loop-holds
+    entry-meeting-requires
+    (λ c κs. search needs)
+    (λ c κs. search needs)
+    slice-write-words
+    mul-put-meeting
+    put-meeting-requires
+    (λ c. omega (arith, c .before .before .before .before .before .before .before .loop-test .taken))
+    (λ c. omega (arith, c .before .before .before .before .before .before .before .loop-test .taken))
+    loop-again
+    (λ c. c .before .loop .inv .1 .same)
+    (λ c. c .before .loop .inv .2 .same)
+    returns)

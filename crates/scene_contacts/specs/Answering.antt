@@ -1,0 +1,74 @@
+-- From the list that was made and the contacts that were found to the answer of the whole call.
+use Prim.Native.Nat.{ℕ}
+use mathlib.Core.Bool.{true, false}
+use mathlib.Core.List.{List, [], _∷_, map}
+use mathlib.Core.Path.{_≡_, refl}
+use Rattle.sequences.specs.Wrote.{written}
+use Rattle.meaning.specs.Limits.{contactLimit}
+use Rattle.meaning.specs.Scene.{Scene, reachesBeyond, Accepted}
+use Rattle.meaning.specs.Refusals.{SceneChecked, Answers, given, refused, numberOf}
+use Rattle.meaning.specs.List.{pairs, listSays, leaves}
+use Rattle.meaning.specs.Meetings.{rangeCheck, roomCheck, metRoom, rowsLeft, rowsAfter, MetScene}
+use Rattle.meaning.specs.declared.Made.{Made}
+use Rattle.meaning.specs.declared.Refusal.{Refusal}
+use Rattle.meaning.specs.declared.Refusal.the-variants.{BeyondOldRange}
+use Rattle.meaning.specs.declared.SceneAnswer as SceneAnswers
+use Rattle.meaning.specs.declared.SceneAnswer.{SceneAnswer}
+use Rattle.meaning.specs.declared.ListAnswer as ListAnswers
+use Rattle.meaning.specs.declared.ListAnswer.{ListAnswer}
+use Rattle.scenes.specs.Answering.{refuses, lets-pass}
+use Rattle.scenes.specs.Accepting.{after-accepted, after-refused}
+use Rattle.listing.specs.Answering.{IsCount, ListedIn}
+use Rattle.scene_contacts.specs.Listed.{meetingsOf, metBytes, all-met}
+
+-- the list of a scene within the old range was made and judged, if there is room for it
+pub record MetNear (s : Scene) (room : ℕ) (o o′ b b′ c c′ : List ℕ) (r : ListAnswer) : Type 0 where
+  pub list : ListedIn s room o o′ r
+  pub bytes : b′ ≡ leaves (listSays r) (metBytes s (pairs s)) b
+  pub rows : c′ ≡ rowsAfter (listSays r) (meetingsOf s (pairs s)) c
+
+module _ (s : Scene) (o b c : List ℕ) where
+  pub met-refused : {checked : SceneAnswer} (x : Refusal) → SceneChecked s checked → checked ≡ SceneAnswers.the-variants.Refused x
+      → MetScene s o o b b c c (ListAnswers.the-variants.Refused x 0)
+  unfolding listSays leaves rowsAfter
+  met-refused x p e = record {
+    answer = after-refused s (rangeCheck s ∷ roomCheck s (metRoom o b c) ∷ []) (IsCount s) e p;
+    list = refl;
+    meetings = meetingsOf s (pairs s);
+    right = all-met s (pairs s);
+    bytes = refl;
+    rows = refl;
+  }
+
+  pub met-beyond : Accepted s → reachesBeyond contactLimit s ≡ true → MetScene s o o b b c c (ListAnswers.the-variants.Refused BeyondOldRange 0)
+  unfolding listSays leaves rowsAfter numberOf
+  met-beyond a far = record {
+    answer = after-accepted s (rangeCheck s ∷ roomCheck s (metRoom o b c) ∷ []) (IsCount s) (refused 16 0) a (refuses (IsCount s) (rangeCheck s) _ (refused 16 0) far refl);
+    list = refl;
+    meetings = meetingsOf s (pairs s);
+    right = all-met s (pairs s);
+    bytes = refl;
+    rows = refl;
+  }
+
+  pub met-near : {o′ b′ c′ : List ℕ} {r : ListAnswer} → Accepted s → reachesBeyond contactLimit s ≡ false → MetNear s (metRoom o b c) o o′ b b′ c c′ r
+      → MetScene s o o′ b b′ c c′ r
+  met-near {r = r} a near j = record {
+    answer = after-accepted s (rangeCheck s ∷ roomCheck s (metRoom o b c) ∷ []) (IsCount s) (listSays r) a (lets-pass (IsCount s) (rangeCheck s) _ (listSays r) near (j .list .answer));
+    list = j .list .buffer;
+    meetings = meetingsOf s (pairs s);
+    right = all-met s (pairs s);
+    bytes = j .bytes;
+    rows = j .rows;
+  }
+
+module _ {s : Scene} {room : ℕ} {o o′ : List ℕ} {r : ListAnswer} (l : ListedIn s room o o′ r) where
+  pub met-made : {m : Made} {b b′ c c′ : List ℕ} → r ≡ ListAnswers.the-variants.Listed m → b′ ≡ written (metBytes s (pairs s)) b → c′ ≡ rowsLeft (meetingsOf s (pairs s)) c
+      → MetNear s room o o′ b b′ c c′ (ListAnswers.the-variants.Listed m)
+  unfolding listSays leaves rowsAfter
+  met-made e h k = record { list = rw e at l; bytes = h; rows = k }
+
+  pub met-without-room : {x : Refusal} {n : ℕ} {b c : List ℕ} → r ≡ ListAnswers.the-variants.Refused x n
+      → MetNear s room o o′ b b c c (ListAnswers.the-variants.Refused x n)
+  unfolding listSays leaves rowsAfter
+  met-without-room e = record { list = rw e at l; bytes = refl; rows = refl }

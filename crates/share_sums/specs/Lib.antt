@@ -1,0 +1,2 @@
+-- Sums of determinants in the range that coordinates had at first.
+pub mod InRange
