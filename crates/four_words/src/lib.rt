@@ -5,12 +5,51 @@ pub mod accepted; // accepted.rt: pieces and pairs of a scene that was checked a
 
 ghost use Rattle.meaning.specs.Scene.{sceneAtEntry};
 ghost use Rattle.meaning.specs.Resting.{PairDecided, PieceDecided};
+ghost use Rattle.scenes.specs.Sewing.{Blank};
+ghost use Rattle.scenes.specs.Checking.{Stitched};
 use meaning::Kind;
 use meaning::PairAnswer;
 use meaning::SettledAnswer;
 use meaning::VERTEX_LIMIT;
 
-// The word of a pair, for a scene that may be anything. The refusals are those of its verdict.
+// The word of a pair, for a scene that may be anything; and the table of its seams. The refusals are those of its verdict.
+pub fn settle_into(
+    positions: &[i32],
+    edges: &[u16],
+    triangles: &[u16],
+    seams: &[u16],
+    stands: &mut [u16],
+    kind: Kind,
+    first: usize,
+    second: usize,
+) -> SettledAnswer
+    requires { ⌜ Blank (now seams) (now stands) ⌝ }
+    ensures { λ r. ⌜ PairDecided (sceneAtEntry positions edges triangles seams) kind first second r × Stitched (sceneAtEntry positions edges triangles seams) (now (stands .entry)) (now (stands .exit)) ⌝ }
+{
+    match three_words::pair_into(
+        positions,
+        edges,
+        triangles,
+        seams,
+        stands,
+        kind,
+        first,
+        second,
+    ) {
+        PairAnswer::Judged(verdict) => SettledAnswer::Decided(accepted::pair_word(
+            positions,
+            edges,
+            triangles,
+            stands,
+            kind,
+            first,
+            second,
+            verdict,
+        )),
+        PairAnswer::Refused(refusal) => SettledAnswer::Refused(refusal),
+    }
+}
+
 pub fn settle_pair(
     positions: &[i32],
     edges: &[u16],
@@ -23,7 +62,7 @@ pub fn settle_pair(
     ensures { λ r. ⌜ PairDecided (sceneAtEntry positions edges triangles seams) kind first second r ⌝ }
 {
     let mut stands = [0u16; VERTEX_LIMIT];
-    let judged = three_words::pair_into(
+    settle_into(
         positions,
         edges,
         triangles,
@@ -32,23 +71,7 @@ pub fn settle_pair(
         kind,
         first,
         second,
-    );
-    match judged {
-        PairAnswer::Judged(verdict) => {
-            let word = accepted::pair_word(
-                positions,
-                edges,
-                triangles,
-                &stands,
-                kind,
-                first,
-                second,
-                verdict,
-            );
-            SettledAnswer::Decided(word)
-        }
-        PairAnswer::Refused(refusal) => SettledAnswer::Refused(refusal),
-    }
+    )
 }
 
 // The word of one piece of a pair.

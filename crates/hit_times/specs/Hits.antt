@@ -123,7 +123,7 @@ module _ (pieces : ℕ → Piece) (l : List ℕ) (e : ℕ) (first : Earliest l e
 
 -- a scene with these positions
 abbrev bare : List ℤ → Scene
-bare ps = sceneOf ps [] []
+bare ps = sceneOf ps [] [] []
 
 abbrev pub pointAt : List ℤ → ℕ → Corners → ℕ → Piece
 pointAt ps p c q = record { first = movingPoint ps p; second = movingTriangle ps c q }

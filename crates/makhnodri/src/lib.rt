@@ -44,7 +44,12 @@ fn put_counts(counts: &mut [usize; 4], c: SceneCounts)
 
 // May this scene be used?
 #[no_mangle]
-pub extern "C" fn makhnodri_check_scene_slices(positions: &[i32], edges: &[u16], triangles: &[u16], seams: &[u16]) -> u64
+pub extern "C" fn makhnodri_check_scene_slices(
+    positions: &[i32],
+    edges: &[u16],
+    triangles: &[u16],
+    seams: &[u16],
+) -> u64
     ensures { λ r. ⌜ Told sceneNumber (SceneChecked (sceneAtEntry positions edges triangles seams)) r ⌝ }
 {
     scene_number(scenes::check_scene(positions, edges, triangles, seams))
@@ -351,7 +356,15 @@ pub extern "C" fn makhnodri_contact_ee(
 ) -> u64
     ensures { λ r. ⌜ Told meetingNumber (ContactInto (sceneAtEntry positions edges triangles) EdgeEdge first second (now (contact .entry)) (now (contact .exit))) r ⌝ }
 {
-    contact_told(positions, edges, triangles, Kind::EdgeEdge, first, second, contact)
+    contact_told(
+        positions,
+        edges,
+        triangles,
+        Kind::EdgeEdge,
+        first,
+        second,
+        contact,
+    )
 }
 
 // The list, the word of each listed pair, and for each hit its five numbers in its row.
@@ -366,14 +379,7 @@ pub extern "C" fn makhnodri_contact_scene(
 ) -> u64
     ensures { λ r. ⌜ Told listNumber (MetScene (sceneAtEntry positions edges triangles) (now (list .entry)) (now (list .exit)) (now (words .entry)) (now (words .exit)) (now (contacts .entry)) (now (contacts .exit))) r ⌝ }
 {
-    list_number(scene_contacts::meet_scene(
-        positions,
-        edges,
-        triangles,
-        list,
-        words,
-        contacts,
-    ))
+    list_number(scene_contacts::meet_scene(positions, edges, triangles, list, words, contacts))
 }
 
 // ---- a text

@@ -42,7 +42,8 @@ module _ (s : Scene) (kind : Kind) (i j : ℕ) (r : SettledAnswer) (said : PairD
       let (h4, a4) = is-given R _ _ w a3 in
       let (h5, a5) = is-given R _ _ w a4 in
       let (h6, a6) = is-given R _ _ w a5 in
-      (within-old (record { shapely = h1; inRange = h2; known = h3; distinct = h4 }) near, h5, right w a6)
+      let (h7, a7) = is-given R _ _ w a6 in
+      (within-old (record { shapely = h1; inRange = h2; known = h3; sewnWell = h4; distinct = h5 }) near, h6, right w a7)
 
   pub meeting-refused : {x : Refusal} → r ≡ SettledAnswers.the-variants.Refused x → MeetingFound s kind i j (MeetingAnswers.the-variants.Refused x)
   unfolding settledSays meetingSays

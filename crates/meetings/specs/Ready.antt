@@ -22,7 +22,7 @@ use Rattle.hit_times.specs.Hits.{PointHits, EdgesHit}
 
 -- an accepted scene that reaches nowhere beyond the old range
 pub within-old : {s : Scene} → Accepted s → reachesBeyond contactLimit s ≡ false → AcceptedWithin contactLimit s
-within-old a h = record { shapely = a .shapely; inRange = h; known = a .known; distinct = a .distinct }
+within-old a h = record { shapely = a .shapely; inRange = h; known = a .known; sewnWell = a .sewnWell; distinct = a .distinct }
 
 pub old-accepted : {s : Scene} → AcceptedWithin contactLimit s → Accepted s
 old-accepted a = accepted-wider (lit≤ tt) a

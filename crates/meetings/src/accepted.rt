@@ -3,11 +3,12 @@
 ghost use mathlib.Core.Path.{_≡_};
 ghost use mathlib.Core.Bool.{false};
 ghost use Rattle.meaning.specs.Limits.{contactLimit};
-ghost use Rattle.meaning.specs.Scene.{sceneIn, sceneAtEntry, AcceptedWithin};
+ghost use Rattle.meaning.specs.Scene.{AcceptedWithin};
 ghost use Rattle.meaning.specs.Refusals.{notThere};
 ghost use Rattle.meaning.specs.Resting.{PairSettled};
 ghost use Rattle.meaning.specs.Meetings.{MomentIs, MeetingIs};
 ghost use Rattle.meaning.specs.declared.Settled.the-variants.{Hit};
+ghost use Rattle.scenes.specs.Alone.{tabledIn, tabledAtEntry};
 use hit_times::edges_moment;
 use hit_times::point_moment;
 use meaning::Kind;
@@ -22,20 +23,25 @@ fn moment(
     positions: &[i32],
     edges: &[u16],
     triangles: &[u16],
+    stands: &[u16],
     kind: Kind,
     i: usize,
     j: usize,
 ) -> Moment
-    requires { ⌜ AcceptedWithin contactLimit (sceneIn positions edges triangles) × (notThere (sceneIn positions edges triangles) kind i j ≡ false) × PairSettled (sceneIn positions edges triangles) kind i j Hit ⌝ }
-    ensures { λ r. ⌜ MomentIs (sceneAtEntry positions edges triangles) kind i j r ⌝ }
+    requires { ⌜ AcceptedWithin contactLimit (tabledIn positions edges triangles stands) × (notThere (tabledIn positions edges triangles stands) kind i j ≡ false) × PairSettled (tabledIn positions edges triangles stands) kind i j Hit ⌝ }
+    ensures { λ r. ⌜ MomentIs (tabledAtEntry positions edges triangles stands) kind i j r ⌝ }
 {
     match kind {
         Kind::PointTriangle => {
-            point_moment(positions, i, scenes::parts::corners_of(triangles, j))
+            point_moment(
+                positions,
+                i,
+                scenes::parts::corners_of(triangles, stands, j),
+            )
         }
         Kind::EdgeEdge => {
-            let first = scenes::parts::ends_of(edges, smaller(i, j));
-            let second = scenes::parts::ends_of(edges, larger(i, j));
+            let first = scenes::parts::ends_of(edges, stands, smaller(i, j));
+            let second = scenes::parts::ends_of(edges, stands, larger(i, j));
             edges_moment(positions, first, second)
         }
     }
@@ -46,16 +52,17 @@ pub(crate) fn met(
     positions: &[i32],
     edges: &[u16],
     triangles: &[u16],
+    stands: &[u16],
     kind: Kind,
     i: usize,
     j: usize,
     word: Settled,
 ) -> Meeting
-    requires { ⌜ AcceptedWithin contactLimit (sceneIn positions edges triangles) × (notThere (sceneIn positions edges triangles) kind i j ≡ false) × PairSettled (sceneIn positions edges triangles) kind i j word ⌝ }
-    ensures { λ r. ⌜ MeetingIs (sceneAtEntry positions edges triangles) kind i j r ⌝ }
+    requires { ⌜ AcceptedWithin contactLimit (tabledIn positions edges triangles stands) × (notThere (tabledIn positions edges triangles stands) kind i j ≡ false) × PairSettled (tabledIn positions edges triangles stands) kind i j word ⌝ }
+    ensures { λ r. ⌜ MeetingIs (tabledAtEntry positions edges triangles stands) kind i j r ⌝ }
 {
     match word {
-        Settled::Hit => Meeting::Hit(moment(positions, edges, triangles, kind, i, j)),
+        Settled::Hit => Meeting::Hit(moment(positions, edges, triangles, stands, kind, i, j)),
         Settled::Miss => Meeting::Miss,
         Settled::Touch => Meeting::Touch,
         Settled::Apart => Meeting::Apart,
@@ -66,13 +73,14 @@ pub fn meeting(
     positions: &[i32],
     edges: &[u16],
     triangles: &[u16],
+    stands: &[u16],
     kind: Kind,
     i: usize,
     j: usize,
 ) -> Meeting
-    requires { ⌜ AcceptedWithin contactLimit (sceneIn positions edges triangles) × (notThere (sceneIn positions edges triangles) kind i j ≡ false) ⌝ }
-    ensures { λ r. ⌜ MeetingIs (sceneAtEntry positions edges triangles) kind i j r ⌝ }
+    requires { ⌜ AcceptedWithin contactLimit (tabledIn positions edges triangles stands) × (notThere (tabledIn positions edges triangles stands) kind i j ≡ false) ⌝ }
+    ensures { λ r. ⌜ MeetingIs (tabledAtEntry positions edges triangles stands) kind i j r ⌝ }
 {
-    let word = four_words::accepted::pair(positions, edges, triangles, kind, i, j);
-    met(positions, edges, triangles, kind, i, j, word)
+    let word = four_words::accepted::pair(positions, edges, triangles, stands, kind, i, j);
+    met(positions, edges, triangles, stands, kind, i, j, word)
 }

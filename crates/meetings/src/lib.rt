@@ -19,6 +19,7 @@ use meaning::Kind;
 use meaning::MeetingAnswer;
 use meaning::Refusal;
 use meaning::SettledAnswer;
+use meaning::VERTEX_LIMIT;
 
 fn beyond(positions: &[i32], i: usize) -> bool
     requires { ⌜ i < length (now positions) ⌝ }
@@ -46,13 +47,25 @@ pub fn meeting_pair(
     positions: &[i32],
     edges: &[u16],
     triangles: &[u16],
+    seams: &[u16],
     kind: Kind,
     first: usize,
     second: usize,
 ) -> MeetingAnswer
-    ensures { λ r. ⌜ MeetingFound (sceneAtEntry positions edges triangles) kind first second r ⌝ }
+    ensures { λ r. ⌜ MeetingFound (sceneAtEntry positions edges triangles seams) kind first second r ⌝ }
 {
-    match four_words::settle_pair(positions, edges, triangles, kind, first, second) {
+    let mut stands = [0u16; VERTEX_LIMIT];
+    let settled = four_words::settle_into(
+        positions,
+        edges,
+        triangles,
+        seams,
+        &mut stands,
+        kind,
+        first,
+        second,
+    );
+    match settled {
         SettledAnswer::Refused(refusal) => MeetingAnswer::Refused(refusal),
         SettledAnswer::Decided(word) => {
             if beyond_old_range(positions) {
@@ -62,6 +75,7 @@ pub fn meeting_pair(
                 positions,
                 edges,
                 triangles,
+                &stands,
                 kind,
                 first,
                 second,
@@ -76,13 +90,14 @@ pub fn contact_pair(
     positions: &[i32],
     edges: &[u16],
     triangles: &[u16],
+    seams: &[u16],
     kind: Kind,
     first: usize,
     second: usize,
 ) -> ContactAnswer
-    ensures { λ r. ⌜ ContactGiven (sceneAtEntry positions edges triangles) kind first second r ⌝ }
+    ensures { λ r. ⌜ ContactGiven (sceneAtEntry positions edges triangles seams) kind first second r ⌝ }
 {
-    match meeting_pair(positions, edges, triangles, kind, first, second) {
+    match meeting_pair(positions, edges, triangles, seams, kind, first, second) {
         MeetingAnswer::Refused(refusal) => ContactAnswer::Refused(refusal),
         MeetingAnswer::Found(meeting) => ContactAnswer::Given(contact_of(kind, meeting)),
     }

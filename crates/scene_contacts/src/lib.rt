@@ -8,10 +8,11 @@ ghost use mathlib.Core.List.{map};
 ghost use lib.ListN.{length, getD};
 ghost use Rattle.sequences.specs.Wrote.{written};
 ghost use Rattle.meaning.specs.Limits.{contactLimit};
-ghost use Rattle.meaning.specs.Scene.{sceneIn, sceneAtEntry, Accepted, AcceptedWithin};
+ghost use Rattle.meaning.specs.Scene.{sceneAtEntry, AcceptedWithin};
 ghost use Rattle.meaning.specs.List.{pairs};
 ghost use Rattle.meaning.specs.Meetings.{rowsLeft, metRoom, MetScene};
 ghost use Rattle.meaning.specs.declared.Meeting.the-variants.{Miss};
+ghost use Rattle.scenes.specs.Alone.{tabledIn, tabledAtEntry};
 ghost use Rattle.scene_words.specs.Listed.{ListStands};
 ghost use Rattle.scene_contacts.specs.Listed.{meetingsOf, metBytes};
 ghost use Rattle.scene_contacts.specs.Answering.{MetNear};
@@ -20,6 +21,7 @@ use meaning::Meeting;
 use meaning::ROW_NUMBERS;
 use meaning::Refusal;
 use meaning::SceneAnswer;
+use meaning::VERTEX_LIMIT;
 use rows::put_meeting;
 use rows::settled_of;
 use scene_words::byte_of;
@@ -29,17 +31,18 @@ fn entry_meeting(
     positions: &[i32],
     edges: &[u16],
     triangles: &[u16],
+    stands: &[u16],
     list: &[u32],
     k: usize,
 ) -> Meeting
-    requires { ⌜ AcceptedWithin contactLimit (sceneIn positions edges triangles) × ListStands (sceneIn positions edges triangles) (now list) × (k < length (pairs (sceneIn positions edges triangles))) ⌝ }
-    ensures { λ r. ⌜ r ≡ getD (meetingsOf (sceneAtEntry positions edges triangles) (pairs (sceneAtEntry positions edges triangles))) k Miss ⌝ }
+    requires { ⌜ AcceptedWithin contactLimit (tabledIn positions edges triangles stands) × ListStands (tabledIn positions edges triangles stands) (now list) × (k < length (pairs (tabledIn positions edges triangles stands))) ⌝ }
+    ensures { λ r. ⌜ r ≡ getD (meetingsOf (tabledAtEntry positions edges triangles stands) (pairs (tabledAtEntry positions edges triangles stands))) k Miss ⌝ }
 {
     let entry = list[k];
     let kind = entries::kind_of(entry);
     let first = entries::first_of(entry);
     let second = entries::second_of(entry);
-    meetings::accepted::meeting(positions, edges, triangles, kind, first, second)
+    meetings::accepted::meeting(positions, edges, triangles, stands, kind, first, second)
 }
 
 // Each entry in turn.
@@ -47,17 +50,18 @@ fn meet_entries(
     positions: &[i32],
     edges: &[u16],
     triangles: &[u16],
+    stands: &[u16],
     list: &[u32],
     words: &mut [u8],
     contacts: &mut [u32],
     count: usize,
 )
-    requires { ⌜ AcceptedWithin contactLimit (sceneIn positions edges triangles) × ListStands (sceneIn positions edges triangles) (now list) × (count ≡ length (pairs (sceneIn positions edges triangles))) × (count ≤ length (now words)) × (5 * count ≤ length (now contacts)) ⌝ }
-    ensures { λ _. ⌜ (now (words .exit) ≡ written (metBytes (sceneAtEntry positions edges triangles) (pairs (sceneAtEntry positions edges triangles))) (now (words .entry))) × (now (contacts .exit) ≡ rowsLeft (meetingsOf (sceneAtEntry positions edges triangles) (pairs (sceneAtEntry positions edges triangles))) (now (contacts .entry))) ⌝ }
+    requires { ⌜ AcceptedWithin contactLimit (tabledIn positions edges triangles stands) × ListStands (tabledIn positions edges triangles stands) (now list) × (count ≡ length (pairs (tabledIn positions edges triangles stands))) × (count ≤ length (now words)) × (5 * count ≤ length (now contacts)) ⌝ }
+    ensures { λ _. ⌜ (now (words .exit) ≡ written (metBytes (tabledAtEntry positions edges triangles stands) (pairs (tabledAtEntry positions edges triangles stands))) (now (words .entry))) × (now (contacts .exit) ≡ rowsLeft (meetingsOf (tabledAtEntry positions edges triangles stands) (pairs (tabledAtEntry positions edges triangles stands))) (now (contacts .entry))) ⌝ }
 {
     let mut k = 0;
     while k < count {
-        let meeting = entry_meeting(positions, edges, triangles, list, k);
+        let meeting = entry_meeting(positions, edges, triangles, stands, list, k);
         words[k] = byte_of(settled_of(meeting));
         put_meeting(contacts, ROW_NUMBERS * k, meeting);
         k += 1;
@@ -75,42 +79,68 @@ pub fn meet_near(
     positions: &[i32],
     edges: &[u16],
     triangles: &[u16],
+    stands: &[u16],
     list: &mut [u32],
     words: &mut [u8],
     contacts: &mut [u32],
 ) -> ListAnswer
-    requires { ⌜ AcceptedWithin contactLimit (sceneIn positions edges triangles) ⌝ }
-    ensures { λ r. ⌜ MetNear (sceneAtEntry positions edges triangles) (metRoom (now (list .entry)) (now (words .entry)) (now (contacts .entry))) (now (list .entry)) (now (list .exit)) (now (words .entry)) (now (words .exit)) (now (contacts .entry)) (now (contacts .exit)) r ⌝ }
+    requires { ⌜ AcceptedWithin contactLimit (tabledIn positions edges triangles stands) ⌝ }
+    ensures { λ r. ⌜ MetNear (tabledAtEntry positions edges triangles stands) (metRoom (now (list .entry)) (now (words .entry)) (now (contacts .entry))) (now (list .entry)) (now (list .exit)) (now (words .entry)) (now (words .exit)) (now (contacts .entry)) (now (contacts .exit)) r ⌝ }
 {
     let room = smaller(
         smaller(entries::room(list), words.len()),
         contacts.len() / ROW_NUMBERS,
     );
-    match listing::accepted::list_accepted(positions, edges, triangles, list, room) {
+    let mut tests = [0usize; 1];
+    match listing::accepted::list_accepted(
+        positions,
+        edges,
+        triangles,
+        stands,
+        list,
+        room,
+        &mut tests,
+    ) {
         ListAnswer::Listed(made) => {
-            meet_entries(positions, edges, triangles, list, words, contacts, made.count);
+            meet_entries(
+                positions,
+                edges,
+                triangles,
+                list,
+                words,
+                contacts,
+                made.count,
+            );
             ListAnswer::Listed(made)
         }
         ListAnswer::Refused(refusal, needed) => ListAnswer::Refused(refusal, needed),
     }
 }
 
-// For a scene that may be anything: 1 to 4, 16, then 7.
+// For a scene that may be anything: 1, 2, 3, 15, 4, then 16, then 7.
 pub fn meet_scene(
     positions: &[i32],
     edges: &[u16],
     triangles: &[u16],
+    seams: &[u16],
     list: &mut [u32],
     words: &mut [u8],
     contacts: &mut [u32],
 ) -> ListAnswer
-    ensures { λ r. ⌜ MetScene (sceneAtEntry positions edges triangles) (now (list .entry)) (now (list .exit)) (now (words .entry)) (now (words .exit)) (now (contacts .entry)) (now (contacts .exit)) r ⌝ }
+    ensures { λ r. ⌜ MetScene (sceneAtEntry positions edges triangles seams) (now (list .entry)) (now (list .exit)) (now (words .entry)) (now (words .exit)) (now (contacts .entry)) (now (contacts .exit)) r ⌝ }
 {
-    if let SceneAnswer::Refused(refusal) = scenes::check_scene(positions, edges, triangles) {
+    let mut stands = [0u16; VERTEX_LIMIT];
+    if let SceneAnswer::Refused(refusal) = scenes::check_into(
+        positions,
+        edges,
+        triangles,
+        seams,
+        &mut stands,
+    ) {
         return ListAnswer::Refused(refusal, 0);
     }
     if meetings::beyond_old_range(positions) {
         return ListAnswer::Refused(Refusal::BeyondOldRange, 0);
     }
-    meet_near(positions, edges, triangles, list, words, contacts)
+    meet_near(positions, edges, triangles, &stands, list, words, contacts)
 }

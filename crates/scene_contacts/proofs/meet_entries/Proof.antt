@@ -7,7 +7,8 @@ use mathlib.Core.List.{List, [], _∷_}
 use lib.ListN.{length, drop, getD, drop-of-length-le}
 use Rattle.sequences.specs.Parts.{drop-next}
 use Rattle.sequences.specs.Writing.{Writing, writing-starts-front, writing-as, writing-room, writing-step, writing-ends-front}
-use Rattle.meaning.specs.Scene.{Scene, sceneOf}
+use Rattle.meaning.specs.Scene.{Scene}
+use Rattle.scenes.specs.Alone.{tabled}
 use Rattle.meaning.specs.List.{pairs}
 use Rattle.meaning.specs.SceneWords.{byteOf}
 use Rattle.meaning.specs.Meetings.{wordOf}
@@ -19,28 +20,28 @@ use Rattle.scene_contacts.proofs.meet_entries.Statement.{statement}
 use Rattle.scene_contacts.proofs.meet_entries.Tie as tie
 
 abbrev Inv-loop : tie.InvT-loop
-Inv-loop positions edges triangles list words₀ contacts₀ count k₀ words contacts k =
-    (k ≤ count) × Writing words₀ (metBytes (sceneOf positions edges triangles) (pairs (sceneOf positions edges triangles))) words k (drop k (metBytes (sceneOf positions edges triangles) (pairs (sceneOf positions edges triangles))))
-    × RowsGoing (meetingsOf (sceneOf positions edges triangles) (pairs (sceneOf positions edges triangles))) contacts₀ contacts k
+Inv-loop positions edges triangles stands list words₀ contacts₀ count k₀ words contacts k =
+    (k ≤ count) × Writing words₀ (metBytes (tabled positions edges triangles stands) (pairs (tabled positions edges triangles stands))) words k (drop k (metBytes (tabled positions edges triangles stands) (pairs (tabled positions edges triangles stands))))
+    × RowsGoing (meetingsOf (tabled positions edges triangles stands) (pairs (tabled positions edges triangles stands))) contacts₀ contacts k
 
 abbrev μ-loop : tie.MeasureT-loop
-μ-loop positions edges triangles list words₀ contacts₀ count k₀ words contacts k = count - k
+μ-loop positions edges triangles stands list words₀ contacts₀ count k₀ words contacts k = count - k
 
 loop-holds : tie.Need-loop-holds Inv-loop μ-loop
 loop-holds c =
-    let start = c .before .before .before .before .before in
-    let s : Scene = (sceneOf (start .args .positions .now) (start .args .edges .now) (start .args .triangles .now)) in
+    let start = c .before .before .before .before .before .before in
+    let s : Scene = (tabled (start .args .positions .now) (start .args .edges .now) (start .args .triangles .now) (start .args .stands .now)) in
     (omega arith, writing-starts-front _ _ (rw (met-bytes-length s (pairs s)) (omega (arith, start .pre .2, start .pre .3))), rows-start _ _)
 
 entry-meeting-requires : tie.Need-entry-meeting-requires Inv-loop μ-loop
 entry-meeting-requires c κs =
-    let p = c .before .before .before .before .before .before .before .pre in
+    let p = c .before .before .before .before .before .before .before .before .pre in
     (p .0, p .1, omega (arith, p .2, c .loop-test .taken))
 
 slice-write-words : tie.Need-slice-write-words Inv-loop μ-loop
 slice-write-words c =
-    let start = c .before .before .before .before .before .before .before .before .before .before in
-    let s : Scene = (sceneOf (start .args .positions .now) (start .args .edges .now) (start .args .triangles .now)) in
+    let start = c .before .before .before .before .before .before .before .before .before .before .before in
+    let s : Scene = (tabled (start .args .positions .now) (start .args .edges .now) (start .args .triangles .now) (start .args .stands .now)) in
     let k = c .before .before .before .before .loop .k in
     let inv = c .before .before .before .before .loop .inv in
     let below : k < length (pairs s) = omega (arith, start .pre .2, c .before .before .before .loop-test .taken) in
@@ -51,8 +52,8 @@ mul-put-meeting c = search needs
 
 put-meeting-requires : tie.Need-put-meeting-requires Inv-loop μ-loop
 put-meeting-requires c κs =
-    let start = c .before .before .before .before .before .before .before .before .before .before .before in
-    let s : Scene = (sceneOf (start .args .positions .now) (start .args .edges .now) (start .args .triangles .now)) in
+    let start = c .before .before .before .before .before .before .before .before .before .before .before .before in
+    let s : Scene = (tabled (start .args .positions .now) (start .args .edges .now) (start .args .triangles .now) (start .args .stands .now)) in
     let k = c .before .before .before .before .before .loop .k in
     let inv = c .before .before .before .before .before .loop .inv in
     let below : k < length (pairs s) = omega (arith, start .pre .2, c .before .before .before .before .loop-test .taken) in
@@ -60,8 +61,8 @@ put-meeting-requires c κs =
 
 loop-again : tie.Need-loop-again Inv-loop μ-loop
 loop-again c =
-    let start = c .before .before .before .before .before .before .before .before .before .before .before .before .before .before in
-    let s : Scene = (sceneOf (start .args .positions .now) (start .args .edges .now) (start .args .triangles .now)) in
+    let start = c .before .before .before .before .before .before .before .before .before .before .before .before .before .before .before in
+    let s : Scene = (tabled (start .args .positions .now) (start .args .edges .now) (start .args .triangles .now) (start .args .stands .now)) in
     let k = c .before .before .before .before .before .before .before .before .loop .k in
     let inv = c .before .before .before .before .before .before .before .before .loop .inv in
     let below : k < length (pairs s) = omega (arith, start .pre .2, c .before .before .before .before .before .before .before .loop-test .taken) in
@@ -74,8 +75,8 @@ loop-again c =
 
 returns : tie.Need-returns Inv-loop μ-loop
 returns c =
-    let start = c .before .before .before .before .before .before .before in
-    let s : Scene = (sceneOf (start .args .positions .now) (start .args .edges .now) (start .args .triangles .now)) in
+    let start = c .before .before .before .before .before .before .before .before in
+    let s : Scene = (tabled (start .args .positions .now) (start .args .edges .now) (start .args .triangles .now) (start .args .stands .now)) in
     let inv = c .before .loop .inv in (
       writing-ends-front (writing-as (drop-of-length-le (metBytes s (pairs s)) {i = c .before .loop .k} (rw (met-bytes-length s (pairs s)) (omega (arith, start .pre .2, c .loop-test .left)))) (inv .1)),
       rows-end (meetingsOf s (pairs s)) (drop-of-length-le (meetingsOf s (pairs s)) {i = c .before .loop .k} (rw (meetings-length s (pairs s)) (omega (arith, start .pre .2, c .loop-test .left)))) (inv .2),

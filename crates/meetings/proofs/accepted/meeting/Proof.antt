@@ -7,6 +7,6 @@ pub meeting-spec : {M : Type 1} → statement M
 meeting-spec =
     tie.close
     (tie.spec
-    (λ c κs. let p = c .before .before .pre in (old-accepted (p .0), p .1))
-    (λ c κs. let p = c .before .before .before .pre in (p .0, p .1, c .pair .ensures))
+    (λ c κs. let p = c .before .before .before .pre in (old-accepted (p .0), p .1))
+    (λ c κs. let p = c .before .before .before .before .pre in (p .0, p .1, c .pair .ensures))
     (λ c. c .met .ensures))

@@ -7,7 +7,7 @@ use Rattle.meetings.proofs.accepted.met.Statement.{statement}
 use Rattle.meetings.proofs.accepted.met.Tie as tie
 
 moment-requires : tie.Need-moment-requires
-moment-requires c κs = let p = c .before .before .before .before .pre in (p .0, p .1, subst (PairSettled _ _ _ _) (c .enum-told .given .1) (p .2))
+moment-requires c κs = let p = c .before .before .before .before .before .pre in (p .0, p .1, subst (PairSettled _ _ _ _) (c .enum-told .given .1) (p .2))
 
 returns : tie.Need-returns
 unfolding MeetingIs
@@ -15,15 +15,15 @@ returns c = c .moment .ensures
 
 returns-2 : tie.Need-returns-2
 unfolding MeetingIs
-returns-2 c = subst (PairSettled _ _ _ _) (c .enum-told2 .given .1) (c .before .before .before .before .pre .2)
+returns-2 c = subst (PairSettled _ _ _ _) (c .enum-told2 .given .1) (c .before .before .before .before .before .pre .2)
 
 returns-3 : tie.Need-returns-3
 unfolding MeetingIs
-returns-3 c = subst (PairSettled _ _ _ _) (c .enum-told3 .given .1) (c .before .before .before .before .pre .2)
+returns-3 c = subst (PairSettled _ _ _ _) (c .enum-told3 .given .1) (c .before .before .before .before .before .pre .2)
 
 returns-4 : tie.Need-returns-4
 unfolding MeetingIs
-returns-4 c = subst (PairSettled _ _ _ _) (c .enum-told4 .given .1) (c .before .before .before .before .pre .2)
+returns-4 c = subst (PairSettled _ _ _ _) (c .enum-told4 .given .1) (c .before .before .before .before .before .pre .2)
 
 pub met-spec : {M : Type 1} → statement M
 met-spec =
