@@ -56,7 +56,7 @@ impl<'a> Finder<'a> {
 
     fn of_vertex(&self, vertex: u32, found: &mut Vec<Pair>) {
         let own = self.mesh.stood(vertex);
-        self.triangle_cells.meeting(&self.vertices[vertex as usize], &self.triangles, |triangle| {
+        self.triangle_cells.meeting(&self.vertices[vertex as usize], &self.triangles, 0, |triangle| {
             if !self.mesh.corners(triangle).contains(&own) {
                 found.push(Pair { kind: Kind::PointTriangle, first: vertex, second: triangle });
             }
@@ -66,8 +66,8 @@ impl<'a> Finder<'a> {
     /// Two edges stand in the row of the lower.
     fn of_edge(&self, edge: u32, found: &mut Vec<Pair>) {
         let own = self.mesh.ends(edge);
-        self.edge_cells.meeting(&self.edges[edge as usize], &self.edges, |other| {
-            if other > edge && !self.mesh.ends(other).iter().any(|end| own.contains(end)) {
+        self.edge_cells.meeting(&self.edges[edge as usize], &self.edges, edge + 1, |other| {
+            if !self.mesh.ends(other).iter().any(|end| own.contains(end)) {
                 found.push(Pair { kind: Kind::EdgeEdge, first: edge, second: other });
             }
         });

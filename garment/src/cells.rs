@@ -56,11 +56,11 @@ impl Cells {
         cells
     }
 
-    /// Each box that meets this one, once: two boxes that meet reach into many cells together, and are taken in the one that holds the low
-    /// corner of what they have in common. Both reach into that one.
-    pub fn meeting(&self, asked: &Swept, boxes: &[Swept], mut take: impl FnMut(u32)) {
+    /// Each box from this number on that meets this one, once: two boxes that meet reach into many cells together, and are taken in the
+    /// one that holds the low corner of what they have in common. Both reach into that one.
+    pub fn meeting(&self, asked: &Swept, boxes: &[Swept], from: u32, mut take: impl FnMut(u32)) {
         cells_of(asked, self.side, |cell| {
-            for part in self.within(cell) {
+            for part in self.within(cell, from) {
                 let other = &boxes[part as usize];
                 if asked.meets(other) && cell_of(asked.meeting(other), self.side) == cell {
                     take(part);
@@ -69,11 +69,16 @@ impl Cells {
         });
     }
 
-    /// The boxes that reach into a cell.
-    pub fn within(&self, cell: Cell) -> impl Iterator<Item = u32> + '_ {
+    /// The boxes from this number on that reach into a cell, from the last down: so they stand in a slot.
+    pub fn within(&self, cell: Cell, from: u32) -> impl Iterator<Item = u32> + '_ {
         let slot = slot(cell, self.begins.len() - 1);
         let entries = &self.entries[self.begins[slot]..self.begins[slot + 1]];
-        entries.iter().filter(move |entry| entry.cell == cell).map(|entry| entry.part)
+        entries
+            .iter()
+            .rev()
+            .take_while(move |entry| entry.part >= from)
+            .filter(move |entry| entry.cell == cell)
+            .map(|entry| entry.part)
     }
 
     /// Two to this power is the side.

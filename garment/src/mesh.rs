@@ -22,6 +22,7 @@ impl Mesh {
     }
 
     /// Sharing and the order of corners go by the vertex stood for; so does a position, since it is the same.
+    #[inline]
     pub fn stood(&self, vertex: u32) -> u32 {
         if self.stands.is_empty() {
             vertex
@@ -30,10 +31,12 @@ impl Mesh {
         }
     }
 
+    #[inline]
     pub fn corners(&self, triangle: u32) -> [u32; 3] {
         self.triangles[triangle as usize].map(|vertex| self.stood(vertex))
     }
 
+    #[inline]
     pub fn ends(&self, edge: u32) -> [u32; 2] {
         self.edges[edge as usize].map(|vertex| self.stood(vertex))
     }

@@ -44,10 +44,7 @@ fn what_a_pair_alone_must_keep() {
     // vertices numbered from last to first
     let turned = changed(&judged, |mesh, pair| {
         let mut alone = Alone::of(mesh, pair);
-        for place in 0..4 {
-            let from = 6 * (3 - place);
-            alone.positions[6 * place..6 * place + 6].copy_from_slice(&Alone::of(mesh, pair).positions[from..from + 6]);
-        }
+        alone.positions = rows_of(alone.positions, [3, 2, 1, 0]);
         alone.places = alone.places.map(|place| 3 - place);
         alone
     });
@@ -55,13 +52,8 @@ fn what_a_pair_alone_must_keep() {
     // vertices numbered as the faces and edges write them
     let as_written = changed(&judged, |mesh, pair| {
         let sorted = Alone::of(mesh, pair);
-        let mut alone = sorted.clone();
-        for (i, &place) in sorted.places.iter().enumerate() {
-            let from = 6 * place as usize;
-            alone.positions[6 * i..6 * i + 6].copy_from_slice(&sorted.positions[from..from + 6]);
-        }
-        alone.places = [0, 1, 2, 3];
-        alone
+        let positions = rows_of(sorted.positions, sorted.places.map(usize::from));
+        Alone { positions, places: [0, 1, 2, 3], ..sorted }
     });
     assert!(as_written[0] > 50 && as_written[1] > 50, "{as_written:?}");
     // the higher edge first: pieces AB and BA change places. A pair has the same word then, and its pieces have not
@@ -79,6 +71,12 @@ fn what_a_pair_alone_must_keep() {
     assert!(exchanged > 50, "{exchanged}");
 }
 
+/// The four vertices in another order.
+fn rows_of(positions: [i32; 24], order: [usize; 4]) -> [i32; 24] {
+    let rows = order.map(|place| <[i32; 6]>::try_from(&positions[6 * place..6 * place + 6]).expect("a vertex"));
+    rows.as_flattened().try_into().expect("four vertices")
+}
+
 fn pieces_of(alone: &Alone, piece: usize) -> Settled {
     let scene = makhnodri::Scene { positions: &alone.positions, edges: &alone.places, triangles: &[] };
     scene.settle_ee_piece(0, 1, piece).expect("a piece of two edges")
@@ -89,7 +87,7 @@ type Way = fn(asked: &Swept, boxes: &[Swept], side: u32) -> Vec<u32>;
 
 fn right(asked: &Swept, boxes: &[Swept], side: u32) -> Vec<u32> {
     let mut found = Vec::new();
-    Cells::with_side(boxes, side).meeting(asked, boxes, |part| found.push(part));
+    Cells::with_side(boxes, side).meeting(asked, boxes, 0, |part| found.push(part));
     found
 }
 
@@ -98,14 +96,14 @@ fn border_missed(asked: &Swept, boxes: &[Swept], side: u32) -> Vec<u32> {
     let short = |one: &Swept| Swept { low: one.low, high: [0, 1, 2].map(|axis| one.low[axis].max(one.high[axis] - 1)) };
     let cells = Cells::with_side(&boxes.iter().map(short).collect::<Vec<Swept>>(), side);
     let mut found = Vec::new();
-    cells.meeting(asked, boxes, |part| found.push(part));
+    cells.meeting(asked, boxes, 0, |part| found.push(part));
     found
 }
 
 /// Taken in every cell that both reach into.
 fn twice(asked: &Swept, boxes: &[Swept], side: u32) -> Vec<u32> {
     let (cells, mut found) = (Cells::with_side(boxes, side), Vec::new());
-    cells_of(asked, side, |cell| found.extend(cells.within(cell).filter(|&part| asked.meets(&boxes[part as usize]))));
+    cells_of(asked, side, |cell| found.extend(cells.within(cell, 0).filter(|&part| asked.meets(&boxes[part as usize]))));
     found
 }
 
@@ -113,7 +111,7 @@ fn twice(asked: &Swept, boxes: &[Swept], side: u32) -> Vec<u32> {
 fn own_corner(asked: &Swept, boxes: &[Swept], side: u32) -> Vec<u32> {
     let cells = Cells::with_side(boxes, side);
     let cell = cell_of(asked.low, side);
-    cells.within(cell).filter(|&part| asked.meets(&boxes[part as usize])).collect()
+    cells.within(cell, 0).filter(|&part| asked.meets(&boxes[part as usize])).collect()
 }
 
 /// Boxes whose ends are equal are taken to miss each other.
