@@ -57,8 +57,13 @@ impl Index {
                 line(format_args!("{letters}\t{}\t{}\t{}\t{}\n", pair.first, pair.second, within.first, within.second));
             }
         }
-        line(format_args!("end\t{}\t{}\n", self.parts.len(), self.pairs()));
+        line(format_args!("{}\n", self.end()));
         text
+    }
+
+    /// The last line.
+    fn end(&self) -> String {
+        format!("end\t{}\t{}", self.parts.len(), self.pairs())
     }
 
     pub fn read(name: &str, text: &str) -> Result<Index, Fault> {
@@ -71,7 +76,7 @@ impl Index {
             next().0.strip_prefix("mesh\t").and_then(about_of).ok_or_else(|| Fault::in_line(name, 2, "no line of a mesh"))?;
         let mut index = Index { about, parts: Vec::new() };
         for (line, number) in lines {
-            if line == format!("end\t{}\t{}", index.parts.len(), index.pairs()) {
+            if line.starts_with("end\t") && line == index.end() {
                 return Ok(index);
             }
             index

@@ -11,8 +11,11 @@ use std::fs;
 use std::io::{ErrorKind, Write};
 use std::path::Path;
 
+/// Pairs with their words.
+pub type Words = Vec<(Pair, Settled)>;
+
 /// The words of all pairs, in the list's order; or every part that has no report, each with why.
-pub fn gather(folder: &Path) -> Result<(Index, Vec<(Pair, Settled)>), Vec<Fault>> {
+pub fn gather(folder: &Path) -> Result<(Index, Words), Vec<Fault>> {
     let index = read_index(folder).map_err(|fault| vec![fault])?;
     let (mut words, mut faults) = (Vec::new(), Vec::new());
     for part in &index.parts {
@@ -61,7 +64,7 @@ fn read_report(folder: &Path, part: &Entry) -> Result<Vec<u8>, Fault> {
 }
 
 /// The words that a part gives, of its report's lines those that count.
-fn given(part: &Entry, report: &[u8]) -> Result<Vec<(Pair, Settled)>, Fault> {
+fn given(part: &Entry, report: &[u8]) -> Result<Words, Fault> {
     let fault = |words: String| Fault::new(format!("{}: {words}", part.name));
     let lines = whole_report(report).map_err(fault)?;
     if lines.len() as u64 != part.listed {
@@ -88,7 +91,7 @@ fn given(part: &Entry, report: &[u8]) -> Result<Vec<(Pair, Settled)>, Fault> {
 }
 
 /// The pairs of a report that is there to its last line, the totals, which must be those of its lines.
-fn whole_report(report: &[u8]) -> Result<Vec<(Pair, Settled)>, String> {
+fn whole_report(report: &[u8]) -> Result<Words, String> {
     if report.starts_with(b"refused\t") {
         let first = report.split(|&byte| byte == b'\n').next().unwrap_or(report);
         return Err(format!("its scene was refused: {}", first.escape_ascii()));

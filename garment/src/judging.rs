@@ -2,7 +2,7 @@
 //!
 //! A pair is judged by its own four vertices, so a scene of these is enough, as long as it keeps what the pieces of a pair go by: the order
 //! of its vertices, by the vertex that each stands for, and which of two edges is the lower. A pair that is listed shares no vertex, so its
-//! four stand for four, and the scene needs no seam.
+//! four stand for four, and the scene needs no seam. Whatever else is asked of a pair is asked of the same scene, `Alone::asked`.
 
 use crate::mesh::Mesh;
 use crate::pairs::{Kind, Pair};

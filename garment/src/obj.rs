@@ -157,7 +157,7 @@ impl<R: BufRead> Lines<R> {
         if self.first == 1 && self.line.starts_with(b"\xef\xbb\xbf") {
             self.line.drain(..3);
         }
-        while self.line.last() == Some(&b'\\') && fields(&self.line).next().is_some_and(|word| OF_NUMBERS.contains(&word)) {
+        while self.goes_on() {
             *self.line.last_mut().expect("it has a last byte") = b' ';
             if !self.append()? {
                 break;
@@ -166,33 +166,44 @@ impl<R: BufRead> Lines<R> {
         Ok(true)
     }
 
-    /// The next line of the file behind what is there.
+    /// A backslash at the end of a comment belongs to the comment.
+    fn goes_on(&self) -> bool {
+        self.line.last() == Some(&b'\\')
+            && !self.line.contains(&b'#')
+            && fields(&self.line).next().is_some_and(|word| OF_NUMBERS.contains(&word))
+    }
+
+    /// The next line of the file behind what is there; whether there is one.
     fn append(&mut self) -> io::Result<bool> {
         let mut any = false;
         loop {
-            let bytes = match self.input.fill_buf() {
-                Err(error) if error.kind() == io::ErrorKind::Interrupted => continue,
-                other => other?,
-            };
+            let bytes = filled(&mut self.input)?;
             if bytes.is_empty() {
                 self.last += any as u64;
                 return Ok(any);
             }
             any = true;
-            let Some(end) = bytes.iter().position(|&byte| byte == b'\n' || byte == b'\r') else {
-                let all = bytes.len();
-                self.line.extend_from_slice(bytes);
-                self.input.consume(all);
-                continue;
-            };
-            let carriage = bytes[end] == b'\r';
-            self.line.extend_from_slice(&bytes[..end]);
-            self.input.consume(end + 1);
-            if carriage && self.input.fill_buf()?.first() == Some(&b'\n') {
+            let end = bytes.iter().position(|&byte| byte == b'\n' || byte == b'\r');
+            let (taken, carriage) = (end.unwrap_or(bytes.len()), end.is_some_and(|end| bytes[end] == b'\r'));
+            self.line.extend_from_slice(&bytes[..taken]);
+            self.input.consume(taken + end.is_some() as usize);
+            if carriage && filled(&mut self.input)?.first() == Some(&b'\n') {
                 self.input.consume(1);
             }
-            self.last += 1;
-            return Ok(true);
+            if end.is_some() {
+                self.last += 1;
+                return Ok(true);
+            }
         }
     }
+}
+
+/// What is read ahead; a read that was interrupted is asked for again.
+fn filled(input: &mut impl BufRead) -> io::Result<&[u8]> {
+    while let Err(error) = input.fill_buf() {
+        if error.kind() != io::ErrorKind::Interrupted {
+            return Err(error);
+        }
+    }
+    input.fill_buf()
 }

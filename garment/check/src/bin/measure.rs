@@ -19,7 +19,7 @@ use std::process::Command;
 /// The tolerance of the cubic that is timed, as in bench/.
 const TOLERANCE: f64 = 1e-6;
 /// Of each way the shortest of as many rounds counts.
-const ROUNDS: usize = 5;
+const ROUNDS: usize = 9;
 
 fn main() {
     let words: Vec<String> = std::env::args().skip(1).collect();

@@ -10,7 +10,7 @@ const THREE: &str = "v 0 0 0\nv 1 0 0\nv 0 1 0\n";
 
 #[test]
 fn as_exporters_write() {
-    let same: [&[u8]; 22] = [
+    let same: [&[u8]; 23] = [
         b"v 0 0 0\nv 1 0 0\nv 0 1 0\nf 1 2 3\n",
         // no line end at the end; CR LF; CR alone
         b"v 0 0 0\nv 1 0 0\nv 0 1 0\nf 1 2 3",
@@ -39,6 +39,7 @@ fn as_exporters_write() {
         b"v 0 0 0\nv 1 0 0\nv 0 1 0\no na\xefve\ng \xff\nf 1 2 3\n",
         // a line that goes on
         b"v 0 \\\n0 0\nv 1 0 0\nv 0 1 0\nf 1 2 \\\r\n3\n",
+        b"v 0 0 0 # c:\\\nv 1 0 0\nv 0 1 0\nf 1 2 3 # \\\n",
         // a face above its vertices, and names that end in a backslash
         b"f 1 2 3\n# c:\\cloth\\\nusemtl c:\\\nv 0 0 0\nv 1 0 0\nv 0 1 0\n",
     ];
@@ -135,6 +136,9 @@ fn a_read_that_fails_is_told() {
             }
         }
     }
+    // read a byte at a time, lines and their ends come out the same
+    let text = b"v 0 0 0\r\nv 1 0 \\\r\n0\rv 0 1 0\nf 1 2 3";
+    assert_eq!(read("m.obj", std::io::BufReader::with_capacity(1, &text[..])).expect("a mesh"), obj(text));
     let fault = read("m.obj", std::io::BufReader::new(Broken(0))).expect_err("it fails").words;
     assert_eq!(fault, "m.obj: the disk is gone");
 }
