@@ -168,10 +168,15 @@ fn note_of_file(name: &str, obj: &Obj) -> String {
 }
 
 fn note_of_steps(rounded: &Rounded, chosen: bool) -> String {
-    let Rounded { positions, step, moved, farthest } = rounded;
+    let Rounded { positions, step, moved, farthest, fallen } = rounded;
     let how = if chosen { "chosen" } else { "given" };
     let all = 6 * positions.len();
-    format!("a step is {step} ({how}); {moved} of {all} coordinates were rounded, by at most {farthest:.3} of a step")
+    let mut note =
+        format!("a step is {step} ({how}); {moved} of {all} coordinates were rounded, by at most {farthest:.3} of a step");
+    if *fallen > 0 {
+        note += &format!("; {fallen} vertices fell into one place with another");
+    }
+    note
 }
 
 impl Options {

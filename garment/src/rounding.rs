@@ -1,6 +1,7 @@
 //! From floats onto the grid: one step for all axes and both times, and one shift, so that the mesh lies in the middle of the room.
 
 use crate::fault::Fault;
+use crate::seams;
 use makhnodri::COORDINATE_LIMIT;
 
 pub type Place = [f64; 3];
@@ -13,6 +14,8 @@ pub struct Rounded {
     /// How many coordinates did not lie on the grid, and how far the farthest of them was moved, in steps.
     pub moved: u64,
     pub farthest: f64,
+    /// How many vertices came to stand in one place with another from which they were apart.
+    pub fallen: u64,
 }
 
 /// What is off the grid by less stood on it: its decimals are no sum of halves, and so it comes out of a division a little aside.
@@ -30,7 +33,7 @@ pub fn onto_grid(start: &[Place], end: &[Place], wanted: Option<f64>) -> Result<
         None => least_step(&bounds)?,
     };
     let middle = middle(&bounds, step)?;
-    let mut out = Rounded { positions: Vec::with_capacity(start.len()), step, moved: 0, farthest: 0.0 };
+    let mut out = Rounded { positions: Vec::with_capacity(start.len()), step, moved: 0, farthest: 0.0, fallen: 0 };
     for (from, to) in start.iter().zip(end) {
         let mut position = [0; 6];
         for axis in 0..3 {
@@ -39,7 +42,16 @@ pub fn onto_grid(start: &[Place], end: &[Place], wanted: Option<f64>) -> Result<
         }
         out.positions.push(position);
     }
+    if out.moved > 0 {
+        out.fallen = fallen(start, end, &out.positions);
+    }
     Ok(out)
+}
+
+fn fallen(start: &[Place], end: &[Place], positions: &[[i32; 6]]) -> u64 {
+    let apart = |a: usize, b: usize| start[a] != start[b] || end[a] != end[b];
+    let lowest = seams::by_position(positions);
+    lowest.iter().enumerate().filter(|&(vertex, &lowest)| apart(vertex, lowest as usize)).count() as u64
 }
 
 impl Rounded {

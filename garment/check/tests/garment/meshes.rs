@@ -55,6 +55,11 @@ fn rounding_is_to_the_nearest_step() {
     assert_eq!((rounded.moved, (rounded.farthest * 10.0).round()), (4, 4.0));
     let [a, b, c, d, e, f] = rounded.positions[0];
     assert_eq!([d - a, e - b, f - c], [1, 1, 1]);
+    assert_eq!(rounded.fallen, 0);
+    // two fall together, one is there already, one moves apart
+    let start = [[0.0; 3], [0.2, 0.0, 0.0], [0.0; 3], [0.3, 0.0, 0.0], [3.0; 3]];
+    let end = [[0.0; 3], [0.2, 0.0, 0.0], [0.0; 3], [0.9, 0.0, 0.0], [3.0; 3]];
+    assert_eq!(onto_grid(&start, &end, Some(1.0)).expect("it fits").fallen, 1);
     // the whole room, and not a step more
     let ends = |high: f64| onto_grid(&[[-524_287.0, 0.0, 0.0]], &[[high, 0.0, 0.0]], Some(1.0));
     assert_eq!(ends(524_287.0).expect("it fits").positions, [[-524_287, 0, 0, 524_287, 0, 0]]);

@@ -1,6 +1,9 @@
 //! OBJ files as exporters write them, and each thing that cannot be read, by its line.
 
+use compare::random::Random;
 use garment::obj::{read, Noted, Obj};
+use garment::report::Form;
+use garment_check::ways::{mesh_of, objs_of, report};
 
 fn obj(text: &[u8]) -> Obj {
     read("m.obj", text).unwrap_or_else(|fault| panic!("{}: {fault}", text.escape_ascii()))
@@ -141,4 +144,39 @@ fn a_read_that_fails_is_told() {
     assert_eq!(read("m.obj", std::io::BufReader::with_capacity(1, &text[..])).expect("a mesh"), obj(text));
     let fault = read("m.obj", std::io::BufReader::new(Broken(0))).expect_err("it fails").words;
     assert_eq!(fault, "m.obj: the disk is gone");
+}
+
+/// Bytes put in, taken out, changed and doubled anywhere: a file is read or told with a line, and what is read is judged.
+#[test]
+fn damaged_files() {
+    let (mut read_all, mut told) = (0, 0);
+    for seed in 0..4_000 {
+        let mut random = Random::new(seed);
+        let [start, _] = objs_of(&compare::generate::scene(seed % 19), &mut random);
+        let mut bytes = start.clone().into_bytes();
+        bytes.truncate(2_000);
+        for _ in 0..1 + random.below(3) {
+            let at = random.below(bytes.len() + 1);
+            match random.below(4) {
+                0 => bytes.insert(at, random.pick(b" \t\r\n\\#/-.0e9vfl\xff\0")),
+                1 if at < bytes.len() => drop(bytes.remove(at)),
+                2 if at < bytes.len() => bytes[at] = random.pick(b" \t\r\n\\#/-.0e9vfl\xff\0"),
+                _ => bytes.truncate(at),
+            }
+        }
+        match read("m.obj", &bytes[..]) {
+            Err(fault) => {
+                assert!(fault.words.starts_with("m.obj:"), "{fault}");
+                told += 1;
+            }
+            Ok(_) => {
+                let text = String::from_utf8(bytes).unwrap_or_default();
+                if let Ok(mesh) = mesh_of(&[text.clone(), text], Some(1.0), false) {
+                    report(&mesh, &Form::default(), 1);
+                    read_all += 1;
+                }
+            }
+        }
+    }
+    assert!(read_all > 500 && told > 500, "{read_all} read, {told} told");
 }
