@@ -28,3 +28,14 @@ impl Kind {
         [Kind::PointTriangle, Kind::EdgeEdge].into_iter().find(|kind| kind.letters().as_bytes() == letters)
     }
 }
+
+impl Pair {
+    /// A pair of a scene, as the library names it.
+    pub fn of_library(pair: makhnodri::Pair) -> Pair {
+        let kind = match pair.kind {
+            makhnodri::Kind::PointTriangle => Kind::PointTriangle,
+            makhnodri::Kind::EdgeEdge => Kind::EdgeEdge,
+        };
+        Pair { kind, first: pair.first as u32, second: pair.second as u32 }
+    }
+}

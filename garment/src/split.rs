@@ -5,11 +5,14 @@ use crate::curve;
 use crate::fault::Fault;
 use crate::index::{name_of, Entry, Index};
 use crate::mesh::Mesh;
-use crate::packing::{pack, Part};
+use crate::packing::pack;
+use crate::pairs::Pair;
 use crate::progress::Bar;
 use crate::report::About;
 use crate::whole::listed;
 use makhnodri::OwnedScene;
+use std::collections::HashSet;
+use std::fmt::Display;
 use std::fs;
 use std::path::Path;
 
@@ -23,11 +26,10 @@ pub fn split(mesh: &Mesh, about: About, folder: &Path, threads: usize, bar: &mut
     pairs.sort_by_cached_key(|&pair| (curve::along(finder.meeting(pair)), pair));
     let mut parts = Vec::new();
     for (part, number) in pack(mesh, &pairs).iter().zip(1..) {
-        let name = name_of(number);
-        let text = part.text(mesh);
-        held(part, &name, &text)?;
-        write(&folder.join(format!("{name}.scene")), &text)?;
-        parts.push(Entry::of(mesh, part, name));
+        let (text, entry) = (part.text(mesh), Entry::of(mesh, part, name_of(number)));
+        held(&entry, &text)?;
+        write(&folder.join(format!("{}.scene", entry.name)), &text)?;
+        parts.push(entry);
     }
     let index = Index { about, parts };
     if index.pairs() != pairs.len() as u64 {
@@ -48,16 +50,19 @@ fn make_folder(folder: &Path) -> Result<(), Fault> {
     Ok(())
 }
 
-/// The library takes the scene, and lists as many pairs as the index says that its report has.
-fn held(part: &Part, name: &str, text: &str) -> Result<(), Fault> {
-    let scene = OwnedScene::read(text.as_bytes()).map_err(|refusal| Fault::new(format!("{name}: {refusal}")))?;
-    let count = scene.as_scene().count_pairs().map_err(|refusal| Fault::new(format!("{name}: {refusal}")))?;
-    if count != part.listed {
-        let words =
-            format!("{name}: the library lists {count} pairs, and {} were found: this is a fault of the program", part.listed);
-        return Err(Fault::new(words));
+/// The library takes the scene, lists as many pairs as the index says that its report has, and all that the index has of it.
+fn held(entry: &Entry, text: &str) -> Result<(), Fault> {
+    let fault = |words: &dyn Display| Fault::new(format!("{}: {words}: this is a fault of the program", entry.name));
+    let scene = OwnedScene::read(text.as_bytes()).map_err(|refusal| fault(&refusal))?;
+    let listed = scene.as_scene().listed().map_err(|refusal| fault(&refusal))?;
+    if listed.len() as u64 != entry.listed {
+        return Err(fault(&format!("the library lists {} pairs, and {} were found", listed.len(), entry.listed)));
     }
-    Ok(())
+    let listed: HashSet<Pair> = listed.into_iter().map(Pair::of_library).collect();
+    match entry.pairs.iter().find(|(_, within)| !listed.contains(within)) {
+        Some((pair, _)) => Err(fault(&format!("the library does not list {pair:?}"))),
+        None => Ok(()),
+    }
 }
 
 fn write(path: &Path, text: &str) -> Result<(), Fault> {
