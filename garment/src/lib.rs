@@ -4,6 +4,7 @@
 //! the grid, `seams` finds vertices in one place, `mesh` holds what comes of it; `boxes`, `cells` and `candidates` find every pair whose
 //! swept boxes meet, each once; `judging` asks the library, and nothing else does; `work` does it on all cores, and `report` writes it
 //! down in order. For a farm `curve` and `packing` fill scenes, `split` writes them and `join` puts their reports together by the `index`.
+//! `words` understands the command line, and `command` does what it says.
 //!
 //! What is proved is the library. The reading, the rounding and the search for pairs are this program's own, and are compared: garment/check.
 
@@ -29,4 +30,5 @@ pub mod scene_text;
 pub mod seams;
 pub mod split;
 pub mod whole;
+pub mod words;
 pub mod work;

@@ -22,7 +22,7 @@ pub struct Part {
 impl Part {
     /// The scene that the report program reads. Vertices, edges and triangles keep their order, so every pair keeps its pieces.
     pub fn text(&self, mesh: &Mesh) -> String {
-        let own = |vertex: u32| self.place_of(&self.vertices, vertex);
+        let own = |vertex: u32| place_in(&self.vertices, vertex);
         scene_text::scene(
             self.vertices.iter().map(|&vertex| &mesh.positions[vertex as usize]),
             self.edges.iter().map(|&edge| mesh.ends(edge).map(own)),
@@ -33,16 +33,10 @@ impl Part {
     /// A pair of the mesh in this scene's numbers.
     pub fn within(&self, mesh: &Mesh, pair: Pair) -> Pair {
         let (first, second) = match pair.kind {
-            Kind::PointTriangle => {
-                (self.place_of(&self.vertices, mesh.stood(pair.first)), self.place_of(&self.triangles, pair.second))
-            }
-            Kind::EdgeEdge => (self.place_of(&self.edges, pair.first), self.place_of(&self.edges, pair.second)),
+            Kind::PointTriangle => (place_in(&self.vertices, mesh.stood(pair.first)), place_in(&self.triangles, pair.second)),
+            Kind::EdgeEdge => (place_in(&self.edges, pair.first), place_in(&self.edges, pair.second)),
         };
         Pair { kind: pair.kind, first, second }
-    }
-
-    fn place_of(&self, rising: &[u32], number: u32) -> u32 {
-        rising.binary_search(&number).expect("what a pair needs is in its part") as u32
     }
 
     fn overfull(&self) -> bool {
@@ -52,13 +46,10 @@ impl Part {
             || self.bytes > TEXT_LIMIT
             || self.listed > REPORT_ROOM
     }
+}
 
-    fn sorted(mut self) -> Part {
-        self.vertices.sort_unstable();
-        self.edges.sort_unstable();
-        self.triangles.sort_unstable();
-        self
-    }
+fn place_in(rising: &[u32], number: u32) -> u32 {
+    rising.binary_search(&number).expect("what a pair needs is in its part") as u32
 }
 
 /// A vertex, edge or triangle, as one number.
@@ -127,18 +118,15 @@ impl<'a> Packer<'a> {
             if self.given[i] {
                 continue;
             }
-            let before = (part.clone_sizes(), part.listed, part.bytes);
-            let new = self.put(self.pairs[i], &mut part);
+            let before = part.extent();
+            let mut new = self.put(self.pairs[i], &mut part);
             if part.overfull() {
                 new.iter().for_each(|&node| self.inside[node] = false);
                 part.cut_back(before);
-                parts.push(self.close(part));
-                part = Part::default();
-                let new = self.put(self.pairs[i], &mut part);
-                self.give(&new, &mut part);
-            } else {
-                self.give(&new, &mut part);
+                parts.push(self.close(std::mem::take(&mut part)));
+                new = self.put(self.pairs[i], &mut part);
             }
+            self.give(&new, &mut part);
         }
         if !part.pairs.is_empty() {
             parts.push(self.close(part));
@@ -146,40 +134,43 @@ impl<'a> Packer<'a> {
         parts
     }
 
-    /// Puts the parts of a pair and their vertices into a scene, and hands back what was not there.
+    /// Puts the parts of a pair and their vertices into a scene, and hands back what was not there. A pair alone fits every scene.
     fn put(&mut self, pair: Pair, part: &mut Part) -> Vec<Node> {
         let mut new = Vec::new();
-        let (mut edges, mut triangles, mut vertices) = (vec![], vec![], vec![]);
         match pair.kind {
             Kind::PointTriangle => {
-                triangles.push(pair.second);
-                vertices.push(self.mesh.stood(pair.first));
-                vertices.extend(self.mesh.corners(pair.second));
+                self.put_vertex(self.mesh.stood(pair.first), part, &mut new);
+                self.put_triangle(pair.second, part, &mut new);
             }
             Kind::EdgeEdge => {
-                edges.extend([pair.first, pair.second]);
-                edges.iter().for_each(|&edge| vertices.extend(self.mesh.ends(edge)));
-            }
-        }
-        for vertex in vertices {
-            if self.enter(vertex as Node, part, &mut new) {
-                part.vertices.push(vertex);
-                part.bytes += vertex_line(&self.mesh.positions[vertex as usize]).len();
-            }
-        }
-        for edge in edges {
-            if self.enter(self.edge_node(edge), part, &mut new) {
-                part.edges.push(edge);
-                part.bytes += LONGEST_EDGE_LINE;
-            }
-        }
-        for triangle in triangles {
-            if self.enter(self.triangle_node(triangle), part, &mut new) {
-                part.triangles.push(triangle);
-                part.bytes += LONGEST_TRIANGLE_LINE;
+                self.put_edge(pair.first, part, &mut new);
+                self.put_edge(pair.second, part, &mut new);
             }
         }
         new
+    }
+
+    fn put_vertex(&mut self, vertex: u32, part: &mut Part, new: &mut Vec<Node>) {
+        if self.enter(vertex as Node, part, new) {
+            part.vertices.push(vertex);
+            part.bytes += vertex_line(&self.mesh.positions[vertex as usize]).len();
+        }
+    }
+
+    fn put_edge(&mut self, edge: u32, part: &mut Part, new: &mut Vec<Node>) {
+        if self.enter(self.edge_node(edge), part, new) {
+            part.edges.push(edge);
+            part.bytes += LONGEST_EDGE_LINE;
+            self.mesh.ends(edge).into_iter().for_each(|vertex| self.put_vertex(vertex, part, new));
+        }
+    }
+
+    fn put_triangle(&mut self, triangle: u32, part: &mut Part, new: &mut Vec<Node>) {
+        if self.enter(self.triangle_node(triangle), part, new) {
+            part.triangles.push(triangle);
+            part.bytes += LONGEST_TRIANGLE_LINE;
+            self.mesh.corners(triangle).into_iter().for_each(|vertex| self.put_vertex(vertex, part, new));
+        }
     }
 
     /// Whether it was not there; it then brings a line for each listed pair with what is.
@@ -207,24 +198,33 @@ impl<'a> Packer<'a> {
         }
     }
 
-    fn close(&mut self, part: Part) -> Part {
+    /// A part that is full: nothing is inside of the next, and its numbers rise.
+    fn close(&mut self, mut part: Part) -> Part {
+        for numbers in [&mut part.vertices, &mut part.edges, &mut part.triangles] {
+            numbers.sort_unstable();
+        }
         part.vertices.iter().for_each(|&vertex| self.inside[vertex as Node] = false);
-        part.edges.iter().for_each(|&edge| self.inside[self.mesh.positions.len() + edge as usize] = false);
+        for &edge in &part.edges {
+            let node = self.edge_node(edge);
+            self.inside[node] = false;
+        }
         for &triangle in &part.triangles {
             let node = self.triangle_node(triangle);
             self.inside[node] = false;
         }
-        part.sorted()
+        part
     }
 }
 
-/// What a part was before a pair that overfilled it.
+/// How far a part reaches: what was put in behind can be taken off again.
+type Extent = ([usize; 3], usize, usize);
+
 impl Part {
-    fn clone_sizes(&self) -> [usize; 3] {
-        [self.vertices.len(), self.edges.len(), self.triangles.len()]
+    fn extent(&self) -> Extent {
+        ([self.vertices.len(), self.edges.len(), self.triangles.len()], self.listed, self.bytes)
     }
 
-    fn cut_back(&mut self, ([vertices, edges, triangles], listed, bytes): ([usize; 3], usize, usize)) {
+    fn cut_back(&mut self, ([vertices, edges, triangles], listed, bytes): Extent) {
         self.vertices.truncate(vertices);
         self.edges.truncate(edges);
         self.triangles.truncate(triangles);
