@@ -13,3 +13,4 @@ pub mod Flat
 pub mod Dependent
 pub mod Opened
 pub mod OneOut
+pub mod AtRest
