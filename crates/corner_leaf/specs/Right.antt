@@ -32,7 +32,7 @@ use Rattle.corner_laws.specs.Flat.{zero-or}
 use Rattle.corner_laws.specs.Opened.{open-leaves, open-not-one}
 use Rattle.corner_laws.specs.AtMostOne.{AtMostOne}
 use Rattle.corner_leaf.specs.Points.{offset, atEnd, isLeft, eventAt, pieceAt, TouchLeft, Timed, six-at, first-long}
-use Rattle.corner_leaf.specs.Answer.{sameBool, seenFrom, slotsAt, none, fitting, judgedBy, judged-open, turnOf, otherwise, leafOf, baseOf}
+use Rattle.corner_leaf.specs.Answer.{sameBool, seenFrom, slotsAt, none, fitting, judgedIn, judgedBy, judged-open, turnOf, otherwise, leafOf, baseOf}
 use Rattle.corner_leaf.specs.Base.{base-is, based, preferred}
 use Rattle.corner_leaf.specs.Tests.{Along, along-is, zero-but-is}
 
@@ -187,7 +187,7 @@ module _ (ps : List ℤ) {six : SixPoints} (h : Timed six) (left : List Bool) wh
   TurnIs f Open = Vanish f (each (isLeft left) q) (differencesIn (a ++ b) s e q)
 
   turn-is : (f : ℕ) → TurnIs f (turnOf ps six left s e f)
-  unfolding judgedBy turnOf TurnIs
+  unfolding judgedIn turnOf TurnIs
   turn-is f = go (zeroBut none n) (test n) refl refl
     where
       n : Four ℤ
@@ -241,7 +241,7 @@ module _ (ps : List ℤ) {six : SixPoints} (h : Timed six) (left : List Bool) wh
       n = volumes (slotsAt ps six left s e f)
 
       go : (z : Bool) → zeroBut none n ≡ z → (judgedBy six left s e q n ≡ Open) ⊎ AtMostOne a b (isLeft left)
-      go true p = inl (sym (judged-open six left s e q n p))
+      go true p = inl (sym (judged-open (six .ends) (six .first) left s e q n p))
       go false p = let m = some-of n p in inr (at-most-one a b (based ps h left) (in-place f) (m .place) (m .is))
 
   pub decided-at-most-one : leafOf ps six left ≢ Open → AtMostOne a b (isLeft left)

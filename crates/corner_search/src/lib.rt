@@ -33,7 +33,11 @@ pub fn settle_piece(positions: &[i32], six: SixPoints, verdict: Verdict) -> Sett
     let Verdict::Degenerate = verdict else {
         return keep(verdict);
     };
-    if first(positions, six, [true; 6], false) {
+    let at = six.at;
+    let ends = six.ends;
+    let split = six.first;
+    let left = [true; 6];
+    if first(positions, &at, &ends, split, &left, false) {
         Settled::Touch
     } else {
         Settled::Apart
@@ -41,8 +45,8 @@ pub fn settle_piece(positions: &[i32], six: SixPoints, verdict: Verdict) -> Sett
 }
 
 // Which of six points are at the start.
-fn starts(ends: [bool; 6]) -> [bool; 6]
-    ensures { λ r. ⌜ r ≡ startsAmong ends ⌝ }
+fn starts(ends: &[bool; 6]) -> [bool; 6]
+    ensures { λ r. ⌜ r ≡ startsAmong (now (ends .entry)) ⌝ }
 {
     [!ends[0], !ends[1], !ends[2], !ends[3], !ends[4], !ends[5]]
 }
@@ -52,6 +56,9 @@ pub fn starts_touch(positions: &[i32], six: SixPoints) -> bool
     requires { ⌜ SixIn (now positions) six ⌝ }
     ensures { λ r. ⌜ Tells (now (positions .entry)) six (startsAmong (six .ends)) r ⌝ }
 {
+    let at = six.at;
     let ends = six.ends;
-    first(positions, six, starts(ends), false)
+    let split = six.first;
+    let left = starts(&ends);
+    first(positions, &at, &ends, split, &left, false)
 }

@@ -9,5 +9,5 @@ starts-touch-spec =
     tie.close
     (tie.spec
     (λ c κs. search needs)
-    (λ c κs. search needs)
-    (λ c. rw (← c .before .starts .ensures) (says-tells _ (c .first .ensures))))
+    (λ c κs. c .before .before .before .before .before .before .before .pre)
+    (λ c. rw (← c .before .before .before .before .starts .ensures) (says-tells _ (c .first .ensures))))
