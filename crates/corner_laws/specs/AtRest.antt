@@ -1,6 +1,6 @@
 -- Where a vertex rests, its end stands where its start does, and an end's weight can be put on its start. So where all vertices of a pair rest,
 -- weights of any of its pieces make weights of the starts of its first piece alone. (Back it is nothing: those are weights of the first piece.)
-use Prim.Native.Nat.{ℕ, zero, suc, _+_, _*_, _<_}
+use Prim.Native.Nat.{ℕ, zero, suc, _+_, _*_, _<_, min, max}
 use native.Mathlib.Omega.{arith}
 use mathlib.Core.Path.{_≡_, refl, sym, _∙_, ap, subst}
 use mathlib.Core.Bool.{Bool, true, false}
@@ -11,11 +11,13 @@ use lib.ListN.{getD}
 use lib.Signed.{_<ℤ_}
 use Rattle.whole.specs.Vector.{Vector}
 use Rattle.whole.specs.Quote.{quotes, ring, combine, times}
-use Rattle.meaning.specs.Scene.{vectorAt}
+use Rattle.meaning.specs.Scene.{Scene, vectorAt, endsOf, cornersOf}
 use Rattle.meaning.specs.Pieces.{Event, starting, ending, movingPoint, movingEdge, movingTriangle}
 use Rattle.meaning.specs.Equations.{one, timeOf, total, Touch}
 use Rattle.meaning.specs.declared.Ends.{Ends}
 use Rattle.meaning.specs.declared.Corners.{Corners}
+use Rattle.meaning.specs.declared.Kind.{Kind}
+use Rattle.meaning.specs.declared.Kind.the-variants.{PointTriangle, EdgeEdge}
 use Rattle.corner_laws.specs.Level.{Measure, ones, inX, inY, inZ, inTime, read, balanced-by, sum-of}
 use Rattle.corner_laws.specs.Left.{TouchIn}
 
@@ -24,11 +26,16 @@ pub record Still (ps : List ℤ) (v : ℕ) : Type 0 where
   pub place : vectorAt ps (6 * v + 3) ≡ vectorAt ps (6 * v)
 
 -- a measure that is the same at both times
-abbrev Timeless : (Event → ℤ) → Type 0
+abbrev pub Timeless : (Event → ℤ) → Type 0
 Timeless f = (p : Vector) → f (record { place = p; time = pos 1 }) ≡ f (record { place = p; time = pos 0 })
 
-still-alike : {ps : List ℤ} {v : ℕ} → Still ps v → (f : Event → ℤ) → Timeless f → f (ending ps v) ≡ f (starting ps v)
+pub still-alike : {ps : List ℤ} {v : ℕ} → Still ps v → (f : Event → ℤ) → Timeless f → f (ending ps v) ≡ f (starting ps v)
 still-alike {ps} {v} h f t = ap (λ (p : Vector). f (record { place = p; time = pos 1 })) (h .place) ∙ t (vectorAt ps (6 * v))
+
+-- all vertices of a pair rest
+unfoldable pub AllStill : Scene → Kind → ℕ → ℕ → Type 0
+AllStill s PointTriangle i j = let c = cornersOf s j in let at = Still (s .positions) in at i × at (c .low) × at (c .middle) × at (c .high)
+AllStill s EdgeEdge i j = let e = endsOf s (min i j) in let f = endsOf s (max i j) in let at = Still (s .positions) in at (e .low) × at (e .high) × at (f .low) × at (f .high)
 
 -- ---- on plain numbers: weights a b c d, what a measure says of the starts x y z, and of the ends x′ y′ z′
 

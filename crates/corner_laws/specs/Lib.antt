@@ -14,3 +14,4 @@ pub mod Dependent
 pub mod Opened
 pub mod OneOut
 pub mod AtRest
+pub mod SingularAtRest

@@ -1,12 +1,13 @@
 -- What the corners left say by themselves, computed: a base at the start and one at the end, the four volumes in up to three turns of the axes,
 -- and the signs of the first that are not all 0.
-use Prim.Native.Nat.{ℕ}
+use Prim.Native.Nat.{ℕ, _+_}
 use mathlib.Core.Path.{_≡_, sym, _∙_, ap}
 use mathlib.Core.Bool.{Bool, true, false, not, cond, _&&_}
 use mathlib.Core.List.{List}
 use lib.Dec.{ltb}
-use lib.IntN.{ℤ}
+use lib.IntN.{ℤ, pos}
 use lib.ListN.{getD}
+use lib.Signed.{leZ}
 use Rattle.whole.specs.Vector.{Vector}
 use Rattle.whole.specs.Cramer.{Four, each, volumes}
 use Rattle.exact.specs.Places.{apart}
@@ -94,3 +95,17 @@ module _ (ends : List Bool) (first : ℕ) (left : List Bool) (s e : ℕ) (q : Fo
 
 abbrev pub allLeft : List Bool → Bool
 allLeft left = isLeft left 0 && isLeft left 1 && isLeft left 2 && isLeft left 3 && isLeft left 4 && isLeft left 5
+
+-- ---- the axis that all six points lie across: where one turn is to begin, since in such a plane only that axis leaves a volume
+
+abbrev pub alikeAt : List ℤ → ℕ → ℕ → Bool
+alikeAt ps i j = leZ (getD ps i (pos 0)) (getD ps j (pos 0)) && leZ (getD ps j (pos 0)) (getD ps i (pos 0))
+
+abbrev pub levelAlong : List ℤ → List ℕ → ℕ → Bool
+levelAlong ps at axis = alike 1 && alike 2 && alike 3 && alike 4 && alike 5
+  where
+    alike : ℕ → Bool
+    alike i = alikeAt ps (getD at 0 0 + axis) (getD at i 0 + axis)
+
+abbrev pub acrossOf : List ℤ → List ℕ → ℕ
+acrossOf ps at = cond (levelAlong ps at 2) 2 (cond (levelAlong ps at 1) 1 0)

@@ -3,13 +3,14 @@
 ghost use mathlib.Core.Bool.{cond, _&&_};
 ghost use mathlib.Core.Path.{_≡_};
 ghost use Prim.Native.Nat.{_+_, _≤_, _<_, min, max};
+ghost use lib.ListN.{length};
 ghost use Rattle.whole.specs.Cramer.{volumes};
 ghost use Rattle.exact.specs.Volumes.{four, fourOf, Small};
 ghost use Rattle.exact.specs.Arrows.{Points};
 ghost use Rattle.corner_laws.specs.Others.{skip, othersOf};
 ghost use Rattle.corner_laws.specs.Filled.{slot, next};
 ghost use Rattle.corner_leaf.specs.Points.{isLeft, pointsOf, Placed, SixIn};
-ghost use Rattle.corner_leaf.specs.Answer.{sameBool, allLeft, baseIn, seenIn, judgedIn, turnOf, leafOf};
+ghost use Rattle.corner_leaf.specs.Answer.{sameBool, allLeft, baseIn, seenIn, judgedIn, turnOf, alikeAt, levelAlong, acrossOf, leafOf};
 use exact::Volumes;
 use exact::arrows::Arrow;
 use exact::arrows::arrow_along;
@@ -54,7 +55,7 @@ fn other(s: usize, e: usize, k: usize) -> usize
 
 // The axis for the slot after this one.
 fn next(left: bool, axis: usize) -> usize
-    requires { ⌜ axis < 6 ⌝ }
+    requires { ⌜ axis < 8 ⌝ }
     ensures { λ r. ⌜ (r ≡ next left axis) × (r ≤ axis + 1) ⌝ }
 {
     if left { axis } else { axis + 1 }
@@ -158,7 +159,7 @@ fn turn(
     e: usize,
     f: usize,
 ) -> Leaf
-    requires { ⌜ Placed (now positions) (now at) × (s < 6) × (e < 6) × (f < 3) ⌝ }
+    requires { ⌜ Placed (now positions) (now at) × (s < 6) × (e < 6) × (f < 5) ⌝ }
     ensures { λ r. ⌜ r ≡ turnOf (now (positions .entry)) (pointsOf (now (at .entry)) (now (ends .entry)) first) (now (left .entry)) s e f ⌝ }
 {
     let q0 = other(s, e, 0);
@@ -183,6 +184,37 @@ fn all_left(left: &[bool; 6]) -> bool
     left[0] & left[1] & left[2] & left[3] & left[4] & left[5]
 }
 
+fn alike(positions: &[i32], i: usize, j: usize) -> bool
+    requires { ⌜ (i < length (now positions)) × (j < length (now positions)) ⌝ }
+    ensures { λ r. ⌜ r ≡ alikeAt (now (positions .entry)) i j ⌝ }
+{
+    (positions[i] <= positions[j]) & (positions[j] <= positions[i])
+}
+
+// Have all six points the same coordinate along an axis?
+fn level(positions: &[i32], at: &[usize; 6], axis: usize) -> bool
+    requires { ⌜ Placed (now positions) (now at) × (axis < 3) ⌝ }
+    ensures { λ r. ⌜ r ≡ levelAlong (now (positions .entry)) (now (at .entry)) axis ⌝ }
+{
+    let first = at[0] + axis;
+    alike(positions, first, at[1] + axis)
+        & alike(positions, first, at[2] + axis)
+        & alike(positions, first, at[3] + axis)
+        & alike(positions, first, at[4] + axis)
+        & alike(positions, first, at[5] + axis)
+}
+
+// The turn to begin with. Cloth that lies flat across an axis has a volume only with that axis, so the turn that puts it into a slot decides.
+fn across(positions: &[i32], at: &[usize; 6]) -> usize
+    requires { ⌜ Placed (now positions) (now at) ⌝ }
+    ensures { λ r. ⌜ (r ≡ acrossOf (now (positions .entry)) (now (at .entry))) × (r < 3) ⌝ }
+{
+    if level(positions, at, 2) {
+        return 2;
+    }
+    if level(positions, at, 1) { 1 } else { 0 }
+}
+
 // Weights, no weights, or nothing yet: the first of three turns that says more than nothing.
 pub fn ask(
     positions: &[i32],
@@ -194,18 +226,19 @@ pub fn ask(
     requires { ⌜ SixIn (now positions) (pointsOf (now at) (now ends) first) ⌝ }
     ensures { λ r. ⌜ r ≡ leafOf (now (positions .entry)) (pointsOf (now (at .entry)) (now (ends .entry)) first) (now (left .entry)) ⌝ }
 {
+    let f = across(positions, at);
     let s = base(ends, left, false);
     let e = base(ends, left, true);
-    let answer = turn(positions, at, ends, first, left, s, e, 0);
+    let answer = turn(positions, at, ends, first, left, s, e, f);
     let Leaf::Open = answer else {
         return answer;
     };
     if all_left(left) {
-        return Leaf::Open;
+        return answer;
     }
-    let second = turn(positions, at, ends, first, left, s, e, 1);
+    let second = turn(positions, at, ends, first, left, s, e, f + 1);
     let Leaf::Open = second else {
         return second;
     };
-    turn(positions, at, ends, first, left, s, e, 2)
+    turn(positions, at, ends, first, left, s, e, f + 2)
 }

@@ -1,7 +1,6 @@
 // What a piece and a pair of a scene are in the four words: hit, miss, touch or apart. Only the degenerate goes on to the search.
 
 pub mod six; // six.rt: the six points of a piece, as places in the positions
-mod resting; // resting.rt: whether all vertices of a pair rest
 pub mod accepted; // accepted.rt: pieces and pairs of a scene that was checked already
 
 ghost use Rattle.meaning.specs.Scene.{sceneAtEntry};

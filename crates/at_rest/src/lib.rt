@@ -1,4 +1,4 @@
-// Whether all vertices of a pair rest, and what its first piece says then.
+// Whether all vertices of a pair rest.
 
 ghost use mathlib.Core.Path.{_≡_};
 ghost use mathlib.Core.Bool.{false};
@@ -7,7 +7,7 @@ ghost use lib.ListN.{length};
 ghost use Rattle.meaning.specs.Scene.{sceneIn, sceneAtEntry, Accepted};
 ghost use Rattle.meaning.specs.Refusals.{notThere};
 ghost use Rattle.three_words.specs.Ready.{PointReady, EdgesReady};
-ghost use Rattle.four_words.specs.Rests.{sameAt, rests, pointRests, edgesRest, pairRests};
+ghost use Rattle.at_rest.specs.Rests.{sameAt, rests, pointRests, edgesRest, pairRests};
 use meaning::Corners;
 use meaning::Ends;
 use meaning::Kind;
@@ -51,7 +51,7 @@ fn edges_rest(positions: &[i32], e: Ends, f: Ends) -> bool
 }
 
 // Do all vertices of a pair rest?
-pub(crate) fn pair_rests(
+pub fn pair_rests(
     positions: &[i32],
     edges: &[u16],
     triangles: &[u16],

@@ -1,9 +1,9 @@
 use borrow.Author.Needs.{needs}
-use Rattle.four_words.proofs.resting.edges_rest.Statement.{statement}
-use Rattle.four_words.proofs.resting.edges_rest.Tie as tie
+use Rattle.at_rest.proofs.point_rests.Statement.{statement}
+use Rattle.at_rest.proofs.point_rests.Tie as tie
 
-pub edges-rest-spec : {M : Type 1} → statement M
-edges-rest-spec =
+pub point-rests-spec : {M : Type 1} → statement M
+point-rests-spec =
     tie.close
     (tie.spec
     (λ c κs. search needs)

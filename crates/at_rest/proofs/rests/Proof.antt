@@ -1,6 +1,6 @@
 use borrow.Author.Needs.{needs}
-use Rattle.four_words.proofs.resting.rests.Statement.{statement}
-use Rattle.four_words.proofs.resting.rests.Tie as tie
+use Rattle.at_rest.proofs.rests.Statement.{statement}
+use Rattle.at_rest.proofs.rests.Tie as tie
 
 pub rests-spec : {M : Type 1} → statement M
 rests-spec =

@@ -2,9 +2,9 @@
 use borrow.Author.Needs.{needs}
 use Rattle.meaning.specs.Scene.{Scene, sceneOf}
 use Rattle.three_words.specs.Pairs.{pt-there, ee-smaller-there, ee-larger-there, pt-ready, ee-ready}
-use Rattle.four_words.specs.Rests.{pt-rests, ee-rests}
-use Rattle.four_words.proofs.resting.pair_rests.Statement.{statement}
-use Rattle.four_words.proofs.resting.pair_rests.Tie as tie
+use Rattle.at_rest.specs.Rests.{pt-rests, ee-rests}
+use Rattle.at_rest.proofs.pair_rests.Statement.{statement}
+use Rattle.at_rest.proofs.pair_rests.Tie as tie
 
 corners-of-requires : tie.Need-corners-of-requires
 corners-of-requires c κs =
