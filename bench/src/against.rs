@@ -30,9 +30,9 @@ impl Bench {
         let [mut a, mut b, mut c, mut d] = [(); 4].map(|()| (vec![0; count], vec![0; count]));
         let ways = vec![
             Way::new("this", || product.settle_scene(slices, &mut a.0, &mut a.1).expect("there is room") as u64),
-            Way::new("its list", || product.list(slices, &mut b.0).expect("there is room") as u64),
+            Way::new("its list", || product.list(slices, &mut b.0, &mut [0]).expect("there is room") as u64),
             Way::new("the earlier", || earlier::settle_scene(slices, &mut c.0, &mut c.1).expect("there is room") as u64),
-            Way::new("its list", || earlier::list(slices, &mut d.0).expect("there is room") as u64),
+            Way::new("its list", || earlier::list(slices, &mut d.0, &mut [0]).expect("there is room") as u64),
         ];
         let times = shortest(ways, self.rounds);
         assert!(a == c && b.0 == d.0, "the two give the same words");

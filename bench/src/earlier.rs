@@ -28,6 +28,7 @@ extern "C" {
         triangles_len: usize,
         list: *mut u32,
         list_len: usize,
+        tests: *mut usize,
     ) -> u64;
     fn earlier_makhnodri_settle_pt(
         positions: *const i32,
@@ -98,8 +99,8 @@ pub fn settle_scene(s: &Slices, list: &mut [u32], words: &mut [u8]) -> Answer {
     })
 }
 
-pub fn list(s: &Slices, list: &mut [u32]) -> Answer {
-    // SAFETY: as above
+pub fn list(s: &Slices, list: &mut [u32], tests: &mut [usize; 1]) -> Answer {
+    // SAFETY: as above, and there is one number; an earlier library that takes none reads nothing of it
     answer(unsafe {
         earlier_makhnodri_list_pairs(
             s.positions.as_ptr(),
@@ -110,6 +111,7 @@ pub fn list(s: &Slices, list: &mut [u32]) -> Answer {
             s.triangles.len(),
             list.as_mut_ptr(),
             list.len(),
+            tests.as_mut_ptr(),
         )
     })
 }
