@@ -7,8 +7,10 @@ ghost use Rattle.meaning.specs.Pieces.{pieceOf};
 ghost use Rattle.meaning.specs.Refusals.{notThere};
 ghost use Rattle.meaning.specs.Verdicts.{PieceIs, PairIs};
 ghost use Rattle.meaning.specs.Resting.{PieceSettled, PairSettled};
+ghost use Rattle.meaning.specs.declared.Verdict.the-variants.{Degenerate};
 ghost use Rattle.four_words.specs.Words.{TouchSaid};
 use super::six::six_of;
+use at_rest::pair_rests;
 use meaning::Kind;
 use meaning::Settled;
 use meaning::Verdict;
@@ -49,7 +51,7 @@ pub fn piece(
 }
 
 // Does some piece of the pair touch?
-fn touches(
+fn some_piece_touches(
     positions: &[i32],
     edges: &[u16],
     triangles: &[u16],
@@ -70,6 +72,26 @@ fn touches(
         k += 1;
     }
     false
+}
+
+// The same of a degenerate pair: where all its vertices rest, the four starts of its first piece decide.
+fn touches(
+    positions: &[i32],
+    edges: &[u16],
+    triangles: &[u16],
+    kind: Kind,
+    i: usize,
+    j: usize,
+) -> bool
+    requires { ⌜ Accepted (sceneIn positions edges triangles) × (notThere (sceneIn positions edges triangles) kind i j ≡ false) × PairIs (sceneIn positions edges triangles) kind i j Degenerate ⌝ }
+    ensures { λ r. ⌜ TouchSaid (sceneAtEntry positions edges triangles) kind i j r ⌝ }
+{
+    if pair_rests(positions, edges, triangles, kind, i, j) {
+        let six = six_of(positions, edges, triangles, kind, i, j, 0);
+        corner_search::starts_touch(positions, six)
+    } else {
+        some_piece_touches(positions, edges, triangles, kind, i, j)
+    }
 }
 
 // The word of a pair, from its verdict: only where that is degenerate are its pieces looked at again.
