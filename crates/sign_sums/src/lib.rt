@@ -137,6 +137,21 @@ pub fn edge_signs(v: Volumes, t0: bool, t1: bool, t2: bool, t3: bool) -> Signs
     by_signs(d, 0 - v.e0, v.e1, v.e2, v.e3, own)
 }
 
+// The verdicts that these signs tell.
+pub fn point_verdict(v: Volumes) -> Verdict
+    requires { ⌜ Small v ⌝ }
+    ensures { λ r. ⌜ r ≡ pointVerdict (fourOf v) ⌝ }
+{
+    verdict_of(point_signs(v))
+}
+
+pub fn edge_verdict(v: Volumes, t0: bool, t1: bool, t2: bool, t3: bool) -> Verdict
+    requires { ⌜ Small v ⌝ }
+    ensures { λ r. ⌜ r ≡ edgeVerdict (four t0 t1 t2 t3) (fourOf v) ⌝ }
+{
+    verdict_of(edge_signs(v, t0, t1, t2, t3))
+}
+
 // The verdict of a piece from the places: the four points' offsets, each with the offset it is seen from.
 pub fn judge_point(
     positions: &[i32],
@@ -152,7 +167,7 @@ pub fn judge_point(
     requires { ⌜ Rooms (now positions) (four o0 o1 o2 o3) (four b0 b1 b2 b3) × Bounded coordinateLimit (now positions) ⌝ }
     ensures { λ r. ⌜ r ≡ pointVerdict (volumesAt (now (positions .entry)) (four o0 o1 o2 o3) (four b0 b1 b2 b3)) ⌝ }
 {
-    verdict_of(point_signs(volumes_at(positions, o0, b0, o1, b1, o2, b2, o3, b3)))
+    point_verdict(volumes_at(positions, o0, b0, o1, b1, o2, b2, o3, b3))
 }
 
 pub fn judge_edges(
@@ -173,11 +188,11 @@ pub fn judge_edges(
     requires { ⌜ Rooms (now positions) (four o0 o1 o2 o3) (four b0 b1 b2 b3) × Bounded coordinateLimit (now positions) ⌝ }
     ensures { λ r. ⌜ r ≡ edgeVerdict (four t0 t1 t2 t3) (volumesAt (now (positions .entry)) (four o0 o1 o2 o3) (four b0 b1 b2 b3)) ⌝ }
 {
-    verdict_of(edge_signs(
+    edge_verdict(
         volumes_at(positions, o0, b0, o1, b1, o2, b2, o3, b3),
         t0,
         t1,
         t2,
         t3,
-    ))
+    )
 }
