@@ -11,4 +11,11 @@ fn main() {
         println!("cargo:rustc-link-search=native={}", folder.display());
         println!("cargo:rustc-link-lib=static=makhnodri");
     }
+    println!("cargo:rerun-if-env-changed=MAKHNODRI_EARLIER");
+    if let (Some(_), Some(earlier)) = (std::env::var_os("CARGO_FEATURE_EARLIER"), std::env::var_os("MAKHNODRI_EARLIER")) {
+        let earlier = PathBuf::from(earlier);
+        println!("cargo:rerun-if-changed={}", earlier.join("libmakhnodri_earlier.a").display());
+        println!("cargo:rustc-link-search=native={}", earlier.display());
+        println!("cargo:rustc-link-lib=static=makhnodri_earlier");
+    }
 }

@@ -1,6 +1,11 @@
 //! usage: bench [quick]
 //! Ratios side by side in one process, as tables. docs/BENCHMARK.md tells what is measured.
+//! Built with an earlier library beside this one, `bench against SCENES` compares the two.
 
+#[cfg(feature = "earlier")]
+mod against;
+#[cfg(feature = "earlier")]
+mod earlier;
 mod errors;
 mod floor;
 mod plain;
@@ -37,12 +42,18 @@ struct Bench {
 }
 
 fn main() {
-    let quick = std::env::args().nth(1).is_some_and(|word| word == "quick");
-    let (rounds, pairs) = if quick { (20, 20_000) } else { (300, 1_000_000) };
+    let word = std::env::args().nth(1).unwrap_or_default();
+    let (rounds, pairs) = if word.is_empty() { (300, 1_000_000) } else { (20, 20_000) };
     let bench = Bench { rounds, pairs, product: Product::find() };
+    #[cfg(feature = "earlier")]
+    if word == "against" {
+        let scenes = std::env::args().nth(2).and_then(|word| word.parse().ok());
+        return bench.against(scenes.expect("how many scenes"));
+    }
     bench.all_verdicts();
     bench.lists();
     bench.resting();
+    bench.sliding();
     bench.reports();
     bench.wrong_answers();
 }

@@ -2,7 +2,7 @@
 
 use crate::plain_rest::settle_scene;
 use crate::product::Product;
-use crate::scenes::RESTING;
+use crate::scenes::{RESTING, SLIDING};
 use crate::slices::{parts, Slices};
 use crate::timing::{shortest, Timed, Way};
 use crate::{plain, Bench};
@@ -54,6 +54,29 @@ impl Bench {
         for (name, make) in RESTING {
             let [moving, rest] = make(&mut Random::new(5)).map(|scene| Lent::new(&scene));
             self.at_rest_over_moving(name, moving, rest);
+        }
+    }
+
+    /// Every listed pair is searched.
+    pub fn sliding(&self) {
+        println!("\nthe call that judges a full-size flat scene that moves in its plane, the list left out");
+        for (name, make) in SLIDING {
+            let mut lent = Lent::new(&make(&mut Random::new(5)));
+            let ([mut listed, mut own, mut own_listed], mut ways) = ([(); 3].map(|()| copied(&lent)), Vec::new());
+            ways.push(Way::new("plain", || lent.plain()));
+            ways.push(Way::new("its list", || listed.plain_list()));
+            if let Some(product) = &self.product {
+                ways.push(Way::new("the library", || own.library(product)));
+                ways.push(Way::new("its list", || own_listed.library_list(product)));
+            }
+            let times = shortest(ways, self.rounds);
+            let searched: Vec<f64> = times.chunks(2).map(|pair| pair[0].1 - pair[1].1).collect();
+            print!("  {name:<50} plain Rust {:>10.2} us", 1e6 * searched[0]);
+            if self.product.is_some() {
+                assert!(lent.words == own.words && lent.list == own.list, "the library's words are plain Rust's");
+                print!("   the library {:>10.2} us   over plain Rust {:>5.2}", 1e6 * searched[1], searched[1] / searched[0]);
+            }
+            println!("   {}", lent.said());
         }
     }
 

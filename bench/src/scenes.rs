@@ -121,3 +121,31 @@ fn flattened(mut scene: Scene) -> Scene {
     scene.vertices.iter_mut().for_each(|vertex| vertex[2] = 0);
     scene
 }
+
+/// Full-size flat scenes that move in their plane, so that every listed pair is singular and hardly one rests: as a whole, or each vertex its own
+/// way; lying across z, across x, and askew.
+pub const SLIDING: [(&str, fn(&mut Random) -> Scene); 5] = [
+    ("a flat sheet, shifted in its plane", |random| shifted(folds(random, 32, 0, 0))),
+    ("flat folds, each vertex its own way in the plane", |random| in_plane(folds(random, 8, 0, 0))),
+    ("creased in one plane, each its own way in it", |random| in_plane(folds(random, 8, 0, 20))),
+    ("the same, the plane across x", |random| mapped(in_plane(folds(random, 8, 0, 20)), |[x, y, z]| [z, x, y])),
+    ("the same, the plane askew", |random| mapped(in_plane(folds(random, 8, 0, 20)), |[x, y, _]| [x, y, x + y])),
+];
+
+fn shifted(mut scene: Scene) -> Scene {
+    scene.vertices.iter_mut().for_each(|v| *v = [v[0], v[1], v[2], v[0] + 30, v[1] - 20, v[2]]);
+    scene
+}
+
+fn in_plane(mut scene: Scene) -> Scene {
+    scene.vertices.iter_mut().for_each(|v| *v = [v[0], v[1], 0, v[3], v[4], 0]);
+    scene
+}
+
+fn mapped(mut scene: Scene, map: fn([i64; 3]) -> [i64; 3]) -> Scene {
+    for v in &mut scene.vertices {
+        let ([a, b, c], [d, e, f]) = (map([v[0], v[1], v[2]]), map([v[3], v[4], v[5]]));
+        *v = [a, b, c, d, e, f];
+    }
+    scene
+}

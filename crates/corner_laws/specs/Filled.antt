@@ -50,3 +50,29 @@ same-weigh f l d n h = λ i. plus (plus (plus (one p0 f i) (one p1 f₁ i)) (one
 
     one : (k : Place) (g : ℕ) → scale (pick k n) (slot (pick k l) (pick k d) g) ≡ scale (pick k n) (pick k d)
     one k g = slot-scale (pick k l) (pick k n) (pick k d) g (h .out k)
+
+-- ---- the axes go round: three further on they are the same
+
+slot-round : (c : Bool) (d : Vector) (f : ℕ) → slot c d (suc (suc (suc f))) ≡ slot c d f
+unfolding slot axis
+slot-round true d f = refl
+slot-round false d f = refl
+
+next-round : (c : Bool) (f : ℕ) → next c (suc (suc (suc f))) ≡ suc (suc (suc (next c f)))
+unfolding next
+next-round true f = refl
+next-round false f = refl
+
+pub filled-round : (f : ℕ) (l : Four Bool) (d : Four Vector) → filled (suc (suc (suc f))) l d ≡ filled f l d
+filled-round f l d = λ i. record {
+  v0 = slot-round (l .v0) (d .v0) f i;
+  v1 = at (l .v1) (d .v1) (next-round (l .v0) f) i;
+  v2 = at (l .v2) (d .v2) second i;
+  v3 = at (l .v3) (d .v3) (ap (next (l .v2)) second ∙ next-round (l .v2) _) i;
+}
+  where
+    at : (c : Bool) (d : Vector) {g h : ℕ} → g ≡ suc (suc (suc h)) → slot c d g ≡ slot c d h
+    at c d {g} {h} e = ap (slot c d) e ∙ slot-round c d h
+
+    second : next (l .v1) (next (l .v0) (suc (suc (suc f)))) ≡ suc (suc (suc (next (l .v1) (next (l .v0) f))))
+    second = ap (next (l .v1)) (next-round (l .v0) f) ∙ next-round (l .v1) (next (l .v0) f)

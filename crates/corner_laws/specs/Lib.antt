@@ -13,3 +13,5 @@ pub mod Flat
 pub mod Dependent
 pub mod Opened
 pub mod OneOut
+pub mod AtRest
+pub mod SingularAtRest

@@ -15,7 +15,7 @@ use Rattle.corner_laws.specs.Others.{Order, order-of, othersOf}
 use Rattle.corner_laws.specs.Slots.{Based, eventIn, Preferred}
 use Rattle.corner_leaf.specs.Points.{atEnd, isLeft, eventAt, pieceAt, Timed, six-long, six-at}
 use Rattle.corner_leaf.specs.First.{Passed, Failed, found-or}
-use Rattle.corner_leaf.specs.Answer.{sameBool, baseOf}
+use Rattle.corner_leaf.specs.Answer.{sameBool, baseIn, baseOf}
 
 never : true ≡ false → ⊥
 never e = let x : _≡_ {A = ℕ} 0 1 = cc in omega arith
@@ -45,7 +45,7 @@ pub record BaseIs (six : SixPoints) (left : List Bool) (end : Bool) (r : ℕ) : 
 
 module _ (ps : List ℤ) {six : SixPoints} (h : Timed six) (left : List Bool) where
   pub base-is : (end : Bool) → BaseIs six left end (baseOf six left end)
-  unfolding baseOf
+  unfolding baseIn
   base-is end = go (found-or test 6 0 (cond end 5 0))
     where
       test : ℕ → Bool

@@ -15,6 +15,10 @@ use Rattle.corner_leaf.specs.declared.SixPoints.{SixPoints}
 use Rattle.corner_laws.specs.Left.{TouchIn}
 use Rattle.corner_laws.specs.Slots.{eventIn}
 
+-- six points from what code hands on one by one
+abbrev pub pointsOf : List ℕ → List Bool → ℕ → SixPoints
+pointsOf at ends first = record { at = at; ends = ends; first = first }
+
 -- point i: its offset, whether it is at the end, whether it is left
 abbrev pub offset : SixPoints → ℕ → ℕ
 offset six i = getD (six .at) i 0
@@ -47,11 +51,19 @@ pub record Timed (six : SixPoints) : Type 0 where
   pub ends : atEnd six 5 ≡ true
   pub split : six .first ≤ 6
 
+-- six offsets of places in the positions
+pub record Placed (ps : List ℤ) (at : List ℕ) : Type 0 where
+  pub bounded : Bounded coordinateLimit ps
+  pub room : (i : ℕ) → i < 6 → getD at i 0 + 3 ≤ length ps
+
 -- what code asks of six points: each stands in the positions
 pub record SixIn (ps : List ℤ) (six : SixPoints) : Type 0 where
   pub bounded : Bounded coordinateLimit ps
   pub room : (i : ℕ) → i < 6 → offset six i + 3 ≤ length ps
   pub timed : Timed six
+
+pub placed : {ps : List ℤ} {six : SixPoints} → SixIn ps six → Placed ps (six .at)
+placed h = record { bounded = h .bounded; room = h .room }
 
 -- ---- the events of the piece are the six
 

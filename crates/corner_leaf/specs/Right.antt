@@ -1,5 +1,5 @@
 -- What the corners left say by themselves is right.
-use Prim.Native.Nat.{ℕ, zero, suc, _<_}
+use Prim.Native.Nat.{ℕ, zero, suc, _+_, _<_}
 use native.Mathlib.Omega.{arith}
 use mathlib.Core.Path.{_≡_, refl, sym, _∙_, ap, subst}
 use mathlib.Core.Logic.{_≢_, _↔_, _⊎_, inl, inr, ⊎-elim}
@@ -25,14 +25,14 @@ use Rattle.corner_laws.specs.Left.{TouchIn}
 use Rattle.corner_laws.specs.Leave.{Leaves}
 use Rattle.corner_laws.specs.Others.{othersOf}
 use Rattle.corner_laws.specs.Slots.{eventIn, othersIn, differencesIn, pick-each}
-use Rattle.corner_laws.specs.Filled.{filled, NoneOut, same-weigh}
+use Rattle.corner_laws.specs.Filled.{filled, NoneOut, same-weigh, filled-round}
 use Rattle.corner_laws.specs.Candidate.{InPlace, Fits, must-fit, may-touch, at-most-one}
 use Rattle.corner_laws.specs.Dependent.{Some, Vanish}
 use Rattle.corner_laws.specs.Flat.{zero-or}
 use Rattle.corner_laws.specs.Opened.{open-leaves, open-not-one}
 use Rattle.corner_laws.specs.AtMostOne.{AtMostOne}
 use Rattle.corner_leaf.specs.Points.{offset, atEnd, isLeft, eventAt, pieceAt, TouchLeft, Timed, six-at, first-long}
-use Rattle.corner_leaf.specs.Answer.{sameBool, seenFrom, slotsAt, none, fitting, judgedBy, judged-open, turnOf, otherwise, leafOf, baseOf}
+use Rattle.corner_leaf.specs.Answer.{sameBool, seenFrom, slotsAt, none, fitting, judgedIn, judgedBy, judged-open, turnOf, otherwise, leafOf, baseOf}
 use Rattle.corner_leaf.specs.Base.{base-is, based, preferred}
 use Rattle.corner_leaf.specs.Tests.{Along, along-is, zero-but-is}
 
@@ -187,7 +187,7 @@ module _ (ps : List ℤ) {six : SixPoints} (h : Timed six) (left : List Bool) wh
   TurnIs f Open = Vanish f (each (isLeft left) q) (differencesIn (a ++ b) s e q)
 
   turn-is : (f : ℕ) → TurnIs f (turnOf ps six left s e f)
-  unfolding judgedBy turnOf TurnIs
+  unfolding judgedIn turnOf TurnIs
   turn-is f = go (zeroBut none n) (test n) refl refl
     where
       n : Four ℤ
@@ -231,6 +231,53 @@ module _ (ps : List ℤ) {six : SixPoints} (h : Timed six) (left : List Bool) wh
       go Open Open No x y z = z
       go Open Open Open x y z = λ t. open-leaves a b (based ps h left) (preferred ps h left) (turns x y z) (t .weights)
 
+  -- ---- from whichever turn one begins
+
+  swapped : (f g : ℕ) (a b : Leaf) → TurnIs f a → TurnIs g b → otherwise a b ≡ otherwise b a
+  unfolding otherwise TurnIs
+  swapped f g Yes Yes x y = refl
+  swapped f g Yes No x y = absurd (y x)
+  swapped f g Yes Open x y = refl
+  swapped f g No Yes x y = absurd (x y)
+  swapped f g No No x y = refl
+  swapped f g No Open x y = refl
+  swapped f g Open Yes x y = refl
+  swapped f g Open No x y = refl
+  swapped f g Open Open x y = refl
+
+  joined : (a b c : Leaf) → otherwise (otherwise a b) c ≡ otherwise a (otherwise b c)
+  unfolding otherwise
+  joined Yes b c = refl
+  joined No b c = refl
+  joined Open b c = refl
+
+  abbrev turn : ℕ → Leaf
+  turn = turnOf ps six left s e
+
+  turn-round : (f : ℕ) → turn (suc (suc (suc f))) ≡ turn f
+  unfolding turnOf
+  turn-round f = ap (λ v. judgedBy six left s e q (volumes v)) (filled-round f (each (isLeft left) q) (each (seenFrom ps six s e) q))
+
+  -- a turn put first that stood in the middle
+  brought : (f g : ℕ) (c : Leaf) → otherwise (turn f) (otherwise (turn g) c) ≡ otherwise (turn g) (otherwise (turn f) c)
+  brought f g c =
+      sym (joined (turn f) (turn g) c)
+      ∙ ap (λ z. otherwise z c) (swapped f g (turn f) (turn g) (turn-is f) (turn-is g))
+      ∙ joined (turn g) (turn f) c
+
+  pub from-any-turn : (f : ℕ) → f < 3 → otherwise (turn f) (otherwise (turn (f + 1)) (turn (f + 2))) ≡ leafOf ps six left
+  unfolding leafOf
+  from-any-turn zero h = refl
+  from-any-turn (suc zero) h =
+      ap (λ z. otherwise (turn 1) (otherwise (turn 2) z)) (turn-round 0)
+      ∙ ap (otherwise (turn 1)) (swapped 2 0 (turn 2) (turn 0) (turn-is 2) (turn-is 0))
+      ∙ brought 1 0 (turn 2)
+  from-any-turn (suc (suc zero)) h =
+      (λ i. otherwise (turn 2) (otherwise (turn-round 0 i) (turn-round 1 i)))
+      ∙ brought 2 0 (turn 1)
+      ∙ ap (otherwise (turn 0)) (swapped 2 1 (turn 2) (turn 1) (turn-is 2) (turn-is 1))
+  from-any-turn (suc (suc (suc f))) h = absurd (omega arith)
+
   -- ---- it decides exactly where the corners left allow at most one solution
 
   turn-one : (f : ℕ) → (turnOf ps six left s e f ≡ Open) ⊎ AtMostOne a b (isLeft left)
@@ -241,7 +288,7 @@ module _ (ps : List ℤ) {six : SixPoints} (h : Timed six) (left : List Bool) wh
       n = volumes (slotsAt ps six left s e f)
 
       go : (z : Bool) → zeroBut none n ≡ z → (judgedBy six left s e q n ≡ Open) ⊎ AtMostOne a b (isLeft left)
-      go true p = inl (sym (judged-open six left s e q n p))
+      go true p = inl (sym (judged-open (six .ends) (six .first) left s e q n p))
       go false p = let m = some-of n p in inr (at-most-one a b (based ps h left) (in-place f) (m .place) (m .is))
 
   pub decided-at-most-one : leafOf ps six left ≢ Open → AtMostOne a b (isLeft left)

@@ -3,20 +3,24 @@
 ghost use mathlib.Core.Bool.{cond, _&&_};
 ghost use mathlib.Core.Path.{_≡_};
 ghost use Prim.Native.Nat.{_+_, _≤_, _<_, min, max};
+ghost use lib.ListN.{length};
 ghost use Rattle.whole.specs.Cramer.{volumes};
-ghost use Rattle.exact.specs.Volumes.{four, fourOf, Holds, Small};
+ghost use Rattle.exact.specs.Volumes.{four, fourOf, Small};
+ghost use Rattle.exact.specs.Arrows.{Points};
 ghost use Rattle.corner_laws.specs.Others.{skip, othersOf};
-ghost use Rattle.corner_laws.specs.Filled.{next};
-ghost use Rattle.corner_leaf.specs.Points.{isLeft, SixIn};
-ghost use Rattle.corner_leaf.specs.Answer.{sameBool, baseOf, arrowAt, slotsAt, judgedBy, turnOf, leafOf};
+ghost use Rattle.corner_laws.specs.Filled.{slot, next};
+ghost use Rattle.corner_leaf.specs.Points.{isLeft, pointsOf, Placed, SixIn};
+ghost use Rattle.corner_leaf.specs.Answer.{sameBool, allLeft, baseIn, seenIn, judgedIn, turnOf, alikeAt, levelAlong, acrossOf, leafOf};
 use exact::Volumes;
 use exact::arrows::Arrow;
+use exact::arrows::arrow_along;
+use exact::arrows::arrow_between;
 use exact::arrows::arrow_volumes;
 use sign_sums::ways::one_way;
 use sign_sums::ways::zero_but;
 
 // The six points of a piece, those of the first simplex first: their places in the positions, which are at the end, and how many
-// are the first simplex's.
+// are the first simplex's. The functions below take these one by one, and the lists by reference: a struct by value is copied at each call.
 pub struct SixPoints {
     pub at: [usize; 6],
     pub ends: [bool; 6],
@@ -51,7 +55,7 @@ fn other(s: usize, e: usize, k: usize) -> usize
 
 // The axis for the slot after this one.
 fn next(left: bool, axis: usize) -> usize
-    requires { ⌜ axis < 6 ⌝ }
+    requires { ⌜ axis < 8 ⌝ }
     ensures { λ r. ⌜ (r ≡ next left axis) × (r ≤ axis + 1) ⌝ }
 {
     if left { axis } else { axis + 1 }
@@ -65,12 +69,12 @@ fn stands(left: bool, at_end: bool, end: bool) -> bool
 }
 
 // The first corner left at the start, or at the end; where none is left, one of that time.
-fn base(six: SixPoints, left: [bool; 6], end: bool) -> usize
-    ensures { λ r. ⌜ r ≡ baseOf six left end ⌝ }
+fn base(ends: &[bool; 6], left: &[bool; 6], end: bool) -> usize
+    ensures { λ r. ⌜ r ≡ baseIn (now (ends .entry)) (now (left .entry)) end ⌝ }
 {
     let mut i = 0;
     while i < 6 {
-        if stands(left[i], six.ends[i], end) {
+        if stands(left[i], ends[i], end) {
             return i;
         }
         i += 1;
@@ -87,22 +91,32 @@ fn base_of(end: bool, s: usize, e: usize) -> usize
 }
 
 // What stands in the slot of corner i: its place seen from the base of its time, or an axis where it is left out.
-fn arrow(six: SixPoints, left: [bool; 6], s: usize, e: usize, i: usize, axis: usize) -> Arrow
-    requires { ⌜ (s < 6) × (e < 6) × (i < 6) ⌝ }
-    ensures { λ r. ⌜ r ≡ arrowAt six left s e i axis ⌝ }
+fn arrow(
+    positions: &[i32],
+    at: &[usize; 6],
+    ends: &[bool; 6],
+    left: &[bool; 6],
+    s: usize,
+    e: usize,
+    i: usize,
+    axis: usize,
+) -> Arrow
+    requires { ⌜ Placed (now positions) (now at) × (s < 6) × (e < 6) × (i < 6) ⌝ }
+    ensures { λ r. ⌜ Points r (slot (isLeft (now (left .entry)) i) (seenIn (now (positions .entry)) (now (at .entry)) (now (ends .entry)) s e i) axis) ⌝ }
 {
     if left[i] {
-        let from = base_of(six.ends[i], s, e);
-        Arrow::Between(six.at[i], six.at[from])
+        let from = base_of(ends[i], s, e);
+        arrow_between(positions, at[i], at[from])
     } else {
-        Arrow::Axis(axis)
+        arrow_along(axis)
     }
 }
 
 // The corners other than the bases, and what the volumes say of them.
 fn judge(
-    six: SixPoints,
-    left: [bool; 6],
+    ends: &[bool; 6],
+    first: usize,
+    left: &[bool; 6],
     s: usize,
     e: usize,
     q0: usize,
@@ -112,19 +126,18 @@ fn judge(
     v: Volumes,
 ) -> Leaf
     requires { ⌜ Small v × (q0 < 6) × (q1 < 6) × (q2 < 6) × (q3 < 6) ⌝ }
-    ensures { λ r. ⌜ r ≡ judgedBy six left s e (four q0 q1 q2 q3) (fourOf v) ⌝ }
+    ensures { λ r. ⌜ r ≡ judgedIn (now (ends .entry)) first (now (left .entry)) s e (four q0 q1 q2 q3) (fourOf v) ⌝ }
 {
     if zero_but(v, false, false, false, false) {
         return Leaf::Open;
     }
-    let first = six.first;
     let out = zero_but(v, left[q0], left[q1], left[q2], left[q3]);
     let signs = one_way(
         v,
-        six.ends[q0],
-        six.ends[q1],
-        six.ends[q2],
-        six.ends[q3],
+        ends[q0],
+        ends[q1],
+        ends[q2],
+        ends[q3],
         q0 < first,
         q1 < first,
         q2 < first,
@@ -136,9 +149,18 @@ fn judge(
 }
 
 // One turn of the axes.
-fn turn(positions: &[i32], six: SixPoints, left: [bool; 6], s: usize, e: usize, f: usize) -> Leaf
-    requires { ⌜ SixIn (now positions) six × (s < 6) × (e < 6) × (f < 3) ⌝ }
-    ensures { λ r. ⌜ r ≡ turnOf (now (positions .entry)) six left s e f ⌝ }
+fn turn(
+    positions: &[i32],
+    at: &[usize; 6],
+    ends: &[bool; 6],
+    first: usize,
+    left: &[bool; 6],
+    s: usize,
+    e: usize,
+    f: usize,
+) -> Leaf
+    requires { ⌜ Placed (now positions) (now at) × (s < 6) × (e < 6) × (f < 5) ⌝ }
+    ensures { λ r. ⌜ r ≡ turnOf (now (positions .entry)) (pointsOf (now (at .entry)) (now (ends .entry)) first) (now (left .entry)) s e f ⌝ }
 {
     let q0 = other(s, e, 0);
     let q1 = other(s, e, 1);
@@ -147,28 +169,76 @@ fn turn(positions: &[i32], six: SixPoints, left: [bool; 6], s: usize, e: usize, 
     let f1 = next(left[q0], f);
     let f2 = next(left[q1], f1);
     let f3 = next(left[q2], f2);
-    let a0 = arrow(six, left, s, e, q0, f);
-    let a1 = arrow(six, left, s, e, q1, f1);
-    let a2 = arrow(six, left, s, e, q2, f2);
-    let a3 = arrow(six, left, s, e, q3, f3);
-    let v = arrow_volumes(positions, a0, a1, a2, a3);
-    judge(six, left, s, e, q0, q1, q2, q3, v)
+    let a0 = arrow(positions, at, ends, left, s, e, q0, f);
+    let a1 = arrow(positions, at, ends, left, s, e, q1, f1);
+    let a2 = arrow(positions, at, ends, left, s, e, q2, f2);
+    let a3 = arrow(positions, at, ends, left, s, e, q3, f3);
+    let v = arrow_volumes(a0, a1, a2, a3);
+    judge(ends, first, left, s, e, q0, q1, q2, q3, v)
+}
+
+// Is no corner left out? Then no axis stands in a slot, and one turn is as good as another.
+fn all_left(left: &[bool; 6]) -> bool
+    ensures { λ r. ⌜ r ≡ allLeft (now (left .entry)) ⌝ }
+{
+    left[0] & left[1] & left[2] & left[3] & left[4] & left[5]
+}
+
+fn alike(positions: &[i32], i: usize, j: usize) -> bool
+    requires { ⌜ (i < length (now positions)) × (j < length (now positions)) ⌝ }
+    ensures { λ r. ⌜ r ≡ alikeAt (now (positions .entry)) i j ⌝ }
+{
+    (positions[i] <= positions[j]) & (positions[j] <= positions[i])
+}
+
+// Have all six points the same coordinate along an axis?
+fn level(positions: &[i32], at: &[usize; 6], axis: usize) -> bool
+    requires { ⌜ Placed (now positions) (now at) × (axis < 3) ⌝ }
+    ensures { λ r. ⌜ r ≡ levelAlong (now (positions .entry)) (now (at .entry)) axis ⌝ }
+{
+    let first = at[0] + axis;
+    alike(positions, first, at[1] + axis)
+        & alike(positions, first, at[2] + axis)
+        & alike(positions, first, at[3] + axis)
+        & alike(positions, first, at[4] + axis)
+        & alike(positions, first, at[5] + axis)
+}
+
+// The turn to begin with. Cloth that lies flat across an axis has a volume only with that axis, so the turn that puts it into a slot decides.
+fn across(positions: &[i32], at: &[usize; 6]) -> usize
+    requires { ⌜ Placed (now positions) (now at) ⌝ }
+    ensures { λ r. ⌜ (r ≡ acrossOf (now (positions .entry)) (now (at .entry))) × (r < 3) ⌝ }
+{
+    if level(positions, at, 2) {
+        return 2;
+    }
+    if level(positions, at, 1) { 1 } else { 0 }
 }
 
 // Weights, no weights, or nothing yet: the first of three turns that says more than nothing.
-pub fn ask(positions: &[i32], six: SixPoints, left: [bool; 6]) -> Leaf
-    requires { ⌜ SixIn (now positions) six ⌝ }
-    ensures { λ r. ⌜ r ≡ leafOf (now (positions .entry)) six left ⌝ }
+pub fn ask(
+    positions: &[i32],
+    at: &[usize; 6],
+    ends: &[bool; 6],
+    first: usize,
+    left: &[bool; 6],
+) -> Leaf
+    requires { ⌜ SixIn (now positions) (pointsOf (now at) (now ends) first) ⌝ }
+    ensures { λ r. ⌜ r ≡ leafOf (now (positions .entry)) (pointsOf (now (at .entry)) (now (ends .entry)) first) (now (left .entry)) ⌝ }
 {
-    let s = base(six, left, false);
-    let e = base(six, left, true);
-    let first = turn(positions, six, left, s, e, 0);
-    let Leaf::Open = first else {
-        return first;
+    let f = across(positions, at);
+    let s = base(ends, left, false);
+    let e = base(ends, left, true);
+    let answer = turn(positions, at, ends, first, left, s, e, f);
+    let Leaf::Open = answer else {
+        return answer;
     };
-    let second = turn(positions, six, left, s, e, 1);
+    if all_left(left) {
+        return answer;
+    }
+    let second = turn(positions, at, ends, first, left, s, e, f + 1);
     let Leaf::Open = second else {
         return second;
     };
-    turn(positions, six, left, s, e, 2)
+    turn(positions, at, ends, first, left, s, e, f + 2)
 }

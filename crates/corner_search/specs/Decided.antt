@@ -31,7 +31,7 @@ use Rattle.corner_laws.specs.Leave.{Leaves}
 use Rattle.corner_leaf.specs.Points.{isLeft, pieceAt, TouchLeft, Timed, six-long}
 use Rattle.corner_leaf.specs.Answer.{leafOf}
 use Rattle.corner_leaf.specs.Right.{LeafIs, leaf-is}
-use Rattle.corner_search.specs.Says.{isYes}
+use Rattle.corner_search.specs.Says.{isYes, Tells}
 use Rattle.corner_search.specs.Step.{count, less, set-out, put-back}
 use Rattle.corner_search.specs.Settles.{everyLeft, every-left-is}
 use Rattle.corner_search.specs.Sixes.{sixOf, six-piece, six-timed}
@@ -83,10 +83,6 @@ byLeaf Open r = r
 unfoldable pub touching : ℕ → List ℤ → SixPoints → List Bool → Bool
 touching zero ps six left = isYes (leafOf ps six left)
 touching (suc n) ps six left = byLeaf (leafOf ps six left) (someBelow 6 (λ i. isLeft left i && touching n ps six (set left i false)))
-
-unfoldable Tells : List ℤ → SixPoints → List Bool → Bool → Type 0
-Tells ps six left true = TouchLeft ps six left
-Tells ps six left false = ¬ TouchLeft ps six left
 
 module _ (ps : List ℤ) {six : SixPoints} (h : Timed six) where
   tells-leaf : (left : List Bool) (l : Leaf) → LeafIs ps six left l → (r : Bool) → (l ≡ Open → Tells ps six left r) → Tells ps six left (byLeaf l r)

@@ -3,4 +3,5 @@ pub mod Says
 pub mod Step
 pub mod Settles
 pub mod Sixes
+pub mod Starts
 pub mod Decided

@@ -1,7 +1,7 @@
 -- What a step of the search says of the points left: that there are weights; or that there are none with one of its own corners left out, and,
--- unless the other step has handed over the same points, none at all.
+-- unless the other step has handed over the same points, none at all. So what it says of points that nobody handed over is whether there are weights.
 use Prim.Native.Nat.{ℕ, _≤_, _<_}
-use mathlib.Core.Path.{_≡_}
+use mathlib.Core.Path.{_≡_, refl}
 use mathlib.Core.Bool.{Bool, true, false}
 use mathlib.Core.List.{List}
 use lib.IntN.{ℤ}
@@ -30,3 +30,13 @@ module _ {ps : List ℤ} {six : SixPoints} {left : List Bool} {lo hi : ℕ} {tri
 
   pub says-no : Says ps six left lo hi tried false → (tried ≡ false → ¬ TouchLeft ps six left) × NoneWithout ps six left lo hi
   says-no (none n w) = (n, w)
+
+-- there are weights for the points left, or there are none
+unfoldable pub Tells : List ℤ → SixPoints → List Bool → Bool → Type 0
+Tells ps six left true = TouchLeft ps six left
+Tells ps six left false = ¬ TouchLeft ps six left
+
+pub says-tells : {ps : List ℤ} {six : SixPoints} {left : List Bool} {lo hi : ℕ} (r : Bool) → Says ps six left lo hi false r → Tells ps six left r
+unfolding Tells
+says-tells true s = says-yes s
+says-tells false s = says-no s .0 refl

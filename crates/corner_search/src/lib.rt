@@ -6,7 +6,9 @@ ghost use mathlib.Core.Path.{_≡_};
 ghost use Rattle.meaning.specs.Verdicts.{PieceIs};
 ghost use Rattle.meaning.specs.Resting.{PieceSettled};
 ghost use Rattle.corner_leaf.specs.Points.{pieceAt, SixIn};
+ghost use Rattle.corner_search.specs.Says.{Tells};
 ghost use Rattle.corner_search.specs.Settles.{kept};
+ghost use Rattle.corner_search.specs.Starts.{startsAmong};
 use corner_leaf::SixPoints;
 use meaning::Settled;
 use meaning::Verdict;
@@ -31,9 +33,32 @@ pub fn settle_piece(positions: &[i32], six: SixPoints, verdict: Verdict) -> Sett
     let Verdict::Degenerate = verdict else {
         return keep(verdict);
     };
-    if first(positions, six, [true; 6], false) {
+    let at = six.at;
+    let ends = six.ends;
+    let split = six.first;
+    let left = [true; 6];
+    if first(positions, &at, &ends, split, &left, false) {
         Settled::Touch
     } else {
         Settled::Apart
     }
+}
+
+// Which of six points are at the start.
+fn starts(ends: &[bool; 6]) -> [bool; 6]
+    ensures { λ r. ⌜ r ≡ startsAmong (now (ends .entry)) ⌝ }
+{
+    [!ends[0], !ends[1], !ends[2], !ends[3], !ends[4], !ends[5]]
+}
+
+// Are there weights for the starts of a piece alone? Where all vertices of a pair rest, those of its first piece decide.
+pub fn starts_touch(positions: &[i32], six: SixPoints) -> bool
+    requires { ⌜ SixIn (now positions) six ⌝ }
+    ensures { λ r. ⌜ Tells (now (positions .entry)) six (startsAmong (six .ends)) r ⌝ }
+{
+    let at = six.at;
+    let ends = six.ends;
+    let split = six.first;
+    let left = starts(&ends);
+    first(positions, &at, &ends, split, &left, false)
 }

@@ -5,11 +5,10 @@ ghost use mathlib.Core.Bool.{false, cond};
 ghost use mathlib.Core.Path.{_≡_};
 ghost use Prim.Native.Nat.{_<_};
 ghost use lib.ListN.{set};
-ghost use Rattle.corner_leaf.specs.Points.{SixIn};
+ghost use Rattle.corner_leaf.specs.Points.{pointsOf, SixIn};
 ghost use Rattle.corner_leaf.specs.Answer.{leafOf};
 ghost use Rattle.corner_search.specs.Says.{isYes, Says};
 use corner_leaf::Leaf;
-use corner_leaf::SixPoints;
 use corner_leaf::ask;
 
 fn is_yes(answer: Leaf) -> bool
@@ -23,40 +22,54 @@ fn is_yes(answer: Leaf) -> bool
 }
 
 // Points that were handed over unchanged were open: they are not asked again.
-fn ask_once(positions: &[i32], six: SixPoints, left: [bool; 6], tried: bool) -> Leaf
-    requires { ⌜ SixIn (now positions) six ⌝ }
-    ensures { λ r. ⌜ r ≡ cond tried Leaf.Open (leafOf (now (positions .entry)) six left) ⌝ }
+fn ask_once(
+    positions: &[i32],
+    at: &[usize; 6],
+    ends: &[bool; 6],
+    split: usize,
+    left: &[bool; 6],
+    tried: bool,
+) -> Leaf
+    requires { ⌜ SixIn (now positions) (pointsOf (now at) (now ends) split) ⌝ }
+    ensures { λ r. ⌜ r ≡ cond tried Leaf.Open (leafOf (now (positions .entry)) (pointsOf (now (at .entry)) (now (ends .entry)) split) (now (left .entry))) ⌝ }
 {
     if tried {
         Leaf::Open
     } else {
-        ask(positions, six, left)
+        ask(positions, at, ends, split, left)
     }
 }
 
-fn without(left: [bool; 6], i: usize) -> [bool; 6]
+fn without(left: &[bool; 6], i: usize) -> [bool; 6]
     requires { ⌜ i < 6 ⌝ }
-    ensures { λ r. ⌜ r ≡ set left i false ⌝ }
+    ensures { λ r. ⌜ r ≡ set (now (left .entry)) i false ⌝ }
 {
-    let mut less = left;
+    let mut less = *left;
     less[i] = false;
     less
 }
 
 // Are there weights for the points left? Tries the corners of the first simplex.
-pub(crate) fn first(positions: &[i32], six: SixPoints, left: [bool; 6], tried: bool) -> bool
-    requires { ⌜ SixIn (now positions) six ⌝ }
-    ensures { λ r. ⌜ Says (now (positions .entry)) six left 0 (six .first) tried r ⌝ }
+pub(crate) fn first(
+    positions: &[i32],
+    at: &[usize; 6],
+    ends: &[bool; 6],
+    split: usize,
+    left: &[bool; 6],
+    tried: bool,
+) -> bool
+    requires { ⌜ SixIn (now positions) (pointsOf (now at) (now ends) split) ⌝ }
+    ensures { λ r. ⌜ Says (now (positions .entry)) (pointsOf (now (at .entry)) (now (ends .entry)) split) (now (left .entry)) 0 split tried r ⌝ }
 {
-    let answer = ask_once(positions, six, left, tried);
+    let answer = ask_once(positions, at, ends, split, left, tried);
     let Leaf::Open = answer else {
         return is_yes(answer);
     };
-    let end = six.first;
     let mut i = 0;
-    while i < end {
+    while i < split {
         if left[i] {
-            if second(positions, six, without(left, i), false) {
+            let less = without(left, i);
+            if second(positions, at, ends, split, &less, false) {
                 return true;
             }
         }
@@ -65,22 +78,30 @@ pub(crate) fn first(positions: &[i32], six: SixPoints, left: [bool; 6], tried: b
     if tried {
         return false;
     }
-    second(positions, six, left, true)
+    second(positions, at, ends, split, left, true)
 }
 
 // The same, trying the corners of the second simplex.
-pub(crate) fn second(positions: &[i32], six: SixPoints, left: [bool; 6], tried: bool) -> bool
-    requires { ⌜ SixIn (now positions) six ⌝ }
-    ensures { λ r. ⌜ Says (now (positions .entry)) six left (six .first) 6 tried r ⌝ }
+pub(crate) fn second(
+    positions: &[i32],
+    at: &[usize; 6],
+    ends: &[bool; 6],
+    split: usize,
+    left: &[bool; 6],
+    tried: bool,
+) -> bool
+    requires { ⌜ SixIn (now positions) (pointsOf (now at) (now ends) split) ⌝ }
+    ensures { λ r. ⌜ Says (now (positions .entry)) (pointsOf (now (at .entry)) (now (ends .entry)) split) (now (left .entry)) split 6 tried r ⌝ }
 {
-    let answer = ask_once(positions, six, left, tried);
+    let answer = ask_once(positions, at, ends, split, left, tried);
     let Leaf::Open = answer else {
         return is_yes(answer);
     };
-    let mut i = six.first;
+    let mut i = split;
     while i < 6 {
         if left[i] {
-            if first(positions, six, without(left, i), false) {
+            let less = without(left, i);
+            if first(positions, at, ends, split, &less, false) {
                 return true;
             }
         }
@@ -89,5 +110,5 @@ pub(crate) fn second(positions: &[i32], six: SixPoints, left: [bool; 6], tried: 
     if tried {
         return false;
     }
-    first(positions, six, left, true)
+    first(positions, at, ends, split, left, true)
 }

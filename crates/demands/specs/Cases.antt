@@ -30,7 +30,7 @@ use Rattle.sign_sums.specs.OneWay.{oneWay}
 use Rattle.corner_leaf.specs.First.{firstOf}
 use Rattle.corner_laws.specs.Others.{skip}
 use Rattle.corner_laws.specs.Filled.{slot, next}
-use Rattle.corner_leaf.specs.Answer.{baseOf, judgedBy, turnOf, otherwise, leafOf}
+use Rattle.corner_leaf.specs.Answer.{baseIn, judgedIn, turnOf, otherwise, leafOf}
 use Rattle.corner_search.specs.Sixes.{pointSix, edgesSix, sixOf}
 use Rattle.corner_search.specs.Decided.{byLeaf, touching, settledBy, verdictOfWord, pieceWord, isTouch, pairWord, piece-word-is, word-verdict, some-hit, pair-word-is}
 use Rattle.scenes.specs.Below.{or-left, or-rest, none-passes}
@@ -60,7 +60,7 @@ faults [] = false
 faults (c ∷ l) = fault c || faults l
 
 no-faults : faults cases ≡ false
-unfolding faults fault unlike someBelow notThere pieceCount byteOf pieceVerdict joinedBelow joined pointDifferences edgeDifferences startSum endSum volume verdictOf agreeing shares meetOn pairWord isTouch pieceWord settledBy touching byLeaf leafOf otherwise turnOf judgedBy baseOf firstOf skip slot next axis oneWay keep sixOf pointSix edgesSix
+unfolding faults fault unlike someBelow notThere pieceCount byteOf pieceVerdict joinedBelow joined pointDifferences edgeDifferences startSum endSum volume verdictOf agreeing shares meetOn pairWord isTouch pieceWord settledBy touching byLeaf leafOf otherwise turnOf judgedIn baseIn firstOf skip slot next axis oneWay keep sixOf pointSix edgesSix
 no-faults = refl
 
 -- ---- the law

@@ -1,3 +1,2 @@
 -- Laws that several proofs of this crate cite.
-mod ArrowShort
 mod Products

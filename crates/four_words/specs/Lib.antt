@@ -1,4 +1,5 @@
 -- From verdicts and six points to the four words.
 pub mod Six
 pub mod Words
+pub mod Rests
 pub mod Deciding

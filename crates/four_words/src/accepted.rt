@@ -8,8 +8,10 @@ ghost use Rattle.meaning.specs.Refusals.{notThere};
 ghost use Rattle.meaning.specs.Verdicts.{PieceIs, PairIs};
 ghost use Rattle.meaning.specs.Resting.{PieceSettled, PairSettled};
 ghost use Rattle.scenes.specs.Alone.{tabledIn, tabledAtEntry};
+ghost use Rattle.meaning.specs.declared.Verdict.the-variants.{Degenerate};
 ghost use Rattle.four_words.specs.Words.{TouchSaid};
 use super::six::six_of;
+use at_rest::pair_rests;
 use meaning::Kind;
 use meaning::Settled;
 use meaning::Verdict;
@@ -52,7 +54,7 @@ pub fn piece(
 }
 
 // Does some piece of the pair touch?
-fn touches(
+fn some_piece_touches(
     positions: &[i32],
     edges: &[u16],
     triangles: &[u16],
@@ -74,6 +76,27 @@ fn touches(
         k += 1;
     }
     false
+}
+
+// The same of a degenerate pair: where all its vertices rest, the four starts of its first piece decide.
+fn touches(
+    positions: &[i32],
+    edges: &[u16],
+    triangles: &[u16],
+    stands: &[u16],
+    kind: Kind,
+    i: usize,
+    j: usize,
+) -> bool
+    requires { ⌜ Accepted (tabledIn positions edges triangles stands) × (notThere (tabledIn positions edges triangles stands) kind i j ≡ false) × PairIs (tabledIn positions edges triangles stands) kind i j Degenerate ⌝ }
+    ensures { λ r. ⌜ TouchSaid (tabledAtEntry positions edges triangles stands) kind i j r ⌝ }
+{
+    if pair_rests(positions, edges, triangles, stands, kind, i, j) {
+        let six = six_of(positions, edges, triangles, stands, kind, i, j, 0);
+        corner_search::starts_touch(positions, six)
+    } else {
+        some_piece_touches(positions, edges, triangles, stands, kind, i, j)
+    }
 }
 
 // The word of a pair, from its verdict: only where that is degenerate are its pieces looked at again.

@@ -4,36 +4,36 @@ use mathlib.Core.Path.{_≡_, refl, _∙_, sym, ap}
 use mathlib.Core.Bool.{Bool, true, false, cond, _&&_}
 use mathlib.Core.List.{List}
 use Prim.Native.Nat.{ℕ, _-_, _≤_}
+use lib.ListN.{getD}
 use native.Mathlib.Omega.{arith}
 use Rattle.corner_leaf.specs.First.{firstOf, first-here, first-next, first-none}
-use Rattle.corner_leaf.specs.Points.{atEnd, isLeft}
-use Rattle.corner_leaf.specs.Answer.{sameBool, baseOf}
-use Rattle.corner_leaf.specs.declared.SixPoints.{SixPoints}
+use Rattle.corner_leaf.specs.Points.{isLeft}
+use Rattle.corner_leaf.specs.Answer.{sameBool, baseIn}
 use Rattle.corner_leaf.proofs.base.Statement.{statement}
 use Rattle.corner_leaf.proofs.base.Tie as tie
 
-abbrev test : SixPoints → List Bool → Bool → ℕ → Bool
-test six left end i = isLeft left i && sameBool (atEnd six i) end
+abbrev test : List Bool → List Bool → Bool → ℕ → Bool
+test ends left end i = isLeft left i && sameBool (getD ends i false) end
 
 abbrev Inv-loop : tie.InvT-loop
-Inv-loop end six left i₀ i = (i ≤ 6) × (firstOf (test six left end) i (6 - i) (cond end 5 0) ≡ baseOf six left end)
+Inv-loop ends left end i₀ i = (i ≤ 6) × (firstOf (test ends left end) i (6 - i) (cond end 5 0) ≡ baseIn ends left end)
 
 abbrev μ-loop : tie.MeasureT-loop
-μ-loop end six left i₀ i = 6 - i
+μ-loop ends left end i₀ i = 6 - i
 
 loop-holds : tie.Need-loop-holds Inv-loop μ-loop
-unfolding baseOf
+unfolding baseIn
 loop-holds c = (omega arith, refl)
 
 returns : tie.Need-returns Inv-loop μ-loop
 returns c =
-    let l = c .before .before .before .before .loop in
-    sym (first-here _ (l .i) 6 _ (c .before .before .before .loop-test .taken) (sym (c .before .stands .ensures) ∙ c .if1 .taken)) ∙ l .inv .1
+    let l = c .before .before .before .before .before .loop in
+    sym (first-here _ (l .i) 6 _ (c .before .before .before .before .loop-test .taken) (sym (c .before .stands .ensures) ∙ c .if1 .taken)) ∙ l .inv .1
 
 loop-again : tie.Need-loop-again Inv-loop μ-loop
 loop-again c =
-    let l = c .before .before .before .before .loop in
-    (omega arith, sym (first-next _ (l .i) 6 _ (c .before .before .before .loop-test .taken) (sym (c .before .stands .ensures) ∙ c .if1 .left)) ∙ l .inv .1)
+    let l = c .before .before .before .before .before .loop in
+    (omega arith, sym (first-next _ (l .i) 6 _ (c .before .before .before .before .loop-test .taken) (sym (c .before .stands .ensures) ∙ c .if1 .left)) ∙ l .inv .1)
 
 returns-2 : tie.Need-returns-2 Inv-loop μ-loop
 returns-2 c =

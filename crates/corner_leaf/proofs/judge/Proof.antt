@@ -13,20 +13,22 @@ judge-spec =
     tie.close
     (tie.spec
     (λ c κs. tt)
-    (λ c. judged-open _ _ _ _ _ _ (sym (c .before .zero-but .ensures) ∙ c .if1 .taken))
+    (λ c. judged-open _ _ _ _ _ _ _ (sym (c .before .zero-but .ensures) ∙ c .if1 .taken))
     (λ c. c .before .before .pre .1)
-    (λ c. c .before .before .pre .2)
-    (λ c. c .before .before .pre .3)
-    (λ c. c .before .before .pre .4)
+    (λ c. c .before .before .before .pre .2)
+    (λ c. c .before .before .before .before .pre .3)
+    (λ c. c .before .before .before .before .before .pre .4)
     (λ c κs. tt)
-    (λ c. c .before .before .before .pre .1)
-    (λ c. c .before .before .before .before .pre .2)
-    (λ c. c .before .before .before .before .before .pre .3)
-    (λ c. c .before .before .before .before .before .before .pre .4)
-    (λ c κs. c .before .before .before .before .before .before .before .pre .0)
+    (λ c. c .before .before .before .before .before .before .before .pre .1)
+    (λ c. c .before .before .before .before .before .before .before .before .pre .2)
+    (λ c. c .before .before .before .before .before .before .before .before .before .pre .3)
+    (λ c. c .before .before .before .before .before .before .before .before .before .before .pre .4)
+    (λ c κs. c .before .before .before .before .before .before .before .before .before .before .before .pre .0)
     (λ c.
     let z = c .before .before .before .before .before .before in
-    judged-yes _ _ _ _ _ _ (sym (z .before .before .zero-but .ensures) ∙ z .before .if1 .left) (joined true (z .zero-but2 .ensures) (c .before .one-way .ensures) (c .if2 .taken)))
+    let y = z .before .before .before .before .before in
+    judged-yes _ _ _ _ _ _ _ (sym (y .before .zero-but .ensures) ∙ y .if1 .left) (joined true (z .zero-but2 .ensures) (c .before .one-way .ensures) (c .if2 .taken)))
     (λ c.
     let z = c .before .before .before .before .before .before in
-    judged-no _ _ _ _ _ _ (sym (z .before .before .zero-but .ensures) ∙ z .before .if1 .left) (joined false (z .zero-but2 .ensures) (c .before .one-way .ensures) (c .if2 .left))))
+    let y = z .before .before .before .before .before in
+    judged-no _ _ _ _ _ _ _ (sym (y .before .zero-but .ensures) ∙ y .if1 .left) (joined false (z .zero-but2 .ensures) (c .before .one-way .ensures) (c .if2 .left))))

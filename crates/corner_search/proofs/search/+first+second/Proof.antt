@@ -7,6 +7,7 @@ use Prim.Native.Nat.{ℕ, _≤_, _<_, _-_, zero-le}
 use mathlib.Core.Logic.{⊎-elim, ⊎-swap}
 use Rattle.corner_search.specs.Says.{NoneWithout}
 use Rattle.corner_search.specs.Step.{toTry, falls-without, falls-handed, none-yet, more, not-left, on-a-side, found, not-found, says-answer, says-tried, says-last}
+use Rattle.corner_leaf.specs.Points.{pointsOf}
 use Rattle.corner_leaf.proofs.Tags.{is-open, decided}
 use borrow.Fn.Kinds.{In}
 use borrow.Fn.PlainCycle.{Measures, is, falls, and}
@@ -22,35 +23,35 @@ use Rattle.corner_search.proofs.search.without.Reads as without-reads
 use Rattle.corner_search.proofs.search.+first+second.{statement}
 use Rattle.corner_search.proofs.search.+first+second.Tie.{close}
 
-abbrev μ-first : Measures 1 first-kinds.ps ℕ
-μ-first κs a = toTry (a .1 .1 .0) (a .1 .1 .1 .0)
+abbrev μ-first : Measures 4 first-kinds.ps ℕ
+μ-first κs a = toTry (a .1 .1 .1 .1 .0 .now) (a .1 .1 .1 .1 .1 .0)
 
-abbrev μ-second : Measures 1 second-kinds.ps ℕ
-μ-second κs a = toTry (a .1 .1 .0) (a .1 .1 .1 .0)
+abbrev μ-second : Measures 4 second-kinds.ps ℕ
+μ-second κs a = toTry (a .1 .1 .1 .1 .0 .now) (a .1 .1 .1 .1 .1 .0)
 
-abbrev first-at : ℕ → In 1 first-kinds.ps
-first-at t = and 1 first-kinds.ps (is 1 first-kinds.ps μ-first t) first.Pre
+abbrev first-at : ℕ → In 4 first-kinds.ps
+first-at t = and 4 first-kinds.ps (is 4 first-kinds.ps μ-first t) first.Pre
 
-abbrev first-below : ℕ → In 1 first-kinds.ps
-first-below t = and 1 first-kinds.ps (falls 1 first-kinds.ps _<_ μ-first t) first.Pre
+abbrev first-below : ℕ → In 4 first-kinds.ps
+first-below t = and 4 first-kinds.ps (falls 4 first-kinds.ps _<_ μ-first t) first.Pre
 
-abbrev second-at : ℕ → In 1 second-kinds.ps
-second-at t = and 1 second-kinds.ps (is 1 second-kinds.ps μ-second t) second.Pre
+abbrev second-at : ℕ → In 4 second-kinds.ps
+second-at t = and 4 second-kinds.ps (is 4 second-kinds.ps μ-second t) second.Pre
 
-abbrev second-below : ℕ → In 1 second-kinds.ps
-second-below t = and 1 second-kinds.ps (falls 1 second-kinds.ps _<_ μ-second t) second.Pre
+abbrev second-below : ℕ → In 4 second-kinds.ps
+second-below t = and 4 second-kinds.ps (falls 4 second-kinds.ps _<_ μ-second t) second.Pre
 
 abbrev first-Inv-loop : first-lts.InvT-loop
-first-Inv-loop positions six tried left end i₀ i = (i ≤ end) × NoneWithout positions six left 0 i
+first-Inv-loop positions at ends split left tried i₀ i = (i ≤ split) × NoneWithout positions (pointsOf at ends split) left 0 i
 
 abbrev first-μ-loop : first-lts.MeasureT-loop
-first-μ-loop positions six tried left end i₀ i = end - i
+first-μ-loop positions at ends split left tried i₀ i = split - i
 
 abbrev second-Inv-loop : second-lts.InvT-loop
-second-Inv-loop positions six tried left i₀ i = (i ≤ 6) × NoneWithout positions six left (six .first) i
+second-Inv-loop positions at ends split left tried i₀ i = (i ≤ 6) × NoneWithout positions (pointsOf at ends split) left split i
 
 abbrev second-μ-loop : second-lts.MeasureT-loop
-second-μ-loop positions six tried left i₀ i = 6 - i
+second-μ-loop positions at ends split left tried i₀ i = 6 - i
 
 pub +first+second-spec : {M : Type 1} → statement M
 +first+second-spec =
@@ -69,19 +70,19 @@ pub +first+second-spec : {M : Type 1} → statement M
     rw (c .is-yes .ensures) (says-answer _ (a .before .pre .1 .timed) _ _ _ _ _ (a .ask-once .ensures) (decided _ (c .before .match .keys2))))
     (λ c. (zero-le, none-yet _ _))
     (λ c. lt-of-lt-of-le (c .loop-test .taken) (c .before .before .before .before .before .pre .1 .timed .split))
-    (λ c κs. lt-of-lt-of-le (c .before .loop-test .taken) (c .before .before .before .before .before .before .pre .1 .timed .split))
+    (λ c κs. lt-of-lt-of-le (c .before .before .loop-test .taken) (c .before .before .before .before .before .before .before .pre .1 .timed .split))
     (λ c κs.
-    let s = c .before .before .before .before .before .before .before in
-    (falls-without _ _ _ _ (s .pre .0) (c .without .ensures) (c .before .if1 .taken), s .pre .1))
-    (λ c. found _ _ (c .before .before .without .ensures) (c .before .second .ensures) _ _ _ (c .if2 .taken))
-    (λ c. let h = c .before .loop-test .taken in let k = c .before .before .before .before .before .before .pre .1 .timed .split in omega arith)
-    (λ c. let h = c .before .loop-test .taken in omega arith)
+    let s = c .before .before .before .before .before .before .before .before .before in
+    (falls-without _ _ _ _ (s .pre .0) (c .before .without .ensures) (c .before .before .if1 .taken), s .pre .1))
+    (λ c. found _ _ (c .before .before .before .without .ensures) (c .before .second .ensures) _ _ _ (c .if2 .taken))
+    (λ c. let h = c .before .before .loop-test .taken in let k = c .before .before .before .before .before .before .before .pre .1 .timed .split in omega arith)
+    (λ c. let h = c .before .before .loop-test .taken in omega arith)
     (λ c.
-    let l = c .before .before .loop in
-    let left = c .before .before .before .before .before .before .args .t3 in (
-      add-one-le (c .before .loop-test .taken),
+    let l = c .before .before .before .loop in
+    let left = c .before .before .before .before .before .before .before .args .left .now in (
+      add-one-le (c .before .before .loop-test .taken),
       more left (l .inv .1)
-          (⊎-elim (λ w e. not-found left (l .i) (w .1 .ensures) (w .2 .ensures) (w .3 .left)) (λ w. not-left left (l .i) (w .left)) (c .if1 .came)),
+          (⊎-elim (λ w e. not-found left (l .i) (w .1 .ensures) (w .3 .ensures) (w .4 .left)) (λ w. not-left left (l .i) (w .left)) (c .if1 .came)),
     ))
     (λ c.
     let l = c .before .before in
@@ -106,19 +107,19 @@ pub +first+second-spec : {M : Type 1} → statement M
     rw (c .is-yes .ensures) (says-answer _ (a .before .pre .1 .timed) _ _ _ _ _ (a .ask-once .ensures) (decided _ (c .before .match .keys2))))
     (λ c. let h = c .before .before .before .pre .1 .timed .split in (omega arith, none-yet _ _))
     (λ c. c .loop-test .taken)
-    (λ c κs. c .before .loop-test .taken)
+    (λ c κs. c .before .before .loop-test .taken)
     (λ c κs.
-    let s = c .before .before .before .before .before .before .before in
-    (falls-without _ _ _ _ (s .pre .0) (c .without .ensures) (c .before .if1 .taken), s .pre .1))
-    (λ c. found _ _ (c .before .before .without .ensures) (c .before .first .ensures) _ _ _ (c .if2 .taken))
-    (λ c. let h = c .before .loop-test .taken in let k = c .before .before .before .before .before .before .pre .1 .timed .split in omega arith)
-    (λ c. let h = c .before .loop-test .taken in omega arith)
+    let s = c .before .before .before .before .before .before .before .before .before in
+    (falls-without _ _ _ _ (s .pre .0) (c .before .without .ensures) (c .before .before .if1 .taken), s .pre .1))
+    (λ c. found _ _ (c .before .before .before .without .ensures) (c .before .first .ensures) _ _ _ (c .if2 .taken))
+    (λ c. let h = c .before .before .loop-test .taken in let k = c .before .before .before .before .before .before .before .pre .1 .timed .split in omega arith)
+    (λ c. let h = c .before .before .loop-test .taken in omega arith)
     (λ c.
-    let l = c .before .before .loop in
-    let left = c .before .before .before .before .before .before .args .t3 in (
-      add-one-le (c .before .loop-test .taken),
+    let l = c .before .before .before .loop in
+    let left = c .before .before .before .before .before .before .before .args .left .now in (
+      add-one-le (c .before .before .loop-test .taken),
       more left (l .inv .1)
-          (⊎-elim (λ w e. not-found left (l .i) (w .1 .ensures) (w .2 .ensures) (w .3 .left)) (λ w. not-left left (l .i) (w .left)) (c .if1 .came)),
+          (⊎-elim (λ w e. not-found left (l .i) (w .1 .ensures) (w .3 .ensures) (w .4 .left)) (λ w. not-left left (l .i) (w .left)) (c .if1 .came)),
     ))
     (λ c.
     let l = c .before .before in

@@ -10,11 +10,11 @@ arrow-volumes-spec =
     tie.close
     (tie.spec
     (λ c κs. search needs)
-    (λ c κs. let p = c .before .pre in (p .0 .stands3, minors-small (c .arrow-minors .ensures), p .1))
-    (λ c κs. let p = c .before .before .pre in (p .0 .stands2, minors-small (c .before .arrow-minors .ensures), p .1))
+    (λ c κs. (c .before .pre .3, minors-small (c .arrow-minors .ensures)))
+    (λ c κs. (c .before .before .pre .2, minors-small (c .before .arrow-minors .ensures)))
     (λ c κs. search needs)
-    (λ c κs. let p = c .before .before .before .before .pre in (p .0 .stands1, minors-small (c .arrow-minors2 .ensures), p .1))
-    (λ c κs. let p = c .before .before .before .before .before .pre in (p .0 .stands0, minors-small (c .before .arrow-minors2 .ensures), p .1))
+    (λ c κs. (c .before .before .before .before .pre .1, minors-small (c .arrow-minors2 .ensures)))
+    (λ c κs. (c .before .before .before .before .before .pre .0, minors-small (c .before .arrow-minors2 .ensures)))
     (λ c κs.
     held-small (standing-first (c .before .arrow-with3 .ensures) (c .before .before .arrow-minors2 .ensures))
     (standing-first (c .arrow-with4 .ensures) (c .before .before .arrow-minors2 .ensures))

@@ -10,7 +10,9 @@ pair-word-spec =
     (λ c. search needs)
     (λ c. search needs)
     (λ c. search needs)
-    (λ c κs. search needs)
+    (λ c κs.
+    let p = c .before .before .before .before .before .pre in
+    (p .0, p .1, rw (c .enum-told3 .given .1) at (p .2)))
     (λ c. hit-stays _ _ _ _ (c .enum-told .given .1) (c .before .before .before .before .before .pre .2))
     (λ c. miss-stays _ _ _ _ (c .enum-told2 .given .1) (c .before .before .before .before .before .pre .2))
     (λ c.

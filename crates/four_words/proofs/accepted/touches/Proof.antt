@@ -1,47 +1,36 @@
--- None of the pieces before k touches.
-use Prim.Native.Nat.{_-_}
-use native.Mathlib.Omega.{arith}
-use mathlib.Core.Path.{_≡_, subst}
-use mathlib.Core.Logic.{⊎-elim}
-use mathlib.Core.List.{[], _∷_}
-use types.Run.{OneOf}
-use denote.Enum.Declared.{tagOf}
+-- The starts decide where all vertices rest, else the pieces.
 use borrow.Author.Needs.{needs}
+use mathlib.Core.Path.{sym, subst}
+use Rattle.meaning.specs.Scene.{Scene}
 use Rattle.scenes.specs.Alone.{tabled}
-use Rattle.meaning.specs.declared.Settled.{Settled}
-use Rattle.meaning.specs.declared.Settled.the-variants.{Touch}
-use Rattle.meaning.proofs.Settled.{the-type}
-use Rattle.four_words.specs.Words.{NoneBefore, none-before, one-more, touch-found, none-found}
+use Rattle.corner_leaf.specs.declared.SixPoints.{SixPoints}
+use Rattle.corner_leaf.specs.Points.{SixIn}
+use Rattle.four_words.specs.Six.{six-in}
+use Rattle.four_words.specs.Rests.{starts-said}
 use Rattle.four_words.proofs.accepted.touches.Statement.{statement}
 use Rattle.four_words.proofs.accepted.touches.Tie as tie
 
-abbrev Inv-loop : tie.InvT-loop
-Inv-loop positions edges triangles stands kind i j count k₀ k = NoneBefore (tabled positions edges triangles stands) kind i j k
+starts-touch-requires : tie.Need-starts-touch-requires
+starts-touch-requires c κs =
+    let b = c .before .before .before .before .before .before in
+    let a = b .args in
+    let s : Scene = tabled (a .positions .now) (a .edges .now) (a .triangles .now) (a .stands .now) in
+    subst (SixIn (a .positions .now)) (sym (c .six-of .ensures)) (six-in s (b .pre .0) (a .kind) (a .i) (a .j) 0 (b .pre .1))
 
-abbrev μ-loop : tie.MeasureT-loop
-μ-loop positions edges triangles stands kind i j count k₀ k = count - k
-
--- the word that was passed over is another
-other-word : (w : Settled) → OneOf (0 ∷ 1 ∷ 3 ∷ []) (tagOf the-type w) → ¬ (w ≡ Touch)
-other-word w h e = none (subst (λ v. OneOf (0 ∷ 1 ∷ 3 ∷ []) (tagOf the-type v)) e h)
-  where
-    none : OneOf (0 ∷ 1 ∷ 3 ∷ []) 2 → ⊥
-    none k = ⊎-elim (λ e. omega arith) (λ r. ⊎-elim (λ e. omega arith) (λ e. omega arith) r) k
+returns : tie.Need-returns
+returns c =
+    let b = c .before .before .before .before .before .before .before in
+    let a = b .args in
+    let s : Scene = tabled (a .positions .now) (a .edges .now) (a .triangles .now) (a .stands .now) in
+    starts-said s (a .kind) (a .i) (a .j) (b .pre .2) (c .before .before .before .pair-rests .ensures) (c .before .before .if1 .taken) (c .before .six-of .ensures) _ (c .starts-touch .ensures)
 
 pub touches-spec : {M : Type 1} → statement M
 touches-spec =
     tie.close
     (tie.spec
-    Inv-loop
-    μ-loop
-    (λ c κs. tt)
-    (λ c. none-before _ _ _ _)
-    (λ c κs. c .before .before .before .before .before .before .pre)
-    (λ c. search needs)
-    (λ c.
-    let p = c .before .before in
-    touch-found _ _ _ _ (p .before .before .before .piece-count .ensures) _ _ (p .before .loop-test .taken) (p .piece .ensures) (c .enum-told .given .1))
-    (λ c. search needs)
-    (λ c. let h = c .before .before .loop-test .taken in omega arith)
-    (λ c. one-more _ _ _ _ _ (c .before .before .before .loop .inv) (c .before .piece .ensures) (other-word _ (c .match .keys2)))
-    (λ c. none-found _ _ _ _ (c .before .before .piece-count .ensures) _ (c .loop-test .left) (c .before .loop .inv)))
+    (λ c κs. search needs)
+    (λ c κs. search needs)
+    starts-touch-requires
+    (λ c κs. search needs)
+    returns
+    (λ c. search needs))

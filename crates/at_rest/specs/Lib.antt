@@ -1,0 +1,2 @@
+-- Pairs that rest.
+pub mod Rests

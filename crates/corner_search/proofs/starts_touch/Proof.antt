@@ -1,0 +1,13 @@
+-- The search says of the starts whether there are weights.
+use borrow.Author.Needs.{needs}
+use Rattle.corner_search.specs.Says.{says-tells}
+use Rattle.corner_search.proofs.starts_touch.Statement.{statement}
+use Rattle.corner_search.proofs.starts_touch.Tie as tie
+
+pub starts-touch-spec : {M : Type 1} → statement M
+starts-touch-spec =
+    tie.close
+    (tie.spec
+    (λ c κs. search needs)
+    (λ c κs. c .before .before .before .before .before .before .before .pre)
+    (λ c. rw (← c .before .before .before .before .starts .ensures) (says-tells _ (c .first .ensures))))

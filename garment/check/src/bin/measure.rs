@@ -1,0 +1,160 @@
+//! usage: measure FOLDER [VERTICES..]
+//! What the program takes on garments that are made, as it is called and by its parts; and its judging over a cubic's. FOLDER takes the files.
+//! Times by parts are the processor's, so that what else runs on the machine is not in them.
+
+use compare::cubic::{self, Moving};
+use garment::candidates::Finder;
+use garment::judging::settle;
+use garment::mesh::{self, Mesh};
+use garment::obj;
+use garment::pairs::{Kind, Pair};
+use garment::report::Form;
+use garment::rounding::onto_grid;
+use garment::work::all_cores;
+use garment_check::clocks::{run, taken, Run};
+use garment_check::cloth::{cloth, Kind as ClothKind, KINDS};
+use std::hint::black_box;
+use std::process::Command;
+
+/// The tolerance of the cubic that is timed, as in bench/.
+const TOLERANCE: f64 = 1e-6;
+/// Of each way the shortest of as many rounds counts.
+const ROUNDS: usize = 9;
+
+fn main() {
+    let words: Vec<String> = std::env::args().skip(1).collect();
+    let [folder, sizes @ ..] = &words[..] else {
+        eprintln!("usage: measure FOLDER [VERTICES..]");
+        std::process::exit(2);
+    };
+    let sizes: Vec<usize> = sizes.iter().map(|size| size.parse().expect("a count of vertices")).collect();
+    let sizes = if sizes.is_empty() { vec![20_000, 100_000] } else { sizes };
+    as_called(folder, &sizes);
+    by_parts(&sizes);
+}
+
+/// The shortest time of some work, in seconds, and what came of it.
+fn shortest<T>(mut work: impl FnMut() -> T) -> (f64, T) {
+    let mut best = f64::MAX;
+    let mut result = None;
+    for _ in 0..ROUNDS {
+        let began = taken();
+        result = Some(black_box(work()));
+        best = best.min((taken() - began).as_secs_f64());
+    }
+    (best, result.expect("there is a round"))
+}
+
+/// The parts of the work on one thread, in milliseconds of its processor time.
+fn by_parts(sizes: &[usize]) {
+    println!("\none thread, by parts: ms of its processor time");
+    println!(
+        "  {:<16}{:>10}{:>8}{:>8}{:>8}{:>8}{:>8}{:>8}{:>11}{:>11}{:>7}",
+        "", "pairs", "read", "mesh", "cells", "find", "judge", "write", "ns a pair", "by cubic", "ratio"
+    );
+    for kind in KINDS {
+        for &size in sizes {
+            parts_of(kind, size);
+        }
+    }
+}
+
+fn parts_of(kind: ClothKind, size: usize) {
+    let texts = cloth(kind, size, 1).objs();
+    let (reading, objs) = shortest(|| [0, 1].map(|i| obj::read("made", texts[i].as_bytes()).expect("it is read")));
+    let [start, end] = &objs;
+    let (meshing, mesh) = shortest(|| {
+        let rounded = onto_grid(&start.places, &end.places, None).expect("it fits");
+        mesh::Mesh::new(rounded.positions, start.triangles.clone())
+    });
+    let (celling, finder) = shortest(|| Finder::new(&mesh));
+    let (finding, pairs) = shortest(|| finder.in_rows(0..finder.rows()));
+    let (judging, cubing) = both_ways(&mesh, &pairs);
+    let words: Vec<_> = pairs.iter().map(|&pair| settle(&mesh, pair).expect("a word")).collect();
+    let (writing, _) = shortest(|| {
+        let mut lines = Vec::new();
+        pairs.iter().zip(&words).for_each(|(&pair, &word)| Form::default().line(pair, word, &mut lines));
+        lines.len()
+    });
+    let [reading, meshing, celling, finding, writing] =
+        [reading, meshing, celling, finding, writing].map(|seconds| 1e3 * seconds);
+    let each = |seconds: f64| 1e9 * seconds / pairs.len() as f64;
+    println!(
+        "  {:<16}{:>10}{reading:>8.0}{meshing:>8.0}{celling:>8.0}{finding:>8.0}{:>8.0}{writing:>8.0}{:>11.1}{:>11.1}{:>7.2}",
+        format!("{} {size}", kind.name),
+        pairs.len(),
+        1e3 * judging,
+        each(judging),
+        each(cubing),
+        judging / cubing
+    );
+}
+
+/// Judging all pairs by the library and by the cubic, in turns. The cubic has its doubles ready made.
+fn both_ways(mesh: &Mesh, pairs: &[Pair]) -> (f64, f64) {
+    let moving: Vec<Moving> = mesh.positions.iter().map(|p| [0, 3].map(|at| [0, 1, 2].map(|axis| p[at + axis] as f64))).collect();
+    let (mut library, mut doubles) = (f64::MAX, f64::MAX);
+    for _ in 0..ROUNDS {
+        let began = taken();
+        black_box(pairs.iter().map(|&pair| settle(mesh, pair).expect("a word") as u64).sum::<u64>());
+        let between = taken();
+        black_box(pairs.iter().map(|&pair| by_cubic(mesh, &moving, pair) as u64).sum::<u64>());
+        library = library.min((between - began).as_secs_f64());
+        doubles = doubles.min((taken() - between).as_secs_f64());
+    }
+    (library, doubles)
+}
+
+fn by_cubic(mesh: &Mesh, moving: &[Moving], pair: Pair) -> bool {
+    let at = |vertex: u32| &moving[vertex as usize];
+    match pair.kind {
+        Kind::PointTriangle => cubic::point_triangle(at(mesh.stood(pair.first)), mesh.corners(pair.second).map(at), TOLERANCE),
+        Kind::EdgeEdge => cubic::edge_edge(mesh.ends(pair.first).map(at), mesh.ends(pair.second).map(at), TOLERANCE),
+    }
+}
+
+/// The program as it is called, on one thread and on all: the shortest of the rounds, and the memory of its fullest moment. The system counts a
+/// program's memory from before it becomes that program, so this is done while this one is small yet, and the files are made by another.
+fn as_called(folder: &str, sizes: &[usize]) {
+    println!("as it is called, report thrown away");
+    println!(
+        "  {:<16}{:>10}{:>9}{:>10}{:>20}{:>20}{:>8}",
+        "", "pairs", "threads", "seconds", "processor seconds", "pairs a processor s", "MiB"
+    );
+    for kind in KINDS {
+        for &size in sizes {
+            let name = format!("{} {size}", kind.name);
+            let files = ["start", "end"].map(|when| format!("{folder}/{}-{size}-{when}.obj", kind.name));
+            run(&beside("make-garment"), &[kind.name, &size.to_string(), "1", &files[0], &files[1]])
+                .unwrap_or_else(|error| panic!("{error}"));
+            let pairs = pairs_of(&files);
+            for threads in [1, all_cores()] {
+                let count = threads.to_string();
+                let words = ["--quiet", "--threads", &count, &files[0], &files[1]];
+                let runs: Vec<Run> =
+                    (0..3).map(|_| run(&beside("garment"), &words).unwrap_or_else(|error| panic!("{error}"))).collect();
+                let least = |figure: fn(&Run) -> f64| runs.iter().map(figure).fold(f64::MAX, f64::min);
+                let (seconds, processor, memory) =
+                    (least(|run| run.seconds), least(|run| run.processor_seconds), least(|run| run.mebibytes));
+                println!(
+                    "  {name:<16}{pairs:>10}{threads:>9}{seconds:>10.2}{processor:>20.2}{:>20.0}{memory:>8.0}",
+                    pairs as f64 / processor
+                );
+            }
+        }
+    }
+}
+
+/// A program in this one's folder.
+fn beside(name: &str) -> String {
+    let own = std::env::current_exe().expect("this program has a place");
+    own.with_file_name(name).display().to_string()
+}
+
+/// The first count of the report's totals.
+fn pairs_of(files: &[String; 2]) -> u64 {
+    let report = Command::new(beside("garment")).args(["--quiet", "--only", "touch"]).args(files).output().expect("it runs");
+    let text = String::from_utf8(report.stdout).expect("plain letters");
+    let totals = text.lines().last().and_then(|line| line.strip_prefix("total\t")).expect("totals");
+    totals.split('\t').next().and_then(|count| count.parse().ok()).expect("a count")
+}

@@ -1,0 +1,80 @@
+//! The program's own way as the command goes it, without files: from the texts of two OBJ files to the text of a report.
+
+use crate::cloth::Cloth;
+use compare::random::Random;
+use compare::scene::Scene as ExactScene;
+use garment::fault::Fault;
+use garment::mesh::{self, Mesh};
+use garment::obj;
+use garment::progress::Bar;
+use garment::report::{About, Form, Tally};
+use garment::rounding::onto_grid;
+use garment::whole;
+
+pub const NAMES: [&str; 2] = ["start.obj", "end.obj"];
+
+pub fn mesh_of(texts: &[String; 2], step: Option<f64>, sewn: bool) -> Result<Mesh, Fault> {
+    let [from, to] = NAMES;
+    let (start, end) = (obj::read(from, texts[0].as_bytes())?, obj::read(to, texts[1].as_bytes())?);
+    mesh::same_faces(NAMES, &start, &end)?;
+    let rounded = onto_grid(&start.places, &end.places, step)?;
+    mesh::join(from, start, rounded, sewn)
+}
+
+pub fn made(cloth: &Cloth) -> Mesh {
+    mesh_of(&cloth.objs(), None, false).expect("cloth that is made can be read")
+}
+
+pub fn about(mesh: &Mesh) -> About {
+    let count = |length: usize| length as u64;
+    About {
+        vertices: count(mesh.positions.len()),
+        edges: count(mesh.edges.len()),
+        triangles: count(mesh.triangles.len()),
+        seams: mesh.seams(),
+        step: 1.0,
+    }
+}
+
+pub fn report(mesh: &Mesh, form: &Form, threads: usize) -> (String, Tally) {
+    let mut out = Vec::new();
+    let tally = whole::report(mesh, &about(mesh), form, threads, &mut no_bar(), &mut out).expect("a report is made");
+    (String::from_utf8(out).expect("a report is plain letters"), tally)
+}
+
+pub fn no_bar() -> Bar {
+    Bar::new("", false)
+}
+
+/// A scene's vertices and triangles as two OBJ files, faces written as exporters do; its edges are left out, since a mesh has those of its faces.
+pub fn objs_of(scene: &ExactScene, random: &mut Random) -> [String; 2] {
+    let mut texts = [String::new(), String::new()];
+    for v in &scene.vertices {
+        texts[0] += &format!("v {} {} {}\n", v[0], v[1], v[2]);
+        texts[1] += &format!("v {} {} {}\n", v[3], v[4], v[5]);
+    }
+    for triangle in &scene.triangles {
+        let form = random.below(4);
+        let count = scene.vertices.len();
+        let corner = |&vertex: &usize| match form {
+            0 => format!(" {}", vertex + 1),
+            1 => format!(" {0}/{0}/{0}", vertex + 1),
+            2 => format!(" {0}//{0}", vertex + 1),
+            _ => format!(" -{}", count - vertex),
+        };
+        let line = format!("f{}\n", triangle.iter().map(corner).collect::<String>());
+        texts.iter_mut().for_each(|text| *text += &line);
+    }
+    texts
+}
+
+/// A scene as a mesh, with its own edges.
+pub fn as_it_is(scene: &ExactScene) -> Mesh {
+    let numbers = |vertex: usize| vertex as u32;
+    Mesh {
+        positions: scene.vertices.iter().map(|v| v.map(|n| n as i32)).collect(),
+        edges: scene.edges.iter().map(|edge| edge.map(numbers)).collect(),
+        triangles: scene.triangles.iter().map(|triangle| triangle.map(numbers)).collect(),
+        stands: Vec::new(),
+    }
+}

@@ -1,0 +1,9 @@
+//! The program for garments against the library and the independent program. One test program, so that it is linked once.
+
+mod in_order;
+mod larger;
+mod meshes;
+mod one_scene;
+mod reading;
+mod split_join;
+mod told_apart;

@@ -1,0 +1,170 @@
+//! What each command does, and the status that it ends with.
+
+use crate::fault::Fault;
+use crate::mesh::{self, Mesh};
+use crate::obj::{self, Obj};
+use crate::progress::Bar;
+use crate::report::{About, Tally};
+use crate::rounding::{onto_grid, Rounded};
+use crate::words::{understood, Command, Options, USAGE};
+use crate::{join, scene_text, split, whole};
+use makhnodri::Settled;
+use std::ffi::OsString;
+use std::io::{stderr, stdout, BufWriter, Write};
+use std::path::Path;
+use std::thread;
+
+const DONE: u8 = 0;
+const NO_REPORT: u8 = 1;
+const NOT_UNDERSTOOD: u8 = 2;
+const HITS: u8 = 3;
+
+/// The status to end with. What went wrong is told on standard error.
+pub fn run(words: impl Iterator<Item = OsString>) -> u8 {
+    let (command, options) = match understood(words) {
+        Ok(both) => both,
+        Err(wrong) => {
+            tell(&format!("{wrong}\n{}", USAGE.trim_end()));
+            return NOT_UNDERSTOOD;
+        }
+    };
+    match done(&command, &options) {
+        Ok(Some(tally)) if options.no_hits && tally.of(Settled::Hit) > 0 => HITS,
+        Ok(_) => DONE,
+        Err(faults) => {
+            faults.iter().for_each(|fault| tell(&fault.words));
+            NO_REPORT
+        }
+    }
+}
+
+fn done(command: &Command, options: &Options) -> Result<Option<Tally>, Vec<Fault>> {
+    match command {
+        Command::Help => print(USAGE.as_bytes()).map(|()| None).map_err(alone),
+        Command::Version => print(format!("{}\n", makhnodri::VERSION).as_bytes()).map(|()| None).map_err(alone),
+        Command::Report { files } => report(files, options).map(Some),
+        Command::Scene { files } => scene(files, options).map(|()| None),
+        Command::Split { folder, files } => split_into(folder, files, options).map(|()| None),
+        Command::Join { folder } => joined(folder, options).map(Some),
+    }
+}
+
+fn report(files: &[String; 2], options: &Options) -> Result<Tally, Vec<Fault>> {
+    let (mesh, about) = read(files, options)?;
+    let mut bar = Bar::new("judging", !options.quiet);
+    let tally = whole::report(&mesh, &about, &options.form, options.threads, &mut bar, buffered()).map_err(alone)?;
+    drop(bar);
+    options.note(|| format!("{} pairs found, and as many judged", tally.listed()));
+    Ok(tally)
+}
+
+fn scene(files: &[String; 2], options: &Options) -> Result<(), Vec<Fault>> {
+    let (mesh, _) = read(files, options)?;
+    let text = scene_text::scene(mesh.positions.iter(), mesh.edges.iter().copied(), mesh.triangles.iter().copied());
+    print(text.as_bytes()).map_err(alone)
+}
+
+fn split_into(folder: &str, files: &[String; 2], options: &Options) -> Result<(), Vec<Fault>> {
+    let (mesh, about) = read(files, options)?;
+    let mut bar = Bar::new("finding", !options.quiet);
+    let index = split::split(&mesh, about, Path::new(folder), options.threads, &mut bar).map_err(alone)?;
+    drop(bar);
+    options.note(|| format!("{} pairs in {} parts", index.pairs(), index.parts.len()));
+    Ok(())
+}
+
+fn joined(folder: &str, options: &Options) -> Result<Tally, Vec<Fault>> {
+    let (index, words) = join::gather(Path::new(folder)).map_err(|mut faults| {
+        faults.push(Fault::new("nothing is joined"));
+        faults
+    })?;
+    let tally = join::write(&index, &words, &options.form, buffered()).map_err(alone)?;
+    options.note(|| format!("{} pairs of {} parts", tally.listed(), index.parts.len()));
+    Ok(tally)
+}
+
+/// The mesh of two files, start first; what is wrong with either is told.
+fn read(files: &[String; 2], options: &Options) -> Result<(Mesh, About), Vec<Fault>> {
+    let [start, end] = both_read(files)?;
+    let [from, to] = files;
+    mesh::same_faces([from, to], &start, &end).map_err(alone)?;
+    let rounded = onto_grid(&start.places, &end.places, options.step).map_err(alone)?;
+    let notes = (note_of_file(from, &start), note_of_steps(&rounded, options.step.is_none()), rounded.step);
+    let mesh = mesh::join(from, start, rounded, options.seams).map_err(alone)?;
+    let count = |length: usize| length as u64;
+    let about = About {
+        vertices: count(mesh.positions.len()),
+        edges: count(mesh.edges.len()),
+        triangles: count(mesh.triangles.len()),
+        seams: mesh.seams(),
+        step: notes.2,
+    };
+    options.note(|| format!("{} vertices, {} edges, {} triangles{}", about.vertices, about.edges, about.triangles, notes.0));
+    options.note(|| notes.1);
+    if options.seams {
+        options.note(|| format!("{} vertices stand for another in their place", about.seams));
+    }
+    Ok((mesh, about))
+}
+
+fn both_read(files: &[String; 2]) -> Result<[Obj; 2], Vec<Fault>> {
+    let [from, to] = files;
+    let (start, end) = thread::scope(|scope| {
+        let end = scope.spawn(|| obj::read_file(to));
+        (obj::read_file(from), end.join())
+    });
+    match (start, end.unwrap_or_else(|panic| std::panic::resume_unwind(panic))) {
+        (Ok(start), Ok(end)) => Ok([start, end]),
+        (start, end) => Err([start.err(), end.err()].into_iter().flatten().collect()),
+    }
+}
+
+fn note_of_file(name: &str, obj: &Obj) -> String {
+    let mut note = String::new();
+    let cut = [(obj.noted.quads, "quads"), (obj.noted.larger, "larger faces")];
+    for (count, what) in cut.iter().filter(|(count, _)| *count > 0) {
+        note += &format!("; {count} {what} cut from their lowest corner");
+    }
+    if obj.noted.loose > 0 {
+        note += &format!("; {} lines l and p of {name} passed over, since pairs are made of faces", obj.noted.loose);
+    }
+    note
+}
+
+fn note_of_steps(rounded: &Rounded, chosen: bool) -> String {
+    let Rounded { positions, step, moved, farthest, fallen } = rounded;
+    let how = if chosen { "chosen" } else { "given" };
+    let all = 6 * positions.len();
+    let mut note =
+        format!("a step is {step} ({how}); {moved} of {all} coordinates were rounded, by at most {farthest:.3} of a step");
+    if *fallen > 0 {
+        note += &format!("; {fallen} vertices fell into one place with another");
+    }
+    note
+}
+
+impl Options {
+    fn note(&self, words: impl FnOnce() -> String) {
+        if !self.quiet {
+            tell(&words());
+        }
+    }
+}
+
+/// Standard error may be closed or full; the report and the status are what counts.
+fn tell(words: &str) {
+    let _ = writeln!(stderr(), "garment: {words}");
+}
+
+fn alone(fault: Fault) -> Vec<Fault> {
+    vec![fault]
+}
+
+fn buffered() -> BufWriter<std::io::Stdout> {
+    BufWriter::with_capacity(1 << 16, stdout())
+}
+
+fn print(bytes: &[u8]) -> Result<(), Fault> {
+    let mut out = buffered();
+    out.write_all(bytes).and_then(|()| out.flush()).map_err(|error| Fault::new(format!("standard output: {error}")))
+}

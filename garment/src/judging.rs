@@ -1,0 +1,90 @@
+//! A pair alone, asked of the library: the one place that calls it for a word.
+//!
+//! A pair is judged by its own four vertices, so a scene of these is enough, as long as it keeps what the pieces of a pair go by: the order
+//! of its vertices, by the vertex that each stands for, and which of two edges is the lower. A pair that is listed shares no vertex, so its
+//! four stand for four, and the scene needs no seam. Whatever else is asked of a pair is asked of the same scene, `Alone::asked`.
+
+use crate::mesh::Mesh;
+use crate::pairs::{Kind, Pair};
+use makhnodri::{Refusal, Scene, Settled, Verdict};
+
+/// The word of a pair.
+pub fn settle(mesh: &Mesh, pair: Pair) -> Result<Settled, Refusal> {
+    Alone::of(mesh, pair).settle()
+}
+
+/// A scene of four vertices, and of one triangle or two edges.
+#[derive(Clone, Debug, PartialEq, Eq)]
+pub struct Alone {
+    pub kind: Kind,
+    pub positions: [i32; 24],
+    /// The place of each of the pair's vertices among the four: of the point and then of the corners, or of the ends of the first edge
+    /// and then of the second.
+    pub places: [u16; 4],
+}
+
+impl Alone {
+    #[inline(always)]
+    pub fn of(mesh: &Mesh, pair: Pair) -> Alone {
+        let vertices = match pair.kind {
+            Kind::PointTriangle => {
+                let [a, b, c] = mesh.corners(pair.second);
+                [mesh.stood(pair.first), a, b, c]
+            }
+            Kind::EdgeEdge => {
+                let ([a, b], [c, d]) = (mesh.ends(pair.first), mesh.ends(pair.second));
+                [a, b, c, d]
+            }
+        };
+        let places = in_rising_order(vertices);
+        let mut rising = [0; 4];
+        for (vertex, place) in vertices.into_iter().zip(places) {
+            // a place is below 4; said so, nothing is asked at run time
+            rising[place as usize & 3] = vertex;
+        }
+        Alone { kind: pair.kind, positions: in_a_row(rising.map(|vertex| &mesh.positions[vertex as usize])), places }
+    }
+
+    /// A hit and a miss are the same in three words and in four, and three are sooner asked for; what is degenerate is then decided.
+    #[inline(always)]
+    pub fn settle(&self) -> Result<Settled, Refusal> {
+        let (kind, scene, [first, second]) = self.asked();
+        match scene.judge_pair(kind, first, second)? {
+            Verdict::Hit => Ok(Settled::Hit),
+            Verdict::Miss => Ok(Settled::Miss),
+            Verdict::Degenerate => scene.settle_pair(kind, first, second),
+        }
+    }
+
+    /// The scene as the library takes it, and the pair in its numbers.
+    #[inline(always)]
+    fn asked(&self) -> (makhnodri::Kind, Scene<'_>, [usize; 2]) {
+        let positions = &self.positions;
+        let [first, corners @ ..] = &self.places;
+        match self.kind {
+            Kind::PointTriangle => {
+                (makhnodri::Kind::PointTriangle, Scene { positions, edges: &[], triangles: corners }, [*first as usize, 0])
+            }
+            Kind::EdgeEdge => (makhnodri::Kind::EdgeEdge, Scene { positions, edges: &self.places, triangles: &[] }, [0, 1]),
+        }
+    }
+}
+
+/// Written out, so that it is stored in wide words from the front on: the library's check reads such words, and one that was stored in two
+/// pieces would have to wait for both.
+#[inline(always)]
+#[rustfmt::skip]
+fn in_a_row([a, b, c, d]: [&[i32; 6]; 4]) -> [i32; 24] {
+    [
+        a[0], a[1], a[2], a[3], a[4], a[5], b[0], b[1], b[2], b[3], b[4], b[5],
+        c[0], c[1], c[2], c[3], c[4], c[5], d[0], d[1], d[2], d[3], d[4], d[5],
+    ]
+}
+
+/// How many of the four are lower than each. They differ from each other, so each two are compared once.
+#[inline(always)]
+fn in_rising_order([a, b, c, d]: [u32; 4]) -> [u16; 4] {
+    let above = |one: u32, other: u32| (one > other) as u16;
+    let [ab, ac, ad, bc, bd, cd] = [above(a, b), above(a, c), above(a, d), above(b, c), above(b, d), above(c, d)];
+    [ab + ac + ad, 1 - ab + bc + bd, 2 - ac - bc + cd, 3 - ad - bd - cd]
+}

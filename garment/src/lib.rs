@@ -1,0 +1,34 @@
+//! A whole garment judged: two OBJ exports of any size, start and end, in; one report, in the mesh's own numbers, out.
+//!
+//! As data goes through it: `obj` and `fields` read a file, `cutting` cuts its faces into triangles; `rounding` puts start and end onto
+//! the grid, `seams` finds vertices in one place, `mesh` holds what comes of it; `boxes`, `cells` and `candidates` find every pair whose
+//! swept boxes meet, each once; `judging` asks the library, and nothing else does; `work` does it on all cores, and `report` writes it
+//! down in order. For a farm `curve` and `packing` fill scenes, `split` writes them and `join` puts their reports together by the `index`.
+//! `words` understands the command line, and `command` does what it says.
+//!
+//! What is proved is the library. The reading, the rounding and the search for pairs are this program's own, and are compared: garment/check.
+
+pub mod boxes;
+pub mod candidates;
+pub mod cells;
+pub mod command;
+pub mod curve;
+pub mod cutting;
+pub mod fault;
+pub mod fields;
+pub mod index;
+pub mod join;
+pub mod judging;
+pub mod mesh;
+pub mod obj;
+pub mod packing;
+pub mod pairs;
+pub mod progress;
+pub mod report;
+pub mod rounding;
+pub mod scene_text;
+pub mod seams;
+pub mod split;
+pub mod whole;
+pub mod words;
+pub mod work;

@@ -1,0 +1,106 @@
+//! A mesh at two times, of any size: what every other part of the program looks at.
+
+use crate::fault::Fault;
+use crate::obj::Obj;
+use crate::rounding::Rounded;
+use crate::seams;
+
+#[derive(Clone, Debug, Default, PartialEq)]
+pub struct Mesh {
+    /// Start x, y, z, end x, y, z.
+    pub positions: Vec<[i32; 6]>,
+    pub edges: Vec<[u32; 2]>,
+    pub triangles: Vec<[u32; 3]>,
+    /// The vertex that each one stands for, which has its place; empty where nothing is sewn.
+    pub stands: Vec<u32>,
+}
+
+impl Mesh {
+    pub fn new(positions: Vec<[i32; 6]>, triangles: Vec<[u32; 3]>) -> Mesh {
+        let edges = edges_of(&triangles);
+        Mesh { positions, edges, triangles, stands: Vec::new() }
+    }
+
+    /// Sharing and the order of corners go by the vertex stood for; so does a position, since it is the same.
+    #[inline]
+    pub fn stood(&self, vertex: u32) -> u32 {
+        if self.stands.is_empty() {
+            vertex
+        } else {
+            self.stands[vertex as usize]
+        }
+    }
+
+    #[inline]
+    pub fn corners(&self, triangle: u32) -> [u32; 3] {
+        self.triangles[triangle as usize].map(|vertex| self.stood(vertex))
+    }
+
+    #[inline]
+    pub fn ends(&self, edge: u32) -> [u32; 2] {
+        self.edges[edge as usize].map(|vertex| self.stood(vertex))
+    }
+
+    /// How many vertices stand for another.
+    pub fn seams(&self) -> u64 {
+        self.stands.iter().zip(0..).filter(|&(&stood, vertex)| stood != vertex).count() as u64
+    }
+
+    /// Sews vertices in one place; or hands back a triangle that has two corners in one.
+    pub fn sew(&mut self) -> Result<(), usize> {
+        self.stands = seams::by_position(&self.positions);
+        let flat = |[a, b, c]: [u32; 3]| a == b || b == c || c == a;
+        match (0..self.triangles.len()).find(|&triangle| flat(self.corners(triangle as u32))) {
+            Some(triangle) => Err(triangle),
+            None => Ok(()),
+        }
+    }
+}
+
+/// The edges of the triangles a b c: a b, b c, c a, each once, either way round, in the order and in the way in which it first appears.
+fn edges_of(triangles: &[[u32; 3]]) -> Vec<[u32; 2]> {
+    let sides = |[a, b, c]: [u32; 3]| [[a, b], [b, c], [c, a]];
+    let mut all: Vec<([u32; 2], usize)> = Vec::with_capacity(3 * triangles.len());
+    for &triangle in triangles {
+        for [a, b] in sides(triangle) {
+            all.push(([a.min(b), a.max(b)], all.len()));
+        }
+    }
+    // equal ones stand side by side then, the first of them first; sorted again, no table has to be asked, and a hub costs no more than a sheet
+    all.sort_unstable();
+    all.dedup_by_key(|(ends, _)| *ends);
+    all.sort_unstable_by_key(|&(_, appears)| appears);
+    all.into_iter().map(|(_, appears)| sides(triangles[appears / 3])[appears % 3]).collect()
+}
+
+/// The two files have the same vertices and the same faces in the same order; only places differ.
+pub fn same_faces(names: [&str; 2], start: &Obj, end: &Obj) -> Result<(), Fault> {
+    let [from, to] = names;
+    if start.places.len() != end.places.len() {
+        let (a, b) = (start.places.len(), end.places.len());
+        return Err(Fault::new(format!("{from} has {a} vertices and {to} has {b}: they must be one mesh at two times")));
+    }
+    let differs = start.triangles.iter().zip(&end.triangles).position(|(a, b)| a != b);
+    if let Some(at) = differs {
+        let (a, b) = (start.lines[at], end.lines[at]);
+        return Err(Fault::new(format!("{from}:{a} and {to}:{b}: the faces differ: they must be one mesh at two times")));
+    }
+    if start.triangles.len() != end.triangles.len() {
+        let (a, b) = (start.triangles.len(), end.triangles.len());
+        return Err(Fault::new(format!("{from} has {a} triangles and {to} has {b}: they must be one mesh at two times")));
+    }
+    Ok(())
+}
+
+/// The mesh of two files that were found to have the same faces.
+pub fn join(name: &str, start: Obj, rounded: Rounded, sewn: bool) -> Result<Mesh, Fault> {
+    let mut mesh = Mesh::new(rounded.positions, start.triangles);
+    if sewn {
+        mesh.sew().map_err(|triangle| {
+            let words = "two corners of this face are in one place of the grid, at the start and at the end, and would be sewn together; \
+                         take a smaller --step";
+            Fault::in_line(name, start.lines[triangle], words)
+        })?;
+    }
+    Ok(mesh)
+}

@@ -1,0 +1,168 @@
+//! Lines of a report and its totals, as docs/FORMAT.md has them, or the same as JSON.
+
+use crate::pairs::Pair;
+use makhnodri::Settled;
+use std::io::Write;
+
+/// The four words, in the order in which the totals name them.
+pub const WORDS: [Settled; 4] = [Settled::Hit, Settled::Miss, Settled::Touch, Settled::Apart];
+
+pub fn letters(word: Settled) -> &'static str {
+    match word {
+        Settled::Hit => "hit",
+        Settled::Miss => "miss",
+        Settled::Touch => "touch",
+        Settled::Apart => "apart",
+    }
+}
+
+pub fn of_letters(word: &[u8]) -> Option<Settled> {
+    WORDS.into_iter().find(|&other| letters(other).as_bytes() == word)
+}
+
+fn place(word: Settled) -> usize {
+    match word {
+        Settled::Hit => 0,
+        Settled::Miss => 1,
+        Settled::Touch => 2,
+        Settled::Apart => 3,
+    }
+}
+
+/// How many pairs have each word.
+#[derive(Clone, Copy, Debug, Default, PartialEq, Eq)]
+pub struct Tally {
+    counts: [u64; 4],
+}
+
+impl Tally {
+    pub fn add(&mut self, word: Settled) {
+        self.counts[place(word)] += 1;
+    }
+
+    pub fn join(&mut self, other: Tally) {
+        self.counts.iter_mut().zip(other.counts).for_each(|(mine, others)| *mine += others);
+    }
+
+    pub fn of(&self, word: Settled) -> u64 {
+        self.counts[place(word)]
+    }
+
+    pub fn listed(&self) -> u64 {
+        self.counts.iter().sum()
+    }
+}
+
+/// What a mesh is, for who reads the report by program.
+#[derive(Clone, Debug, PartialEq)]
+pub struct About {
+    pub vertices: u64,
+    pub edges: u64,
+    pub triangles: u64,
+    pub seams: u64,
+    pub step: f64,
+}
+
+/// How a report is written down: parted by tabs or as JSON, and the lines of which words. The totals are of all.
+#[derive(Clone, Debug, PartialEq, Eq)]
+pub struct Form {
+    pub json: bool,
+    pub shown: Vec<Settled>,
+}
+
+impl Default for Form {
+    fn default() -> Form {
+        Form { json: false, shown: WORDS.to_vec() }
+    }
+}
+
+impl Form {
+    pub fn head(&self, about: &About) -> String {
+        if !self.json {
+            return String::new();
+        }
+        let About { vertices, edges, triangles, seams, step } = about;
+        format!(
+            "{{\"mesh\":{{\"vertices\":{vertices},\"edges\":{edges},\"triangles\":{triangles},\"seams\":{seams},\"step\":{step:e}}},\n\"pairs\":["
+        )
+    }
+
+    /// The line of a pair, behind what is there. In JSON a comma stands before it; the writer leaves out the first.
+    pub fn line(&self, pair: Pair, word: Settled, out: &mut Vec<u8>) {
+        if !self.shown.contains(&word) {
+            return;
+        }
+        let (kind, word) = (pair.kind.letters(), letters(word));
+        if self.json {
+            let Pair { first, second, .. } = pair;
+            let line = format!(",\n{{\"kind\":\"{kind}\",\"first\":{first},\"second\":{second},\"word\":\"{word}\"}}");
+            out.extend_from_slice(line.as_bytes());
+            return;
+        }
+        out.extend_from_slice(kind.as_bytes());
+        tab_and_number(pair.first, out);
+        tab_and_number(pair.second, out);
+        out.push(b'\t');
+        out.extend_from_slice(word.as_bytes());
+        out.push(b'\n');
+    }
+
+    pub fn foot(&self, tally: Tally) -> String {
+        let [hit, miss, touch, apart] = tally.counts;
+        let listed = tally.listed();
+        if self.json {
+            format!(
+                "\n],\n\"total\":{{\"listed\":{listed},\"hit\":{hit},\"miss\":{miss},\"touch\":{touch},\"apart\":{apart}}}}}\n"
+            )
+        } else {
+            format!("total\t{listed}\t{hit}\t{miss}\t{touch}\t{apart}\n")
+        }
+    }
+}
+
+/// A report is mostly such numbers, so they go past the formatter.
+fn tab_and_number(number: u32, out: &mut Vec<u8>) {
+    let (mut digits, mut at, mut rest) = ([0; 10], 10, number);
+    loop {
+        at -= 1;
+        digits[at] = b'0' + (rest % 10) as u8;
+        rest /= 10;
+        if rest == 0 {
+            break;
+        }
+    }
+    out.push(b'\t');
+    out.extend_from_slice(&digits[at..]);
+}
+
+/// A report as it goes out, part after part.
+pub struct Writer<'a, W> {
+    form: &'a Form,
+    out: W,
+    /// Whether a line was written.
+    any: bool,
+}
+
+impl<'a, W: Write> Writer<'a, W> {
+    pub fn begin(form: &'a Form, about: &About, mut out: W) -> std::io::Result<Writer<'a, W>> {
+        out.write_all(form.head(about).as_bytes())?;
+        Ok(Writer { form, out, any: false })
+    }
+
+    /// Lines that `Form::line` made.
+    pub fn lines(&mut self, lines: &[u8]) -> std::io::Result<()> {
+        let comma = (self.form.json && !self.any && !lines.is_empty()) as usize;
+        self.any |= !lines.is_empty();
+        self.out.write_all(&lines[comma..])
+    }
+
+    /// Totals, and all of it handed over: a write that fails late is told too.
+    pub fn end(mut self, tally: Tally) -> std::io::Result<()> {
+        self.out.write_all(self.form.foot(tally).as_bytes())?;
+        self.out.flush()
+    }
+
+    pub fn flush(&mut self) -> std::io::Result<()> {
+        self.out.flush()
+    }
+}

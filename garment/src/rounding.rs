@@ -1,0 +1,127 @@
+//! From floats onto the grid: one step for all axes and both times, and one shift, so that the mesh lies in the middle of the room.
+
+use crate::fault::Fault;
+use crate::seams;
+use makhnodri::COORDINATE_LIMIT;
+
+pub type Place = [f64; 3];
+
+#[derive(Debug, PartialEq)]
+pub struct Rounded {
+    /// Start x, y, z, end x, y, z, in steps.
+    pub positions: Vec<[i32; 6]>,
+    pub step: f64,
+    /// How many coordinates did not lie on the grid, and how far the farthest of them was moved, in steps.
+    pub moved: u64,
+    pub farthest: f64,
+    /// How many vertices came to stand in one place with another from which they were apart.
+    pub fallen: u64,
+}
+
+/// What is off the grid by less stood on it: its decimals are no sum of halves, and so it comes out of a division a little aside.
+const ON_THE_GRID: f64 = 1e-6;
+
+/// Beyond this a double counts no single steps.
+const COUNTED: f64 = (1u64 << 53) as f64;
+
+/// Each coordinate becomes the whole number of steps nearest to it, less the middle's. The middle is a whole number of steps too, so what
+/// lies on the grid stays on it, and another middle shifts all places alike.
+pub fn onto_grid(start: &[Place], end: &[Place], wanted: Option<f64>) -> Result<Rounded, Fault> {
+    let bounds = bounds(start, end);
+    let step = match wanted {
+        Some(step) => step,
+        None => least_step(&bounds)?,
+    };
+    let middle = middle(&bounds, step)?;
+    let mut out = Rounded { positions: Vec::with_capacity(start.len()), step, moved: 0, farthest: 0.0, fallen: 0 };
+    for (from, to) in start.iter().zip(end) {
+        let mut position = [0; 6];
+        for axis in 0..3 {
+            position[axis] = out.coordinate(from[axis], middle[axis], &bounds)?;
+            position[axis + 3] = out.coordinate(to[axis], middle[axis], &bounds)?;
+        }
+        out.positions.push(position);
+    }
+    if out.moved > 0 {
+        out.fallen = fallen(start, end, &out.positions);
+    }
+    Ok(out)
+}
+
+fn fallen(start: &[Place], end: &[Place], positions: &[[i32; 6]]) -> u64 {
+    let apart = |a: usize, b: usize| start[a] != start[b] || end[a] != end[b];
+    let lowest = seams::by_position(positions);
+    lowest.iter().enumerate().filter(|&(vertex, &lowest)| apart(vertex, lowest as usize)).count() as u64
+}
+
+impl Rounded {
+    fn coordinate(&mut self, value: f64, middle: i64, bounds: &Bounds) -> Result<i32, Fault> {
+        let steps = value / self.step;
+        let nearest = steps.round();
+        let off = (steps - nearest).abs();
+        self.moved += (off > ON_THE_GRID) as u64;
+        self.farthest = self.farthest.max(off);
+        let number = nearest as i64 - middle;
+        if number.abs() > COORDINATE_LIMIT as i64 {
+            return Err(too_fine(self.step, bounds));
+        }
+        Ok(number as i32)
+    }
+}
+
+/// The smallest and the largest coordinate of each axis, over start and end; nothing where there is no vertex.
+type Bounds = [Option<(f64, f64)>; 3];
+
+fn bounds(start: &[Place], end: &[Place]) -> Bounds {
+    let mut bounds: Bounds = [None; 3];
+    for place in start.iter().chain(end) {
+        for (bound, &value) in bounds.iter_mut().zip(place) {
+            let (low, high) = bound.unwrap_or((value, value));
+            *bound = Some((low.min(value), high.max(value)));
+        }
+    }
+    bounds
+}
+
+fn widest(bounds: &Bounds) -> f64 {
+    bounds.iter().flatten().map(|(low, high)| high - low).fold(0.0, f64::max)
+}
+
+/// The smallest of 1, 2, 5, 10, 20 and so on, up and down the powers of ten, with which the mesh fits: decimals of an export then mostly lie
+/// on the grid. A step is kept free for the middle's own rounding. A mesh in one place takes 1.
+pub fn least_step_for(width: f64) -> Option<f64> {
+    let least = width / (2.0 * (COORDINATE_LIMIT - 1) as f64);
+    if least == 0.0 {
+        return Some(1.0);
+    }
+    let power = least.log10().floor() as i32;
+    let steps = (power - 1..=power + 1).flat_map(|power| [1, 2, 5].map(|digit| format!("{digit}e{power}")));
+    steps.filter_map(|text| text.parse().ok()).find(|&step: &f64| step >= least && step.is_normal())
+}
+
+fn least_step(bounds: &Bounds) -> Result<f64, Fault> {
+    least_step_for(widest(bounds))
+        .ok_or_else(|| Fault::new("the vertices are too far apart, or too near each other, for a step to be chosen"))
+}
+
+fn middle(bounds: &Bounds, step: f64) -> Result<[i64; 3], Fault> {
+    let mut middle = [0; 3];
+    for (at, bound) in middle.iter_mut().zip(bounds) {
+        let (low, high) = bound.unwrap_or((0.0, 0.0));
+        if (low / step).abs() >= COUNTED || (high / step).abs() >= COUNTED {
+            return Err(Fault::new(format!(
+                "from {low} to {high} is too far from 0 for steps of {step}: a double no longer tells them apart; take a larger --step, or \
+                 move the mesh"
+            )));
+        }
+        *at = ((low / step).round() as i64 + (high / step).round() as i64).div_euclid(2);
+    }
+    Ok(middle)
+}
+
+fn too_fine(step: f64, bounds: &Bounds) -> Fault {
+    let width = widest(bounds);
+    let room = 2 * COORDINATE_LIMIT;
+    let fitting = least_step_for(width).map_or(String::new(), |least| format!("; {least} is enough"));
+    Fault::new(format!("the mesh is {width} wide, and the room is {room} steps of {step}: take a larger --step{fitting}"))
+}

@@ -1,0 +1,28 @@
+//! A scene as text, as docs/FORMAT.md has it.
+
+use std::fmt::Write;
+
+/// The `v` line of a vertex.
+pub fn vertex_line(position: &[i32; 6]) -> String {
+    let [a, b, c, d, e, f] = position;
+    format!("v\t{a}\t{b}\t{c}\t{d}\t{e}\t{f}\n")
+}
+
+/// No `e` and no `t` line of a scene within its sizes is longer: vertex numbers have three digits at most.
+pub const LONGEST_EDGE_LINE: usize = 10;
+pub const LONGEST_TRIANGLE_LINE: usize = 14;
+
+pub fn scene<'a>(
+    positions: impl Iterator<Item = &'a [i32; 6]>,
+    edges: impl Iterator<Item = [u32; 2]>,
+    triangles: impl Iterator<Item = [u32; 3]>,
+) -> String {
+    let mut text: String = positions.map(vertex_line).collect();
+    for [a, b] in edges {
+        writeln!(text, "e\t{a}\t{b}").expect("a string takes all");
+    }
+    for [a, b, c] in triangles {
+        writeln!(text, "t\t{a}\t{b}\t{c}").expect("a string takes all");
+    }
+    text
+}

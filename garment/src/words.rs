@@ -1,0 +1,147 @@
+//! The words of the command line, understood.
+
+use crate::report::{of_letters, Form};
+use crate::work;
+use makhnodri::Settled;
+use std::ffi::OsString;
+
+pub const USAGE: &str = "\
+usage: garment [OPTIONS] START.obj END.obj             the report of the mesh: each listed pair with its word, then the totals
+       garment split DIR [OPTIONS] START.obj END.obj   the mesh as scenes DIR/part-00001.scene and so on, and an index
+       garment join DIR [OPTIONS]                      the same report, from DIR/part-00001.report and so on
+       garment scene [OPTIONS] START.obj END.obj       the mesh as one scene text, of whatever length: what the numbers stand for
+       garment --help | --version
+options:
+  --step LENGTH    the length of a grid step, in the files' unit; without it the smallest of 1, 2, 5 times a power of ten that fits
+  --seams          vertices in one place at the start and at the end are one vertex
+  --json           JSON in place of fields parted by tabs
+  --only WORDS     lines with these words only, as hit,touch; the totals are of all
+  --no-hits        status 3 where a pair is hit
+  --threads N      as many threads; without it all cores
+  --quiet          no notes and no bar on standard error
+status: 0 done; 1 no whole report (a file that is not read or written, a mesh that does not fit); 2 not understood; 3 see --no-hits
+";
+
+#[derive(Clone, Debug, PartialEq)]
+pub struct Options {
+    pub step: Option<f64>,
+    pub seams: bool,
+    pub form: Form,
+    pub no_hits: bool,
+    pub threads: usize,
+    pub quiet: bool,
+}
+
+#[derive(Debug, PartialEq)]
+pub enum Command {
+    Report { files: [String; 2] },
+    Split { folder: String, files: [String; 2] },
+    Join { folder: String },
+    Scene { files: [String; 2] },
+    Help,
+    Version,
+}
+
+/// The command and its options, which may stand anywhere; behind `--` all are files.
+pub fn understood(words: impl Iterator<Item = OsString>) -> Result<(Command, Options), String> {
+    let mut options =
+        Options { step: None, seams: false, form: Form::default(), no_hits: false, threads: work::all_cores(), quiet: false };
+    let (mut plain, mut given, mut asked, mut only_files) = (Vec::new(), Vec::new(), None, false);
+    let mut words = words.map(|word| word.into_string().map_err(|word| format!("{word:?} is no UTF-8")));
+    while let Some(word) = words.next().transpose()? {
+        if only_files || !word.starts_with('-') || word == "-" {
+            plain.push(word);
+            continue;
+        }
+        match word.as_str() {
+            "--" => only_files = true,
+            "--help" | "-h" => asked = Some(Command::Help),
+            "--version" => asked = Some(Command::Version),
+            _ => given.push(options.take(&word, &mut words)?),
+        }
+    }
+    let command = asked.map_or_else(|| command_of(plain), Ok)?;
+    match given.iter().find(|name| !command.takes(name)) {
+        Some(name) => Err(format!("{name} says nothing to this command")),
+        None => Ok((command, options)),
+    }
+}
+
+impl Command {
+    /// Whether an option does anything here; one that does not is refused, since whoever gave it waits for something.
+    fn takes(&self, option: &str) -> bool {
+        let taken: &[&str] = match self {
+            Command::Report { .. } => &["--step", "--seams", "--json", "--only", "--no-hits", "--threads", "--quiet"],
+            Command::Split { .. } => &["--step", "--seams", "--threads", "--quiet"],
+            Command::Join { .. } => &["--json", "--only", "--no-hits", "--quiet"],
+            Command::Scene { .. } => &["--step", "--quiet"],
+            Command::Help | Command::Version => &[],
+        };
+        taken.contains(&option)
+    }
+}
+
+fn command_of(mut plain: Vec<String>) -> Result<Command, String> {
+    let named = ["split", "join", "scene"].into_iter().find(|name| plain.first().is_some_and(|first| first == name));
+    if named.is_some() {
+        plain.remove(0);
+    }
+    let wants =
+        |what: &str, plain: &[String]| format!("{} wants {what}, and here are {}", named.unwrap_or("garment"), plain.len());
+    match named {
+        Some("split") => match <[String; 3]>::try_from(plain) {
+            Ok([folder, start, end]) => Ok(Command::Split { folder, files: [start, end] }),
+            Err(plain) => Err(wants("a folder and two files", &plain)),
+        },
+        Some("join") => match <[String; 1]>::try_from(plain) {
+            Ok([folder]) => Ok(Command::Join { folder }),
+            Err(plain) => Err(wants("a folder", &plain)),
+        },
+        _ => match <[String; 2]>::try_from(plain) {
+            Ok(files) if named.is_some() => Ok(Command::Scene { files }),
+            Ok(files) => Ok(Command::Report { files }),
+            Err(plain) => Err(wants("two files", &plain)),
+        },
+    }
+}
+
+/// The options that a value follows.
+const WITH_VALUE: [&str; 3] = ["--step", "--threads", "--only"];
+
+impl Options {
+    /// Takes an option, with the value that stands behind it, and hands back its name.
+    fn take(&mut self, word: &str, rest: &mut impl Iterator<Item = Result<String, String>>) -> Result<String, String> {
+        let (name, within) = match word.split_once('=') {
+            Some((name, value)) if WITH_VALUE.contains(&name) => (name, Some(value.to_string())),
+            _ => (word, None),
+        };
+        let value = match within {
+            None if WITH_VALUE.contains(&name) => rest.next().transpose()?.ok_or_else(|| format!("{name} wants a value"))?,
+            within => within.unwrap_or_default(),
+        };
+        match self.set(name, &value) {
+            Some(()) => Ok(name.to_string()),
+            None if WITH_VALUE.contains(&name) => Err(format!("{name} does not take {value:?}")),
+            None => Err(format!("{word} is not known")),
+        }
+    }
+
+    fn set(&mut self, name: &str, value: &str) -> Option<()> {
+        match name {
+            "--step" => self.step = Some(value.parse().ok().filter(|step: &f64| step.is_normal() && *step > 0.0)?),
+            "--threads" => self.threads = value.parse().ok().filter(|threads| (1..=MOST_THREADS).contains(threads))?,
+            "--only" => {
+                self.form.shown = value.split(',').map(|word| of_letters(word.as_bytes())).collect::<Option<Vec<Settled>>>()?
+            }
+            "--seams" => self.seams = true,
+            "--json" => self.form.json = true,
+            "--no-hits" => self.no_hits = true,
+            "--quiet" => self.quiet = true,
+            _ => return None,
+        }
+        Some(())
+    }
+}
+
+/// More is a slip of the pen.
+const MOST_THREADS: usize = 1_024;
