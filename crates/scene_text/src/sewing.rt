@@ -47,10 +47,12 @@ fn hold_seam(
     let t = 3 * c.triangles;
     let k = 2 * c.seams;
     let least = least_after(seams, c.seams);
-    if sew_next(&positions[..p], stands, least, seams[k], seams[k + 1]) {
+    let broken = sew_next(&positions[..p], stands, least, seams[k], seams[k + 1]);
+    let repeated = repeated_vertex(&edges[..e], &triangles[..t], stands);
+    if broken {
         return Judged::Fault(Refusal::BrokenSeam);
     }
-    if repeated_vertex(&edges[..e], &triangles[..t], stands) {
+    if repeated {
         return Judged::Fault(Refusal::RepeatedVertex);
     }
     Judged::Good

@@ -15,28 +15,28 @@ sew-next-requires c κs =
     let p = c .before .before .before .before .before .before .before .before .before .before .before .before .before .pre in
     (vertex-in-front _ _ _ (p .positions) (p .first), vertex-in-front _ _ _ (p .positions) (p .second))
 
-returns : tie.Need-returns
-returns c =
-    let s = c .before .before .before .sew-next in
-    held-broken _ _ _ _ (c .before .before .before .before .before .before .before .before .least-after .ensures) (s .ensures .0) (s .ensures .1) (c .if1 .taken)
-
 slice-aggregate-repeated-vertex : tie.Need-slice-aggregate-repeated-vertex
-slice-aggregate-repeated-vertex c = sym (length-take-le _ _ (omega (arith, c .before .before .before .before .before .before .before .before .before .before .before .before .before .before .before .before .before .before .pre .edges)))
+slice-aggregate-repeated-vertex c = sym (length-take-le _ _ (omega (arith, c .before .before .before .before .before .before .before .before .before .before .before .before .before .before .before .before .before .pre .edges)))
 
 slice-aggregate-repeated-vertex-2 : tie.Need-slice-aggregate-repeated-vertex-2
-slice-aggregate-repeated-vertex-2 c = sym (length-take-le _ _ (omega (arith, c .before .before .before .before .before .before .before .before .before .before .before .before .before .before .before .before .before .before .before .pre .triangles)))
+slice-aggregate-repeated-vertex-2 c = sym (length-take-le _ _ (omega (arith, c .before .before .before .before .before .before .before .before .before .before .before .before .before .before .before .before .before .before .pre .triangles)))
+
+returns : tie.Need-returns
+returns c =
+    let s = c .before .before .before .before .before .before .before in
+    held-broken _ _ _ _ (s .before .before .before .before .before .least-after .ensures) (s .sew-next .ensures .0) (s .sew-next .ensures .1) (c .if1 .taken)
 
 returns-2 : tie.Need-returns-2
 returns-2 c =
-    let s = c .before .before .before .before .before .before .before .before .sew-next in
-    held-repeated _ _ _ _ (c .before .before .before .before .before .before .before .before .before .before .before .before .before .least-after .ensures) (s .ensures .0) (s .ensures .1) (c .before .before .before .before .before .if1 .left)
-    (c .before .repeated-vertex .ensures) (c .if2 .taken)
+    let s = c .before .before .before .before .before .before .before .before in
+    held-repeated _ _ _ _ (s .before .before .before .before .before .least-after .ensures) (s .sew-next .ensures .0) (s .sew-next .ensures .1) (c .before .if1 .left)
+    (c .before .before .repeated-vertex .ensures) (c .if2 .taken)
 
 returns-3 : tie.Need-returns-3
 returns-3 c =
-    let s = c .before .before .before .before .before .before .before .before .sew-next in
-    held-good _ _ _ _ (c .before .before .before .before .before .before .before .before .before .before .before .before .before .least-after .ensures) (s .ensures .0) (s .ensures .1) (c .before .before .before .before .before .if1 .left)
-    (c .before .repeated-vertex .ensures) (c .if2 .left)
+    let s = c .before .before .before .before .before .before .before .before in
+    held-good _ _ _ _ (s .before .before .before .before .before .least-after .ensures) (s .sew-next .ensures .0) (s .sew-next .ensures .1) (c .before .if1 .left)
+    (c .before .before .repeated-vertex .ensures) (c .if2 .left)
 
 pub hold-seam-spec : {M : Type 1} → statement M
 hold-seam-spec =
@@ -54,11 +54,11 @@ hold-seam-spec =
     (λ c. search needs)
     (λ c. search needs)
     sew-next-requires
-    (λ c. search needs)
-    returns
     slice-aggregate-repeated-vertex
     slice-aggregate-repeated-vertex-2
     (λ c κs. search needs)
+    (λ c. search needs)
+    returns
     (λ c. search needs)
     returns-2
     (λ c. search needs)
