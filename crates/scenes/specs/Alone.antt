@@ -39,3 +39,10 @@ abbrev pub tabledAtEntry : {X Y Z W : Type 0} → Both (RefT (List ℤ)) X → B
     → Both (RefT (List ℕ)) W
     → Scene
 tabledAtEntry p e t stands = tabledIn (p .entry) (e .entry) (t .entry) (stands .entry)
+
+-- the scene of a call that looks at no seam, as it would be without any
+abbrev pub unsewnIn : RefT (List ℤ) → RefT (List ℕ) → RefT (List ℕ) → Scene
+unsewnIn p e t = sceneOf (p .now) (e .now) (t .now) []
+
+abbrev pub unsewnAtEntry : {X Y Z : Type 0} → Both (RefT (List ℤ)) X → Both (RefT (List ℕ)) Y → Both (RefT (List ℕ)) Z → Scene
+unsewnAtEntry p e t = unsewnIn (p .entry) (e .entry) (t .entry)

@@ -2,7 +2,7 @@
 use Prim.Native.Nat.{ℕ, _≤_, _<_}
 use mathlib.Core.Bool.{Bool, true, false, true≢false, cond, _||_}
 use mathlib.Core.List.{List, []}
-use mathlib.Core.Path.{_≡_, refl, sym, _∙_, ap}
+use mathlib.Core.Path.{_≡_, refl, sym, _∙_, ap, subst}
 use native.Mathlib.Omega.{arith}
 use lib.ListN.{length}
 use borrow.Author.Tests.{ltb-false}
@@ -22,11 +22,26 @@ use Rattle.scenes.specs.Sewing.{Blank, Sewable, Sewn, tableAfter}
 abbrev pub stitched : Scene → List ℕ → List ℕ
 stitched s t = cond (wrongShape s || outOfRange s || unknownVertex s) t (tableAfter t (s .seams) (seamCount s))
 
--- of a table that was t and is t′: the answer is right, and the table has the scene's seams where the scene is accepted
-pub record Checked (s : Scene) (t t′ : List ℕ) (r : SceneAnswer) : Type 0 where
-  pub checked : SceneChecked s r
+-- of a table that was t and is t′: it has the scene's seams where the scene is accepted
+pub record Stitched (s : Scene) (t t′ : List ℕ) : Type 0 where
   pub table : t′ ≡ stitched s t
   pub tells : Accepted s → seamsOf t′ ≡ s .seams
+
+-- the scene that the table tells is then the scene
+pub one-scene : {s : Scene} {t t′ : List ℕ} → Stitched s t t′ → Accepted s → tabled (s .positions) (s .edges) (s .triangles) t′ ≡ s
+one-scene {s} h a = ap (sceneOf (s .positions) (s .edges) (s .triangles)) (h .tells a)
+
+-- what holds of the scene holds of the one that the table tells, and back
+pub to-table : {s : Scene} {t t′ : List ℕ} (P : Scene → Type 0) → Stitched s t t′ → Accepted s → P s → P (tabled (s .positions) (s .edges) (s .triangles) t′)
+to-table P h a p = subst P (sym (one-scene h a)) p
+
+pub from-table : {s : Scene} {t t′ : List ℕ} (P : Scene → Type 0) → Stitched s t t′ → Accepted s → P (tabled (s .positions) (s .edges) (s .triangles) t′) → P s
+from-table P h a p = subst P (one-scene h a) p
+
+-- the answer is right, and the table is made
+pub record Checked (s : Scene) (t t′ : List ℕ) (r : SceneAnswer) : Type 0 where
+  pub checked : SceneChecked s r
+  pub into : Stitched s t t′
 
 module _ (s : Scene) (t : List ℕ) where
   pub sewable : Blank (s .seams) t → wrongShape s ≡ false → unknownVertex s ≡ false → Sewable (s .positions) (s .seams) t
@@ -44,8 +59,7 @@ module _ (s : Scene) (t : List ℕ) where
   unfolding sceneSays numberOf
   wrong-shape h = record {
     checked = refuses _ _ _ _ h refl;
-    table = early (rw h);
-    tells = λ a. absurd (true≢false (sym h ∙ a .shapely));
+    into = record { table = early (rw h); tells = λ a. absurd (true≢false (sym h ∙ a .shapely)) };
   }
 
   module _ (shape : wrongShape s ≡ false) where
@@ -53,8 +67,7 @@ module _ (s : Scene) (t : List ℕ) where
     unfolding sceneSays numberOf
     out-of-range h = record {
       checked = lets-pass _ _ _ _ shape (refuses _ _ _ _ h refl);
-      table = early (rw (shape, h));
-      tells = λ a. absurd (true≢false (sym h ∙ a .inRange));
+      into = record { table = early (rw (shape, h)); tells = λ a. absurd (true≢false (sym h ∙ a .inRange)) };
     }
 
     module _ (range : outOfRange s ≡ false) where
@@ -62,8 +75,7 @@ module _ (s : Scene) (t : List ℕ) where
       unfolding sceneSays numberOf
       unknown-vertex h = record {
         checked = lets-pass _ _ _ _ shape (lets-pass _ _ _ _ range (refuses _ _ _ _ h refl));
-        table = early (rw (shape, range, h));
-        tells = λ a. absurd (true≢false (sym h ∙ a .known));
+        into = record { table = early (rw (shape, range, h)); tells = λ a. absurd (true≢false (sym h ∙ a .known)) };
       }
 
       module _ (known : unknownVertex s ≡ false) {t′ : List ℕ} {broken : Bool} (sewn : Sewn (s .positions) (s .seams) t broken t′) where
@@ -80,8 +92,7 @@ module _ (s : Scene) (t : List ℕ) where
               lets-pass _ _ _ _ shape
               (lets-pass _ _ _ _ range
               (lets-pass _ _ _ _ known (refuses _ _ _ _ (sym (sewn .finds) ∙ h) refl)));
-          table = late;
-          tells = taken;
+          into = record { table = late; tells = taken };
         }
 
         module _ (h : broken ≡ false) {repeated : Bool} (r : repeated ≡ repeatedVertex (tabled [] (s .edges) (s .triangles) t′)) where
@@ -98,8 +109,7 @@ module _ (s : Scene) (t : List ℕ) where
                 lets-pass _ _ _ _ shape
                 (lets-pass _ _ _ _ range
                 (lets-pass _ _ _ _ known (lets-pass _ _ _ _ whole (refuses _ _ _ _ (own ∙ q) refl))));
-            table = late;
-            tells = taken;
+            into = record { table = late; tells = taken };
           }
 
           pub nothing-wrong : repeated ≡ false → Checked s t t′ SceneAnswers.the-variants.Accepted
@@ -109,6 +119,5 @@ module _ (s : Scene) (t : List ℕ) where
                 lets-pass _ _ _ _ shape
                 (lets-pass _ _ _ _ range
                 (lets-pass _ _ _ _ known (lets-pass _ _ _ _ whole (lets-pass _ _ _ _ (own ∙ q) (gives _ tt tt)))));
-            table = late;
-            tells = taken;
+            into = record { table = late; tells = taken };
           }
