@@ -23,13 +23,13 @@ cloth =
     ++ coordinates (at (pos 1) (pos 1) (pos 0)) (at (pos 0) (pos 0) (pos 0)) ++ coordinates (at (pos 0) (pos 1) (pos 2)) (at (pos 1) (pos 1) (pos 1))
     ++ coordinates (at (pos 2) (pos 2) (pos 0)) (at (pos 0) (pos 1) (pos 0))
 
-abbrev pub open : Scene
-open = sceneOf cloth [] (0 ∷ 1 ∷ 2 ∷ 4 ∷ 5 ∷ 6 ∷ []) []
+abbrev pub seamOpen : Scene
+seamOpen = sceneOf cloth [] (0 ∷ 1 ∷ 2 ∷ 4 ∷ 5 ∷ 6 ∷ []) []
 
-abbrev pub closed : Scene
-closed = sceneOf cloth [] (0 ∷ 1 ∷ 2 ∷ 4 ∷ 5 ∷ 6 ∷ []) (4 ∷ 1 ∷ 5 ∷ 0 ∷ [])
+abbrev pub seamClosed : Scene
+seamClosed = sceneOf cloth [] (0 ∷ 1 ∷ 2 ∷ 4 ∷ 5 ∷ 6 ∷ []) (4 ∷ 1 ∷ 5 ∷ 0 ∷ [])
 
-pub both-are-accepted : Accepted open × Accepted closed
+pub both-are-accepted : Accepted seamOpen × Accepted seamClosed
 unfolding someBelow stoodFor
 both-are-accepted = (
   record { shapely = refl; inRange = refl; known = refl; sewnWell = refl; distinct = refl },
@@ -37,11 +37,11 @@ both-are-accepted = (
 )
 
 -- the point slips through
-pub open-missed : PairSettled open PointTriangle 3 0 Miss × PairSettled open PointTriangle 3 1 Miss
+pub open-missed : PairSettled seamOpen PointTriangle 3 0 Miss × PairSettled seamOpen PointTriangle 3 1 Miss
 unfolding stoodFor pieceCount pieceVerdict joinedBelow joined pointDifferences volume verdictOf agreeing pairWord settledBy
-open-missed = (pair-word-is open PointTriangle 3 0 Miss .1 refl, pair-word-is open PointTriangle 3 1 Miss .1 refl)
+open-missed = (pair-word-is seamOpen PointTriangle 3 0 Miss .1 refl, pair-word-is seamOpen PointTriangle 3 1 Miss .1 refl)
 
 -- and does not
-pub closed-hit : PairSettled closed PointTriangle 3 1 Hit
+pub closed-hit : PairSettled seamClosed PointTriangle 3 1 Hit
 unfolding stoodFor pieceCount pieceVerdict joinedBelow joined pointDifferences volume verdictOf agreeing pairWord settledBy
-closed-hit = pair-word-is closed PointTriangle 3 1 _ .1 refl
+closed-hit = pair-word-is seamClosed PointTriangle 3 1 _ .1 refl
