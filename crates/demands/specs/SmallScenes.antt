@@ -30,7 +30,7 @@ unfolding pairs gather over times
 nothing-listed = refl
 
 pub empty-text : Holds [] (sceneOf [] [] [] [])
-unfolding Lines.Sound flatMap
+unfolding Lines.Sound Lines.afterAll flatMap
 empty-text = record { entries = []; records = record { sound = tt; lines = refl }; scene = refl }
 
 -- ---- an empty line
