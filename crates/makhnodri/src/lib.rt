@@ -323,7 +323,15 @@ pub extern "C" fn makhnodri_contact_ee(
 ) -> u64
     ensures { λ r. ⌜ Told meetingNumber (ContactInto (sceneAtEntry positions edges triangles) EdgeEdge first second (now (contact .entry)) (now (contact .exit))) r ⌝ }
 {
-    contact_told(positions, edges, triangles, Kind::EdgeEdge, first, second, contact)
+    contact_told(
+        positions,
+        edges,
+        triangles,
+        Kind::EdgeEdge,
+        first,
+        second,
+        contact,
+    )
 }
 
 // The list, the word of each listed pair, and for each hit its five numbers in its row.
@@ -338,14 +346,7 @@ pub extern "C" fn makhnodri_contact_scene(
 ) -> u64
     ensures { λ r. ⌜ Told listNumber (MetScene (sceneAtEntry positions edges triangles) (now (list .entry)) (now (list .exit)) (now (words .entry)) (now (words .exit)) (now (contacts .entry)) (now (contacts .exit))) r ⌝ }
 {
-    list_number(scene_contacts::meet_scene(
-        positions,
-        edges,
-        triangles,
-        list,
-        words,
-        contacts,
-    ))
+    list_number(scene_contacts::meet_scene(positions, edges, triangles, list, words, contacts))
 }
 
 // ---- a text

@@ -58,15 +58,7 @@ pub fn meeting_pair(
             if beyond_old_range(positions) {
                 return MeetingAnswer::Refused(Refusal::BeyondOldRange);
             }
-            MeetingAnswer::Found(met(
-                positions,
-                edges,
-                triangles,
-                kind,
-                first,
-                second,
-                word,
-            ))
+            MeetingAnswer::Found(met(positions, edges, triangles, kind, first, second, word))
         }
     }
 }

@@ -88,7 +88,15 @@ pub fn meet_near(
     );
     match listing::accepted::list_accepted(positions, edges, triangles, list, room) {
         ListAnswer::Listed(made) => {
-            meet_entries(positions, edges, triangles, list, words, contacts, made.count);
+            meet_entries(
+                positions,
+                edges,
+                triangles,
+                list,
+                words,
+                contacts,
+                made.count,
+            );
             ListAnswer::Listed(made)
         }
         ListAnswer::Refused(refusal, needed) => ListAnswer::Refused(refusal, needed),

@@ -19,11 +19,7 @@ fn size_of_sum(v: Volumes) -> u64
     ensures { λ r. ⌜ r ≡ natAbs (sum (fourOf v)) ⌝ }
 {
     let s = v.e0 + v.e1 + v.e2 + v.e3;
-    if s < 0 {
-        (0 - s) as u64
-    } else {
-        s as u64
-    }
+    if s < 0 { (0 - s) as u64 } else { s as u64 }
 }
 
 // The sum of the volumes that the p count, as a share of the sum of those that the w count.
