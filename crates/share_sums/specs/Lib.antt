@@ -1,2 +1,3 @@
 -- Sums of determinants in the range that coordinates had at first.
 pub mod InRange
+pub mod Quick

@@ -1,6 +1,8 @@
 // A sum of determinants as a share of another, in whole 2^20ths. In the range that coordinates had at first four determinants fit 64 bits
 // together, so here, and in that range alone, a sum is a number.
 
+mod quick; // quick.rt: a share cut by as few divisions as its numbers allow
+
 ghost use mathlib.Core.Path.{_≡_};
 ghost use lib.IntN.{natAbs};
 ghost use Rattle.cutting.specs.Cut.{CutTo};
@@ -8,6 +10,7 @@ ghost use Rattle.exact.specs.Volumes.{four, fourOf, Small};
 ghost use Rattle.sign_sums.specs.BySigns.{sum, kept};
 ghost use Rattle.share_sums.specs.InRange.{InRange, Part};
 use exact::Volumes;
+use quick::quick_cut;
 use sign_sums::keep_where;
 
 // The size of the sum of four.
@@ -36,5 +39,5 @@ pub fn share(
 {
     let part = size_of_sum(keep_where(v, p0, p1, p2, p3));
     let whole = size_of_sum(keep_where(v, w0, w1, w2, w3));
-    cutting::cut(part, whole)
+    quick_cut(part, whole)
 }

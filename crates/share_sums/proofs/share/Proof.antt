@@ -22,8 +22,8 @@ size-of-sum-requires-2 c κs = rw (holds-same (c .keep-where2 .ensures)) (kept-i
 size-is : {n : ℕ} {v : Volumes} {e : Four ℤ} → n ≡ natAbs (sum (fourOf v)) → Holds v e → n ≡ natAbs (sum e)
 size-is h k = h ∙ ap (λ (e : Four ℤ). natAbs (sum e)) (holds-same k)
 
-cut-requires : tie.Need-cut-requires
-cut-requires c κs =
+quick-cut-requires : tie.Need-quick-cut-requires
+quick-cut-requires c κs =
     let p = c .before .before .before .before .pre in
     rw (size-is (c .size-of-sum2 .ensures) (c .before .keep-where2 .ensures), size-is (c .before .before .size-of-sum .ensures) (c .before .before .before .keep-where .ensures))
     (natAbs-positive _ (p .2 .some), p .2 .fits, sum-small (kept-in-range (p .1) _))
@@ -31,7 +31,7 @@ cut-requires c κs =
 returns : tie.Need-returns
 returns c =
     rw (size-is (c .before .size-of-sum2 .ensures) (c .before .before .keep-where2 .ensures), size-is (c .before .before .before .size-of-sum .ensures) (c .before .before .before .before .keep-where .ensures))
-    at (c .cut .ensures)
+    at (c .quick-cut .ensures)
 
 pub share-spec : {M : Type 1} → statement M
 share-spec =
@@ -41,5 +41,5 @@ share-spec =
     size-of-sum-requires
     (λ c κs. search needs)
     size-of-sum-requires-2
-    cut-requires
+    quick-cut-requires
     returns)
