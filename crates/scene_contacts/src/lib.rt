@@ -106,6 +106,7 @@ pub fn meet_near(
                 positions,
                 edges,
                 triangles,
+                stands,
                 list,
                 words,
                 contacts,
