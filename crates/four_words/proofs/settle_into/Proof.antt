@@ -24,9 +24,11 @@ returns c =
     let a = c .before .before .before .before .before .before .before .before .before .before .before .before .before .args in
     let s = sceneIn (a .positions) (a .edges) (a .triangles) (a .seams) in
     let called = c .before .before .before .before .before .before .before .pair-into .ensures in
-    let given = pair-given s (a .kind) (a .first) (a .second) _ (called .0) {v = c .before .before .before .verdict .given .0 .0} (search) in
-    (pair-decided s (a .kind) (a .first) (a .second) _ (called .0) {v = c .before .before .before .verdict .given .0 .0} (search) (c .pair-word .result)
-    (from-table (λ (u : Scene). PairSettled u (a .kind) (a .first) (a .second) (c .pair-word .result)) (called .1) (given .0) (c .pair-word .ensures)), called .1)
+    let given = pair-given s (a .kind) (a .first) (a .second) _ (called .0) {v = c .before .before .before .verdict .given .0 .0} (search) in (
+      pair-decided s (a .kind) (a .first) (a .second) _ (called .0) {v = c .before .before .before .verdict .given .0 .0} (search) (c .pair-word .result)
+          (from-table (λ (u : Scene). PairSettled u (a .kind) (a .first) (a .second) (c .pair-word .result)) (called .1) (given .0) (c .pair-word .ensures)),
+      called .1,
+    )
 
 returns-2 : tie.Need-returns-2
 returns-2 c =

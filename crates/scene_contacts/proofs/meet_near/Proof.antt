@@ -10,14 +10,14 @@ use Rattle.scene_contacts.proofs.meet_near.Tie as tie
 
 list-accepted-requires : tie.Need-list-accepted-requires
 list-accepted-requires c κs =
-    (old-accepted (c .before .before .before .before .before .before .before .before .before .before .before .pre), omega (arith, c .before .smaller2 .ensures, c .before .before .smaller .ensures, c .before .before .before .room .ensures))
+    (old-accepted (c .before .before .before .before .before .before .before .before .before .before .before .before .pre), omega (arith, c .before .before .smaller2 .ensures, c .before .before .before .smaller .ensures, c .before .before .before .before .room .ensures))
 
 meet-entries-requires : tie.Need-meet-entries-requires
 meet-entries-requires c κs =
-    let start = c .before .before .before .before .before .before .before .before .before .before .before .before .before .before .before .before .before .before .before .before in
-    let small = c .before .before .before .before .before .before .before .before .before .before .smaller2 .ensures in
-    let less = c .before .before .before .before .before .before .before .before .before .before .before .smaller .ensures in
-    let room = c .before .before .before .before .before .before .before .before .before .before .before .before .room .ensures in
+    let start = c .before .before .before .before .before .before .before .before .before .before .before .before .before .before .before .before .before .before .before .before .before in
+    let small = c .before .before .before .before .before .before .before .before .before .before .before .smaller2 .ensures in
+    let less = c .before .before .before .before .before .before .before .before .before .before .before .before .smaller .ensures in
+    let room = c .before .before .before .before .before .before .before .before .before .before .before .before .before .room .ensures in
     let m = made-list (c .before .before .before .before .before .before .before .before .list-accepted .ensures .list) {m = c .before .before .before .before .made .given .0 .0} (search) in (
       start .pre,
       made-stands (old-accepted (start .pre)) (rw (small, less, room) (omega arith)) m,
@@ -28,13 +28,13 @@ meet-entries-requires c κs =
 
 returns : tie.Need-returns
 returns c =
-    rw (c .before .before .before .before .before .before .before .before .before .before .before .before .before .before .before .smaller2 .ensures, c .before .before .before .before .before .before .before .before .before .before .before .before .before .before .before .before .smaller .ensures, c .before .before .before .before .before .before .before .before .before .before .before .before .before .before .before .before .before .room .ensures) at
+    rw (c .before .before .before .before .before .before .before .before .before .before .before .before .before .before .before .before .smaller2 .ensures, c .before .before .before .before .before .before .before .before .before .before .before .before .before .before .before .before .before .smaller .ensures, c .before .before .before .before .before .before .before .before .before .before .before .before .before .before .before .before .before .before .room .ensures) at
     (met-made (c .before .before .before .before .before .before .before .before .before .before .before .before .before .list-accepted .ensures .list) {m = c .before .before .before .before .before .before .before .before .before .made .given .0 .0} (search) (c .before .before .before .before .meet-entries .ensures .0) (c .before .before .before .before .meet-entries .ensures .1))
 
 returns-2 : tie.Need-returns-2
 returns-2 c =
-    rw (c .before .before .before .before .before .before .before .smaller2 .ensures, c .before .before .before .before .before .before .before .before .smaller .ensures, c .before .before .before .before .before .before .before .before .before .room .ensures) at
-    (met-without-room (c .before .before .before .before .before .list-accepted .ensures .list) {x = c .before .refusal .given .0 .0} {n = c .before .refusal .given .0 .1 .0} {b = c .before .before .before .before .before .before .before .before .before .before .before .before .before .before .before .before .before .args .words .now} {c = c .before .before .before .before .before .before .before .before .before .before .before .before .before .before .before .before .before .args .contacts .now} (search))
+    rw (c .before .before .before .before .before .before .before .before .smaller2 .ensures, c .before .before .before .before .before .before .before .before .before .smaller .ensures, c .before .before .before .before .before .before .before .before .before .before .room .ensures) at
+    (met-without-room (c .before .before .before .before .before .list-accepted .ensures .list) {x = c .before .refusal .given .0 .0} {n = c .before .refusal .given .0 .1 .0} {b = c .before .before .before .before .before .before .before .before .before .before .before .before .before .before .before .before .before .before .args .words .now} {c = c .before .before .before .before .before .before .before .before .before .before .before .before .before .before .before .before .before .before .args .contacts .now} (search))
 
 pub meet-near-spec : {M : Type 1} → statement M
 meet-near-spec =

@@ -1,8 +1,11 @@
--- The scene is checked, then its range, and then it is met.
+-- The scene is checked, then its range, and then it is met, over the table of its seams.
 use borrow.Author.Needs.{needs}
 use mathlib.Core.Path.{sym, _∙_}
-use Rattle.meaning.specs.Scene.{sceneOf}
+use Rattle.meaning.specs.Limits.{contactLimit}
+use Rattle.meaning.specs.Scene.{sceneIn, AcceptedWithin}
 use Rattle.scenes.specs.Accepting.{accepted-by}
+use Rattle.scenes.specs.Checking.{one-scene, to-table}
+use Rattle.scenes.specs.Sewing.{blank-table}
 use Rattle.meetings.specs.Ready.{within-old}
 use Rattle.scene_contacts.specs.Answering.{met-refused, met-beyond, met-near}
 use Rattle.scene_contacts.proofs.meet_scene.Statement.{statement}
@@ -10,34 +13,42 @@ use Rattle.scene_contacts.proofs.meet_scene.Tie as tie
 
 returns : tie.Need-returns
 returns c =
-    let a = c .before .before .before .before .before .before .before .before .before .args in
-    met-refused (sceneOf (a .positions .now) (a .edges .now) (a .triangles .now)) _ _ _ (c .before .refusal .given .0 .0) (c .before .before .before .check-scene .ensures) (search)
+    let a = c .before .before .before .before .before .before .before .before .before .before .before .before .args in
+    met-refused (sceneIn (a .positions) (a .edges) (a .triangles) (a .seams)) _ _ _ (c .before .refusal .given .0 .0) (c .before .before .before .before .check-into .ensures .checked) (search)
 
 returns-2 : tie.Need-returns-2
 returns-2 c =
-    let a = c .before .before .before .before .before .before .before .before .before .before .args in
-    met-beyond (sceneOf (a .positions .now) (a .edges .now) (a .triangles .now)) _ _ _ (accepted-by (sceneOf (a .positions .now) (a .edges .now) (a .triangles .now)) (c .before .before .enum-told .given .1) (c .before .before .before .before .check-scene .ensures)) (sym (c .before .beyond-old-range .ensures) ∙ c .if1 .taken)
+    let a = c .before .before .before .before .before .before .before .before .before .before .before .before .before .args in
+    met-beyond (sceneIn (a .positions) (a .edges) (a .triangles) (a .seams)) _ _ _ (accepted-by (sceneIn (a .positions) (a .edges) (a .triangles) (a .seams)) (c .before .before .enum-told .given .1) (c .before .before .before .before .before .check-into .ensures .checked)) (sym (c .before .beyond-old-range .ensures) ∙ c .if1 .taken)
 
 meet-near-requires : tie.Need-meet-near-requires
 meet-near-requires c κs =
-    let a = c .before .before .before .before .before .before .before .before .before .before .before .before .before .args in
-    within-old (accepted-by (sceneOf (a .positions .now) (a .edges .now) (a .triangles .now)) (c .before .before .before .before .before .enum-told .given .1) (c .before .before .before .before .before .before .before .check-scene .ensures)) (sym (c .before .before .before .before .beyond-old-range .ensures) ∙ c .before .before .before .if1 .left)
+    let a = c .before .before .before .before .before .before .before .before .before .before .before .before .before .before .before .before .before .args in
+    let called = c .before .before .before .before .before .before .before .before .before .check-into .ensures in
+    let accepted = accepted-by (sceneIn (a .positions) (a .edges) (a .triangles) (a .seams)) (c .before .before .before .before .before .before .enum-told .given .1) (called .checked) in
+    to-table (AcceptedWithin contactLimit) (called .into) accepted (within-old accepted (sym (c .before .before .before .before .before .beyond-old-range .ensures) ∙ c .before .before .before .before .if1 .left))
 
 returns-3 : tie.Need-returns-3
 returns-3 c =
-    let a = c .before .before .before .before .before .before .before .before .before .before .before .before .before .before .before .before .before .before .before .before .args in
-    met-near (sceneOf (a .positions .now) (a .edges .now) (a .triangles .now)) _ _ _ (accepted-by (sceneOf (a .positions .now) (a .edges .now) (a .triangles .now)) (c .before .before .before .before .before .before .before .before .before .before .before .before .enum-told .given .1) (c .before .before .before .before .before .before .before .before .before .before .before .before .before .before .check-scene .ensures)) (sym (c .before .before .before .before .before .before .before .before .before .before .before .beyond-old-range .ensures) ∙ c .before .before .before .before .before .before .before .before .before .before .if1 .left) (c .before .before .before .before .before .before .meet-near .ensures)
+    let a = c .before .before .before .before .before .before .before .before .before .before .before .before .before .before .before .before .before .before .before .before .before .before .before .before .args in
+    let s = (sceneIn (a .positions) (a .edges) (a .triangles) (a .seams)) in
+    let called = c .before .before .before .before .before .before .before .before .before .before .before .before .before .before .before .before .check-into .ensures in
+    let accepted = accepted-by s (c .before .before .before .before .before .before .before .before .before .before .before .before .before .enum-told .given .1) (called .checked) in
+    met-near s _ _ _ accepted (sym (c .before .before .before .before .before .before .before .before .before .before .before .before .beyond-old-range .ensures) ∙ c .before .before .before .before .before .before .before .before .before .before .before .if1 .left)
+    (rw (one-scene {s = s} (called .into) accepted) at (c .before .before .before .before .before .before .meet-near .ensures))
 
 pub meet-scene-spec : {M : Type 1} → statement M
 meet-scene-spec =
     tie.close
     (tie.spec
-    (λ c κs. search needs)
+    (λ c. search needs)
+    (λ c κs. blank-table _)
     (λ c. search needs)
     returns
     (λ c. search needs)
     (λ c κs. search needs)
     returns-2
+    (λ c. search needs)
     meet-near-requires
     (λ c. search needs)
     (λ c. search needs)
