@@ -1,4 +1,4 @@
-//! Document 01, and §1 and §10 of document 02, a second time, written from their text alone, so that the proved program has something to be held
+//! Document 01, and §1, §6, §10 and §11 of document 02, a second time, written from their text alone, so that the proved program has something to be held
 //! against. Where the proved program takes signs of 3 by 3 determinants of differences, this one sets up the six
 //! equations as they are written and solves them; where those are singular, it eliminates bounds, and leaves no corner
 //! out. Nothing here is meant to be fast.
@@ -30,6 +30,7 @@ pub mod running;
 pub mod scene;
 pub mod search;
 pub mod settled;
+pub mod sewing;
 pub mod signs;
 pub mod slices;
 pub mod still;

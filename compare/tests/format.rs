@@ -117,6 +117,7 @@ fn the_longest_lines() {
         vertices: vec![[-COORDINATE_LIMIT; 6]; VERTEX_LIMIT],
         edges: vec![[last(1), last(2)]; EDGE_LIMIT],
         triangles: vec![[last(1), last(2), last(3)]; TRIANGLE_LIMIT],
+        seams: vec![],
     };
     let text = write(&largest);
     let (mut scene, mut longest) = (Scene::default(), vec![0; 3]);

@@ -67,7 +67,7 @@ fn compare(program: &str, seeds: u64, launcher: &[String]) {
         }
     }
     for word in
-        ["yes", "no", "refused 2", "refused 3", "refused 4", "refused 5", "refused 6", "refused 8", "refused 9", "refused 10"]
+        ["yes", "no", "refused 2", "refused 3", "refused 4", "refused 5", "refused 6", "refused 8", "refused 9", "refused 10", "refused 15"]
     {
         if !wanted_words.contains_key(word) {
             println!("claims: never wanted: {word}");

@@ -74,7 +74,7 @@ fn wrong_yes(mistake: Mistake, scene: &Scene, claim: &Claim) -> bool {
 
 /// The piece with the corners of both parts in the order in which the scene writes them.
 fn as_written(scene: &Scene, claim: &Claim) -> Piece {
-    let mut renamed = Scene { vertices: Vec::new(), edges: Vec::new(), triangles: Vec::new() };
+    let mut renamed = Scene::default();
     let mut pair = claim.pair;
     if pair.kind == Kind::EdgeEdge {
         pair = Pair { first: pair.first.min(pair.second), second: pair.first.max(pair.second), ..pair };

@@ -67,8 +67,8 @@ fn with_room(call: Call, scene: &Scene, list: usize, words: usize) -> Question {
     Question::new(call, lent)
 }
 
-/// Questions about the scene as a whole: room that is just enough, one too little, none, more than enough; and, played backwards,
-/// room that is just enough again.
+/// Questions about the scene as a whole: room that is just enough, one too little, none, more than enough; and, without its seams played
+/// backwards, room that is just enough again.
 fn whole(random: &mut Random, scene: &Scene) -> Vec<Question> {
     let count = listing::listed(scene).len();
     let calls = [Call::CheckScene, Call::CountPairs, Call::TurnScene];
@@ -88,8 +88,10 @@ fn whole(random: &mut Random, scene: &Scene) -> Vec<Question> {
         ]);
     }
     out.extend(rooms.into_iter().map(|(list, words)| with_room(Call::SettleScene, scene, list, words)));
+    let unsewn = scene.unsewn();
+    let count = listing::listed(&unsewn).len();
     if count <= LONGEST_JUDGED {
-        out.push(with_room(Call::SettleScene, &backwards::turned(scene), count, count));
+        out.push(with_room(Call::SettleScene, &backwards::turned(&unsewn), count, count));
     }
     // numbers of their own, so that the other questions are those that they would be without claims
     out.extend(about_claims(&mut random.clone(), scene));
@@ -186,16 +188,17 @@ fn asked_for_wrongly(random: &mut Random, scene: &Scene) -> Vec<Question> {
     out
 }
 
-/// Pairs that share a vertex: a triangle with each of its corners, an edge with itself and with those that meet it.
+/// Pairs that share a vertex: a triangle with each of its corners and what stands for one, an edge with itself and with those that meet it.
 fn sharing(random: &mut Random, scene: &Scene, kind: Kind) -> Vec<(u64, u64)> {
     match kind {
         Kind::PointTriangle => {
             let triangle = random.below(scene.triangles.len());
-            scene.triangles[triangle].map(|corner| (corner as u64, triangle as u64)).to_vec()
+            let shares = |&vertex: &usize| Pair::pt(vertex, triangle).shares_a_vertex(scene);
+            (0..scene.vertices.len()).filter(shares).map(|vertex| (vertex as u64, triangle as u64)).collect()
         }
         Kind::EdgeEdge => {
             let edge = random.below(scene.edges.len());
-            let meets = |&other: &usize| scene.edges[other].iter().any(|end| scene.edges[edge].contains(end));
+            let meets = |&other: &usize| Pair::ee(edge, other).shares_a_vertex(scene);
             let met = (0..scene.edges.len()).filter(meets).take(6);
             met.flat_map(|other| [(edge as u64, other as u64), (other as u64, edge as u64)]).collect()
         }
@@ -256,18 +259,19 @@ fn texts(random: &mut Random, scene: &Scene, seed: u64) -> Vec<Question> {
 
 /// Read into buffers of just the length, longer ones, and each too short by one, or empty; and reported.
 fn about_text(random: &mut Random, text: Vec<u8>) -> Vec<Question> {
-    let lengths = [6 * VERTEX_LIMIT, 2 * EDGE_LIMIT, 3 * TRIANGLE_LIMIT];
-    let short = random.below(3);
+    let lengths = text::LENT_LENGTHS;
+    let short = random.below(4);
     let mut short_of = lengths.map(|length| length + random.below(9));
     short_of[short] = random.pick(&[lengths[short] - 1, lengths[short] - 1, 0]);
     let longer = lengths.map(|length| length + random.below(100));
-    let read = |[positions, edges, triangles]: [usize; 3]| {
+    let read = |[positions, edges, triangles, seams]: [usize; 4]| {
         let lent = Lent {
             positions: marks_of_16(positions).into_iter().map(|n| n as i32 * 30_011).collect(),
             edges: marks_of_16(edges),
             triangles: marks_of_16(triangles),
+            seams: marks_of_16(seams),
             text: text.clone(),
-            counts: vec![u64::MAX - 1, 77, 1 << 40],
+            counts: vec![u64::MAX - 1, 77, 1 << 40, 5],
             ..Lent::default()
         };
         Question::new(Call::ReadScene, lent)

@@ -1,7 +1,7 @@
 //! Answers that are wrong in one respect each, so that the comparison can be seen to fail.
 
 use super::expected::{self, Expecting};
-use super::harm::{of_asked, of_scene, SCENE_CHECKS};
+use super::harm::{of_asked, of_scene, SCENE_CHECKS, SCENE_FAULTS};
 use super::question::*;
 use crate::backwards;
 use crate::listing;
@@ -31,6 +31,7 @@ pub fn all() -> Vec<Damage> {
     out.extend(bytes());
     out.extend(turning());
     out.extend(claims());
+    out.extend(seams());
     out
 }
 
@@ -57,6 +58,54 @@ fn numbers() -> Vec<Damage> {
             }
         }),
     ]
+}
+
+/// Seams that are looked at in part.
+fn seams() -> Vec<Damage> {
+    let mut out = vec![
+        damage("seams are not looked at", |question, answer| {
+            if question.call.takes_seams() {
+                unsewn(question, answer);
+            }
+        }),
+        damage("corners by own number", |question, answer| {
+            if question.call.asked().is_some() && answer.refusal() == 0 {
+                unsewn(question, answer);
+            }
+        }),
+        damage("sharing by own number", |question, answer| {
+            if question.call.asked().is_some() && answer.refusal() == SHARES_A_VERTEX {
+                unsewn(question, answer);
+            }
+        }),
+        damage("the numbers of a seam change places", |question, answer| {
+            if question.call.takes_seams() && question.lent.seams.len() > 1 {
+                answer.buffers[SEAMS][MARGIN..MARGIN + 4].rotate_left(2);
+            }
+        }),
+        damage("a text's seams are not written", |question, answer| {
+            if question.call == Call::ReadScene && answer.number == 0 {
+                answer.buffers[SEAMS] = question.lent.bytes()[SEAMS].clone();
+            }
+        }),
+        damage("15 in a text without its line", |question, answer| {
+            if question.call == Call::ReadScene && answer.refusal() == BROKEN_SEAM {
+                answer.number = BROKEN_SEAM << 32;
+            }
+        }),
+    ];
+    let faults = SCENE_FAULTS.into_iter().filter(|fault| fault.0 == BROKEN_SEAM || fault.1.ends_with("sewn together"));
+    out.extend(faults.map(|(_, fault)| answered(format!("answers where refused for: {fault}"), move |question| sole(question) == Some(fault))));
+    out
+}
+
+/// The answer without seams, in buffers that have them.
+fn unsewn(question: &Question, answer: &mut Answer) {
+    let lent = Lent { seams: vec![], ..question.lent.clone() };
+    let other = Expecting::default().answer(&Question { lent, ..question.clone() });
+    let seams = answer.buffers[SEAMS].clone();
+    *answer = other;
+    answer.buffers[SEAMS] = seams;
 }
 
 /// Answers to claims.
@@ -338,12 +387,12 @@ fn texts() -> Vec<Damage> {
         }),
         damage("counts are 0 after a refusal", |question, answer| {
             if question.call == Call::ReadScene && answer.refusal() > 0 {
-                answer.buffers[COUNTS][MARGIN..MARGIN + 24].fill(0);
+                answer.buffers[COUNTS][MARGIN..MARGIN + 32].fill(0);
             }
         }),
-        damage("the third count stays", move |question, answer| {
+        damage("the last count stays", move |question, answer| {
             if read(question, answer) {
-                answer.buffers[COUNTS][MARGIN + 16..MARGIN + 24].copy_from_slice(&question.lent.counts[2].to_le_bytes());
+                answer.buffers[COUNTS][MARGIN + 24..MARGIN + 32].copy_from_slice(&question.lent.counts[3].to_le_bytes());
             }
         }),
         damage("what lies behind the positions is 0", move |question, answer| {
@@ -370,6 +419,11 @@ fn buffers() -> Vec<Damage> {
         }),
         damage("triangle buffers may be short", |question, answer| {
             if answer.refusal() == LENT_TOO_SHORT && question.lent.triangles.len() < 1_536 {
+                answer.number = 0;
+            }
+        }),
+        damage("seam buffers may be short", |question, answer| {
+            if answer.refusal() == LENT_TOO_SHORT && question.lent.seams.len() < 1_024 {
                 answer.number = 0;
             }
         }),

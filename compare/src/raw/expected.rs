@@ -87,8 +87,8 @@ impl Expecting {
 fn with_slices<T>(lent: &Lent, then: impl FnOnce(Slices) -> T) -> T {
     let wide = |numbers: &[u16]| numbers.iter().map(|&n| n as u64).collect::<Vec<u64>>();
     let positions: Vec<i64> = lent.positions.iter().map(|&n| n as i64).collect();
-    let (edges, triangles) = (wide(&lent.edges), wide(&lent.triangles));
-    then(Slices { positions: &positions, edges: &edges, triangles: &triangles })
+    let [edges, triangles, seams] = [&lent.edges, &lent.triangles, &lent.seams].map(|numbers| wide(numbers));
+    then(Slices { positions: &positions, edges: &edges, triangles: &triangles, seams: &seams })
 }
 
 pub fn scene(lent: &Lent) -> Result<Scene, Refusal> {
@@ -109,12 +109,15 @@ fn listed(lent: &mut Lent, room: usize) -> Result<(Scene, Vec<Pair>), Refusal> {
 }
 
 fn read(lent: &mut Lent) -> Result<u64, Refusal> {
-    let scene = text::read_lent(&lent.text, lent.positions.len(), lent.edges.len(), lent.triangles.len())?;
+    let lengths = [lent.positions.len(), lent.edges.len(), lent.triangles.len(), lent.seams.len()];
+    let scene = text::read_lent(&lent.text, lengths)?;
     let read = Lent::of_scene(&scene);
     lent.positions[..read.positions.len()].copy_from_slice(&read.positions);
     lent.edges[..read.edges.len()].copy_from_slice(&read.edges);
     lent.triangles[..read.triangles.len()].copy_from_slice(&read.triangles);
-    lent.counts = [scene.vertices.len(), scene.edges.len(), scene.triangles.len()].map(|count| count as u64).to_vec();
+    lent.seams[..read.seams.len()].copy_from_slice(&read.seams);
+    let counts = [scene.vertices.len(), scene.edges.len(), scene.triangles.len(), scene.seams.len()];
+    lent.counts = counts.map(|count| count as u64).to_vec();
     Ok(0)
 }
 

@@ -74,6 +74,11 @@ impl Call {
         !matches!(self, Call::ReadScene | Call::WriteReport)
     }
 
+    /// Whether its scene may have seams.
+    pub fn takes_seams(self) -> bool {
+        self.takes_a_scene() && self != Call::TurnScene
+    }
+
     pub fn lists(self) -> bool {
         matches!(self, Call::ListPairs | Call::SettleScene)
     }
@@ -101,6 +106,7 @@ pub struct Lent {
     pub positions: Vec<i32>,
     pub edges: Vec<u16>,
     pub triangles: Vec<u16>,
+    pub seams: Vec<u16>,
     pub list: Vec<u32>,
     pub words: Vec<u8>,
     pub text: Vec<u8>,
@@ -108,35 +114,39 @@ pub struct Lent {
     pub report: Vec<u8>,
 }
 
-pub const BUFFERS: [&str; 8] = ["positions", "edges", "triangles", "list", "words", "text", "counts", "report"];
+pub const BUFFERS: [&str; 9] = ["positions", "edges", "triangles", "seams", "list", "words", "text", "counts", "report"];
 
 /// The places of some buffers.
 pub const POSITIONS: usize = 0;
 pub const EDGES: usize = 1;
-pub const LIST: usize = 3;
-pub const WORDS: usize = 4;
-pub const COUNTS: usize = 6;
-pub const REPORT: usize = 7;
+pub const SEAMS: usize = 3;
+pub const LIST: usize = 4;
+pub const WORDS: usize = 5;
+pub const COUNTS: usize = 7;
+pub const REPORT: usize = 8;
 
 /// Bytes in front of what is lent, and behind it.
 pub const MARGIN: usize = 24;
 
 impl Lent {
     pub fn of_scene(scene: &Scene) -> Lent {
-        let (positions, edges, triangles) = slices::flat(scene);
+        let flat = slices::flat(scene);
+        let narrow = |numbers: Vec<u64>| numbers.into_iter().map(|n| n as u16).collect();
         Lent {
-            positions: positions.into_iter().map(|n| n as i32).collect(),
-            edges: edges.into_iter().map(|n| n as u16).collect(),
-            triangles: triangles.into_iter().map(|n| n as u16).collect(),
+            positions: flat.positions.into_iter().map(|n| n as i32).collect(),
+            edges: narrow(flat.edges),
+            triangles: narrow(flat.triangles),
+            seams: narrow(flat.seams),
             ..Lent::default()
         }
     }
 
-    fn lengths(&self) -> [usize; 8] {
+    fn lengths(&self) -> [usize; 9] {
         [
             self.positions.len(),
             self.edges.len(),
             self.triangles.len(),
+            self.seams.len(),
             self.list.len(),
             self.words.len(),
             self.text.len(),
@@ -146,12 +156,13 @@ impl Lent {
     }
 
     /// Each buffer between its margins.
-    pub fn bytes(&self) -> [Vec<u8>; 8] {
+    pub fn bytes(&self) -> [Vec<u8>; 9] {
         let short = |numbers: &[u16]| numbers.iter().flat_map(|n| n.to_le_bytes()).collect::<Vec<u8>>();
         let inside = [
             self.positions.iter().flat_map(|n| n.to_le_bytes()).collect(),
             short(&self.edges),
             short(&self.triangles),
+            short(&self.seams),
             self.list.iter().flat_map(|n| n.to_le_bytes()).collect(),
             self.words.clone(),
             self.text.clone(),
@@ -185,7 +196,10 @@ pub struct Question {
 }
 
 impl Question {
-    pub fn new(call: Call, lent: Lent) -> Question {
+    pub fn new(call: Call, mut lent: Lent) -> Question {
+        if call == Call::TurnScene {
+            lent.seams.clear();
+        }
         Question { call, asked: [0; 3], lent }
     }
 
@@ -209,7 +223,7 @@ impl Question {
 pub struct Answer {
     pub number: u64,
     /// Each buffer between its margins.
-    pub buffers: [Vec<u8>; 8],
+    pub buffers: [Vec<u8>; 9],
 }
 
 impl Answer {

@@ -19,6 +19,7 @@ pub fn none_yet() -> Sorts {
         let name = call.name();
         if call.takes_a_scene() && call != Call::CheckClaims {
             out.extend([format!("{name}: answered"), format!("{name}: a scene of full size")]);
+            out.extend(call.takes_seams().then(|| format!("{name}: answered with seams")));
             out.extend(of_scenes(call));
         }
         if let Some(asked) = call.asked() {
@@ -45,9 +46,10 @@ fn of_scenes(call: Call) -> Vec<String> {
         _ => &[],
     };
     let mut out = Vec::new();
-    for (i, number) in SCENE_CHECKS.iter().enumerate() {
+    let checks: Vec<u64> = SCENE_CHECKS.into_iter().filter(|&check| check != BROKEN_SEAM || call.takes_seams()).collect();
+    for (i, number) in checks.iter().enumerate() {
         out.push(format!("{name}: refused {number}"));
-        let others = SCENE_CHECKS[i + 1..].iter().chain(later);
+        let others = checks[i + 1..].iter().chain(later);
         out.extend(others.map(|other| format!("{name}: {number} before {other}")));
     }
     out
@@ -66,6 +68,7 @@ fn of_pairs(call: Call, asked: Asked) -> Vec<String> {
         let of_word = |piece: u64| told(call, piece, *word);
         out.extend((0..if asked.piece() { pieces } else { 1 }).map(of_word));
     }
+    out.push(format!("{name}: 6 by a seam"));
     if edges {
         out.extend(["lower edge first", "higher edge first"].map(|order| format!("{name}: {order}")));
     }
@@ -78,7 +81,8 @@ fn of_pairs(call: Call, asked: Asked) -> Vec<String> {
 /// Each cell of the table of faults in texts, and short buffers.
 fn of_texts() -> Vec<String> {
     let mut out = vec!["read_scene: answered".into(), "write_report: pairs listed".into(), "read_scene: 12 before 8".into()];
-    out.extend(["positions", "edges", "triangles"].map(|buffer| format!("read_scene: 12, {buffer}")));
+    out.push("read_scene: answered with seams".into());
+    out.extend(["positions", "edges", "triangles", "seams"].map(|buffer| format!("read_scene: 12, {buffer}")));
     out.push("read_scene: 12 before a line".into());
     for call in [Call::ReadScene, Call::WriteReport] {
         out.extend(faults::cells().into_iter().filter(|&cell| can_be_given(call, cell)).map(|cell| in_cell(call, cell)));
@@ -130,10 +134,10 @@ pub fn of(question: &Question, answer: &Answer) -> Vec<String> {
 /// Claims: each refusal, each of the scene's before the text's length, yes and no, each room.
 fn of_claim_calls() -> Vec<String> {
     let mut out: Vec<String> =
-        ["answered", "a scene of full size", "yes", "no", "just the room", "room left over", "one too few", "no room at all"]
+        ["answered", "answered with seams", "a scene of full size", "yes", "no", "just the room", "room left over", "one too few", "no room at all"]
             .map(|sort| format!("check_claims: {sort}"))
             .into();
-    out.extend([1, 2, 3, 4, 5, 6, 7, 8, 9].map(|number| format!("check_claims: refused {number}")));
+    out.extend([1, 2, 3, 15, 4, 5, 6, 7, 8, 9].map(|number| format!("check_claims: refused {number}")));
     for (i, number) in SCENE_CHECKS.iter().enumerate() {
         let others = SCENE_CHECKS[i + 1..].iter().chain(&[TEXT_TOO_LONG]);
         out.extend(others.map(|other| format!("check_claims: {number} before {other}")));
@@ -149,12 +153,13 @@ fn of_claims(question: &Question, answer: &Answer) -> Vec<String> {
     let mut faults: Vec<u64> = of_scene(lent).iter().map(|fault| fault.0).collect();
     faults.extend((lent.text.len() > TEXT_LIMIT).then_some(TEXT_TOO_LONG));
     add(given > 0, format!("refused {given}"));
-    for &other in faults.iter().filter(|&&other| other > given) {
+    for &other in faults.iter().filter(|&&other| before(given, other)) {
         add(SCENE_CHECKS.contains(&given), format!("{given} before {other}"));
     }
     let sizes = [lent.positions.len(), lent.edges.len(), lent.triangles.len()];
     add(given == 0 && sizes == [6 * VERTEX_LIMIT, 2 * EDGE_LIMIT, 3 * TRIANGLE_LIMIT], "a scene of full size".into());
     add(given == 0, "answered".into());
+    add(given == 0 && !lent.seams.is_empty(), "answered with seams".into());
     let answers = &answer.buffers[WORDS][MARGIN..MARGIN + if given == 0 { count } else { 0 }];
     add(answers.contains(&1), "yes".into());
     add(answers.contains(&0), "no".into());
@@ -174,13 +179,14 @@ fn texts_cells(question: &Question) -> Vec<String> {
 fn of_reading(question: &Question, answer: &Answer) -> Vec<String> {
     let lent = &question.lent;
     if answer.number == 0 {
-        return vec!["read_scene: answered".into()];
+        let sewn = answer.buffers[COUNTS][MARGIN + 24] > 0;
+        return [Some("read_scene: answered"), sewn.then_some("read_scene: answered with seams")].into_iter().flatten().map(Into::into).collect();
     }
     if answer.refusal() != LENT_TOO_SHORT {
         return texts_cells(question);
     }
-    let short = [lent.positions.len() < 3_072, lent.edges.len() < 2_048, lent.triangles.len() < 1_536];
-    let short = ["positions", "edges", "triangles"].into_iter().zip(short).filter(|(_, short)| *short);
+    let short = [lent.positions.len() < 3_072, lent.edges.len() < 2_048, lent.triangles.len() < 1_536, lent.seams.len() < 1_024];
+    let short = ["positions", "edges", "triangles", "seams"].into_iter().zip(short).filter(|(_, short)| *short);
     let mut out: Vec<String> = short.map(|(buffer, _)| format!("read_scene: 12, {buffer}")).collect();
     match crate::text::read(&lent.text).map_err(|refusal| refusal.number) {
         Err(TEXT_TOO_LONG) => out.push("read_scene: 12 before 8".into()),
@@ -201,11 +207,19 @@ fn of_slices(question: &Question, answer: &Answer) -> Vec<String> {
         out.push(format!("{}: refused {given}", call.name()));
         faults.extend(no_room.then_some((NO_ROOM, "no room")));
     }
-    let others = faults.iter().filter(|fault| given != 0 && given != NO_ROOM && fault.0 > given);
+    let others = faults.iter().filter(|fault| given != 0 && given != NO_ROOM && before(given, fault.0));
     out.extend(others.map(|(other, _)| format!("{}: {given} before {other}", call.name())));
-    if let [(number, fault)] = faults[..] {
-        out.push(if number < NOT_THERE { alone(number, fault) } else { asked_for(call, number, fault) });
-    } else if let Some((number, fault)) = faults.first().filter(|fault| fault.0 >= NOT_THERE && fault.0 < NO_ROOM) {
+    let by_a_seam = given == SHARES_A_VERTEX && of_scene(&question.lent).is_empty() && !shares_by_number(question);
+    out.extend(by_a_seam.then(|| format!("{}: 6 by a seam", call.name())));
+    // of so many seams some are at fault too
+    let alone_or_first = match &faults[..] {
+        [only] => Some(*only),
+        [(number, "a seam too many"), rest @ ..] if rest.iter().all(|fault| fault.0 != BAD_SHAPE) => Some((*number, "a seam too many")),
+        _ => None,
+    };
+    if let Some((number, fault)) = alone_or_first {
+        out.push(if SCENE_CHECKS.contains(&number) { alone(number, fault) } else { asked_for(call, number, fault) });
+    } else if let Some((number, fault)) = faults.first().filter(|fault| [NOT_THERE, SHARES_A_VERTEX].contains(&fault.0)) {
         out.push(asked_for(call, *number, fault));
     }
     let sizes = [question.lent.positions.len(), question.lent.edges.len(), question.lent.triangles.len()];
@@ -215,6 +229,7 @@ fn of_slices(question: &Question, answer: &Answer) -> Vec<String> {
     }
     if given == 0 {
         out.push(format!("{}: answered", call.name()));
+        out.extend((!question.lent.seams.is_empty()).then(|| format!("{}: answered with seams", call.name())));
         out.extend(call.asked().map(|asked| of_told(question, asked, answer)).unwrap_or_default());
     }
     if call.lists() && (given == 0 || given == NO_ROOM) {
@@ -223,6 +238,13 @@ fn of_slices(question: &Question, answer: &Answer) -> Vec<String> {
     out.sort();
     out.dedup();
     out
+}
+
+/// Whether the two parts that are asked for have a number in common.
+fn shares_by_number(question: &Question) -> bool {
+    let unsewn = Question { lent: Lent { seams: vec![], ..question.lent.clone() }, ..question.clone() };
+    let asked = question.call.asked().map(|asked| of_asked(&unsewn, asked)).unwrap_or_default();
+    asked.iter().any(|fault| fault.0 == SHARES_A_VERTEX)
 }
 
 fn of_told(question: &Question, asked: Asked, answer: &Answer) -> Vec<String> {
