@@ -93,7 +93,9 @@ fn twins(sections: &Sections) -> Vec<[usize; 2]> {
         let pairs = part.iter().flat_map(|&i| part.iter().map(move |&j| [i, stands_for(j)]));
         out.extend(pairs.filter(|&[i, j]| j < i && stands_for(i) == i && place(i).is_some() && place(i) == place(j)));
     }
-    out.sort();
+    // those that rise first
+    let highest = seams.iter().filter_map(|seam| seam.first()).max().copied();
+    out.sort_by_key(|&[i, j]| (Some(i) < highest, i, j));
     out
 }
 
@@ -179,7 +181,7 @@ fn long(random: &mut Random) -> Sections {
 fn crowded(random: &mut Random) -> Sections {
     let points = 33 + random.below(4);
     let vertices = vec!["v\t0\t0\t0\t0\t0\t0\n".to_string(); points + 3];
-    [vertices, vec!["e\t0\t1\n".into()], vec!["t\t0\t1\t2\n".into(); 96], vec!["w\t20\t3\n".into()]]
+    [vertices, vec!["e\t0\t1\n".into(), "e\t25\t24\n".into()], vec!["t\t0\t1\t2\n".into(); 96], vec!["w\t20\t3\n".into()]]
 }
 
 fn crowded_and_long(random: &mut Random) -> Sections {
