@@ -101,6 +101,10 @@ fn the_pieces_that_are_told() {
     assert_eq!(of_pieces(&scene("hair-short"), Pair::pt(3, 0)), [M, M, M]);
     assert_eq!(of_pieces(&scene("crack"), Pair::pt(4, 0)), [M, M, M]);
     assert_eq!(of_pieces(&scene("crack"), Pair::pt(4, 1)), [M, M, H]);
+    for (name, second) in [("seam-open", [M, M, M]), ("seam-closed", [M, M, H])] {
+        assert_eq!(of_pieces(&scene(name), Pair::pt(3, 0)), [M, M, M]);
+        assert_eq!(of_pieces(&scene(name), Pair::pt(3, 1)), second);
+    }
     let flat = scene("flat");
     let pairs = [Pair::pt(3, 0), Pair::pt(4, 0), Pair::pt(5, 0), Pair::ee(0, 1)];
     assert!(pairs.iter().all(|&pair| of_pieces(&flat, pair).iter().all(|&verdict| verdict == D)));
