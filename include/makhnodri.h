@@ -379,7 +379,7 @@ static inline makhnodri_answer makhnodri_read_scene(const uint8_t *text, size_t 
     makhnodri_answer answer = makhnodri_read_scene_slices(
         text, text_length, buffers->positions, MAKHNODRI_POSITIONS_LENGTH, buffers->edges, MAKHNODRI_EDGES_LENGTH, buffers->triangles,
         MAKHNODRI_TRIANGLES_LENGTH, buffers->seams, MAKHNODRI_SEAMS_LENGTH, counts);
-    if (answer) return answer;
+    if (makhnodri_refusal(answer)) return answer;
     scene->positions = buffers->positions;
     scene->positions_length = 6 * counts[0];
     scene->edges = buffers->edges;
