@@ -31,7 +31,7 @@ static int refused(makhnodri_answer answer) {
 
 int main(int argc, char **argv) {
     if (argc != 3) return 2;
-    makhnodri_scene scene;
+    makhnodri_scene scene = {0};
     size_t length = read_file(argv[1], scene_text, sizeof scene_text);
     if (refused(makhnodri_read_scene(scene_text, length, &buffers, &scene))) return 1;
     length = read_file(argv[2], claims, sizeof claims);

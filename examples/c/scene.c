@@ -30,7 +30,7 @@ static const char *word(makhnodri_answer answer) {
 }
 
 int main(void) {
-    makhnodri_scene scene;
+    makhnodri_scene scene = {0};
     size_t text_length = fread(text, 1, sizeof text, stdin);
     makhnodri_answer read = makhnodri_read_scene(text, text_length, &buffers, &scene);
     show("read", read);
