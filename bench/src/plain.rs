@@ -63,10 +63,9 @@ pub fn joined(verdicts: impl Iterator<Item = Verdict>) -> Verdict {
     out
 }
 
-/// The verdicts of the three pieces; 10 determinants, each worked out once.
+/// The verdicts of the three pieces, corners in rising order; 10 determinants, each worked out once.
 #[inline]
-pub fn point_verdicts(positions: &[i32], point: usize, mut corners: [usize; 3]) -> [Verdict; 3] {
-    corners.sort_unstable();
+pub fn point_verdicts(positions: &[i32], point: usize, corners: [usize; 3]) -> [Verdict; 3] {
     let [a, b, c] = corners.map(|vertex| seen(positions, vertex, point, START));
     let [d, e, f] = corners.map(|vertex| seen(positions, vertex, point, END));
     let (ab, ad, cf, ef) = (minors(a, b), minors(a, d), minors(c, f), minors(e, f));
@@ -82,9 +81,7 @@ pub fn point_verdicts(positions: &[i32], point: usize, mut corners: [usize; 3]) 
 /// The verdicts of the four pieces; 12 determinants, each worked out once. Starts are seen from the first edge's lower end, ends from its
 /// higher end.
 #[inline]
-pub fn edge_verdicts(positions: &[i32], mut first: [usize; 2], mut second: [usize; 2]) -> [Verdict; 4] {
-    first.sort_unstable();
-    second.sort_unstable();
+pub fn edge_verdicts(positions: &[i32], first: [usize; 2], second: [usize; 2]) -> [Verdict; 4] {
     let [low, high] = first;
     let [r, g, h] = [high, second[0], second[1]].map(|vertex| seen(positions, vertex, low, START));
     let [s, k, l] = [low, second[0], second[1]].map(|vertex| seen(positions, vertex, high, END));
@@ -147,16 +144,16 @@ impl Boxes {
 fn each_listed(slices: &Slices, boxes: &Boxes, mut take: impl FnMut(u32, usize, usize)) {
     for (vertex, one) in boxes.vertices.iter().enumerate() {
         for (triangle, other) in boxes.triangles.iter().enumerate() {
-            if meet(one, other) && !slices.corners(triangle).contains(&vertex) {
+            if meet(one, other) && !slices.corners_stand(triangle).contains(&slices.stands_for(vertex)) {
                 take(0, vertex, triangle);
             }
         }
     }
     for (first, one) in boxes.edges.iter().enumerate() {
-        let [a, b] = slices.ends(first);
+        let [a, b] = slices.ends_stand(first);
         for (second, other) in boxes.edges.iter().enumerate().skip(first + 1) {
             if meet(one, other) {
-                let [c, d] = slices.ends(second);
+                let [c, d] = slices.ends_stand(second);
                 if a != c && a != d && b != c && b != d {
                     take(1, first, second);
                 }

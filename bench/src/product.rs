@@ -5,13 +5,14 @@
 //!
 //! | function | takes | gives |
 //! |---|---|---|
-//! | makhnodri_settle_scene | positions i32, edges u16, triangles u16, list u32, words u8 | an answer; the list's entries, and for each its word: 0 hit, 1 miss, 3 touch, 4 apart |
-//! | makhnodri_list_pairs | positions i32, edges u16, triangles u16, list u32 | an answer; the list's entries |
-//! | makhnodri_settle_pt, makhnodri_settle_ee | positions i32, edges u16, triangles u16, two places | an answer: the pair's word |
-//! | makhnodri_settle_pt_piece, makhnodri_settle_ee_piece | positions i32, edges u16, triangles u16, two places, a piece | an answer: the piece's word |
-//! | makhnodri_read_scene | text u8, positions i32, edges u16, triangles u16 of full size, three counts | an answer; the scene and its counts |
+//! | makhnodri_settle_scene_slices | a scene, list u32, words u8 | an answer; the list's entries, and for each its word: 0 hit, 1 miss, 3 touch, 4 apart |
+//! | makhnodri_list_pairs_slices | a scene, list u32 | an answer; the list's entries |
+//! | makhnodri_settle_pt_slices, makhnodri_settle_ee_slices | a scene, two places | an answer: the pair's word |
+//! | makhnodri_settle_pt_piece_slices, makhnodri_settle_ee_piece_slices | a scene, two places, a piece | an answer: the piece's word |
+//! | makhnodri_read_scene_slices | text u8, a scene's four lists of full size, four counts | an answer; the scene and its counts |
 //! | makhnodri_write_report | text u8, 65,536 bytes for the report | the length of the report |
 //!
+//! A scene is positions i32, edges u16, triangles u16, seams u16.
 //! An answer is the count or the word in the lower 32 bits, or a refusal: its number above them and what it carries in them.
 
 /// The count or the word, or the refusal's number.
@@ -34,71 +35,83 @@ mod linked {
     use crate::slices::{parts, Slices};
 
     extern "C" {
-        fn makhnodri_settle_scene(
+        fn makhnodri_settle_scene_slices(
             positions: *const i32,
             positions_len: usize,
             edges: *const u16,
             edges_len: usize,
             triangles: *const u16,
             triangles_len: usize,
+            seams: *const u16,
+            seams_len: usize,
             list: *mut u32,
             list_len: usize,
             words: *mut u8,
             words_len: usize,
         ) -> u64;
-        fn makhnodri_settle_pt(
+        fn makhnodri_settle_pt_slices(
             positions: *const i32,
             positions_len: usize,
             edges: *const u16,
             edges_len: usize,
             triangles: *const u16,
             triangles_len: usize,
+            seams: *const u16,
+            seams_len: usize,
             vertex: usize,
             triangle: usize,
         ) -> u64;
-        fn makhnodri_settle_ee(
+        fn makhnodri_settle_ee_slices(
             positions: *const i32,
             positions_len: usize,
             edges: *const u16,
             edges_len: usize,
             triangles: *const u16,
             triangles_len: usize,
+            seams: *const u16,
+            seams_len: usize,
             first: usize,
             second: usize,
         ) -> u64;
-        fn makhnodri_settle_pt_piece(
+        fn makhnodri_settle_pt_piece_slices(
             positions: *const i32,
             positions_len: usize,
             edges: *const u16,
             edges_len: usize,
             triangles: *const u16,
             triangles_len: usize,
+            seams: *const u16,
+            seams_len: usize,
             vertex: usize,
             triangle: usize,
             piece: usize,
         ) -> u64;
-        fn makhnodri_settle_ee_piece(
+        fn makhnodri_settle_ee_piece_slices(
             positions: *const i32,
             positions_len: usize,
             edges: *const u16,
             edges_len: usize,
             triangles: *const u16,
             triangles_len: usize,
+            seams: *const u16,
+            seams_len: usize,
             first: usize,
             second: usize,
             piece: usize,
         ) -> u64;
-        fn makhnodri_list_pairs(
+        fn makhnodri_list_pairs_slices(
             positions: *const i32,
             positions_len: usize,
             edges: *const u16,
             edges_len: usize,
             triangles: *const u16,
             triangles_len: usize,
+            seams: *const u16,
+            seams_len: usize,
             list: *mut u32,
             list_len: usize,
         ) -> u64;
-        fn makhnodri_read_scene(
+        fn makhnodri_read_scene_slices(
             text: *const u8,
             text_len: usize,
             positions: *mut i32,
@@ -107,6 +120,8 @@ mod linked {
             edges_len: usize,
             triangles: *mut u16,
             triangles_len: usize,
+            seams: *mut u16,
+            seams_len: usize,
             counts: *mut usize,
         ) -> u64;
         fn makhnodri_write_report(text: *const u8, text_len: usize, report: *mut u8) -> usize;
@@ -129,13 +144,15 @@ mod linked {
         pub fn settle_scene(&self, s: &Slices, list: &mut [u32], words: &mut [u8]) -> Answer {
             // SAFETY: each pointer comes with the length of its own slice, and no two overlap
             answer(unsafe {
-                makhnodri_settle_scene(
+                makhnodri_settle_scene_slices(
                     s.positions.as_ptr(),
                     s.positions.len(),
                     s.edges.as_ptr(),
                     s.edges.len(),
                     s.triangles.as_ptr(),
                     s.triangles.len(),
+                    s.seams.as_ptr(),
+                    s.seams.len(),
                     list.as_mut_ptr(),
                     list.len(),
                     words.as_mut_ptr(),
@@ -147,7 +164,7 @@ mod linked {
         /// The word of an entry of the list, asked for by itself.
         pub fn settle(&self, s: &Slices, entry: u32) -> Answer {
             let (kind, first, second) = parts(entry);
-            let ask = if kind == 0 { makhnodri_settle_pt } else { makhnodri_settle_ee };
+            let ask = if kind == 0 { makhnodri_settle_pt_slices } else { makhnodri_settle_ee_slices };
             // SAFETY: as above
             answer(unsafe {
                 ask(
@@ -157,6 +174,8 @@ mod linked {
                     s.edges.len(),
                     s.triangles.as_ptr(),
                     s.triangles.len(),
+                    s.seams.as_ptr(),
+                    s.seams.len(),
                     first,
                     second,
                 )
@@ -166,7 +185,7 @@ mod linked {
         /// The word of a piece of an entry.
         pub fn settle_piece(&self, s: &Slices, entry: u32, piece: usize) -> Answer {
             let (kind, first, second) = parts(entry);
-            let ask = if kind == 0 { makhnodri_settle_pt_piece } else { makhnodri_settle_ee_piece };
+            let ask = if kind == 0 { makhnodri_settle_pt_piece_slices } else { makhnodri_settle_ee_piece_slices };
             // SAFETY: as above
             answer(unsafe {
                 ask(
@@ -176,6 +195,8 @@ mod linked {
                     s.edges.len(),
                     s.triangles.as_ptr(),
                     s.triangles.len(),
+                    s.seams.as_ptr(),
+                    s.seams.len(),
                     first,
                     second,
                     piece,
@@ -186,13 +207,15 @@ mod linked {
         pub fn list(&self, s: &Slices, list: &mut [u32]) -> Answer {
             // SAFETY: as above
             answer(unsafe {
-                makhnodri_list_pairs(
+                makhnodri_list_pairs_slices(
                     s.positions.as_ptr(),
                     s.positions.len(),
                     s.edges.as_ptr(),
                     s.edges.len(),
                     s.triangles.as_ptr(),
                     s.triangles.len(),
+                    s.seams.as_ptr(),
+                    s.seams.len(),
                     list.as_mut_ptr(),
                     list.len(),
                 )
@@ -200,10 +223,10 @@ mod linked {
         }
 
         /// The scene of a text stands in front of the buffers, which are of full size.
-        pub fn read(&self, text: &[u8], s: &mut Slices, counts: &mut [usize; 3]) -> Answer {
-            // SAFETY: as above, and there are three counts
+        pub fn read(&self, text: &[u8], s: &mut Slices, counts: &mut [usize; 4]) -> Answer {
+            // SAFETY: as above, and there are four counts
             answer(unsafe {
-                makhnodri_read_scene(
+                makhnodri_read_scene_slices(
                     text.as_ptr(),
                     text.len(),
                     s.positions.as_mut_ptr(),
@@ -212,6 +235,8 @@ mod linked {
                     s.edges.len(),
                     s.triangles.as_mut_ptr(),
                     s.triangles.len(),
+                    s.seams.as_mut_ptr(),
+                    s.seams.len(),
                     counts.as_mut_ptr(),
                 )
             })
@@ -253,7 +278,7 @@ mod missing {
             match *self {}
         }
 
-        pub fn read(&self, _: &[u8], _: &mut Slices, _: &mut [usize; 3]) -> Answer {
+        pub fn read(&self, _: &[u8], _: &mut Slices, _: &mut [usize; 4]) -> Answer {
             match *self {}
         }
 
