@@ -144,7 +144,10 @@ impl Bench {
             let times = shortest(ways, self.rounds);
             lent.iter().for_each(Sewn::hold);
             let [without, with] = [0, 1].map(|place| 1e9 * (times[2 * place].1 - times[2 * place + 1].1) / counts[place] as f64);
-            println!("  {name:<24} without {without:>8.2} ns      with {with:>8.2} ns      with over without {:>5.2}", with / without);
+            println!(
+                "  {name:<24} without {without:>8.2} ns      with {with:>8.2} ns      with over without {:>5.2}",
+                with / without
+            );
         }
     }
 

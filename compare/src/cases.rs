@@ -91,13 +91,13 @@ fn bad_lines() -> Vec<TextCase> {
         "-0 00 01 -01 +1 --1 - 1- 1.0 1e1 0x1 1_0 a / : \u{661} 0000000000 1234567890 -1234567890 18446744073709551616";
     let numbers = "-1 -0 -999999999 00 01 +1 1. a 1234567890 18446744073709551617";
     let lines = [
-        "", "v", "e", "t", "n", "\t", " ", "-", "0", "#", "vv\t0\t0\t0\t0\t0\t0", "V\t0\t0\t0\t0\t0\t0",
-        "0\t0\t0\t0\t0\t0\t0", "v\t", "v\t0\t0\t0\t0\t0", "v\t0\t0\t0\t0\t0\t0\t0", "v\t0\t0\t0\t0\t0\t0\t",
-        "v\t0\t0\t0\t0\t0\t", "\tv\t0\t0\t0\t0\t0\t0", "v\t\t0\t0\t0\t0\t0\t0", "v\t0\t0\t\t0\t0\t0", "v 0 0 0 0 0 0",
-        "v\t0\t0\t0\t0\t0\t0 ", "v\t 0\t0\t0\t0\t0\t0", " v\t0\t0\t0\t0\t0\t0", "v\t0\t0\t0\t0\t0\t0\r", "v\t0\t0\t0\0\t0\t0\t0",
+        "", "v", "e", "t", "n", "\t", " ", "-", "0", "#", "vv\t0\t0\t0\t0\t0\t0", "V\t0\t0\t0\t0\t0\t0", "0\t0\t0\t0\t0\t0\t0",
+        "v\t", "v\t0\t0\t0\t0\t0", "v\t0\t0\t0\t0\t0\t0\t0", "v\t0\t0\t0\t0\t0\t0\t", "v\t0\t0\t0\t0\t0\t",
+        "\tv\t0\t0\t0\t0\t0\t0", "v\t\t0\t0\t0\t0\t0\t0", "v\t0\t0\t\t0\t0\t0", "v 0 0 0 0 0 0", "v\t0\t0\t0\t0\t0\t0 ",
+        "v\t 0\t0\t0\t0\t0\t0", " v\t0\t0\t0\t0\t0\t0", "v\t0\t0\t0\t0\t0\t0\r", "v\t0\t0\t0\0\t0\t0\t0",
         "\u{feff}v\t0\t0\t0\t0\t0\t0", "e\t0", "e\t0\t", "e\t0\t1\t2", "e\t0\t1\t", "e\t0\t1\u{b}", "e\t0\t1\u{c}", "E\t0\t1",
-        "ee\t0\t1", "t\t0\t1", "t\t0\t1\t", "t\t0\t1\t2\t3", "T\t0\t1\t2", "w", "w\t", "w\t1", "w\t1\t",
-        "w\t1\t0\t", "w\t1\t0\t0", "w 1 0", "W\t1\t0", "ww\t1\t0", "\tw\t1\t0", "w\t1\t0\r",
+        "ee\t0\t1", "t\t0\t1", "t\t0\t1\t", "t\t0\t1\t2\t3", "T\t0\t1\t2", "w", "w\t", "w\t1", "w\t1\t", "w\t1\t0\t",
+        "w\t1\t0\t0", "w 1 0", "W\t1\t0", "ww\t1\t0", "\tw\t1\t0", "w\t1\t0\r",
     ];
     let mut bad: Vec<Vec<u8>> = lines.iter().map(|line| line.as_bytes().to_vec()).collect();
     bad.extend(coordinates.split(' ').map(|field| format!("v\t0\t0\t0\t0\t0\t{field}").into_bytes()));

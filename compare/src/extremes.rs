@@ -175,7 +175,12 @@ mod tests {
     #[test]
     fn no_sum_is_larger() {
         let far = COORDINATE_LIMIT;
-        let of = |vertices: Vec<[i64; 6]>| Scene { vertices, edges: vec![[0, 1], [2, 3]], triangles: vec![[0, 1, 2]], ..Scene::default() };
+        let of = |vertices: Vec<[i64; 6]>| Scene {
+            vertices,
+            edges: vec![[0, 1], [2, 3]],
+            triangles: vec![[0, 1, 2]],
+            ..Scene::default()
+        };
         let shapes = POINT_CORNERS.into_iter().zip(POINT_PLACES).map(|shape| (shape, Pair::pt(3, 0)));
         let shapes = shapes.chain(EDGE_CORNERS.into_iter().zip(EDGE_PLACES).map(|shape| (shape, Pair::ee(0, 1))));
         for ((corners, places), pair) in shapes {

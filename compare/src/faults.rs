@@ -8,13 +8,11 @@ use crate::scene::*;
 use crate::text::{self, Record};
 
 /// The numbers that a line may be refused for, in the order of the checks.
-pub const LINE_CHECKS: [u64; 7] =
-    [BAD_LINE, OUT_OF_ORDER, ONE_TOO_MANY, OUT_OF_RANGE, NO_SUCH_VERTEX, BROKEN_SEAM, VERTEX_TWICE];
+pub const LINE_CHECKS: [u64; 7] = [BAD_LINE, OUT_OF_ORDER, ONE_TOO_MANY, OUT_OF_RANGE, NO_SUCH_VERTEX, BROKEN_SEAM, VERTEX_TWICE];
 
 /// The numbers that the report program can give.
-pub const PRINTED: [u64; 9] = [
-    TEXT_TOO_LONG, BAD_LINE, OUT_OF_ORDER, ONE_TOO_MANY, OUT_OF_RANGE, NO_SUCH_VERTEX, BROKEN_SEAM, VERTEX_TWICE, NO_ROOM,
-];
+pub const PRINTED: [u64; 9] =
+    [TEXT_TOO_LONG, BAD_LINE, OUT_OF_ORDER, ONE_TOO_MANY, OUT_OF_RANGE, NO_SUCH_VERTEX, BROKEN_SEAM, VERTEX_TWICE, NO_ROOM];
 
 /// How many records of each kind there may be, and how far a coordinate may go.
 #[derive(Clone, Copy)]

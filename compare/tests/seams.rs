@@ -167,18 +167,36 @@ fn split_and_sewn_is_as_before() {
         }
         for pair in &before {
             assert!(listed(&sewn).contains(pair), "seed {seed}: {pair:?} is gone");
-            for (copy, _) in sewn.seams.iter().map(|seam| (seam[0], seam[1])).filter(|seam| pair.kind == Kind::PointTriangle && seam.1 == pair.first) {
+            for (copy, _) in sewn
+                .seams
+                .iter()
+                .map(|seam| (seam[0], seam[1]))
+                .filter(|seam| pair.kind == Kind::PointTriangle && seam.1 == pair.first)
+            {
                 copies += 1;
-                assert!(listed(&sewn).contains(&Pair::pt(copy, pair.second)), "seed {seed}: the copy {copy} has no pair of its own");
+                assert!(
+                    listed(&sewn).contains(&Pair::pt(copy, pair.second)),
+                    "seed {seed}: the copy {copy} has no pair of its own"
+                );
             }
-            let places = |scene: &Scene| corners(scene, *pair).into_iter().flatten().flatten().map(|c| (scene.stands_for(c.vertex), c.at_end)).collect::<Vec<_>>();
+            let places = |scene: &Scene| {
+                corners(scene, *pair)
+                    .into_iter()
+                    .flatten()
+                    .flatten()
+                    .map(|c| (scene.stands_for(c.vertex), c.at_end))
+                    .collect::<Vec<_>>()
+            };
             assert_eq!(places(&sewn), places(&whole), "seed {seed}: {pair:?}");
             recut += (places(&sewn.unsewn()) != places(&sewn)) as u32;
             assert_eq!(settled::of_pieces(&sewn, *pair), settled::of_pieces(&whole, *pair), "seed {seed}: {pair:?}");
         }
         false_pairs += listed(&sewn.unsewn()).len() - listed(&sewn).len();
     }
-    assert!(copies > 200 && recut > 200 && false_pairs > 500, "{copies} pairs of copies, {recut} cut otherwise without seams, {false_pairs} false pairs");
+    assert!(
+        copies > 200 && recut > 200 && false_pairs > 500,
+        "{copies} pairs of copies, {recut} cut otherwise without seams, {false_pairs} false pairs"
+    );
 }
 
 /// Demand 3 keeps the same seams in both scenes.

@@ -10,10 +10,14 @@ use crate::text::{self, Record};
 
 pub fn mistakes() -> Vec<Mistake> {
     vec![
-        Mistake::new("own-number-corners", "corners by their own number, not by the vertex stood for", judging(|scene, pair| {
-            of_pair(&scene.unsewn(), pair)
-        })),
-        by_list("own-number-sharing", "sharing by own number, so that sewn neighbours are listed", |scene| listed(&scene.unsewn())),
+        Mistake::new(
+            "own-number-corners",
+            "corners by their own number, not by the vertex stood for",
+            judging(|scene, pair| of_pair(&scene.unsewn(), pair)),
+        ),
+        by_list("own-number-sharing", "sharing by own number, so that sewn neighbours are listed", |scene| {
+            listed(&scene.unsewn())
+        }),
         by_list("replaced-not-asked", "a vertex that is replaced gets no pt pairs", |scene| {
             let kept = |pair: &Pair| pair.kind == Kind::EdgeEdge || scene.stands_for(pair.first) == pair.first;
             listed(scene).into_iter().filter(kept).collect()
@@ -40,7 +44,9 @@ pub fn mistakes() -> Vec<Mistake> {
             let root = scene.stands_for(j);
             right(scene, [i, if j < i { root } else { j }])
         }),
-        by_reader("seams-upwards", "a lower vertex that stands for a higher one", |scene, [i, j]| right(scene, [i.max(j), i.min(j)])),
+        by_reader("seams-upwards", "a lower vertex that stands for a higher one", |scene, [i, j]| {
+            right(scene, [i.max(j), i.min(j)])
+        }),
         by_reader("twice-in-parts-only", "4 only in e and t lines", |scene, seam| {
             match right(scene, seam) {
                 Err(VERTEX_TWICE) => scene.seams.push(seam),
@@ -48,31 +54,39 @@ pub fn mistakes() -> Vec<Mistake> {
             }
             Ok(())
         }),
-        by_reader("twice-by-own-number", "4 at a w line only where a part has the two vertices of the seam themselves", |scene, seam| {
-            match right(scene, seam) {
-                Err(VERTEX_TWICE) if !scene.parts().any(|part| part.contains(&seam[0]) && part.contains(&seam[1])) => {
-                    scene.seams.push(seam)
+        by_reader(
+            "twice-by-own-number",
+            "4 at a w line only where a part has the two vertices of the seam themselves",
+            |scene, seam| {
+                match right(scene, seam) {
+                    Err(VERTEX_TWICE) if !scene.parts().any(|part| part.contains(&seam[0]) && part.contains(&seam[1])) => {
+                        scene.seams.push(seam)
+                    }
+                    other => return other,
                 }
-                other => return other,
-            }
-            Ok(())
-        }),
-        Mistake::new("twice-at-the-end", "4 of sewn corners looked for after the last line", reading(|text| {
-            let mut found = false;
-            let last = text.split_inclusive(|&byte| byte == b'\n').count() as u64;
-            let scene = read_with(text, &mut |scene, seam| match right(scene, seam) {
-                Err(VERTEX_TWICE) => {
-                    found = true;
-                    scene.seams.push(seam);
-                    Ok(())
+                Ok(())
+            },
+        ),
+        Mistake::new(
+            "twice-at-the-end",
+            "4 of sewn corners looked for after the last line",
+            reading(|text| {
+                let mut found = false;
+                let last = text.split_inclusive(|&byte| byte == b'\n').count() as u64;
+                let scene = read_with(text, &mut |scene, seam| match right(scene, seam) {
+                    Err(VERTEX_TWICE) => {
+                        found = true;
+                        scene.seams.push(seam);
+                        Ok(())
+                    }
+                    other => other,
+                })?;
+                if found {
+                    return Err(Refusal::new(VERTEX_TWICE, last));
                 }
-                other => other,
-            })?;
-            if found {
-                return Err(Refusal::new(VERTEX_TWICE, last));
-            }
-            Ok(scene)
-        })),
+                Ok(scene)
+            }),
+        ),
     ]
 }
 

@@ -80,12 +80,7 @@ fn whole(random: &mut Random, scene: &Scene) -> Vec<Question> {
     let fewer = count.saturating_sub(1);
     let mut rooms = vec![(0, 0), (count, 0), (0, count), (count, fewer), (fewer, count), (fewer, fewer)];
     if count <= LONGEST_JUDGED {
-        rooms.extend([
-            (count, count),
-            (count + more, count),
-            (count, count + more),
-            (count + more, count + more),
-        ]);
+        rooms.extend([(count, count), (count + more, count), (count, count + more), (count + more, count + more)]);
     }
     out.extend(rooms.into_iter().map(|(list, words)| with_room(Call::SettleScene, scene, list, words)));
     let unsewn = scene.unsewn();

@@ -95,7 +95,9 @@ fn seams() -> Vec<Damage> {
         }),
     ];
     let faults = SCENE_FAULTS.into_iter().filter(|fault| fault.0 == BROKEN_SEAM || fault.1.ends_with("sewn together"));
-    out.extend(faults.map(|(_, fault)| answered(format!("answers where refused for: {fault}"), move |question| sole(question) == Some(fault))));
+    out.extend(faults.map(|(_, fault)| {
+        answered(format!("answers where refused for: {fault}"), move |question| sole(question) == Some(fault))
+    }));
     out
 }
 

@@ -55,13 +55,15 @@ pub fn of_scene(lent: &Lent) -> Vec<(u64, &'static str)> {
     let unknown = |numbers: &[u16]| numbers.iter().any(|&vertex| vertex as usize >= vertices);
     let one = |a: usize, b: usize| triangles.chunks_exact(3).any(|corner| corner[a] == corner[b]);
     let seam = |holds: &dyn Fn(u16, u16) -> bool| seams.chunks_exact(2).any(|seam| holds(seam[0], seam[1]));
-    let follows = |holds: fn(u16, u16) -> bool| seams.chunks_exact(2).zip(seams.chunks_exact(2).skip(1)).any(|(a, b)| holds(a[0], b[0]));
+    let follows =
+        |holds: fn(u16, u16) -> bool| seams.chunks_exact(2).zip(seams.chunks_exact(2).skip(1)).any(|(a, b)| holds(a[0], b[0]));
     let place = |vertex: u16, from: usize| positions.get(6 * vertex as usize + from..6 * vertex as usize + from + 3);
     let differ = |from: usize| seam(&|i, j| place(i, from).zip(place(j, from)).is_some_and(|(here, there)| here != there));
     let replaced = |vertex: u16| seam(&|i, _| i == vertex);
     let sewn = |part: &[u16]| {
         let distinct = |i: usize| part[..i].iter().all(|other| *other != part[i]);
-        (1..part.len()).all(distinct) && (1..part.len()).any(|i| part[..i].iter().any(|&v| stands_for(seams, v) == stands_for(seams, part[i])))
+        (1..part.len()).all(distinct)
+            && (1..part.len()).any(|i| part[..i].iter().any(|&v| stands_for(seams, v) == stands_for(seams, part[i])))
     };
     let holds = [
         positions.len() % 6 != 0,

@@ -133,10 +133,12 @@ pub fn of(question: &Question, answer: &Answer) -> Vec<String> {
 
 /// Claims: each refusal, each of the scene's before the text's length, yes and no, each room.
 fn of_claim_calls() -> Vec<String> {
-    let mut out: Vec<String> =
-        ["answered", "answered with seams", "a scene of full size", "yes", "no", "just the room", "room left over", "one too few", "no room at all"]
-            .map(|sort| format!("check_claims: {sort}"))
-            .into();
+    let mut out: Vec<String> = [
+        "answered", "answered with seams", "a scene of full size", "yes", "no", "just the room", "room left over", "one too few",
+        "no room at all",
+    ]
+    .map(|sort| format!("check_claims: {sort}"))
+    .into();
     out.extend([1, 2, 3, 15, 4, 5, 6, 7, 8, 9].map(|number| format!("check_claims: refused {number}")));
     for (i, number) in SCENE_CHECKS.iter().enumerate() {
         let others = SCENE_CHECKS[i + 1..].iter().chain(&[TEXT_TOO_LONG]);
@@ -180,7 +182,11 @@ fn of_reading(question: &Question, answer: &Answer) -> Vec<String> {
     let lent = &question.lent;
     if answer.number == 0 {
         let sewn = answer.buffers[COUNTS][MARGIN + 24] > 0;
-        return [Some("read_scene: answered"), sewn.then_some("read_scene: answered with seams")].into_iter().flatten().map(Into::into).collect();
+        return [Some("read_scene: answered"), sewn.then_some("read_scene: answered with seams")]
+            .into_iter()
+            .flatten()
+            .map(Into::into)
+            .collect();
     }
     if answer.refusal() != LENT_TOO_SHORT {
         return texts_cells(question);
@@ -200,7 +206,8 @@ fn of_slices(question: &Question, answer: &Answer) -> Vec<String> {
     let call = question.call;
     let mut faults = of_scene(&question.lent);
     faults.extend(call.asked().map(|asked| of_asked(question, asked)).unwrap_or_default());
-    let no_room = call.lists() && (question.lent.list.is_empty() || (call == Call::SettleScene && question.lent.words.is_empty()));
+    let no_room =
+        call.lists() && (question.lent.list.is_empty() || (call == Call::SettleScene && question.lent.words.is_empty()));
     let mut out = Vec::new();
     let given = answer.refusal();
     if SCENE_CHECKS.contains(&given) {
@@ -214,7 +221,9 @@ fn of_slices(question: &Question, answer: &Answer) -> Vec<String> {
     // of so many seams some are at fault too
     let alone_or_first = match &faults[..] {
         [only] => Some(*only),
-        [(number, "a seam too many"), rest @ ..] if rest.iter().all(|fault| fault.0 != BAD_SHAPE) => Some((*number, "a seam too many")),
+        [(number, "a seam too many"), rest @ ..] if rest.iter().all(|fault| fault.0 != BAD_SHAPE) => {
+            Some((*number, "a seam too many"))
+        }
         _ => None,
     };
     if let Some((number, fault)) = alone_or_first {
