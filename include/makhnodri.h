@@ -253,8 +253,8 @@ typedef struct makhnodri_buffers {
         size_t triangles_length, const uint16_t *seams, size_t seams_length
 
 makhnodri_answer makhnodri_check_scene_slices(MAKHNODRI_LISTS);
-makhnodri_answer makhnodri_count_pairs_slices(MAKHNODRI_LISTS);
-makhnodri_answer makhnodri_list_pairs_slices(MAKHNODRI_LISTS, uint32_t *list, size_t list_length);
+makhnodri_answer makhnodri_count_pairs_slices(MAKHNODRI_LISTS, size_t tests[MAKHNODRI_AT_LEAST(1)]);
+makhnodri_answer makhnodri_list_pairs_slices(MAKHNODRI_LISTS, uint32_t *list, size_t list_length, size_t tests[MAKHNODRI_AT_LEAST(1)]);
 makhnodri_answer makhnodri_settle_scene_slices(MAKHNODRI_LISTS, uint32_t *list, size_t list_length, uint8_t *words, size_t words_length);
 makhnodri_answer makhnodri_judge_pt_slices(MAKHNODRI_LISTS, size_t vertex, size_t triangle);
 makhnodri_answer makhnodri_judge_ee_slices(MAKHNODRI_LISTS, size_t first, size_t second);
@@ -282,18 +282,25 @@ static inline makhnodri_answer makhnodri_check_scene(const makhnodri_scene *scen
     return makhnodri_check_scene_slices(MAKHNODRI_LISTS_OF(scene));
 }
 
-/* How many pairs are listed: those whose swept boxes meet, equal ends included, and that share no vertex. */
-static inline makhnodri_answer makhnodri_count_pairs(const makhnodri_scene *scene) {
-    return makhnodri_count_pairs_slices(MAKHNODRI_LISTS_OF(scene));
+/*
+ * How many pairs are listed: those whose swept boxes meet, equal ends included, and that share no vertex.
+ * Into tests[0] goes how many boxes the pt part tests in one pass over the scene: triangles stand in runs of 16 by place, each vertex
+ * tests the joint box of every run, and in a run that it meets the box of every triangle, sharing a vertex or not. It is never
+ * more than vertices x (triangles + runs). A refusal leaves it as it was.
+ */
+static inline makhnodri_answer makhnodri_count_pairs(const makhnodri_scene *scene, size_t tests[MAKHNODRI_AT_LEAST(1)]) {
+    return makhnodri_count_pairs_slices(MAKHNODRI_LISTS_OF(scene), tests);
 }
 
 /*
  * Makes the list, one number an entry (makhnodri_entry_kind and its neighbours take it apart). Room is list_length.
  * Order: pt by vertex then triangle, then ee by first then second edge, first below second.
  * The answer is the count of entries, which stand in front of the list; the rest of it is unchanged. Or 7, with the count needed.
+ * Into tests[0] go the box tests, the same number that makhnodri_count_pairs gives; a refusal leaves it as it was.
  */
-static inline makhnodri_answer makhnodri_list_pairs(const makhnodri_scene *scene, uint32_t *list, size_t list_length) {
-    return makhnodri_list_pairs_slices(MAKHNODRI_LISTS_OF(scene), list, list_length);
+static inline makhnodri_answer makhnodri_list_pairs(const makhnodri_scene *scene, uint32_t *list, size_t list_length,
+                                                    size_t tests[MAKHNODRI_AT_LEAST(1)]) {
+    return makhnodri_list_pairs_slices(MAKHNODRI_LISTS_OF(scene), list, list_length, tests);
 }
 
 /*

@@ -6,7 +6,7 @@
 //! | function | takes | gives |
 //! |---|---|---|
 //! | makhnodri_settle_scene_slices | a scene, list u32, words u8 | an answer; the list's entries, and for each its word: 0 hit, 1 miss, 3 touch, 4 apart |
-//! | makhnodri_list_pairs_slices | a scene, list u32 | an answer; the list's entries |
+//! | makhnodri_list_pairs_slices | a scene, list u32, one number | an answer; the list's entries, the box tests of its pt part |
 //! | makhnodri_settle_pt_slices, makhnodri_settle_ee_slices | a scene, two places | an answer: the pair's word |
 //! | makhnodri_settle_pt_piece_slices, makhnodri_settle_ee_piece_slices | a scene, two places, a piece | an answer: the piece's word |
 //! | makhnodri_read_scene_slices | text u8, a scene's four lists of full size, four counts | an answer; the scene and its counts |
@@ -110,6 +110,7 @@ mod linked {
             seams_len: usize,
             list: *mut u32,
             list_len: usize,
+            tests: *mut usize,
         ) -> u64;
         fn makhnodri_read_scene_slices(
             text: *const u8,
@@ -204,8 +205,9 @@ mod linked {
             })
         }
 
-        pub fn list(&self, s: &Slices, list: &mut [u32]) -> Answer {
-            // SAFETY: as above
+        /// The box tests of its pt part go into the lent number.
+        pub fn list(&self, s: &Slices, list: &mut [u32], tests: &mut [usize; 1]) -> Answer {
+            // SAFETY: as above, and there is one number
             answer(unsafe {
                 makhnodri_list_pairs_slices(
                     s.positions.as_ptr(),
@@ -218,6 +220,7 @@ mod linked {
                     s.seams.len(),
                     list.as_mut_ptr(),
                     list.len(),
+                    tests.as_mut_ptr(),
                 )
             })
         }
@@ -274,7 +277,7 @@ mod missing {
             match *self {}
         }
 
-        pub fn list(&self, _: &Slices, _: &mut [u32]) -> Answer {
+        pub fn list(&self, _: &Slices, _: &mut [u32], _: &mut [usize; 1]) -> Answer {
             match *self {}
         }
 

@@ -21,11 +21,14 @@ static void hold(const char *asked, makhnodri_answer answer, uint32_t refusal, u
 
 /* by the plain functions */
 static void hold_slices(void) {
-    size_t counts[4] = {7, 7, 7, 7};
+    size_t counts[4] = {7, 7, 7, 7}, tests[1] = {7};
     static makhnodri_buffers room;
     hold("check_scene", makhnodri_check_scene_slices(NO_SCENE), 0, 0);
-    hold("count_pairs", makhnodri_count_pairs_slices(NO_SCENE), 0, 0);
-    hold("list_pairs", makhnodri_list_pairs_slices(NO_SCENE, NULL, 0), 0, 0);
+    hold("count_pairs", makhnodri_count_pairs_slices(NO_SCENE, tests), 0, 0);
+    if (tests[0]) wrong = 1, puts("box tests of no scene");
+    tests[0] = 7;
+    hold("list_pairs", makhnodri_list_pairs_slices(NO_SCENE, NULL, 0, tests), 0, 0);
+    if (tests[0]) wrong = 1, puts("box tests of no list");
     hold("settle_scene", makhnodri_settle_scene_slices(NO_SCENE, NULL, 0, NULL, 0), 0, 0);
     hold("judge_pt", makhnodri_judge_pt_slices(NO_SCENE, 0, 0), MAKHNODRI_NOT_THERE, 0);
     hold("judge_ee", makhnodri_judge_ee_slices(NO_SCENE, 0, 0), MAKHNODRI_NOT_THERE, 0);
@@ -48,8 +51,12 @@ static void hold_slices(void) {
 /* by the calls that take a struct */
 static void hold_scene(const makhnodri_scene *scene) {
     hold("check_scene of a struct", makhnodri_check_scene(scene), 0, 0);
-    hold("count_pairs of a struct", makhnodri_count_pairs(scene), 0, 0);
-    hold("list_pairs of a struct", makhnodri_list_pairs(scene, NULL, 0), 0, 0);
+    size_t tests[1] = {7};
+    hold("count_pairs of a struct", makhnodri_count_pairs(scene, tests), 0, 0);
+    if (tests[0]) wrong = 1, puts("box tests of an empty struct");
+    tests[0] = 7;
+    hold("list_pairs of a struct", makhnodri_list_pairs(scene, NULL, 0, tests), 0, 0);
+    if (tests[0]) wrong = 1, puts("box tests of an empty struct's list");
     hold("settle_scene of a struct", makhnodri_settle_scene(scene, NULL, 0, NULL, 0), 0, 0);
     hold("judge_pt of a struct", makhnodri_judge_pt(scene, 0, 0), MAKHNODRI_NOT_THERE, 0);
     hold("judge_ee of a struct", makhnodri_judge_ee(scene, 0, 0), MAKHNODRI_NOT_THERE, 0);

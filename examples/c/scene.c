@@ -39,8 +39,10 @@ int main(void) {
     printf("%zu vertices, %zu edges, %zu triangles, %zu seams\n", vertices, scene.edges_length / 2, scene.triangles_length / 3,
            scene.seams_length / 2);
 
-    makhnodri_answer room = makhnodri_count_pairs(&scene);
+    size_t tests[1];
+    makhnodri_answer room = makhnodri_count_pairs(&scene, tests);
     show("listed pairs", room);
+    printf("found with %zu box tests of points\n", tests[0]);
     /* one entry more than needed: malloc(0) may give null, which here means that there is no memory */
     uint32_t *list = malloc((room + 1) * sizeof *list);
     uint8_t *words = malloc(room + 1);
@@ -63,7 +65,7 @@ int main(void) {
     makhnodri_scene half = {0};
     half.positions = scene.positions;
     half.positions_length = 3;
-    show("room for one pair", makhnodri_list_pairs(&scene, list, 1));
+    show("room for one pair", makhnodri_list_pairs(&scene, list, 1, tests));
     show("no such vertex", makhnodri_judge_pt(&scene, vertices, 0));
     show("an edge with itself", makhnodri_judge_ee(&scene, 0, 0));
     show("half a vertex", makhnodri_check_scene(&half));
@@ -84,9 +86,9 @@ int main(void) {
     static const int32_t pieces[] = {0, 0, 0, 0, 0, 0, 4, 0, 0, 4, 0, 0, 0, 4, 0, 0, 4, 0, 0, 0, 0, 0, 0, 0, 4, 0, 0, 4, 0, 0, 0, -4, 0, 0, -4, 0};
     static const uint16_t borders[] = {0, 1, 3, 4}, faces[] = {0, 1, 2, 3, 4, 5}, sewn[] = {3, 0, 4, 1};
     makhnodri_scene cloth = {pieces, 36, borders, 4, faces, 6, NULL, 0};
-    show("listed without the seam", makhnodri_count_pairs(&cloth));
+    show("listed without the seam", makhnodri_count_pairs(&cloth, tests));
     cloth.seams = sewn, cloth.seams_length = 4;
-    show("listed with it", makhnodri_count_pairs(&cloth));
+    show("listed with it", makhnodri_count_pairs(&cloth, tests));
     show("the two borders", makhnodri_settle_ee(&cloth, 0, 1));
 
     /* a scene without seams played backwards: the same pairs have the same words, the pt pairs at their vertices' new numbers */

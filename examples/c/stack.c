@@ -25,7 +25,7 @@ static uint32_t list[MAKHNODRI_PAIR_LIMIT];
 static uint8_t words[MAKHNODRI_PAIR_LIMIT];
 static char text[MAKHNODRI_TEXT_LIMIT + 1];
 static uint8_t report[MAKHNODRI_REPORT_LENGTH];
-static size_t text_length, counts[4], place;
+static size_t text_length, counts[4], tests[1], place;
 
 static makhnodri_buffers own;
 
@@ -35,8 +35,8 @@ static makhnodri_buffers own;
 static void check(void) { makhnodri_check_scene_slices(SCENE); }
 /* it stands there turned round then, as good a scene */
 static void turn(void) { makhnodri_turn_scene(THREE); }
-static void count(void) { makhnodri_count_pairs_slices(SCENE); }
-static void make_list(void) { makhnodri_list_pairs_slices(SCENE, list, sizeof list / sizeof list[0]); }
+static void count(void) { makhnodri_count_pairs_slices(SCENE, tests); }
+static void make_list(void) { makhnodri_list_pairs_slices(SCENE, list, sizeof list / sizeof list[0], tests); }
 static void settle_scene(void) { makhnodri_settle_scene_slices(SCENE, list, sizeof list / sizeof list[0], words, sizeof words); }
 static void judge_pt(void) { makhnodri_judge_pt_slices(SCENE, place, place / 3); }
 static void judge_ee(void) { makhnodri_judge_ee_slices(SCENE, place, place / 3); }

@@ -4,6 +4,7 @@ use super::expected::{self, Expecting};
 use super::harm::{of_asked, of_scene, SCENE_CHECKS, SCENE_FAULTS};
 use super::question::*;
 use crate::backwards;
+use crate::box_tests;
 use crate::listing;
 use crate::refusal::*;
 use crate::scene::{Pair, Scene, COORDINATE_LIMIT, FIRST_COORDINATE_LIMIT};
@@ -32,6 +33,7 @@ pub fn all() -> Vec<Damage> {
     out.extend(turning());
     out.extend(claims());
     out.extend(seams());
+    out.extend(box_tests());
     out
 }
 
@@ -108,6 +110,37 @@ fn unsewn(question: &Question, answer: &mut Answer) {
     let seams = answer.buffers[SEAMS].clone();
     *answer = other;
     answer.buffers[SEAMS] = seams;
+}
+
+fn leave_tests(answer: &mut Answer, tests: usize) {
+    answer.buffers[COUNTS][MARGIN..MARGIN + 8].copy_from_slice(&(tests as u64).to_le_bytes());
+}
+
+/// The box tests, wrongly counted, or told with a refusal.
+fn box_tests() -> Vec<Damage> {
+    let wrong = box_tests::wrong().into_iter().map(|wrong| {
+        damage(format!("box tests: {}", wrong.name), move |question: &Question, answer: &mut Answer| {
+            if question.call.tells_tests() && answer.refusal() == 0 {
+                leave_tests(answer, (wrong.count)(&expected::scene(&question.lent).unwrap()));
+            }
+        })
+    });
+    let refused = damage("box tests: a refused scene has none", |question, answer| {
+        if question.call.tells_tests() && answer.refusal() > 0 && answer.refusal() != NO_ROOM {
+            leave_tests(answer, 0);
+        }
+    });
+    let no_room = damage("box tests: told with 7", |question, answer| {
+        if question.call.tells_tests() && answer.refusal() == NO_ROOM {
+            leave_tests(answer, box_tests::of(&expected::scene(&question.lent).unwrap()));
+        }
+    });
+    let settled = damage("box tests: the number behind the lent one is written", |question, answer| {
+        if question.call.tells_tests() && answer.refusal() == 0 {
+            answer.buffers[COUNTS][MARGIN + 8] = 0;
+        }
+    });
+    wrong.chain([refused, no_room, settled]).collect()
 }
 
 /// Answers to claims.
