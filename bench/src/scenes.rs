@@ -103,7 +103,7 @@ pub fn in_random_order(random: &mut Random, scene: Scene) -> Scene {
     }
 }
 
-/// Every vertex starts and ends anywhere in one place, so that nearly all boxes meet: 680,000 pairs and more.
+/// Every vertex starts and ends anywhere in one place, so that nearly all boxes meet: some 680,000 pairs.
 pub fn in_one_place(random: &mut Random) -> Scene {
     let mut scene = full_size(random, 32);
     scene.vertices.iter_mut().flatten().for_each(|n| *n = random.between(-1_000, 1_000));

@@ -16,7 +16,7 @@ use Rattle.meaning.specs.declared.Kind.the-variants.{PointTriangle, EdgeEdge}
 use Rattle.boxes.specs.Kept.{Box, vertexBox, triangleBox, meetBoxes}
 use Rattle.runs.specs.Joined.{joint-spans, run-misses}
 use Rattle.runs.specs.Tests.{sum-short, at-most-all}
-use Rattle.walking.specs.Rows.{firstCount, secondCount, secondFrom, few-seconds}
+use Rattle.candidates.specs.Rows.{firstCount, secondCount, secondFrom, few-seconds}
 use Rattle.walking.specs.Skipping.{firstBox, secondBox, runBox}
 
 -- of a kind: what is counted of so many tests

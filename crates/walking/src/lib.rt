@@ -1,7 +1,6 @@
 // The walk over the pairs that can be listed: every listed pair is counted, and entered while its number is below a bound. A first part
 // that misses the joint box of a run of second parts misses all of them, so the run is skipped.
 
-mod candidates; // candidates.rt: which pairs there are, and whether one is listed
 mod skipping; // skipping.rt: whether a first part meets a run
 mod steps; // steps.rt: a pair, a run, a row, the rows
 

@@ -5,7 +5,7 @@ use mathlib.Core.Path.{_∙_}
 use Rattle.meaning.specs.Scene.{sceneOf}
 use Rattle.meaning.specs.declared.Kind.the-variants.{PointTriangle, EdgeEdge}
 use Rattle.entries.specs.UpTo.{walked-then, walked-length}
-use Rattle.walking.specs.Rows.{rowsOf, rows-short, pairs-rows}
+use Rattle.candidates.specs.Rows.{rowsOf, rows-short, pairs-rows}
 use Rattle.walking.specs.Testing.{point-rows}
 use Rattle.walking.proofs.walk_accepted.Statement.{statement}
 use Rattle.walking.proofs.walk_accepted.Tie as tie

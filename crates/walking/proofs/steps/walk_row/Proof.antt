@@ -6,7 +6,7 @@ use mathlib.Core.Path.{_≡_, sym}
 use Rattle.meaning.specs.Scene.{sceneOf}
 use Rattle.meaning.specs.Runs.{runTo}
 use Rattle.entries.specs.UpTo.{Walking, walking-starts, walking-more, walked-length}
-use Rattle.walking.specs.Rows.{secondCount, secondFrom, candidate, row-begins, stretch-short, few-firsts, few-seconds}
+use Rattle.candidates.specs.Rows.{secondCount, secondFrom, candidate, row-begins, stretch-short, few-firsts, few-seconds}
 use Rattle.walking.specs.Testing.{testsUpTo, AtRun, at-begun, at-next, row-tests-begun, row-tests-go, tests-few, row-tests-few}
 use Rattle.walking.proofs.steps.walk_row.Statement.{statement}
 use Rattle.walking.proofs.steps.walk_row.Tie as tie

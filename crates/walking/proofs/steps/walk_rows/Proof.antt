@@ -6,7 +6,7 @@ use mathlib.Core.Path.{_≡_, sym}
 use Rattle.sequences.specs.Gather.{sum, sum-none}
 use Rattle.meaning.specs.Scene.{sceneOf}
 use Rattle.entries.specs.UpTo.{Walking, walking-starts, walking-next, walked-length}
-use Rattle.walking.specs.Rows.{firstCount, secondCount, rowOf, rows-up-to, few-firsts, few-seconds}
+use Rattle.candidates.specs.Rows.{firstCount, secondCount, rowOf, rows-up-to, few-firsts, few-seconds}
 use Rattle.walking.specs.Testing.{testsOfRow, row-tests-few, rows-tests-few, rows-tests-go}
 use Rattle.walking.proofs.steps.walk_rows.Statement.{statement}
 use Rattle.walking.proofs.steps.walk_rows.Tie as tie

@@ -6,7 +6,7 @@ use mathlib.Core.Path.{sym, _∙_}
 use Rattle.meaning.specs.Scene.{sceneOf}
 use Rattle.meaning.specs.Runs.{runTo}
 use Rattle.entries.specs.UpTo.{walked-none}
-use Rattle.walking.specs.Rows.{secondCount, few-seconds, stretch-short}
+use Rattle.candidates.specs.Rows.{secondCount, few-seconds, stretch-short}
 use Rattle.walking.specs.Skipping.{run-skipped}
 use Rattle.walking.specs.Testing.{tests-met, tests-missed}
 use Rattle.walking.proofs.steps.walk_run.Statement.{statement}
