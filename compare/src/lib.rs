@@ -8,6 +8,7 @@ pub mod backwards;
 pub mod blame;
 pub mod cases;
 pub mod claims;
+pub mod contacts;
 pub mod cost;
 pub mod crossed;
 pub mod cubic;
