@@ -2,7 +2,7 @@
  * Answers questions from another program with what the library answers, number for number: one question after the other on
  * standard input, one answer after the other on standard output, until the input ends. compare/raw runs it.
  *
- * A question is `struct question`, then each of the eight buffers in the order of the `enum`: as many numbers as its length
+ * A question is `struct question`, then each of the nine buffers in the order of the `enum`: as many numbers as its length
  * says, with MARGIN bytes in front of them and MARGIN behind, which are not lent. An answer is the number that the call gave,
  * then all those bytes as the call left them.
  */
@@ -14,8 +14,8 @@
 /* each buffer is aligned for 64-bit numbers, and not for more */
 enum { MARGIN = 24, CAPACITY = 1 << 22 };
 
-enum { POSITIONS, EDGES, TRIANGLES, LIST, WORDS, TEXT, COUNTS, REPORT, BUFFERS };
-static const size_t size_of[BUFFERS] = {4, 2, 2, 4, 1, 1, sizeof(size_t), 1};
+enum { POSITIONS, EDGES, TRIANGLES, LIST, WORDS, TEXT, COUNTS, REPORT, CONTACTS, BUFFERS };
+static const size_t size_of[BUFFERS] = {4, 2, 2, 4, 1, 1, sizeof(size_t), 1, 4};
 
 struct question {
     uint64_t call, asked[3], length[BUFFERS];
@@ -54,6 +54,11 @@ static uint64_t answer(const struct question *q) {
     case 13: return makhnodri_write_report(lent(TEXT), q->length[TEXT], lent(REPORT));
     case 14: return makhnodri_turn_scene(SCENE);
     case 15: return makhnodri_check_claims(SCENE, lent(TEXT), q->length[TEXT], lent(WORDS), q->length[WORDS]);
+    case 16: return makhnodri_contact_pt(PAIR, lent(CONTACTS));
+    case 17: return makhnodri_contact_ee(PAIR, lent(CONTACTS));
+    case 18:
+        return makhnodri_contact_scene(SCENE, lent(LIST), q->length[LIST], lent(WORDS), q->length[WORDS], lent(CONTACTS),
+                                       q->length[CONTACTS]);
     }
     give_up("no such call");
     return 0;

@@ -112,8 +112,11 @@ fn exact_parts(random: &mut Random) -> Scene {
     let base = random.between(100_000, 250_000);
     let start = [0; 3].map(|_| base + random.between(-9_000, 9_000));
     let end = [0, 1, 2].map(|axis| start[axis] - step[axis]);
-    let rest = |place: [i64; 3]| moving(place, place);
-    let corners = [[200_000, 0, -200_000], [-200_000, 200_000, 0], [0, -200_000, 200_000]].map(rest);
+    // large volumes that are no multiples of a power of two, so that doubles round them
+    let corners = [[200_000, 0], [-200_000, 200_000], [0, -200_000]].map(|[x, y]: [i64; 2]| {
+        let (x, y) = (x + random.between(-20_000, 20_000), y + random.between(-20_000, 20_000));
+        moving([x, y, -x - y], [x, y, -x - y])
+    });
     let vertices = [corners.to_vec(), vec![moving(start, end)]].concat();
     rewritten(random, &Scene { vertices, edges: vec![], triangles: vec![[0, 1, 2]] })
 }
@@ -176,11 +179,7 @@ fn touch_before_hit(random: &mut Random) -> Scene {
     let y = random.between(1, size - 1);
     let x = random.between(0, size - y);
     let lifting = [size, 0, 0, size, 0, up];
-    Scene {
-        vertices: vec![rest(0, 0), lifting, rest(0, size), rest(x, y)],
-        edges: vec![],
-        triangles: vec![[2, 0, 1]],
-    }
+    Scene { vertices: vec![rest(0, 0), lifting, rest(0, size), rest(x, y)], edges: vec![], triangles: vec![[2, 0, 1]] }
 }
 
 /// The largest numbers for which contacts are given.
@@ -229,7 +228,13 @@ fn edges() -> Vec<(String, String)> {
     out.push(("too many pairs".into(), heap("")));
     out.push(("16 before 7".into(), heap(far)));
     out.push(("16 alone".into(), far.into()));
-    for (name, line) in [("2", "v\t0\t524288\t0\t0\t0\t0\n"), ("3", "e\t0\t1\n"), ("4", "e\t0\t0\n"), ("9", "v\t0\n"), ("10", "e\t0\t1\nv")] {
+    for (name, line) in [
+        ("2", "v\t0\t524288\t0\t0\t0\t0\n"),
+        ("3", "e\t0\t1\n"),
+        ("4", "e\t0\t0\n"),
+        ("9", "v\t0\n"),
+        ("10", "v\t0\t0\t0\t0\t0\t0\ne\t0\t1\nv\t0\t0\t0\t0\t0\t0\n"),
+    ] {
         out.push((format!("{name} before 16"), format!("{far}{line}")));
     }
     out

@@ -54,34 +54,25 @@ fn nearest(fraction: &Fraction) -> u32 {
 
 /// The earliest solution of a singular piece among those that some choice of corners has alone, the others left out.
 fn touching(piece: usize, corners: &[Vec<Corner>; 2], points: &Piece) -> Option<Solved> {
-    let places = |simplex: &[Point], choice: usize| -> Vec<usize> { (0..simplex.len()).filter(|i| choice >> i & 1 == 1).collect() };
+    let nothing = Fraction { above: Whole::ZERO, below: Whole::from(1) };
     let mut found: Vec<Solved> = Vec::new();
-    for choice in 0..1 << 6 {
-        let (first, second) = (places(&points.first, choice), places(&points.second, choice >> points.first.len()));
-        let [left, right] = [(&points.first, &first), (&points.second, &second)]
-            .map(|(simplex, places)| places.iter().map(|&i| simplex[i]).collect::<Vec<Point>>());
-        let solutions = Solutions::of(&left, &right);
+    for choice in 1..1usize << 6 {
+        let chosen: Vec<usize> = (0..6).filter(|place| choice >> place & 1 == 1).collect();
+        let of = |simplex: &[Point], before: usize| -> Vec<Point> {
+            chosen.iter().filter_map(|place| simplex.get(place.wrapping_sub(before)).copied()).collect()
+        };
+        let (first, second) = (of(&points.first, 0), of(&points.second, points.first.len()));
+        let solutions = Solutions::of(&first, &second);
         if first.is_empty() || second.is_empty() || solutions.singular() || !solutions.any_nonnegative() {
             continue;
         }
-        let chosen = [(&corners[0], first), (&corners[1], second)]
-            .map(|(all, places)| places.iter().map(|&i| all[i]).collect::<Vec<Corner>>());
-        let weights = solutions.only().into_iter().map(|(above, below)| Fraction { above, below });
-        let every = [corners[0].clone(), corners[1].clone()];
-        let nothing = Fraction { above: Whole::ZERO, below: Whole::from(1) };
-        let mut all = vec![nothing; 6];
-        let chosen_places: Vec<usize> = [0, 1].into_iter().flat_map(|simplex| placed(&every, &chosen, simplex)).collect();
-        chosen_places.into_iter().zip(weights).for_each(|(place, weight)| all[place] = weight);
-        found.push(Solved { piece, corners: every, weights: all });
+        let mut weights = vec![nothing.clone(); 6];
+        for (&place, (above, below)) in chosen.iter().zip(solutions.only()) {
+            weights[place] = Fraction { above, below };
+        }
+        found.push(Solved { piece, corners: corners.clone(), weights });
     }
     found.into_iter().min_by(|a, b| a.time().compare(&b.time()))
-}
-
-/// Where the chosen corners of a simplex stand among all six.
-fn placed(every: &[Vec<Corner>; 2], chosen: &[Vec<Corner>; 2], simplex: usize) -> Vec<usize> {
-    let before = if simplex == 0 { 0 } else { every[0].len() };
-    let place = |corner: &Corner| before + every[simplex].iter().position(|other| other == corner).unwrap();
-    chosen[simplex].iter().map(place).collect()
 }
 
 fn touching_pieces(scene: &Scene, pair: Pair) -> Vec<Solved> {

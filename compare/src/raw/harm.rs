@@ -52,6 +52,22 @@ pub fn of_scene(lent: &Lent) -> Vec<(u64, &'static str)> {
     SCENE_FAULTS.into_iter().zip(holds).filter(|(_, holds)| *holds).map(|(fault, _)| fault).collect()
 }
 
+/// Document 02, §13, for contacts alone; a coordinate that is out of range is beyond the old range too.
+pub const BEYOND: (u64, &str) = (BEYOND_CONTACTS, "beyond the old range");
+
+pub fn of_range(lent: &Lent) -> Option<(u64, &'static str)> {
+    lent.positions.iter().any(|&n| n.unsigned_abs() as i64 > FIRST_COORDINATE_LIMIT).then_some(BEYOND)
+}
+
+/// Where a check stands in the order of all: 16 comes before 7.
+pub fn rank(number: u64) -> u64 {
+    if number == NO_ROOM {
+        u64::MAX
+    } else {
+        number
+    }
+}
+
 /// What may be wrong with the pair or piece that is asked for, of each kind.
 pub const PT_FAULTS: [(u64, &str); 6] = [
     (NOT_THERE, "vertex"),
