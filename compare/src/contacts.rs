@@ -146,7 +146,7 @@ pub fn refuse_beyond(scene: &Scene) -> Result<(), Refusal> {
     if in_old_range(scene) {
         return Ok(());
     }
-    Err(Refusal::bare(BEYOND_CONTACTS))
+    Err(Refusal::bare(BEYOND_OLD_RANGE))
 }
 
 /// What a text comes to: the count of listed pairs, and each hit pair with its contact.

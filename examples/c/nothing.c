@@ -39,6 +39,12 @@ int main(void) {
     hold("settle_pt_piece", makhnodri_settle_pt_piece(NO_SCENE, 0, 0, 0), MAKHNODRI_NOT_THERE, 0);
     hold("settle_ee_piece", makhnodri_settle_ee_piece(NO_SCENE, 0, 0, 0), MAKHNODRI_NOT_THERE, 0);
     hold("check_claims", makhnodri_check_claims(NO_SCENE, NULL, 0, NULL, 0), 0, 0);
+    uint32_t contact[MAKHNODRI_CONTACT_LENGTH] = {7, 7, 7, 7, 7};
+    hold("contact_pt", makhnodri_contact_pt(NO_SCENE, 0, 0, contact), MAKHNODRI_NOT_THERE, 0);
+    hold("contact_ee", makhnodri_contact_ee(NO_SCENE, 0, 0, contact), MAKHNODRI_NOT_THERE, 0);
+    for (size_t i = 0; i < MAKHNODRI_CONTACT_LENGTH; i++)
+        if (contact[i] != 7) wrong = 1, puts("a contact of no pair");
+    hold("contact_scene", makhnodri_contact_scene(NO_SCENE, NULL, 0, NULL, 0, NULL, 0), 0, 0);
     hold("read_scene, no buffers", makhnodri_read_scene(NULL, 0, NO_SCENE, counts), MAKHNODRI_SHORT_BUFFER, 0);
     hold("read_scene, no text",
          makhnodri_read_scene(NULL, 0, positions, MAKHNODRI_POSITIONS_LENGTH, edges, MAKHNODRI_EDGES_LENGTH, triangles,

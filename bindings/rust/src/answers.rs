@@ -64,7 +64,7 @@ impl Pair {
     }
 }
 
-/// Why a call was refused, in the order of the numbers 1 to 12.
+/// Why a call was refused, by its number: 1 to 12, and 16.
 #[derive(Clone, Copy, Debug, PartialEq, Eq, Hash)]
 pub enum Refusal {
     Shape = 1,
@@ -79,12 +79,13 @@ pub enum Refusal {
     LateRecord,
     TooMany,
     ShortBuffer,
+    BeyondOldRange = 16,
 }
 
 /// Why no list was made.
 #[derive(Clone, Copy, Debug, PartialEq, Eq, Hash)]
 pub enum ListRefusal {
-    /// 1, 2, 3 or 4.
+    /// 1, 2, 3 or 4; for contacts 16 too.
     Scene(Refusal),
     /// 7, with the count of pairs that need room.
     NoRoom { needed: usize },
@@ -114,7 +115,7 @@ pub enum ClaimsRefusal {
     NoRoom { needed: usize },
 }
 
-const REFUSALS: [(Refusal, &str); 12] = [
+const REFUSALS: [(Refusal, &str); 13] = [
     (Refusal::Shape, "positions not a multiple of 6 long, edges of 2, triangles of 3, or a count over its size"),
     (Refusal::Coordinate, "a coordinate outside its range"),
     (Refusal::UnknownVertex, "a vertex number not below the vertex count"),
@@ -127,6 +128,7 @@ const REFUSALS: [(Refusal, &str); 12] = [
     (Refusal::LateRecord, "a record after one of a later kind"),
     (Refusal::TooMany, "one record more than its size"),
     (Refusal::ShortBuffer, "a lent scene buffer that is too short"),
+    (Refusal::BeyondOldRange, "a contact asked for in a scene with a coordinate beyond 262,143"),
 ];
 
 impl Refusal {
@@ -135,11 +137,11 @@ impl Refusal {
     }
 
     pub fn words(self) -> &'static str {
-        REFUSALS[self as usize - 1].1
+        REFUSALS.iter().find(|(refusal, _)| *refusal == self).expect("each has its words").1
     }
 
     fn numbered(number: u64) -> Refusal {
-        REFUSALS[number as usize - 1].0
+        REFUSALS.iter().find(|(refusal, _)| refusal.number() as u64 == number).expect("a number of the table").0
     }
 }
 

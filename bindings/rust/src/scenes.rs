@@ -21,6 +21,8 @@ macro_rules! ask {
     }};
 }
 
+pub(crate) use ask;
+
 impl Scene<'_> {
     /// 1, 2, 3, 4, each over the whole scene before the next.
     pub fn check_scene(self) -> Result<(), Refusal> {
@@ -180,11 +182,11 @@ pub fn turn_scene(positions: &mut [i32], edges: &mut [u16], triangles: &mut [u16
 }
 
 /// A refusal that carries nothing.
-fn bare((refusal, _): (Refusal, usize)) -> Refusal {
+pub(crate) fn bare((refusal, _): (Refusal, usize)) -> Refusal {
     refusal
 }
 
-fn list_refusal((refusal, carried): (Refusal, usize)) -> ListRefusal {
+pub(crate) fn list_refusal((refusal, carried): (Refusal, usize)) -> ListRefusal {
     match refusal {
         Refusal::NoRoom => ListRefusal::NoRoom { needed: carried },
         refusal => ListRefusal::Scene(refusal),

@@ -19,7 +19,7 @@ fn header() -> BTreeMap<String, i64> {
     text.lines().filter_map(numbered).collect()
 }
 
-const REFUSALS: [(&str, Refusal); 12] = [
+const REFUSALS: [(&str, Refusal); 13] = [
     ("SHAPE", Refusal::Shape),
     ("COORDINATE", Refusal::Coordinate),
     ("UNKNOWN_VERTEX", Refusal::UnknownVertex),
@@ -32,6 +32,7 @@ const REFUSALS: [(&str, Refusal); 12] = [
     ("LATE_RECORD", Refusal::LateRecord),
     ("TOO_MANY", Refusal::TooMany),
     ("SHORT_BUFFER", Refusal::ShortBuffer),
+    ("BEYOND_OLD_RANGE", Refusal::BeyondOldRange),
 ];
 
 #[test]
@@ -48,6 +49,9 @@ fn the_header_has_the_same_numbers() {
         ("TEXT_LIMIT", TEXT_LIMIT),
         ("REPORT_ROOM", REPORT_ROOM),
         ("PAIR_LIMIT", PAIR_LIMIT),
+        ("CONTACT_LIMIT", CONTACT_LIMIT as usize),
+        ("CONTACT_UNIT", CONTACT_UNIT as usize),
+        ("CONTACT_LENGTH", CONTACT_LENGTH),
         ("WEIGHT_LIMIT", WEIGHT_LIMIT as usize),
         ("NO", false as usize),
         ("YES", true as usize),

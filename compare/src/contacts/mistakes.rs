@@ -198,8 +198,8 @@ fn range(mistake: Mistake, scene: &Scene) -> Result<(), Refusal> {
         _ => vertex.iter().any(|&coordinate| coordinate.abs() > limit),
     };
     match scene.vertices.iter().position(beyond) {
-        Some(vertex) if mistake == SixteenWithALine => Err(Refusal::new(BEYOND_CONTACTS, vertex as u64 + 1)),
-        Some(_) => Err(Refusal::bare(BEYOND_CONTACTS)),
+        Some(vertex) if mistake == SixteenWithALine => Err(Refusal::new(BEYOND_OLD_RANGE, vertex as u64 + 1)),
+        Some(_) => Err(Refusal::bare(BEYOND_OLD_RANGE)),
         None => Ok(()),
     }
 }
@@ -223,7 +223,7 @@ pub fn printed(mistake: Mistake, text: &[u8], room: usize) -> String {
     let found = text::read(text).and_then(|scene| wrong_found(mistake, &scene, room));
     match found {
         Err(refusal) if mistake == SixteenInPlaceOfTwo && refusal.number == OUT_OF_RANGE => {
-            written(&Err(Refusal::bare(BEYOND_CONTACTS)))
+            written(&Err(Refusal::bare(BEYOND_OLD_RANGE)))
         }
         found => written(&found),
     }

@@ -144,14 +144,14 @@ fn contacts() -> Vec<Damage> {
         blank("a touch clears the contact", |_, answer| answer.number == 3),
         blank("a pair that is apart clears the contact", |_, answer| answer.number == 4),
         blank("5 clears the contact", |_, answer| answer.refusal() == NOT_THERE),
-        blank("16 clears the contact", |_, answer| answer.refusal() == BEYOND_CONTACTS),
+        blank("16 clears the contact", |_, answer| answer.refusal() == BEYOND_OLD_RANGE),
         damage("contacts beyond the old range are given", |question, answer| {
-            if question.call.finds_contacts() && answer.refusal() == BEYOND_CONTACTS {
+            if question.call.finds_contacts() && answer.refusal() == BEYOND_OLD_RANGE {
                 answer.number = 1;
             }
         }),
         damage("16 goes by the pair and not by the scene", |question, answer| {
-            let Some(asked) = question.call.asked().filter(|_| answer.refusal() == BEYOND_CONTACTS) else { return };
+            let Some(asked) = question.call.asked().filter(|_| answer.refusal() == BEYOND_OLD_RANGE) else { return };
             let scene = expected::scene(&question.lent).unwrap();
             let pair = Pair { kind: asked.kind(), first: question.asked[0] as usize, second: question.asked[1] as usize };
             let (first, second) = pair.parts(&scene);
@@ -163,16 +163,16 @@ fn contacts() -> Vec<Damage> {
         damage("262143 is beyond the old range", |question, answer| {
             let largest = question.lent.positions.iter().map(|n| n.unsigned_abs() as i64).max();
             if question.call.finds_contacts() && answer.refusal() == 0 && largest == Some(FIRST_COORDINATE_LIMIT) {
-                *answer = Answer { number: BEYOND_CONTACTS << 32, buffers: question.lent.bytes() };
+                *answer = Answer { number: BEYOND_OLD_RANGE << 32, buffers: question.lent.bytes() };
             }
         }),
         damage("7 before 16", |question, answer| {
-            if question.call == Call::ContactScene && answer.refusal() == BEYOND_CONTACTS && question.lent.list.is_empty() {
+            if question.call == Call::ContactScene && answer.refusal() == BEYOND_OLD_RANGE && question.lent.list.is_empty() {
                 answer.number = NO_ROOM << 32;
             }
         }),
         damage("16 with the count", |question, answer| {
-            if question.call == Call::ContactScene && answer.refusal() == BEYOND_CONTACTS {
+            if question.call == Call::ContactScene && answer.refusal() == BEYOND_OLD_RANGE {
                 answer.number += listing::listed(&expected::scene(&question.lent).unwrap()).len() as u64;
             }
         }),
@@ -360,7 +360,7 @@ fn answered(name: String, which: impl Fn(&Question) -> bool + 'static) -> Damage
 /// Which refusal is given where there are two; and one that is never given.
 fn orders() -> Vec<Damage> {
     let mut out = Vec::new();
-    let numbers = [&SCENE_CHECKS[..], &[NOT_THERE, SHARES_A_VERTEX, BEYOND_CONTACTS]].concat();
+    let numbers = [&SCENE_CHECKS[..], &[NOT_THERE, SHARES_A_VERTEX, BEYOND_OLD_RANGE]].concat();
     for (i, &lower) in numbers.iter().enumerate() {
         for &higher in &numbers[i + 1..] {
             out.push(damage(format!("{higher} before {lower}"), move |question: &Question, answer: &mut Answer| {

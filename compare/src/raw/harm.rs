@@ -53,7 +53,7 @@ pub fn of_scene(lent: &Lent) -> Vec<(u64, &'static str)> {
 }
 
 /// Document 02, §13, for contacts alone; a coordinate that is out of range is beyond the old range too.
-pub const BEYOND: (u64, &str) = (BEYOND_CONTACTS, "beyond the old range");
+pub const BEYOND: (u64, &str) = (BEYOND_OLD_RANGE, "beyond the old range");
 
 pub fn of_range(lent: &Lent) -> Option<(u64, &'static str)> {
     lent.positions.iter().any(|&n| n.unsigned_abs() as i64 > FIRST_COORDINATE_LIMIT).then_some(BEYOND)

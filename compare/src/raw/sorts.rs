@@ -41,8 +41,8 @@ pub fn none_yet() -> Sorts {
 fn of_scenes(call: Call) -> Vec<String> {
     let name = call.name();
     let later: &[u64] = match call {
-        Call::ContactScene => &[BEYOND_CONTACTS, NO_ROOM],
-        Call::Contact(_) => &[NOT_THERE, SHARES_A_VERTEX, BEYOND_CONTACTS],
+        Call::ContactScene => &[BEYOND_OLD_RANGE, NO_ROOM],
+        Call::Contact(_) => &[NOT_THERE, SHARES_A_VERTEX, BEYOND_OLD_RANGE],
         _ if call.lists() => &[NO_ROOM],
         _ if call.asked().is_some() => &[NOT_THERE, SHARES_A_VERTEX],
         _ => &[],
@@ -74,7 +74,7 @@ fn of_pairs(call: Call, asked: Asked) -> Vec<String> {
     }
     if call.finds_contacts() {
         out.push(asked_for(call, BEYOND.0, BEYOND.1));
-        out.extend([NOT_THERE, SHARES_A_VERTEX].map(|number| format!("{name}: {number} before {BEYOND_CONTACTS}")));
+        out.extend([NOT_THERE, SHARES_A_VERTEX].map(|number| format!("{name}: {number} before {BEYOND_OLD_RANGE}")));
         out.extend((0..pieces).map(|piece| format!("{name}: a hit in piece {piece}")));
         out.extend(["time 0", "time 1", "share 0", "share 1"].map(|number| format!("{name}: {number}")));
     }
@@ -87,7 +87,7 @@ fn of_pairs(call: Call, asked: Asked) -> Vec<String> {
 /// All contacts of a scene: which of the three buffers is too short, 16 alone and before 7, rows that stay and rows that are written.
 fn of_contact_scenes() -> Vec<String> {
     let mut out =
-        vec![asked_for(Call::ContactScene, BEYOND.0, BEYOND.1), format!("contact_scene: {BEYOND_CONTACTS} before {NO_ROOM}")];
+        vec![asked_for(Call::ContactScene, BEYOND.0, BEYOND.1), format!("contact_scene: {BEYOND_OLD_RANGE} before {NO_ROOM}")];
     let sorts =
         ["the list too short", "the words too short", "the contacts too short", "all too short", "a part of a row left over"];
     out.extend(
@@ -228,7 +228,7 @@ fn of_slices(question: &Question, answer: &Answer) -> Vec<String> {
     if SCENE_CHECKS.contains(&given) {
         out.push(format!("{}: refused {given}", call.name()));
     }
-    if SCENE_CHECKS.contains(&given) || given == BEYOND_CONTACTS {
+    if SCENE_CHECKS.contains(&given) || given == BEYOND_OLD_RANGE {
         faults.extend(no_room.then_some((NO_ROOM, "no room")));
     }
     let others = faults.iter().filter(|fault| given != 0 && given != NO_ROOM && rank(fault.0) > rank(given));
