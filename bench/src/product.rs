@@ -9,6 +9,8 @@
 //! | makhnodri_list_pairs | positions i32, edges u16, triangles u16, list u32 | an answer; the list's entries |
 //! | makhnodri_settle_pt, makhnodri_settle_ee | positions i32, edges u16, triangles u16, two places | an answer: the pair's word |
 //! | makhnodri_settle_pt_piece, makhnodri_settle_ee_piece | positions i32, edges u16, triangles u16, two places, a piece | an answer: the piece's word |
+//! | makhnodri_contact_scene | positions i32, edges u16, triangles u16, list u32, words u8, contacts u32 | as makhnodri_settle_scene, and five numbers for each hit |
+//! | makhnodri_contact_pt, makhnodri_contact_ee | positions i32, edges u16, triangles u16, two places, five numbers | an answer: the pair's word; the numbers of a hit |
 //! | makhnodri_read_scene | text u8, positions i32, edges u16, triangles u16 of full size, three counts | an answer; the scene and its counts |
 //! | makhnodri_write_report | text u8, 65,536 bytes for the report | the length of the report |
 //!
@@ -110,6 +112,37 @@ mod linked {
             counts: *mut usize,
         ) -> u64;
         fn makhnodri_write_report(text: *const u8, text_len: usize, report: *mut u8) -> usize;
+    }
+
+    /// A scene as six arguments, and the functions for contacts, which take it first.
+    macro_rules! scene {
+        ($function:ident, $s:expr $(, $more:expr)*) => {
+            $function($s.positions.as_ptr(), $s.positions.len(), $s.edges.as_ptr(), $s.edges.len(), $s.triangles.as_ptr(), $s.triangles.len() $(, $more)*)
+        };
+    }
+
+    #[rustfmt::skip]
+    extern "C" {
+        fn makhnodri_contact_scene(positions: *const i32, positions_len: usize, edges: *const u16, edges_len: usize, triangles: *const u16, triangles_len: usize, list: *mut u32, list_len: usize, words: *mut u8, words_len: usize, contacts: *mut u32, contacts_len: usize) -> u64;
+        fn makhnodri_contact_pt(positions: *const i32, positions_len: usize, edges: *const u16, edges_len: usize, triangles: *const u16, triangles_len: usize, vertex: usize, triangle: usize, contact: *mut u32) -> u64;
+        fn makhnodri_contact_ee(positions: *const i32, positions_len: usize, edges: *const u16, edges_len: usize, triangles: *const u16, triangles_len: usize, first: usize, second: usize, contact: *mut u32) -> u64;
+    }
+
+    /// Contacts.
+    impl Product {
+        pub fn contact_scene(&self, s: &Slices, list: &mut [u32], words: &mut [u8], contacts: &mut [u32]) -> Answer {
+            let (l, w, c) = (list.len(), words.len(), contacts.len());
+            // SAFETY: each pointer comes with the length of its own slice, and no two overlap
+            answer(unsafe { scene!(makhnodri_contact_scene, s, list.as_mut_ptr(), l, words.as_mut_ptr(), w, contacts.as_mut_ptr(), c) })
+        }
+
+        /// The word of an entry of the list, asked for by itself, and its five numbers where it is hit.
+        pub fn contact(&self, s: &Slices, entry: u32, contact: &mut [u32; 5]) -> Answer {
+            let (kind, first, second) = parts(entry);
+            let ask = if kind == 0 { makhnodri_contact_pt } else { makhnodri_contact_ee };
+            // SAFETY: as above, and a contact has five numbers
+            answer(unsafe { scene!(ask, s, first, second, contact.as_mut_ptr()) })
+        }
     }
 
     fn answer(said: u64) -> Answer {
@@ -246,6 +279,14 @@ mod missing {
         }
 
         pub fn settle_piece(&self, _: &Slices, _: u32, _: usize) -> Answer {
+            match *self {}
+        }
+
+        pub fn contact_scene(&self, _: &Slices, _: &mut [u32], _: &mut [u8], _: &mut [u32]) -> Answer {
+            match *self {}
+        }
+
+        pub fn contact(&self, _: &Slices, _: u32, _: &mut [u32; 5]) -> Answer {
             match *self {}
         }
 
