@@ -63,12 +63,12 @@ int main(void) {
     int pt = makhnodri_entry_kind(entry) == MAKHNODRI_PT;
     printf("%s %" PRIu32 " %" PRIu32 " first, in piece %" PRIu32 "\n", pt ? "pt" : "ee", makhnodri_entry_first(entry),
            makhnodri_entry_second(entry), contact[0]);
-    printf("time %" PRIu32 " of %d, which is %.20g\n", contact[1], MAKHNODRI_CONTACT_UNIT, makhnodri_contact_time(contact));
-    for (size_t i = 0; i < (pt ? 3 : 2); i++) printf("%s %.20g", i ? "," : "shares", makhnodri_contact_share(contact, i));
-    printf("\nat %.20g, %.20g, %.20g\n", place(entry, contact, 0), place(entry, contact, 1), place(entry, contact, 2));
+    printf("time %" PRIu32 " of %d, which is %.25g\n", contact[1], MAKHNODRI_CONTACT_UNIT, makhnodri_contact_time(contact));
+    for (size_t i = 0; i < (pt ? 3 : 2); i++) printf("%s %.25g", i ? "," : "shares", makhnodri_contact_share(contact, i));
+    printf("\nat %.25g, %.25g, %.25g\n", place(entry, contact, 0), place(entry, contact, 1), place(entry, contact, 2));
     for (size_t v = 0; v < counts[0]; v++) {
         double time = makhnodri_contact_time(contact);
-        printf("vertex %zu stands at %.20g, %.20g, %.20g\n", v, at(v, 0, time), at(v, 1, time), at(v, 2, time));
+        printf("vertex %zu stands at %.25g, %.25g, %.25g\n", v, at(v, 0, time), at(v, 1, time), at(v, 2, time));
     }
     return 0;
 }

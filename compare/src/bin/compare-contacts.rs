@@ -1,8 +1,9 @@
 //! usage: compare-contacts CONTACTS_PROGRAM [SEEDS [LAUNCHER WORDS...]]
 //!        compare-contacts --exact < SCENE
+//!        compare-contacts --wrong [MISTAKE] < SCENE
 //! Runs the program of contacts on many scene texts, and holds what it prints, byte for byte, to the independent contacts. Ends with status 1 on
 //! a difference, and where some refusal, or some piece of a kind, was never wanted. LAUNCHER is a command to put before the program, as a loader.
-//! With `--exact`, the independent contacts of a scene.
+//! With `--exact`, the independent contacts of a scene; with `--wrong`, those of a program that makes this mistake, or the mistakes.
 
 use compare::contacts::making::{fixed, seeded};
 use compare::contacts::mistakes::{self, ALL};
@@ -23,6 +24,11 @@ fn main() {
     let words: Vec<String> = std::env::args().skip(1).collect();
     match &words[..] {
         [flag] if flag == "--exact" => print(&printed(&input(), REPORT_ROOM)),
+        [flag] if flag == "--wrong" => ALL.iter().for_each(|mistake| compare::say!("{}", mistake.key())),
+        [flag, key] if flag == "--wrong" => {
+            let mistake = mistakes::find(key).unwrap_or_else(|| give_up(&format!("no mistake is called {key}")));
+            print(&mistakes::printed(mistake, &input(), REPORT_ROOM));
+        }
         [program] => compare(program, SEEDS, &[]),
         [program, seeds, launcher @ ..] => {
             compare(program, seeds.parse().unwrap_or_else(|_| give_up(&format!("{seeds} is no number"))), launcher)

@@ -45,6 +45,24 @@ pub const ALL: [Mistake; 26] = [
     SixteenWithALine,
 ];
 
+impl Mistake {
+    /// A word to call it by, as `nearest-in-place-of-cut`.
+    pub fn key(self) -> String {
+        let mut out = String::new();
+        for letter in format!("{self:?}").chars() {
+            if letter.is_ascii_uppercase() && !out.is_empty() {
+                out.push('-');
+            }
+            out.push(letter.to_ascii_lowercase());
+        }
+        out
+    }
+}
+
+pub fn find(key: &str) -> Option<Mistake> {
+    ALL.into_iter().find(|mistake| mistake.key() == key)
+}
+
 /// To the nearest number, halves up.
 fn nearest(fraction: &Fraction) -> u32 {
     let twice = Whole::from(2 * UNIT as i128);
