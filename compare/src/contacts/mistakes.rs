@@ -177,7 +177,7 @@ fn in_doubles(scene: &Scene, pair: Pair) -> Option<Contact> {
     out.into_iter().min_by_key(|contact| contact.k)
 }
 
-/// 2^20 times a weight needs up to 82 bits.
+/// 2^20 times a weight needs up to 80 bits.
 fn wrapping(scene: &Scene, pair: Pair) -> Option<Contact> {
     let all = pieces(scene, pair);
     let wrapped = |solved: &Solved| {
