@@ -259,6 +259,18 @@ fn each_refusal_is_tried() {
     }
 }
 
+/// What docs/FORMAT.md shows of contacts is what is printed for the scene that it shows.
+#[test]
+fn the_page_tells_of_contacts() {
+    let page = std::fs::read_to_string(kept::folder().join("../docs/FORMAT.md")).unwrap();
+    let part = page.split("## Contacts").nth(1).unwrap().split("\n## ").next().unwrap();
+    let shown: Vec<&str> = part.lines().filter_map(|line| line.strip_prefix("    ")).collect();
+    assert_eq!(printed(cases::PRINTED_SCENE.as_bytes(), REPORT_ROOM), shown.join("\n") + "\n");
+    for (number, words) in [(UNIT as i64, "1,048,576"), (FIRST_COORDINATE_LIMIT, "262,143"), (REPORT_ROOM as i64, "3,072")] {
+        assert!(part.replace(',', "").contains(&number.to_string()) && part.contains(words), "{words}");
+    }
+}
+
 /// The contacts beside the example scenes are what the independent program prints, and the page tells of each.
 #[test]
 fn the_example_scenes_have_their_contacts() {
