@@ -6,11 +6,11 @@ use mir.Syntax.{w64}
 use Rattle.whole.specs.Sizes.{Is, held, back}
 use Rattle.meaning.specs.declared.Verdict.{Verdict}
 use Rattle.exact.specs.Limits.{determinantLimit}
-use Rattle.sign_sums.specs.BySigns.{bySigns}
+use Rattle.sign_sums.specs.OneSign.{oneSign}
 
 abbrev pub IsVolume : ℤ → ℤ → Type 0
 IsVolume = Is determinantLimit
 
-pub same-signs : {r : Verdict} {d a b c e f g d′ a′ b′ c′ e′ f′ g′ : ℤ} → d ≡ d′ → IsVolume a a′ → IsVolume b b′ → IsVolume c c′ → IsVolume e e′ → f ≡ f′ → g ≡ g′ → r ≡ bySigns d (held w64 a ∷ held w64 b ∷ held w64 c ∷ held w64 e ∷ f ∷ g ∷ []) → r ≡ bySigns d′ (a′ ∷ b′ ∷ c′ ∷ e′ ∷ f′ ∷ g′ ∷ [])
-same-signs p q r s t u v h =
-    rw (p, back w64 q tt .same, back w64 r tt .same, back w64 s tt .same, back w64 t tt .same, u, v) at h
+pub same-signs : {r : Verdict} {d a b c e f d′ a′ b′ c′ e′ f′ : ℤ} → d ≡ d′ → IsVolume a a′ → IsVolume b b′ → IsVolume c c′ → IsVolume e e′ → f ≡ f′ → r ≡ oneSign d (held w64 a ∷ held w64 b ∷ held w64 c ∷ held w64 e ∷ f ∷ []) → r ≡ oneSign d′ (a′ ∷ b′ ∷ c′ ∷ e′ ∷ f′ ∷ [])
+same-signs p q r s t u h =
+    rw (p, back w64 q tt .same, back w64 r tt .same, back w64 s tt .same, back w64 t tt .same, u) at h

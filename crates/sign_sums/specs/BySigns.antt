@@ -7,6 +7,7 @@ use Rattle.whole.specs.Signs.{sgn, isNought, agree}
 use Rattle.whole.specs.Cramer.{Four, each, all}
 use Rattle.meaning.specs.declared.Verdict.{Verdict}
 use Rattle.meaning.specs.declared.Verdict.the-variants.{Hit, Miss, Degenerate}
+use Rattle.sign_sums.specs.declared.Signs.{Signs}
 
 -- each number is 0 or has d's sign
 abbrev pub allAgree : ℤ → List ℤ → Bool
@@ -15,6 +16,10 @@ allAgree d (e ∷ es) = agree (sgn d) (sgn e) && allAgree d es
 
 unfoldable pub bySigns : ℤ → List ℤ → Verdict
 bySigns d es = cond (isNought (sgn d)) Degenerate (cond (allAgree d es) Hit Miss)
+
+-- the verdict that is told by 'one is hit' and 'one is singular'
+abbrev pub told : Signs → Verdict
+told s = cond (s .hit) Hit (cond (s .flat) Degenerate Miss)
 
 abbrev pub sum : Four ℤ → ℤ
 sum e = e .v0 +ℤ e .v1 +ℤ e .v2 +ℤ e .v3

@@ -41,11 +41,6 @@ bySigns-says d es =
     either false true f g h = (g (λ t. t), h .0 tt)
     either false false f g h = (g (λ t. t), h .1)
 
--- numbers that agree with every d add nothing
-pub bySigns-nought : (d a b c e : ℤ) → bySigns d (a ∷ b ∷ c ∷ e ∷ pos 0 ∷ pos 0 ∷ []) ≡ bySigns d (a ∷ b ∷ c ∷ e ∷ [])
-unfolding bySigns
-bySigns-nought d a b c e = refl
-
 -- ---- the sums over the ends and over the starts, as combinations of the four by their times
 
 abbrev pub clock : Bool → ℤ

@@ -9,8 +9,9 @@ ghost use lib.IntN.{pos};
 ghost use lib.Signed.{leZ};
 ghost use Rattle.meaning.specs.Limits.{coordinateLimit};
 ghost use Rattle.exact.specs.Places.{Bounded};
-ghost use Rattle.exact.specs.Volumes.{four, Rooms, volumesAt, fourOf, Holds, Small};
-ghost use Rattle.sign_sums.specs.BySigns.{bySigns, pointVerdict, edgeVerdict, sum, keep, kept};
+ghost use Rattle.exact.specs.Volumes.{four, Rooms, volumesAt, fourOf, Holds, Small, SmallFour};
+ghost use Rattle.sign_sums.specs.BySigns.{told, pointVerdict, edgeVerdict, sum, keep, kept};
+ghost use Rattle.sign_sums.specs.OneSign.{oneSign, alike};
 ghost use Rattle.sign_sums.specs.Sums.{worth};
 use exact::Volumes;
 use exact::volumes_at;
@@ -36,21 +37,41 @@ pub(crate) fn at_most_zero(s: Sum) -> bool
     s.two <= s.against
 }
 
-// The verdict by the sign of d and the signs of six numbers.
-fn by_signs(d: Sum, a: i64, b: i64, c: i64, e: i64, f: Sum, g: Sum) -> Verdict
-    ensures { λ r. ⌜ r ≡ bySigns (worth d) (a ∷ b ∷ c ∷ e ∷ worth f ∷ worth g ∷ []) ⌝ }
+// What the signs of a piece's numbers say: whether it is hit, and whether it is singular; and of several pieces, whether one of them is. The
+// pieces of a pair are put together by these two, since a branch on each piece's verdict cannot be foretold.
+pub struct Signs {
+    pub hit: bool,
+    pub flat: bool,
+}
+
+// The verdict that they tell.
+pub fn verdict_of(s: Signs) -> Verdict
+    ensures { λ r. ⌜ r ≡ told s ⌝ }
 {
-    let d_up = at_least_zero(d);
-    let d_down = at_most_zero(d);
-    let up = (a >= 0) & (b >= 0) & (c >= 0) & (e >= 0) & at_least_zero(f) & at_least_zero(g);
-    let down = (a <= 0) & (b <= 0) & (c <= 0) & (e <= 0) & at_most_zero(f) & at_most_zero(g);
-    if d_down & d_up {
-        return Verdict::Degenerate;
-    }
-    if (d_up & up) | (d_down & down) {
+    if s.hit {
         return Verdict::Hit;
     }
+    if s.flat {
+        return Verdict::Degenerate;
+    }
     Verdict::Miss
+}
+
+// A piece is hit where its numbers are of one sign, none negative or none positive. d is a sum of some of them, so it has their sign; whether it
+// is 0 is asked. That a number is not positive is asked of minus it, so that four questions become one.
+fn by_signs(d: Sum, a: i64, b: i64, c: i64, e: i64, f: Sum) -> Signs
+    requires { ⌜ SmallFour (four a b c e) ⌝ }
+    ensures { λ r. ⌜ told r ≡ oneSign (worth d) (a ∷ b ∷ c ∷ e ∷ worth f ∷ []) ⌝ }
+{
+    let less_a = 0 - a;
+    let less_b = 0 - b;
+    let less_c = 0 - c;
+    let less_e = 0 - e;
+    let up = (a >= 0) & (b >= 0) & (c >= 0) & (e >= 0) & at_least_zero(f);
+    let down = (less_a >= 0) & (less_b >= 0) & (less_c >= 0) & (less_e >= 0) & at_most_zero(f);
+    let flat = at_most_zero(d) & at_least_zero(d);
+    let hit = !flat & (up | down);
+    Signs { hit, flat }
 }
 
 // Four determinants' sum. Two of them fit 64 bits together and three need not: two stand against minus the others.
@@ -89,27 +110,34 @@ pub(crate) fn sum_where(v: Volumes, t0: bool, t1: bool, t2: bool, t3: bool) -> S
     sum_of(keep_where(v, t0, t1, t2, t3))
 }
 
-// The verdict of a moving point's segment against a tetrahedron: the volumes are of the tetrahedron's four points.
-pub fn point_verdict(v: Volumes) -> Verdict
+// The signs of a moving point's segment against a tetrahedron: the volumes are of the tetrahedron's four points.
+pub fn point_signs(v: Volumes) -> Signs
     requires { ⌜ Small v ⌝ }
-    ensures { λ r. ⌜ r ≡ pointVerdict (fourOf v) ⌝ }
+    ensures { λ r. ⌜ told r ≡ pointVerdict (fourOf v) ⌝ }
 {
-    by_signs(sum_of(v), v.e0, v.e1, v.e2, v.e3, NOTHING, NOTHING)
+    by_signs(sum_of(v), v.e0, v.e1, v.e2, v.e3, NOTHING)
 }
 
-// The verdict of two moving edges' triangles: the first volume is of the point of the first edge that is no base, the others are
-// of the second edge's points. The flags say which of the four points are at the end.
-pub fn edge_verdict(v: Volumes, t0: bool, t1: bool, t2: bool, t3: bool) -> Verdict
+// Both at the start, or both at the end.
+fn alike(t: bool, u: bool) -> bool
+    ensures { λ r. ⌜ r ≡ alike t u ⌝ }
+{
+    if t { u } else { !u }
+}
+
+// The signs of two moving edges' triangles: the first volume is of the point of the first edge that is no base, the others are
+// of the second edge's points. The flags say which of the four points are at the end. The base at the first point's time has the sum of all at
+// that time; that of the other base is a sum of the last three alone, and has their sign.
+pub fn edge_signs(v: Volumes, t0: bool, t1: bool, t2: bool, t3: bool) -> Signs
     requires { ⌜ Small v ⌝ }
-    ensures { λ r. ⌜ r ≡ edgeVerdict (four t0 t1 t2 t3) (fourOf v) ⌝ }
+    ensures { λ r. ⌜ told r ≡ edgeVerdict (four t0 t1 t2 t3) (fourOf v) ⌝ }
 {
     let d = sum_where(v, false, true, true, true);
-    let starts = sum_where(v, !t0, !t1, !t2, !t3);
-    let ends = sum_where(v, t0, t1, t2, t3);
-    by_signs(d, 0 - v.e0, v.e1, v.e2, v.e3, starts, ends)
+    let own = sum_where(v, true, alike(t0, t1), alike(t0, t2), alike(t0, t3));
+    by_signs(d, 0 - v.e0, v.e1, v.e2, v.e3, own)
 }
 
-// The same from the places: the four points' offsets, each with the offset it is seen from.
+// The verdict of a piece from the places: the four points' offsets, each with the offset it is seen from.
 pub fn judge_point(
     positions: &[i32],
     o0: usize,
@@ -124,7 +152,7 @@ pub fn judge_point(
     requires { ⌜ Rooms (now positions) (four o0 o1 o2 o3) (four b0 b1 b2 b3) × Bounded coordinateLimit (now positions) ⌝ }
     ensures { λ r. ⌜ r ≡ pointVerdict (volumesAt (now (positions .entry)) (four o0 o1 o2 o3) (four b0 b1 b2 b3)) ⌝ }
 {
-    point_verdict(volumes_at(positions, o0, b0, o1, b1, o2, b2, o3, b3))
+    verdict_of(point_signs(volumes_at(positions, o0, b0, o1, b1, o2, b2, o3, b3)))
 }
 
 pub fn judge_edges(
@@ -145,11 +173,11 @@ pub fn judge_edges(
     requires { ⌜ Rooms (now positions) (four o0 o1 o2 o3) (four b0 b1 b2 b3) × Bounded coordinateLimit (now positions) ⌝ }
     ensures { λ r. ⌜ r ≡ edgeVerdict (four t0 t1 t2 t3) (volumesAt (now (positions .entry)) (four o0 o1 o2 o3) (four b0 b1 b2 b3)) ⌝ }
 {
-    edge_verdict(
+    verdict_of(edge_signs(
         volumes_at(positions, o0, b0, o1, b1, o2, b2, o3, b3),
         t0,
         t1,
         t2,
         t3,
-    )
+    ))
 }

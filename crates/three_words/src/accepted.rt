@@ -10,6 +10,7 @@ ghost use Rattle.meaning.specs.Refusals.{notThere, shares};
 ghost use Rattle.meaning.specs.Verdicts.{PieceIs, PairIs};
 ghost use Rattle.meaning.specs.declared.Kind.the-variants.{PointTriangle, EdgeEdge};
 ghost use Rattle.theory.specs.Computed.{joined};
+ghost use Rattle.sign_sums.specs.BySigns.{told};
 ghost use Rattle.three_words.specs.Ready.{PointReady, EdgesReady};
 use exact::shared::edge_volumes;
 use exact::shared::point_volumes;
@@ -17,8 +18,10 @@ use meaning::Corners;
 use meaning::Ends;
 use meaning::Kind;
 use meaning::Verdict;
-use sign_sums::edge_verdict;
-use sign_sums::point_verdict;
+use sign_sums::Signs;
+use sign_sums::edge_signs;
+use sign_sums::point_signs;
+use sign_sums::verdict_of;
 
 // 5: a place that isn't there.
 pub fn not_there(
@@ -102,19 +105,13 @@ pub fn piece(
     }
 }
 
-// A hit comes before a degenerate, and that before a miss.
-pub fn joined(a: Verdict, b: Verdict) -> Verdict
-    ensures { λ r. ⌜ r ≡ joined a b ⌝ }
+// Two pieces, or more, taken together: a hit comes before a degenerate, and that before a miss.
+pub fn either(a: Signs, b: Signs) -> Signs
+    ensures { λ r. ⌜ told r ≡ joined (told a) (told b) ⌝ }
 {
-    match a {
-        Verdict::Hit => Verdict::Hit,
-        Verdict::Miss => b,
-        Verdict::Degenerate => match b {
-            Verdict::Hit => Verdict::Hit,
-            Verdict::Miss => Verdict::Degenerate,
-            Verdict::Degenerate => Verdict::Degenerate,
-        },
-    }
+    let hit = a.hit | b.hit;
+    let flat = a.flat | b.flat;
+    Signs { hit, flat }
 }
 
 // The pieces of a pair share their determinants, so a pair takes the volumes of all its pieces at once.
@@ -126,10 +123,10 @@ fn point_pair(positions: &[i32], p: usize, c: Corners) -> Verdict
     let first = v.first;
     let second = v.second;
     let third = v.third;
-    let a = point_verdict(first);
-    let b = point_verdict(second);
-    let d = point_verdict(third);
-    joined(a, joined(b, d))
+    let a = point_signs(first);
+    let b = point_signs(second);
+    let d = point_signs(third);
+    verdict_of(either(a, either(b, d)))
 }
 
 fn edges_pair(positions: &[i32], first: Ends, second: Ends) -> Verdict
@@ -147,11 +144,11 @@ fn edges_pair(positions: &[i32], first: Ends, second: Ends) -> Verdict
     let ab = v.ab;
     let ba = v.ba;
     let bb = v.bb;
-    let a = edge_verdict(aa, false, false, false, true);
-    let b = edge_verdict(ab, false, false, true, true);
-    let c = edge_verdict(ba, true, false, false, true);
-    let d = edge_verdict(bb, true, false, true, true);
-    joined(a, joined(b, joined(c, d)))
+    let a = edge_signs(aa, false, false, false, true);
+    let b = edge_signs(ab, false, false, true, true);
+    let c = edge_signs(ba, true, false, false, true);
+    let d = edge_signs(bb, true, false, true, true);
+    verdict_of(either(a, either(b, either(c, d))))
 }
 
 // A pair: its corners are found once for all its pieces.

@@ -12,4 +12,5 @@ judge-edges-spec =
     (tie.spec
     (λ c κs. search needs)
     (λ c κs. holds-small (c .volumes-at .ensures))
-    (λ c. c .edge-verdict .ensures ∙ ap (edgeVerdict _) (holds-same (c .before .volumes-at .ensures))))
+    (λ c κs. search needs)
+    (λ c. c .verdict-of .ensures ∙ c .before .edge-signs .ensures ∙ ap (edgeVerdict _) (holds-same (c .before .before .volumes-at .ensures))))

@@ -12,4 +12,5 @@ judge-point-spec =
     (tie.spec
     (λ c κs. search needs)
     (λ c κs. holds-small (c .volumes-at .ensures))
-    (λ c. c .point-verdict .ensures ∙ ap pointVerdict (holds-same (c .before .volumes-at .ensures))))
+    (λ c κs. search needs)
+    (λ c. c .verdict-of .ensures ∙ c .before .point-signs .ensures ∙ ap pointVerdict (holds-same (c .before .before .volumes-at .ensures))))

@@ -2,6 +2,7 @@ use borrow.Author.Needs.{needs}
 use Rattle.meaning.specs.Scene.{Scene, sceneOf}
 use Rattle.meaning.specs.Pieces.{pieceOf}
 use Rattle.exact.specs.Volumes.{holds-small}
+use Rattle.sign_sums.specs.BySigns.{told}
 use Rattle.theory.specs.Computed.{edgeDifferences}
 use Rattle.three_words.specs.Pairs.{of-four}
 use Rattle.three_words.specs.Ready.{moving}
@@ -12,16 +13,21 @@ use Rattle.three_words.proofs.accepted.edges_pair.Tie as tie
 returns : tie.Need-returns
 unfolding pieceOf flags edgeDifferences
 returns c =
-    let a = c .before .before .before .before .before .before .before .before .before .before .before .before .before .before .before .before .args in
-    let v = c .before .before .before .before .before .before .before .before .before .before .before .edge-volumes .ensures in
+    let d = c .before .before .before .before in
+    let a = d .before .before .before .before .before .before .before .before .before .before .before .before .before .args in
+    let v = d .before .before .before .before .before .before .before .before .edge-volumes .ensures in
     λ e t i j one two.
     let s : Scene = sceneOf (a .positions .now) e t in
-    rw (c .joined3 .ensures, c .before .joined2 .ensures, c .before .before .joined .ensures)
-    (of-four s i j (c .before .before .before .before .before .before .edge-verdict .result) (c .before .before .before .before .before .edge-verdict2 .result) (c .before .before .before .before .edge-verdict3 .result) (c .before .before .before .edge-verdict4 .result)
-    (rw (one, two) (edges-held s (a .first) 0 (a .second) 0 (c .before .before .before .before .before .before .edge-verdict .result) (v .holds0) (c .before .before .before .before .before .before .edge-verdict .ensures)))
-    (rw (one, two) (edges-held s (a .first) 0 (a .second) 1 (c .before .before .before .before .before .edge-verdict2 .result) (v .holds1) (c .before .before .before .before .before .edge-verdict2 .ensures)))
-    (rw (one, two) (edges-held s (a .first) 1 (a .second) 0 (c .before .before .before .before .edge-verdict3 .result) (v .holds2) (c .before .before .before .before .edge-verdict3 .ensures)))
-    (rw (one, two) (edges-held s (a .first) 1 (a .second) 1 (c .before .before .before .edge-verdict4 .result) (v .holds3) (c .before .before .before .edge-verdict4 .ensures))))
+    let aa = d .before .before .before .edge-signs in
+    let ab = d .before .before .edge-signs2 in
+    let ba = d .before .edge-signs3 in
+    let bb = d .edge-signs4 in
+    rw (c .verdict-of .ensures, c .before .either3 .ensures, c .before .before .either2 .ensures, c .before .before .before .either .ensures)
+    (of-four s i j (told (aa .result)) (told (ab .result)) (told (ba .result)) (told (bb .result))
+    (rw (one, two) (edges-held s (a .first) 0 (a .second) 0 (told (aa .result)) (v .holds0) (aa .ensures)))
+    (rw (one, two) (edges-held s (a .first) 0 (a .second) 1 (told (ab .result)) (v .holds1) (ab .ensures)))
+    (rw (one, two) (edges-held s (a .first) 1 (a .second) 0 (told (ba .result)) (v .holds2) (ba .ensures)))
+    (rw (one, two) (edges-held s (a .first) 1 (a .second) 1 (told (bb .result)) (v .holds3) (bb .ensures))))
 
 pub edges-pair-spec : {M : Type 1} → statement M
 edges-pair-spec =
@@ -36,6 +42,7 @@ edges-pair-spec =
     (λ c κs. holds-small (c .before .before .before .before .before .edge-volumes .ensures .holds1))
     (λ c κs. holds-small (c .before .before .before .before .before .before .edge-volumes .ensures .holds2))
     (λ c κs. holds-small (c .before .before .before .before .before .before .before .edge-volumes .ensures .holds3))
+    (λ c κs. search needs)
     (λ c κs. search needs)
     (λ c κs. search needs)
     (λ c κs. search needs)

@@ -2,6 +2,7 @@ use borrow.Author.Needs.{needs}
 use Rattle.meaning.specs.Scene.{Scene, sceneOf}
 use Rattle.meaning.specs.Pieces.{pieceOf}
 use Rattle.exact.specs.Volumes.{holds-small}
+use Rattle.sign_sums.specs.BySigns.{told}
 use Rattle.theory.specs.Computed.{pointDifferences}
 use Rattle.three_words.specs.Pairs.{of-three}
 use Rattle.three_words.specs.Ready.{moving}
@@ -12,15 +13,16 @@ use Rattle.three_words.proofs.accepted.point_pair.Tie as tie
 returns : tie.Need-returns
 unfolding pieceOf pointDifferences
 returns c =
-    let a = c .before .before .before .before .before .before .before .before .before .before .before .before .args in
-    let v = c .before .before .before .before .before .before .before .before .point-volumes .ensures in
+    let d = c .before .before .before in
+    let a = d .before .before .before .before .before .before .before .before .before .before .args in
+    let v = d .before .before .before .before .before .before .point-volumes .ensures in
     λ e t j same.
     let s : Scene = sceneOf (a .positions .now) e t in
-    rw (c .joined2 .ensures, c .before .joined .ensures)
-    (of-three s (a .p) j (c .before .before .before .before .point-verdict .result) (c .before .before .before .point-verdict2 .result) (c .before .before .point-verdict3 .result)
-    (rw same (point-held s (a .p) (a .c) 0 (c .before .before .before .before .point-verdict .result) (v .holds0) (c .before .before .before .before .point-verdict .ensures)))
-    (rw same (point-held s (a .p) (a .c) 1 (c .before .before .before .point-verdict2 .result) (v .holds1) (c .before .before .before .point-verdict2 .ensures)))
-    (rw same (point-held s (a .p) (a .c) 2 (c .before .before .point-verdict3 .result) (v .holds2) (c .before .before .point-verdict3 .ensures))))
+    rw (c .verdict-of .ensures, c .before .either2 .ensures, c .before .before .either .ensures)
+    (of-three s (a .p) j (told (d .before .before .point-signs .result)) (told (d .before .point-signs2 .result)) (told (d .point-signs3 .result))
+    (rw same (point-held s (a .p) (a .c) 0 (told (d .before .before .point-signs .result)) (v .holds0) (d .before .before .point-signs .ensures)))
+    (rw same (point-held s (a .p) (a .c) 1 (told (d .before .point-signs2 .result)) (v .holds1) (d .before .point-signs2 .ensures)))
+    (rw same (point-held s (a .p) (a .c) 2 (told (d .point-signs3 .result)) (v .holds2) (d .point-signs3 .ensures))))
 
 pub point-pair-spec : {M : Type 1} → statement M
 point-pair-spec =
@@ -34,6 +36,7 @@ point-pair-spec =
     (λ c κs. holds-small (c .before .before .before .point-volumes .ensures .holds0))
     (λ c κs. holds-small (c .before .before .before .before .point-volumes .ensures .holds1))
     (λ c κs. holds-small (c .before .before .before .before .before .point-volumes .ensures .holds2))
+    (λ c κs. search needs)
     (λ c κs. search needs)
     (λ c κs. search needs)
     returns)
