@@ -38,8 +38,9 @@
 //!
 //! The names are those of the C functions, without `makhnodri_`; and a pair may also be asked for by its [`Kind`]. What begins with
 //! `judge` answers in three words, [`Verdict`]. What begins with `settle`, and the report, answers in four, [`Settled`]: what is
-//! degenerate is decided too. What begins with `contact` answers a hit with its time and its place, [`Contact`]. Each speaks for the space-time pieces of a pair. A miss, and apart too, says nothing of straight
-//! motion; only the list does: a pair that is not listed, and shares no vertex, meets neither in its pieces nor under straight motion.
+//! degenerate is decided too. What begins with `contact` answers in four words too, and a hit carries its time and its place,
+//! [`Contact`]. Each speaks for the space-time pieces of a pair. A miss, and apart too, says nothing of straight motion; only the list
+//! does: a pair that is not listed, and shares no vertex, meets neither in its pieces nor under straight motion.
 //!
 //! A pair's two places are a vertex and a triangle, or two edges, each counted from 0 in its own kind: pt 3 0 is vertex 3 and
 //! triangle 0.
