@@ -1,6 +1,6 @@
 //! What a contact costs over a verdict: of one hit pair, and of a scene in which one pair in ten is hit.
 
-use crate::plain_contacts::{at_once, by_steps, contact, ROW};
+use crate::plain_contacts::{at_once, by_size, by_steps, contact, ROW};
 use crate::product::{Product, HIT};
 use crate::scenes::layers;
 use crate::slices::Slices;
@@ -135,14 +135,15 @@ impl Bench {
     }
 
     fn in_a_scene(&self, name: &str, scene: &Scene) {
-        let mut lent: Vec<Lent> = (0..6).map(|_| Lent::new(scene)).collect();
+        let mut lent: Vec<Lent> = (0..7).map(|_| Lent::new(scene)).collect();
         for lent in &mut lent {
             plain::list(&lent.slices, &mut lent.list);
         }
-        let [words, steps, once, settled, contacts, listed] = &mut lent[..] else { unreachable!("six") };
+        let [words, steps, sized, once, settled, contacts, listed] = &mut lent[..] else { unreachable!("seven") };
         let mut ways = vec![
             Way::new("plain Rust, words", || words.plain_words()),
             Way::new("plain Rust, ten steps a number", || steps.plain(by_steps)),
+            Way::new("plain Rust, at once where it fits", || sized.plain(by_size)),
             Way::new("plain Rust, one division of 128 bits", || once.plain(at_once)),
         ];
         if let Some(product) = &self.product {
@@ -155,12 +156,16 @@ impl Bench {
         println!("  {name}: {count} pairs, {hits} of them hits");
         let per_pair = 1e9 / count as f64;
         row("plain Rust, ten steps a number", times[0], times[1], per_pair);
-        row("plain Rust, one division of 128 bits", times[0], times[2], per_pair);
+        row("plain Rust, at once where it fits", times[0], times[2], per_pair);
+        row("plain Rust, one division of 128 bits", times[0], times[3], per_pair);
         if self.product.is_some() {
             assert!(contacts.list == steps.list && contacts.words == steps.words, "the library's words are those of plain Rust");
-            assert!(contacts.rows == steps.rows && steps.rows == once.rows, "the library's contacts are those of plain Rust");
-            row("the library, listing left out", times[3] - times[5], times[4] - times[5], per_pair);
-            row("the library, the whole call", times[3], times[4], per_pair);
+            assert!(
+                [&*steps, sized, once].iter().all(|plain| contacts.rows == plain.rows),
+                "the library's contacts are those of plain Rust"
+            );
+            row("the library, listing left out", times[4] - times[6], times[5] - times[6], per_pair);
+            row("the library, the whole call", times[4], times[5], per_pair);
         }
     }
 

@@ -44,6 +44,7 @@ fn plain_contacts_are_the_exact_ones() {
         for (&entry, pair) in list.iter().zip(right).take(100) {
             let wanted = contacts::of_pair(&scene, pair).map(|contact| contact.row());
             assert_eq!(plain_contacts::contact(&slices, entry, plain_contacts::by_steps), wanted, "{scene:?} {pair:?}");
+            assert_eq!(plain_contacts::contact(&slices, entry, plain_contacts::by_size), wanted);
             assert_eq!(plain_contacts::contact(&slices, entry, plain_contacts::at_once), wanted);
             hits += wanted.is_some() as usize;
         }
