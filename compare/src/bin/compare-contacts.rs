@@ -16,7 +16,7 @@ use std::collections::BTreeMap;
 use std::process::exit;
 use std::time::Duration;
 
-const SEEDS: u64 = 150;
+const SEEDS: u64 = 400;
 const LIMIT: Duration = Duration::from_secs(20);
 const MOST_SHOWN: usize = 3;
 
