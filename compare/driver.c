@@ -14,8 +14,8 @@
 /* each buffer is aligned for 64-bit numbers, and not for more */
 enum { MARGIN = 24, CAPACITY = 1 << 22 };
 
-enum { POSITIONS, EDGES, TRIANGLES, SEAMS, LIST, WORDS, TEXT, COUNTS, REPORT, BUFFERS };
-static const size_t size_of[BUFFERS] = {4, 2, 2, 2, 4, 1, 1, sizeof(size_t), 1};
+enum { POSITIONS, EDGES, TRIANGLES, SEAMS, LIST, WORDS, TEXT, COUNTS, REPORT, CONTACTS, BUFFERS };
+static const size_t size_of[BUFFERS] = {4, 2, 2, 2, 4, 1, 1, sizeof(size_t), 1, 4};
 
 struct question {
     uint64_t call, asked[3], length[BUFFERS];
@@ -54,6 +54,11 @@ static uint64_t answer(const struct question *q) {
     case 13: return makhnodri_write_report(lent(TEXT), q->length[TEXT], lent(REPORT));
     case 14: return makhnodri_turn_scene(THREE);
     case 15: return makhnodri_check_claims_slices(SCENE, lent(TEXT), q->length[TEXT], lent(WORDS), q->length[WORDS]);
+    case 16: return makhnodri_contact_pt_slices(PAIR, lent(CONTACTS));
+    case 17: return makhnodri_contact_ee_slices(PAIR, lent(CONTACTS));
+    case 18:
+        return makhnodri_contact_scene_slices(SCENE, lent(LIST), q->length[LIST], lent(WORDS), q->length[WORDS], lent(CONTACTS),
+                                              q->length[CONTACTS]);
     }
     give_up("no such call");
     return 0;

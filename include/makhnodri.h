@@ -36,6 +36,10 @@ extern "C" {
 #define MAKHNODRI_REPORT_ROOM 3072 /* pairs that a report has room for */
 #define MAKHNODRI_PAIR_LIMIT 785920 /* no scene lists more: 512 x 512 of points and triangles, 1024 x 1023 / 2 of edges */
 
+#define MAKHNODRI_CONTACT_LIMIT 262143 /* contacts are given in scenes whose coordinates are no larger in size */
+#define MAKHNODRI_CONTACT_UNIT 1048576 /* 2^20: times and shares of a contact are so many parts of 1 */
+#define MAKHNODRI_CONTACT_LENGTH 5     /* numbers of a contact */
+
 #define MAKHNODRI_WEIGHT_LIMIT 1099511627776 /* 2^40: a claim with a larger weight is answered no */
 
 /* the lengths of the buffers that a text is read into, in numbers */
@@ -93,17 +97,18 @@ extern "C" {
  *     settle_scene     85,184      settle_ee, settle_ee_piece   2,448
  *     read_scene          680      write_report               120,048
  *     turn_scene          168      check_claims                   832
+ *     contact_scene         0      contact_pt, contact_ee           0
  *
  * ---- An answer ----
  *
  * One 64-bit number. Below 2^32 it is the value itself. From 2^32 on it is a refusal: the upper 32 bits are its number, the
  * lower 32 bits the line or the needed count that it carries, else 0. No two answers of a function have the same number
- * (makhnodri_read_scene answers 0 for every text that it read, and the scene tells which). After a refusal no lent byte or
- * number has changed.
+ * (makhnodri_read_scene answers 0 for every text that it read, and the scene tells which; a hit's contact is told by its numbers).
+ * After a refusal no lent byte or number has changed.
  */
 typedef uint64_t makhnodri_answer;
 
-/* the refusal's number, 1 to 12 or 15, or 0 where the answer is a value */
+/* the refusal's number, 1 to 12, 15 or 16, or 0 where the answer is a value */
 static inline uint32_t makhnodri_refusal(makhnodri_answer answer) { return (uint32_t)(answer >> 32); }
 
 /* the value; of a refusal, the line or the needed count. Look at makhnodri_refusal first: both may be 0 */
@@ -121,7 +126,8 @@ static inline uint32_t makhnodri_value(makhnodri_answer answer) { return (uint32
  *
  * Three words, HIT, MISS and DEGENERATE, are the answers of makhnodri_judge_pt, _judge_ee, _judge_pt_piece and _judge_ee_piece.
  * Four words, HIT, MISS, TOUCH and APART, are the answers of makhnodri_settle_pt, _settle_ee, _settle_pt_piece and
- * _settle_ee_piece, the bytes that makhnodri_settle_scene writes, and the words of the report.
+ * _settle_ee_piece, of makhnodri_contact_pt and _contact_ee, the bytes that makhnodri_settle_scene and _contact_scene write, and the
+ * words of the report.
  */
 enum {
     MAKHNODRI_HIT = 0,        /* a piece: its six equations have one solution, and its weights are not negative; one that is 0 counts */
@@ -160,7 +166,7 @@ static inline uint32_t makhnodri_entry_second(uint32_t entry) { return entry & 1
 
 /*
  * Refusals. Each is given exactly when its condition holds and no check before it refuses.
- * Of a scene: 1, 2, 3, 15, 4, each over the whole scene before the next; then 5, 6; 7 last.
+ * Of a scene: 1, 2, 3, 15, 4, each over the whole scene before the next; then 5, 6, for contacts 16; 7 last.
  * Of a text: 12, 8, then the first faulty line, and in it 9, 10, 11, 2, 3, 15, 4.
  * Of claims: the scene's, 8, then the first faulty line, and in it 9, 5, 6; 7 last.
  */
@@ -177,7 +183,8 @@ enum {
     MAKHNODRI_LATE_RECORD = 10,    /* a record after one of a later kind; with the line */
     MAKHNODRI_TOO_MANY = 11,       /* one record more than its size; with the line */
     MAKHNODRI_SHORT_BUFFER = 12,   /* a lent scene buffer shorter than 3,072 positions, 2,048 edge, 1,536 triangle or 1,024 seam numbers */
-    MAKHNODRI_BROKEN_SEAM = 15     /* a seam that breaks the rules of seams, or whose two positions differ at either time; of a text, with the line */
+    MAKHNODRI_BROKEN_SEAM = 15,    /* a seam that breaks the rules of seams, or whose two positions differ at either time; of a text, with the line */
+    MAKHNODRI_BEYOND_OLD_RANGE = 16 /* a contact asked for in a scene with a coordinate beyond MAKHNODRI_CONTACT_LIMIT in size */
 };
 /* A line is counted from 1. */
 
@@ -212,6 +219,7 @@ static inline const char *makhnodri_refusal_words(uint32_t refusal) {
     case MAKHNODRI_TOO_MANY: return "one record more than its size";
     case MAKHNODRI_SHORT_BUFFER: return "a lent scene buffer that is too short";
     case MAKHNODRI_BROKEN_SEAM: return "a seam that breaks the rules of seams, or whose two positions differ";
+    case MAKHNODRI_BEYOND_OLD_RANGE: return "a contact asked for in a scene with a coordinate beyond 262,143";
     default: return "no refusal";
     }
 }
@@ -264,6 +272,10 @@ makhnodri_answer makhnodri_settle_pt_slices(MAKHNODRI_LISTS, size_t vertex, size
 makhnodri_answer makhnodri_settle_ee_slices(MAKHNODRI_LISTS, size_t first, size_t second);
 makhnodri_answer makhnodri_settle_pt_piece_slices(MAKHNODRI_LISTS, size_t vertex, size_t triangle, size_t piece);
 makhnodri_answer makhnodri_settle_ee_piece_slices(MAKHNODRI_LISTS, size_t first, size_t second, size_t piece);
+makhnodri_answer makhnodri_contact_pt_slices(MAKHNODRI_LISTS, size_t vertex, size_t triangle, uint32_t contact[MAKHNODRI_AT_LEAST(5)]);
+makhnodri_answer makhnodri_contact_ee_slices(MAKHNODRI_LISTS, size_t first, size_t second, uint32_t contact[MAKHNODRI_AT_LEAST(5)]);
+makhnodri_answer makhnodri_contact_scene_slices(MAKHNODRI_LISTS, uint32_t *list, size_t list_length, uint8_t *words, size_t words_length,
+                                                uint32_t *contacts, size_t contacts_length);
 makhnodri_answer makhnodri_check_claims_slices(MAKHNODRI_LISTS, const uint8_t *claims, size_t claims_length, uint8_t *answers,
                                                size_t answers_length);
 makhnodri_answer makhnodri_read_scene_slices(const uint8_t *text, size_t text_length, int32_t *positions, size_t positions_length,
@@ -274,6 +286,13 @@ makhnodri_answer makhnodri_read_scene_slices(const uint8_t *text, size_t text_le
 #define MAKHNODRI_LISTS_OF(scene)                                                                                                 \
     (scene)->positions, (scene)->positions_length, (scene)->edges, (scene)->edges_length, (scene)->triangles,                     \
         (scene)->triangles_length, (scene)->seams, (scene)->seams_length
+
+/* The vertex that a vertex stands for, by the seams of an accepted scene: another, or itself. Lower and higher go by this number. */
+static inline size_t makhnodri_stands_for(const makhnodri_scene *scene, size_t vertex) {
+    for (size_t i = 0; i + 1 < scene->seams_length; i += 2)
+        if (scene->seams[i] == vertex) return scene->seams[i + 1];
+    return vertex;
+}
 
 /* ---- Scenes: each of these checks the whole scene, and may refuse with 1, 2, 3, 15, 4 ---- */
 
@@ -366,6 +385,62 @@ static inline makhnodri_answer makhnodri_settle_pt_piece(const makhnodri_scene *
 
 static inline makhnodri_answer makhnodri_settle_ee_piece(const makhnodri_scene *scene, size_t first, size_t second, size_t piece) {
     return makhnodri_settle_ee_piece_slices(MAKHNODRI_LISTS_OF(scene), first, second, piece);
+}
+
+/*
+ * ---- Contacts: when and where a hit pair touched, for a viewer that freezes the picture there ----
+ *
+ * A contact is MAKHNODRI_CONTACT_LENGTH numbers: the piece, the time, and three shares. Time and shares are whole 2^20ths, from 0 to
+ * MAKHNODRI_CONTACT_UNIT, which is 1; each is cut and not rounded: at most the exact value, and short of it by less than one 2^20th.
+ * The piece is the hit piece whose time is the smallest such number, on a tie that of the lowest piece number. Only hit pieces take
+ * part; one that touches carries nothing, even if it touches earlier.
+ *
+ *     contact   [0]     [1]    [2]                    [3]                     [4]
+ *     pt        piece   time   lowest corner's share  middle corner's share   highest corner's share
+ *     ee        piece   time   lower edge's share     higher edge's share     0
+ *
+ * Corners go by the rising number of their vertices, in whatever order the scene writes them. An edge's share is that of its
+ * higher-numbered end; the lower edge is the one with the lower place, in whichever order the two are asked for. Each number is cut
+ * alone, so that three shares may sum to a little less than 1.
+ *
+ * Contacts are given in scenes of which no coordinate is beyond MAKHNODRI_CONTACT_LIMIT in size. Any other is refused with 16, after
+ * 5 and 6 and before 7, whichever pair is asked for.
+ */
+
+/* A number of 2^20ths as a double, which loses nothing: no two numbers give the same one. */
+static inline double makhnodri_part(uint32_t number) { return number / 1048576.0; }
+
+/* When it touched: 0 is the start, 1 the end. */
+static inline double makhnodri_contact_time(const uint32_t contact[MAKHNODRI_AT_LEAST(5)]) { return makhnodri_part(contact[1]); }
+
+/* Where: the share at this place, 0, 1 or 2 of a point and a triangle, 0 or 1 of two edges. */
+static inline double makhnodri_contact_share(const uint32_t contact[MAKHNODRI_AT_LEAST(5)], size_t place) {
+    return makhnodri_part(contact[2 + place]);
+}
+
+/*
+ * The answer is the word of the pair in four words, or a refusal: 1, 2, 3, 15, 4, 5, 6, then 16. Where it is MAKHNODRI_HIT, all five numbers of
+ * contact are written; nothing else changes them. Two edges may be asked for in either order, with the same answer and contact.
+ */
+static inline makhnodri_answer makhnodri_contact_pt(const makhnodri_scene *scene, size_t vertex, size_t triangle,
+                                                    uint32_t contact[MAKHNODRI_AT_LEAST(5)]) {
+    return makhnodri_contact_pt_slices(MAKHNODRI_LISTS_OF(scene), vertex, triangle, contact);
+}
+
+static inline makhnodri_answer makhnodri_contact_ee(const makhnodri_scene *scene, size_t first, size_t second,
+                                                    uint32_t contact[MAKHNODRI_AT_LEAST(5)]) {
+    return makhnodri_contact_ee_slices(MAKHNODRI_LISTS_OF(scene), first, second, contact);
+}
+
+/*
+ * As makhnodri_settle_scene, and beside list and words the contact of each hit pair: that of entry i begins at contacts[5 * i]. The
+ * numbers of a pair that is not hit stay as they were. Room is the smallest of list_length, words_length and contacts_length / 5,
+ * rounded down. The answer is the count, and the rest of the three buffers is unchanged; or 1, 2, 3, 15, 4, 16, or last 7, with
+ * the count needed.
+ */
+static inline makhnodri_answer makhnodri_contact_scene(const makhnodri_scene *scene, uint32_t *list, size_t list_length, uint8_t *words,
+                                                       size_t words_length, uint32_t *contacts, size_t contacts_length) {
+    return makhnodri_contact_scene_slices(MAKHNODRI_LISTS_OF(scene), list, list_length, words, words_length, contacts, contacts_length);
 }
 
 /* ---- Texts ---- */

@@ -1,9 +1,11 @@
 //! usage: bench [quick]
 //! Ratios side by side in one process, as tables. docs/BENCHMARK.md tells what is measured.
 
+mod contacts;
 mod errors;
 mod floor;
 mod plain;
+mod plain_contacts;
 mod plain_report;
 mod plain_rest;
 mod product;
@@ -71,6 +73,7 @@ fn main() {
     bench.sewn_verdicts();
     bench.lists();
     bench.resting();
+    bench.contacts();
     bench.reports();
     bench.wrong_answers();
 }

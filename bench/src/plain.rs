@@ -6,7 +6,7 @@ use compare::verdict::Verdict;
 pub type Vector = [i64; 3];
 
 /// 0 at the start, 3 at the end.
-type When = usize;
+pub type When = usize;
 pub const START: When = 0;
 pub const END: When = 3;
 
@@ -14,19 +14,19 @@ pub const END: When = 3;
 pub type Corner = (usize, When);
 
 #[inline]
-fn seen(positions: &[i32], vertex: usize, base: usize, when: When) -> Vector {
+pub fn seen(positions: &[i32], vertex: usize, base: usize, when: When) -> Vector {
     [0, 1, 2].map(|axis| positions[6 * vertex + when + axis] as i64 - positions[6 * base + when + axis] as i64)
 }
 
 /// The three minors of two vectors.
 #[inline]
-fn minors(a: Vector, b: Vector) -> Vector {
+pub fn minors(a: Vector, b: Vector) -> Vector {
     [a[1] * b[2] - a[2] * b[1], a[0] * b[2] - a[2] * b[0], a[0] * b[1] - a[1] * b[0]]
 }
 
 /// The determinant of a vector and the two that the minors are of.
 #[inline]
-fn with(a: Vector, minors: Vector) -> i64 {
+pub fn with(a: Vector, minors: Vector) -> i64 {
     a[0] * minors[0] - a[1] * minors[1] + a[2] * minors[2]
 }
 

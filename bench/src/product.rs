@@ -9,6 +9,8 @@
 //! | makhnodri_list_pairs_slices | a scene, list u32, one number | an answer; the list's entries, the box tests of its pt part |
 //! | makhnodri_settle_pt_slices, makhnodri_settle_ee_slices | a scene, two places | an answer: the pair's word |
 //! | makhnodri_settle_pt_piece_slices, makhnodri_settle_ee_piece_slices | a scene, two places, a piece | an answer: the piece's word |
+//! | makhnodri_contact_scene_slices | a scene, list u32, words u8, contacts u32 | as makhnodri_settle_scene_slices, and five numbers for each hit |
+//! | makhnodri_contact_pt_slices, makhnodri_contact_ee_slices | a scene, two places, five numbers | an answer: the pair's word; the numbers of a hit |
 //! | makhnodri_read_scene_slices | text u8, a scene's four lists of full size, four counts | an answer; the scene and its counts |
 //! | makhnodri_write_report | text u8, 65,536 bytes for the report | the length of the report |
 //!
@@ -126,6 +128,39 @@ mod linked {
             counts: *mut usize,
         ) -> u64;
         fn makhnodri_write_report(text: *const u8, text_len: usize, report: *mut u8) -> usize;
+    }
+
+    /// A scene as eight arguments, and the functions for contacts, which take it first.
+    macro_rules! scene {
+        ($function:ident, $s:expr $(, $more:expr)*) => {
+            $function($s.positions.as_ptr(), $s.positions.len(), $s.edges.as_ptr(), $s.edges.len(), $s.triangles.as_ptr(), $s.triangles.len(), $s.seams.as_ptr(), $s.seams.len() $(, $more)*)
+        };
+    }
+
+    #[rustfmt::skip]
+    extern "C" {
+        fn makhnodri_contact_scene_slices(positions: *const i32, positions_len: usize, edges: *const u16, edges_len: usize, triangles: *const u16, triangles_len: usize, seams: *const u16, seams_len: usize, list: *mut u32, list_len: usize, words: *mut u8, words_len: usize, contacts: *mut u32, contacts_len: usize) -> u64;
+        fn makhnodri_contact_pt_slices(positions: *const i32, positions_len: usize, edges: *const u16, edges_len: usize, triangles: *const u16, triangles_len: usize, seams: *const u16, seams_len: usize, vertex: usize, triangle: usize, contact: *mut u32) -> u64;
+        fn makhnodri_contact_ee_slices(positions: *const i32, positions_len: usize, edges: *const u16, edges_len: usize, triangles: *const u16, triangles_len: usize, seams: *const u16, seams_len: usize, first: usize, second: usize, contact: *mut u32) -> u64;
+    }
+
+    /// Contacts.
+    impl Product {
+        pub fn contact_scene(&self, s: &Slices, list: &mut [u32], words: &mut [u8], contacts: &mut [u32]) -> Answer {
+            let (l, w, c) = (list.len(), words.len(), contacts.len());
+            // SAFETY: each pointer comes with the length of its own slice, and no two overlap
+            answer(unsafe {
+                scene!(makhnodri_contact_scene_slices, s, list.as_mut_ptr(), l, words.as_mut_ptr(), w, contacts.as_mut_ptr(), c)
+            })
+        }
+
+        /// The word of an entry of the list, asked for by itself, and its five numbers where it is hit.
+        pub fn contact(&self, s: &Slices, entry: u32, contact: &mut [u32; 5]) -> Answer {
+            let (kind, first, second) = parts(entry);
+            let ask = if kind == 0 { makhnodri_contact_pt_slices } else { makhnodri_contact_ee_slices };
+            // SAFETY: as above, and a contact has five numbers
+            answer(unsafe { scene!(ask, s, first, second, contact.as_mut_ptr()) })
+        }
     }
 
     fn answer(said: u64) -> Answer {
@@ -274,6 +309,14 @@ mod missing {
         }
 
         pub fn settle_piece(&self, _: &Slices, _: u32, _: usize) -> Answer {
+            match *self {}
+        }
+
+        pub fn contact_scene(&self, _: &Slices, _: &mut [u32], _: &mut [u8], _: &mut [u32]) -> Answer {
+            match *self {}
+        }
+
+        pub fn contact(&self, _: &Slices, _: u32, _: &mut [u32; 5]) -> Answer {
             match *self {}
         }
 

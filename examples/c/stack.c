@@ -23,6 +23,7 @@ static uint16_t seams[MAKHNODRI_SEAMS_LENGTH], stands[512];
 static size_t seams_length;
 static uint32_t list[MAKHNODRI_PAIR_LIMIT];
 static uint8_t words[MAKHNODRI_PAIR_LIMIT];
+static uint32_t contacts[MAKHNODRI_CONTACT_LENGTH * MAKHNODRI_PAIR_LIMIT];
 static char text[MAKHNODRI_TEXT_LIMIT + 1];
 static uint8_t report[MAKHNODRI_REPORT_LENGTH];
 static size_t text_length, counts[4], tests[1], place;
@@ -46,6 +47,11 @@ static void settle_pt(void) { makhnodri_settle_pt_slices(SCENE, place, place / 3
 static void settle_ee(void) { makhnodri_settle_ee_slices(SCENE, place, place / 3); }
 static void settle_pt_piece(void) { makhnodri_settle_pt_piece_slices(SCENE, place, place / 3, place % 3); }
 static void settle_ee_piece(void) { makhnodri_settle_ee_piece_slices(SCENE, place, place / 3, place % 4); }
+static void contact_pt(void) { makhnodri_contact_pt_slices(SCENE, place, place / 3, contacts); }
+static void contact_ee(void) { makhnodri_contact_ee_slices(SCENE, place, place / 3, contacts); }
+static void contact_scene(void) {
+    makhnodri_contact_scene_slices(SCENE, list, sizeof list / sizeof list[0], words, sizeof words, contacts, sizeof contacts / sizeof contacts[0]);
+}
 static void read_text(void) {
     makhnodri_read_scene_slices((const uint8_t *)text, text_length, own.positions, MAKHNODRI_POSITIONS_LENGTH, own.edges,
                                 MAKHNODRI_EDGES_LENGTH, own.triangles, MAKHNODRI_TRIANGLES_LENGTH, own.seams, MAKHNODRI_SEAMS_LENGTH, counts);
@@ -173,6 +179,9 @@ static const struct {
     {"write_report", write_report, 40},
     {"turn_scene", turn, 4},
     {"check_claims", check_claims, 40},
+    {"contact_pt", contact_pt, 400},
+    {"contact_ee", contact_ee, 400},
+    {"contact_scene", contact_scene, 4},
 };
 
 enum { SCENES = 20 };

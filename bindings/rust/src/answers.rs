@@ -74,7 +74,7 @@ pub struct Listed {
     pub box_tests: usize,
 }
 
-/// Why a call was refused, in the order of the numbers: 1 to 12, and 15.
+/// Why a call was refused, in the order of the numbers: 1 to 12, 15 and 16.
 #[derive(Clone, Copy, Debug, PartialEq, Eq, Hash)]
 pub enum Refusal {
     Shape = 1,
@@ -90,12 +90,13 @@ pub enum Refusal {
     TooMany,
     ShortBuffer,
     BrokenSeam = 15,
+    BeyondOldRange = 16,
 }
 
 /// Why no list was made.
 #[derive(Clone, Copy, Debug, PartialEq, Eq, Hash)]
 pub enum ListRefusal {
-    /// 1, 2, 3, 15 or 4.
+    /// 1, 2, 3, 15 or 4; for contacts 16 too.
     Scene(Refusal),
     /// 7, with the count of pairs that need room.
     NoRoom { needed: usize },
@@ -134,7 +135,7 @@ pub enum ClaimsRefusal {
     NoRoom { needed: usize },
 }
 
-const REFUSALS: [(Refusal, &str); 13] = [
+const REFUSALS: [(Refusal, &str); 14] = [
     (Refusal::Shape, "positions not a multiple of 6 long, edges of 2, triangles of 3, seams of 2, or a count over its size"),
     (Refusal::Coordinate, "a coordinate outside its range"),
     (Refusal::UnknownVertex, "a vertex number not below the vertex count"),
@@ -148,6 +149,7 @@ const REFUSALS: [(Refusal, &str); 13] = [
     (Refusal::TooMany, "one record more than its size"),
     (Refusal::ShortBuffer, "a lent scene buffer that is too short"),
     (Refusal::BrokenSeam, "a seam that breaks the rules of seams, or whose two positions differ"),
+    (Refusal::BeyondOldRange, "a contact asked for in a scene with a coordinate beyond 262,143"),
 ];
 
 impl Refusal {

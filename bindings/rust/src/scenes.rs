@@ -47,6 +47,12 @@ impl<'a> Scene<'a> {
         Scene { seams: seams.into(), ..self }
     }
 
+    /// The vertex that a vertex stands for by the scene's seams: another, or itself. Lower and higher go by this number.
+    pub fn stands_for(&self, vertex: usize) -> usize {
+        let own = self.seams.chunks_exact(2).find(|seam| seam[0] as usize == vertex);
+        own.map_or(vertex, |seam| seam[1] as usize)
+    }
+
     /// The same lists, borrowed: nothing is copied.
     pub fn borrowed(&self) -> Scene<'_> {
         Scene::new(&*self.positions, &*self.edges, &*self.triangles).sewn(&*self.seams)
@@ -71,6 +77,8 @@ macro_rules! ask {
         unsafe { raw::$function(p.as_ptr(), p.len(), e.as_ptr(), e.len(), t.as_ptr(), t.len(), s.as_ptr(), s.len() $(, $more)*) }
     }};
 }
+
+pub(crate) use ask;
 
 impl Scene<'_> {
     /// 1, 2, 3, 15, 4, each over the whole scene before the next.
@@ -248,11 +256,11 @@ pub fn turn_scene(positions: &mut [i32], edges: &mut [u16], triangles: &mut [u16
 }
 
 /// A refusal that carries nothing.
-fn bare((refusal, _): (Refusal, usize)) -> Refusal {
+pub(crate) fn bare((refusal, _): (Refusal, usize)) -> Refusal {
     refusal
 }
 
-fn list_refusal((refusal, carried): (Refusal, usize)) -> ListRefusal {
+pub(crate) fn list_refusal((refusal, carried): (Refusal, usize)) -> ListRefusal {
     match refusal {
         Refusal::NoRoom => ListRefusal::NoRoom { needed: carried },
         refusal => ListRefusal::Scene(refusal),

@@ -130,7 +130,9 @@ pub fn every_answer(flat: &Flat) -> Vec<(&'static str, Answer<()>)> {
         out.push(("piece", scene.judge_piece(kind, 0, 1, 0).map(drop).map_err(bare)));
         out.push(("settled pair", scene.settle_pair(kind, 0, 1).map(drop).map_err(bare)));
         out.push(("settled piece", scene.settle_piece(kind, 0, 1, 0).map(drop).map_err(bare)));
+        out.push(("contact", scene.contact_pair(kind, 0, 1).map(drop).map_err(bare)));
     }
+    out.push(("contacts", scene.contact_scene(&mut painted(40), &mut painted(40), &mut painted(200)).map(drop).map_err(of_list)));
     out
 }
 

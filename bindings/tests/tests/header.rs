@@ -19,7 +19,7 @@ fn header() -> BTreeMap<String, i64> {
     text.lines().filter_map(numbered).collect()
 }
 
-const REFUSALS: [(&str, Refusal); 13] = [
+const REFUSALS: [(&str, Refusal); 14] = [
     ("SHAPE", Refusal::Shape),
     ("COORDINATE", Refusal::Coordinate),
     ("UNKNOWN_VERTEX", Refusal::UnknownVertex),
@@ -33,6 +33,7 @@ const REFUSALS: [(&str, Refusal); 13] = [
     ("TOO_MANY", Refusal::TooMany),
     ("SHORT_BUFFER", Refusal::ShortBuffer),
     ("BROKEN_SEAM", Refusal::BrokenSeam),
+    ("BEYOND_OLD_RANGE", Refusal::BeyondOldRange),
 ];
 
 #[test]
@@ -50,6 +51,9 @@ fn the_header_has_the_same_numbers() {
         ("TEXT_LIMIT", TEXT_LIMIT),
         ("REPORT_ROOM", REPORT_ROOM),
         ("PAIR_LIMIT", PAIR_LIMIT),
+        ("CONTACT_LIMIT", CONTACT_LIMIT as usize),
+        ("CONTACT_UNIT", CONTACT_UNIT as usize),
+        ("CONTACT_LENGTH", CONTACT_LENGTH),
         ("WEIGHT_LIMIT", WEIGHT_LIMIT as usize),
         ("NO", false as usize),
         ("YES", true as usize),

@@ -123,10 +123,11 @@ fn beyond(count: usize) -> Vec<usize> {
     out
 }
 
-/// The pair and these pieces, asked for in three words and in four.
+/// The pair and these pieces, asked for in three words and in four; and the pair's contact.
 fn asked(flat: &Flat, kind: Kind, first: usize, second: usize, pieces: &[usize]) -> Vec<Result<(), Refusal>> {
     let scene = flat.scene();
     let mut out = vec![scene.judge_pair(kind, first, second).map(drop), scene.settle_pair(kind, first, second).map(drop)];
+    out.push(scene.contact_pair(kind, first, second).map(drop));
     for &piece in pieces {
         out.push(scene.judge_piece(kind, first, second, piece).map(drop));
         out.push(scene.settle_piece(kind, first, second, piece).map(drop));

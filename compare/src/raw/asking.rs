@@ -2,7 +2,9 @@
 
 use super::harm::{harm, SCENE_CHECKS};
 use super::question::*;
+use crate::affine::Affine;
 use crate::claims::{self, making};
+use crate::contacts::making as contact_scenes;
 use crate::damage::damaged;
 use crate::faults::cells;
 use crate::random::Random;
@@ -57,7 +59,56 @@ pub fn seeded(seed: u64) -> Vec<Question> {
         out.extend(whole(&mut random, &full));
         out.extend(pairs(&mut random, &full));
     }
+    out.extend(scenes_for_contacts(seed));
     out
+}
+
+/// Scenes that are hard to cut: each pair of them, and all in one call; one in the old range and its image under a map.
+fn scenes_for_contacts(seed: u64) -> Vec<Question> {
+    let mut random = Random::new(seed ^ 0xc0171);
+    let inside = contact_scenes::within(&generate::scene(seed));
+    let sent = contact_scenes::within(&Affine::draw(&mut random, &inside).send(&inside));
+    let mut scenes = (7 * seed..7 * seed + 7).map(contact_scenes::scene).collect::<Vec<Scene>>();
+    scenes.extend([inside, sent]);
+    let mut out = Vec::new();
+    for scene in scenes {
+        out.extend(about_contacts(&mut random, &scene));
+        let mut pairs: Vec<Pair> = all_pairs(&scene).into_iter().filter(|pair| !pair.shares_a_vertex(&scene)).collect();
+        (0..pairs.len().saturating_sub(MOST_PAIRS)).for_each(|_| {
+            pairs.swap_remove(random.below(pairs.len()));
+        });
+        out.extend(pairs.into_iter().flat_map(|pair| contact_of(&scene, pair)));
+    }
+    out
+}
+
+/// The contact of a pair; of two edges in either order.
+fn contact_of(scene: &Scene, pair: Pair) -> Vec<Question> {
+    let ask = |first: usize, second: usize| {
+        let lent = Lent { contacts: marks_of_32(ROW), ..Lent::of_scene(scene) };
+        Question { call: Call::Contact(Asked::of(pair.kind, false)), asked: [first as u64, second as u64, 0], lent }
+    };
+    let mut out = vec![ask(pair.first, pair.second)];
+    out.extend((pair.kind == Kind::EdgeEdge).then(|| ask(pair.second, pair.first)));
+    out
+}
+
+/// All contacts of a scene in one call: rooms that are just enough, each of the three too short by one number, more than enough, none.
+fn about_contacts(random: &mut Random, scene: &Scene) -> Vec<Question> {
+    let count = listing::listed(scene).len();
+    let more = count + 1 + random.below(20);
+    let less = count.saturating_sub(1);
+    let mut rooms = vec![(0, 0, 0), (count, count, (ROW * count).saturating_sub(1)), (less, count, ROW * count)];
+    rooms.extend([(count, less, ROW * count), (more, more, ROW * less), (less, less, ROW * less)]);
+    if count <= LONGEST_JUDGED {
+        rooms.extend([(count, count, ROW * count), (more, count, ROW * count + 4), (more, more, ROW * more)]);
+    }
+    let ask = |(list, words, contacts): (usize, usize, usize)| {
+        let rooms =
+            Lent { list: marks_of_32(list), words: marks(words), contacts: marks_of_32(contacts), ..Lent::of_scene(scene) };
+        Question::new(Call::ContactScene, rooms)
+    };
+    rooms.into_iter().map(ask).collect()
 }
 
 fn fit_to_harm(scene: &Scene) -> bool {
@@ -104,8 +155,9 @@ fn whole(random: &mut Random, scene: &Scene) -> Vec<Question> {
     if count <= LONGEST_JUDGED {
         out.push(with_room(Call::SettleScene, &backwards::turned(&unsewn), count, count));
     }
-    // numbers of their own, so that the other questions are those that they would be without claims
+    // numbers of their own, so that the other questions are those that they would be without claims and contacts
     out.extend(about_claims(&mut random.clone(), scene));
+    out.extend(about_contacts(&mut random.clone(), scene));
     out
 }
 
@@ -146,6 +198,7 @@ fn about(scene: &Scene, pair: Pair) -> Vec<Question> {
         [Call::Judge(whole), Call::Settle(whole)].iter().for_each(|&call| ask(call, 0));
         (0..pieces).for_each(|place| [Call::Judge(piece), Call::Settle(piece)].iter().for_each(|&call| ask(call, place)));
     }
+    out.extend(contact_of(scene, pair));
     out
 }
 
@@ -181,7 +234,9 @@ fn asked_for_wrongly(random: &mut Random, scene: &Scene) -> Vec<Question> {
             Kind::EdgeEdge => (scene.edges.len(), scene.edges.len(), 4),
         };
         let mut ask = |first: u64, second: u64, piece: u64| {
-            out.push(Question { call, asked: [first, second, piece], lent: Lent::of_scene(scene) });
+            let mut lent = Lent::of_scene(scene);
+            lend_a_row(call, &mut lent);
+            out.push(Question { call, asked: [first, second, piece], lent });
         };
         let inside = [firsts, seconds, pieces].map(|count| random.below(count) as u64);
         for place in 0..3 {
@@ -197,6 +252,13 @@ fn asked_for_wrongly(random: &mut Random, scene: &Scene) -> Vec<Question> {
         }
     }
     out
+}
+
+/// A pair's contact has one length.
+fn lend_a_row(call: Call, lent: &mut Lent) {
+    if matches!(call, Call::Contact(_)) {
+        lent.contacts = marks_of_32(ROW);
+    }
 }
 
 /// Pairs that share a vertex: a triangle with each of its corners and what stands for one, an edge with itself and with those that meet it.
@@ -240,12 +302,16 @@ fn on_harmed(random: &mut Random, call: Call, harmed: &Lent) -> Vec<Question> {
     if call.lists() {
         lent.list = marks_of_32(random.pick(&[0, 1_000]));
     }
-    if call == Call::SettleScene {
+    if call.settles_a_scene() {
         lent.words = marks(random.pick(&[0, 1_000]));
     }
     if call.tells_tests() {
         lent.counts = vec![NO_TESTS];
     }
+    if call == Call::ContactScene {
+        lent.contacts = marks_of_32(ROW * lent.words.len());
+    }
+    lend_a_row(call, &mut lent);
     if call == Call::CheckClaims {
         let mut own = random.clone();
         lent.text = own.pick(&[b"x\n".repeat(20_000).as_slice(), b"x\n", b""]).to_vec();

@@ -12,6 +12,7 @@ pub const SCENE_CHECKS: [u64; 5] = [BAD_SHAPE, OUT_OF_RANGE, NO_SUCH_VERTEX, BRO
 pub fn before(first: u64, second: u64) -> bool {
     let rank = |number: u64| match number {
         BROKEN_SEAM => (NO_SUCH_VERTEX, 1),
+        NO_ROOM => (u64::MAX, 0),
         other => (other, 0),
     };
     rank(first) < rank(second)
@@ -94,6 +95,13 @@ pub fn of_scene(lent: &Lent) -> Vec<(u64, &'static str)> {
         triangles.chunks_exact(3).any(sewn),
     ];
     SCENE_FAULTS.into_iter().zip(holds).filter(|(_, holds)| *holds).map(|(fault, _)| fault).collect()
+}
+
+/// Document 02, §13, for contacts alone; a coordinate that is out of range is beyond the old range too.
+pub const BEYOND: (u64, &str) = (BEYOND_OLD_RANGE, "beyond the old range");
+
+pub fn of_range(lent: &Lent) -> Option<(u64, &'static str)> {
+    lent.positions.iter().any(|&n| n.unsigned_abs() as i64 > FIRST_COORDINATE_LIMIT).then_some(BEYOND)
 }
 
 /// The vertex that a vertex stands for.

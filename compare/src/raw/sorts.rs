@@ -37,6 +37,7 @@ pub fn none_yet() -> Sorts {
     }
     out.push(LONG_LIST.into());
     out.extend(["the list too short", "the words too short", "both too short"].map(|which| format!("settle_scene: {which}")));
+    out.extend(of_contact_scenes());
     out.extend(SCENE_FAULTS.map(|(number, fault)| alone(number, fault)));
     out.extend(of_texts());
     out.into_iter().map(|sort| (sort, 0)).collect()
@@ -46,6 +47,8 @@ pub fn none_yet() -> Sorts {
 fn of_scenes(call: Call) -> Vec<String> {
     let name = call.name();
     let later: &[u64] = match call {
+        Call::ContactScene => &[BEYOND_OLD_RANGE, NO_ROOM],
+        Call::Contact(_) => &[NOT_THERE, SHARES_A_VERTEX, BEYOND_OLD_RANGE],
         _ if call.lists() => &[NO_ROOM],
         _ if call.asked().is_some() => &[NOT_THERE, SHARES_A_VERTEX],
         _ => &[],
@@ -77,9 +80,30 @@ fn of_pairs(call: Call, asked: Asked) -> Vec<String> {
     if edges {
         out.extend(["lower edge first", "higher edge first"].map(|order| format!("{name}: {order}")));
     }
+    if call.finds_contacts() {
+        out.push(asked_for(call, BEYOND.0, BEYOND.1));
+        out.extend([NOT_THERE, SHARES_A_VERTEX].map(|number| format!("{name}: {number} before {BEYOND_OLD_RANGE}")));
+        out.extend((0..pieces).map(|piece| format!("{name}: a hit in piece {piece}")));
+        out.extend(["time 0", "time 1", "share 0", "share 1"].map(|number| format!("{name}: {number}")));
+    }
     let faults: &[(u64, &str)] = if edges { &EE_FAULTS } else { &PT_FAULTS };
     let faults = faults.iter().filter(|(_, fault)| *fault != "piece" || asked.piece());
     out.extend(faults.map(|(number, fault)| asked_for(call, *number, fault)));
+    out
+}
+
+/// All contacts of a scene: which of the three buffers is too short, 16 alone and before 7, rows that stay and rows that are written.
+fn of_contact_scenes() -> Vec<String> {
+    let mut out =
+        vec![asked_for(Call::ContactScene, BEYOND.0, BEYOND.1), format!("contact_scene: {BEYOND_OLD_RANGE} before {NO_ROOM}")];
+    let sorts =
+        ["the list too short", "the words too short", "the contacts too short", "all too short", "a part of a row left over"];
+    out.extend(
+        sorts
+            .into_iter()
+            .chain(["a hit behind another pair", "a pair that is not hit behind a hit"])
+            .map(|sort| format!("contact_scene: {sort}")),
+    );
     out
 }
 
@@ -218,8 +242,8 @@ fn of_slices(question: &Question, answer: &Answer) -> Vec<String> {
     let call = question.call;
     let mut faults = of_scene(&question.lent);
     faults.extend(call.asked().map(|asked| of_asked(question, asked)).unwrap_or_default());
-    let no_room =
-        call.lists() && (question.lent.list.is_empty() || (call == Call::SettleScene && question.lent.words.is_empty()));
+    faults.extend(call.finds_contacts().then(|| of_range(&question.lent)).flatten());
+    let no_room = call.lists() && (question.lent.list.is_empty() || (call.settles_a_scene() && question.lent.words.is_empty()));
     let mut out = Vec::new();
     let given = answer.refusal();
     if SCENE_CHECKS.contains(&given) {
@@ -259,6 +283,7 @@ fn of_slices(question: &Question, answer: &Answer) -> Vec<String> {
         out.push(format!("{}: answered", call.name()));
         out.extend((!question.lent.seams.is_empty()).then(|| format!("{}: answered with seams", call.name())));
         out.extend(call.asked().map(|asked| of_told(question, asked, answer)).unwrap_or_default());
+        out.extend(of_rows(question, answer));
     }
     if call.lists() && (given == 0 || given == NO_ROOM) {
         out.extend(of_room(question, answer.number as u32 as usize));
@@ -292,7 +317,12 @@ fn of_room(question: &Question, count: usize) -> Vec<String> {
     let name = question.call.name();
     let (list, words) = (question.lent.list.len(), question.lent.words.len());
     let judges = question.call == Call::SettleScene;
-    let room = if judges { list.min(words) } else { list };
+    let rows = question.lent.contacts.len() / ROW;
+    let room = match question.call {
+        Call::ContactScene => list.min(words).min(rows),
+        Call::SettleScene => list.min(words),
+        _ => list,
+    };
     let mut out = Vec::new();
     let mut add = |holds: bool, sort: &str| out.extend(holds.then(|| format!("{name}: {sort}")));
     add(room == count && count > 0, "just the room");
@@ -304,5 +334,46 @@ fn of_room(question: &Question, count: usize) -> Vec<String> {
         add(words < count && list >= count, "the words too short");
         add(words < count && list < count, "both too short");
     }
+    if question.call == Call::ContactScene {
+        let short = [list < count, words < count, rows < count];
+        add(short == [true, false, false], "the list too short");
+        add(short == [false, true, false], "the words too short");
+        add(short == [false, false, true], "the contacts too short");
+        add(short == [true, true, true], "all too short");
+        add(rows >= count && question.lent.contacts.len() % ROW > 0, "a part of a row left over");
+    }
     out
+}
+
+/// What a hit carries; and in a scene which rows are written.
+fn of_rows(question: &Question, answer: &Answer) -> Vec<String> {
+    let name = question.call.name();
+    let mut out = Vec::new();
+    let mut add = |holds: bool, sort: String| out.extend(holds.then(|| format!("{name}: {sort}")));
+    match question.call {
+        Call::Contact(asked) if answer.number == 0 => {
+            let row = row(answer, 0);
+            let shares = &row[2..if asked.kind() == Kind::EdgeEdge { 4 } else { 5 }];
+            add(true, format!("a hit in piece {}", row[0]));
+            add(row[1] == 0, "time 0".into());
+            add(row[1] == 1 << 20, "time 1".into());
+            add(shares.contains(&0), "share 0".into());
+            add(shares.contains(&(1 << 20)), "share 1".into());
+        }
+        Call::ContactScene => {
+            let words = &answer.buffers[WORDS][MARGIN..MARGIN + answer.number as usize];
+            let hit = |word: &u8| *word == 0;
+            let first_hit = words.iter().position(hit);
+            add(first_hit.is_some_and(|place| place > 0), "a hit behind another pair".into());
+            add(first_hit.is_some_and(|place| !words[place..].iter().all(hit)), "a pair that is not hit behind a hit".into());
+        }
+        _ => {}
+    }
+    out
+}
+
+/// The numbers of a row.
+pub fn row(answer: &Answer, place: usize) -> [u32; ROW] {
+    let bytes = &answer.buffers[CONTACTS][MARGIN + 4 * ROW * place..];
+    std::array::from_fn(|i| u32::from_le_bytes(bytes[4 * i..][..4].try_into().unwrap()))
 }
