@@ -174,12 +174,14 @@ pub fn harm(random: &mut Random, lent: &mut Lent, number: u64) {
             lent.positions[at] = random.pick(&[524_288, -524_288, i32::MAX, i32::MIN, 1 << 20, 1 << 24]);
         }
         NO_SUCH_VERTEX => {
-            let numbers = match random.below(3) {
+            let sewn = lent.seams.len() > 1 && random.chance(3);
+            let numbers = match random.below(2) {
+                _ if sewn => &mut lent.seams,
                 0 => &mut lent.edges,
-                1 if !lent.seams.is_empty() => &mut lent.seams,
                 _ => &mut lent.triangles,
             };
-            let at = random.below(numbers.len());
+            // the last vertex that is replaced breaks no other rule
+            let at = if sewn && random.chance(2) { numbers.len() - 2 } else { random.below(numbers.len()) };
             numbers[at] = random.pick(&[vertices, vertices + 1, 512, u16::MAX, 1 << 15]).max(vertices);
         }
         BROKEN_SEAM => break_seam(random, lent),

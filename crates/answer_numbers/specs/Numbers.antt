@@ -48,9 +48,9 @@ listNumber r = numberFor (λ n. n) (listSays r)
 unfoldable pub textNumber : TextAnswer → ℕ
 textNumber r = numberFor (λ c. 0) (textSays r)
 
--- the three counts of a text that was read, in a lent array; a refusal leaves what stood there
+-- the four counts of a text that was read, in a lent array; a refusal leaves what stood there
 unfoldable pub countsLeft : TextAnswer → List ℕ → List ℕ
-countsLeft (Read c) l = c .vertices ∷ c .edges ∷ c .triangles ∷ []
+countsLeft (Read c) l = c .vertices ∷ c .edges ∷ c .triangles ∷ c .seams ∷ []
 countsLeft (Refused x line) l = l
 
 pub record ReadInto (text : List ℕ) (lent left : Scene) (l l′ : List ℕ) (r : TextAnswer) : Type 0 where

@@ -13,7 +13,7 @@ use Rattle.meaning.specs.List.{pairs, roomOf, listSays, listChecks, Counted, Li
 use Rattle.meaning.specs.SceneWords.{SettledScene}
 use Rattle.meaning.specs.Text.{textOf, FaultyAt, TextIs, shortBuffer, longText, TextOutcome, countsTold, textSays, TextRead}
 use Rattle.meaning.specs.declared.Refusal.{Refusal}
-use Rattle.meaning.specs.declared.Refusal.the-variants.{Shape, Coordinate, UnknownVertex, RepeatedVertex, NotThere, SharedVertex, NoRoom, LongText, BadLine, LateRecord, TooMany, ShortBuffer}
+use Rattle.meaning.specs.declared.Refusal.the-variants.{Shape, Coordinate, UnknownVertex, RepeatedVertex, NotThere, SharedVertex, NoRoom, LongText, BadLine, LateRecord, TooMany, ShortBuffer, BrokenSeam}
 use Rattle.meaning.specs.declared.ListAnswer.{ListAnswer}
 use Rattle.meaning.specs.declared.TextAnswer.{TextAnswer}
 use Rattle.scenes.specs.Answering.{is-refused, is-past}
@@ -30,10 +30,10 @@ toldIn (refused n c) = c
 
 -- ---- a refusal
 
--- a number of document 01's table
+-- a number of the table
 pub record InTable (n : ℕ) : Type 0 where
   pub some : 0 < n
-  pub few : n ≤ 12
+  pub few : n ≤ 15
 
 pub number-in-table : (x : Refusal) → InTable (numberOf x)
 unfolding numberOf
@@ -49,6 +49,7 @@ number-in-table BadLine = record { some = omega arith; few = omega arith }
 number-in-table LateRecord = record { some = omega arith; few = omega arith }
 number-in-table TooMany = record { some = omega arith; few = omega arith }
 number-in-table ShortBuffer = record { some = omega arith; few = omega arith }
+number-in-table BrokenSeam = record { some = omega arith; few = omega arith }
 
 -- ---- the list
 
@@ -63,14 +64,15 @@ module _ (s : Scene) where
   unfolding toldIn
   nothing-carried e = rw e (omega arith)
 
-  -- where none of the four checks refuses, those after them decide
+  -- where none of the five checks refuses, those after them decide
   small-after : (more : List Check) (o : Outcome ℕ) → (Accepted s → Answers more IsCount o → toldIn o < upper)
       → Answers (sceneChecks s ++ more) IsCount o → toldIn o < upper
   small-after more o then p =
       step _ _ p (λ e. nothing-carried e) (λ h1 p1.
       step _ _ p1 (λ e. nothing-carried e) (λ h2 p2.
       step _ _ p2 (λ e. nothing-carried e) (λ h3 p3.
-      step _ _ p3 (λ e. nothing-carried e) (λ h4 p4. then (record { shapely = h1; inRange = h2; known = h3; distinct = h4 }) p4))))
+      step _ _ p3 (λ e. nothing-carried e) (λ h4 p4.
+      step _ _ p4 (λ e. nothing-carried e) (λ h5 p5. then (record { shapely = h1; inRange = h2; known = h3; sewnWell = h4; distinct = h5 }) p5)))))
     where
       step : (k : Check) (ks : List Check) → Answers (k ∷ ks) IsCount o → (o ≡ refused (k .number) (k .carries) → toldIn o < upper)
           → (k .holds ≡ false → Answers ks IsCount o → toldIn o < upper)

@@ -68,7 +68,7 @@ module _ {text : List ℕ} {lent left : Scene} {a : TextAnswer} (p : TextRead te
   unfolding textSays lineIn
   text-line e = rw e at (line-small p)
 
-  pub text-read : {c : SceneCounts} {l l′ : List ℕ} → a ≡ TextAnswers.the-variants.Read c → l′ ≡ c .vertices ∷ c .edges ∷ c .triangles ∷ []
+  pub text-read : {c : SceneCounts} {l l′ : List ℕ} → a ≡ TextAnswers.the-variants.Read c → l′ ≡ c .vertices ∷ c .edges ∷ c .triangles ∷ c .seams ∷ []
       → Told textNumber (ReadInto text lent left l l′) 0
   unfolding textNumber textSays numberFor countsLeft
   text-read {c} e h =

@@ -1,6 +1,6 @@
 -- When the box of an edge or of a triangle can be worked out from those of the vertices, and that it is then the right one.
 use Prim.Native.Nat.{ℕ, _+_, _*_, _≤_, _<_}
-use mathlib.Core.Bool.{false}
+use mathlib.Core.Bool.{false, _||_}
 use mathlib.Core.List.{List}
 use mathlib.Core.Path.{_≡_, _∙_, subst}
 use native.Mathlib.Nat.{zero-add}
@@ -9,16 +9,22 @@ use lib.IntN.{ℤ}
 use lib.ListN.{length}
 use Rattle.meaning.specs.Scene.{Scene, Accepted, vertexCount, edgeCount, triangleCount, edgeEnd, corner, unknownIn}
 use Rattle.scenes.specs.Below.{or-left, or-rest}
-use Rattle.scenes.specs.Facts.{known-inside, edge-inside, triangle-inside}
-use Rattle.boxes.specs.Kept.{Box, boxAt, jointBox, vertexBox, edgeBox, triangleBox, VerticesIn}
+use Rattle.scenes.specs.Facts.{known-inside, edge-inside, triangle-inside, accepted-sized}
+use Rattle.boxes.specs.Kept.{Box, boxNumbers, boxAt, jointBox, vertexBox, edgeBox, triangleBox, VerticesIn}
 use Rattle.boxes.specs.Storing.{BoxStored, others-kept}
 
--- in an accepted scene every end and every corner is a vertex
-pub ends-known : {s : Scene} → Accepted s → unknownIn (vertexCount s) (s .edges) ≡ false
-ends-known {s} a = or-left _ (unknownIn (vertexCount s) (s .triangles)) (a .known)
+-- every end and every corner is a vertex, and there is room for a box of each part
+abbrev pub Drawn : Scene → Type 0
+Drawn s =
+    (unknownIn (vertexCount s) (s .edges) ≡ false) × (unknownIn (vertexCount s) (s .triangles) ≡ false)
+    × (6 * (vertexCount s + edgeCount s + triangleCount s) ≤ boxNumbers)
 
-pub corners-known : {s : Scene} → Accepted s → unknownIn (vertexCount s) (s .triangles) ≡ false
-corners-known {s} a = or-rest (unknownIn (vertexCount s) (s .edges)) _ (a .known)
+pub accepted-drawn : {s : Scene} → Accepted s → Drawn s
+accepted-drawn {s} a =
+    let e = unknownIn (vertexCount s) (s .edges) in
+    let t = unknownIn (vertexCount s) (s .triangles) in
+    let w = unknownIn (vertexCount s) (s .seams) in
+    (or-left e t (or-left (e || t) w (a .known)), or-rest e t (or-left (e || t) w (a .known)), omega (arith, accepted-sized a))
 
 -- the vertices' boxes stand in the list, all numbers of a list of ends or corners are vertices, and a box has its place behind theirs
 pub record Ready (s : Scene) (corners : List ℕ) (l : List ℤ) (place : ℕ) : Type 0 where

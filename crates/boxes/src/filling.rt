@@ -1,15 +1,15 @@
 // The boxes of a scene, each worked out once: an edge's and a triangle's from those of its vertices, which stand in the list already.
 
-ghost use Prim.Native.Nat.{_*_, _≤_, _<_};
-ghost use mathlib.Core.List.{[]};
+ghost use Prim.Native.Nat.{ℕ, _*_, _≤_, _<_};
+ghost use mathlib.Core.List.{List, []};
 ghost use mathlib.Core.Bool.{false};
 ghost use mathlib.Core.Path.{_≡_};
 ghost use lib.ListN.{length};
-ghost use Rattle.meaning.specs.Scene.{sceneIn, sceneAtEntry, sceneOf, Accepted, vertexCount, edgeCount, triangleCount, unknownIn};
-ghost use Rattle.scenes.specs.Alone.{onlyPositions, onlyEdges, onlyTriangles};
+ghost use Rattle.meaning.specs.Scene.{sceneOf, vertexCount, edgeCount, triangleCount, unknownIn};
+ghost use Rattle.scenes.specs.Alone.{onlyPositions, onlyEdges, onlyTriangles, unsewnIn, unsewnAtEntry};
 ghost use Rattle.boxes.specs.Kept.{edgePlace, trianglePlace, edgeBox, triangleBox, VerticesIn, EdgesIn, boxNumbers};
 ghost use Rattle.boxes.specs.Storing.{BoxStored};
-ghost use Rattle.boxes.specs.Parts.{Ready};
+ghost use Rattle.boxes.specs.Parts.{Ready, Drawn};
 ghost use Rattle.boxes.specs.Filling.{KeptBehind, Filled};
 use super::kept::store_joint_box;
 use super::kept::store_vertex;
@@ -39,9 +39,9 @@ fn fill_vertices(positions: &[i32], boxes: &mut [i32])
 
 // The box of edge j, in its place behind those of the vertices.
 fn store_edge(positions: &[i32], edges: &[u16], j: usize, boxes: &mut [i32])
-    requires { ⌜ j < edgeCount (sceneOf (now positions) (now edges) []) ⌝ }
-    requires { ⌜ Ready (sceneOf (now positions) (now edges) []) (now edges) (now boxes) (edgePlace (sceneOf (now positions) (now edges) []) j) ⌝ }
-    ensures { λ _. ⌜ BoxStored (now (boxes .entry)) (edgePlace (sceneOf (now (positions .entry)) (now (edges .entry)) []) j) (edgeBox (sceneOf (now (positions .entry)) (now (edges .entry)) []) j) (now (boxes .exit)) ⌝ }
+    requires { ⌜ j < edgeCount (sceneOf (now positions) (now edges) [] []) ⌝ }
+    requires { ⌜ Ready (sceneOf (now positions) (now edges) [] []) (now edges) (now boxes) (edgePlace (sceneOf (now positions) (now edges) [] []) j) ⌝ }
+    ensures { λ _. ⌜ BoxStored (now (boxes .entry)) (edgePlace (sceneOf (now (positions .entry)) (now (edges .entry)) [] []) j) (edgeBox (sceneOf (now (positions .entry)) (now (edges .entry)) [] []) j) (now (boxes .exit)) ⌝ }
 {
     let place = vertex_count(positions) + j;
     store_joint_box(boxes, edge_end(edges, j, 0), edge_end(edges, j, 1), place);
@@ -49,9 +49,9 @@ fn store_edge(positions: &[i32], edges: &[u16], j: usize, boxes: &mut [i32])
 
 // The box of triangle j, in its place behind those of the edges: first the joint box of two corners.
 fn store_triangle(positions: &[i32], edges: &[u16], triangles: &[u16], j: usize, boxes: &mut [i32])
-    requires { ⌜ j < triangleCount (sceneIn positions edges triangles) ⌝ }
-    requires { ⌜ Ready (sceneIn positions edges triangles) (now triangles) (now boxes) (trianglePlace (sceneIn positions edges triangles) j) ⌝ }
-    ensures { λ _. ⌜ BoxStored (now (boxes .entry)) (trianglePlace (sceneAtEntry positions edges triangles) j) (triangleBox (sceneAtEntry positions edges triangles) j) (now (boxes .exit)) ⌝ }
+    requires { ⌜ j < triangleCount (unsewnIn positions edges triangles) ⌝ }
+    requires { ⌜ Ready (unsewnIn positions edges triangles) (now triangles) (now boxes) (trianglePlace (unsewnIn positions edges triangles) j) ⌝ }
+    ensures { λ _. ⌜ BoxStored (now (boxes .entry)) (trianglePlace (unsewnAtEntry positions edges triangles) j) (triangleBox (unsewnAtEntry positions edges triangles) j) (now (boxes .exit)) ⌝ }
 {
     let place = vertex_count(positions) + edge_count(edges) + j;
     let third = corner(triangles, j, 2);
@@ -68,7 +68,7 @@ fn fill_edges(positions: &[i32], edges: &[u16], boxes: &mut [i32])
     requires { ⌜ unknownIn (vertexCount (onlyPositions (now positions))) (now edges) ≡ false ⌝ }
     requires { ⌜ 6 * edgePlace (onlyPositions (now positions)) (edgeCount (onlyEdges (now edges))) ≤ length (now boxes) ⌝ }
     requires { ⌜ VerticesIn (onlyPositions (now positions)) (now boxes) ⌝ }
-    ensures { λ _. ⌜ VerticesIn (onlyPositions (now (positions .entry))) (now (boxes .exit)) × EdgesIn (sceneOf (now (positions .entry)) (now (edges .entry)) []) (now (boxes .exit)) × KeptBehind (now (boxes .entry)) (now (boxes .exit)) (edgePlace (onlyPositions (now (positions .entry))) (edgeCount (onlyEdges (now (edges .entry))))) ⌝ }
+    ensures { λ _. ⌜ VerticesIn (onlyPositions (now (positions .entry))) (now (boxes .exit)) × EdgesIn (sceneOf (now (positions .entry)) (now (edges .entry)) [] []) (now (boxes .exit)) × KeptBehind (now (boxes .entry)) (now (boxes .exit)) (edgePlace (onlyPositions (now (positions .entry))) (edgeCount (onlyEdges (now (edges .entry))))) ⌝ }
 {
     let count = edge_count(edges);
     let mut j = 0;
@@ -80,9 +80,9 @@ fn fill_edges(positions: &[i32], edges: &[u16], boxes: &mut [i32])
 
 fn fill_triangles(positions: &[i32], edges: &[u16], triangles: &[u16], boxes: &mut [i32])
     requires { ⌜ unknownIn (vertexCount (onlyPositions (now positions))) (now triangles) ≡ false ⌝ }
-    requires { ⌜ 6 * trianglePlace (sceneOf (now positions) (now edges) []) (triangleCount (onlyTriangles (now triangles))) ≤ length (now boxes) ⌝ }
-    requires { ⌜ VerticesIn (onlyPositions (now positions)) (now boxes) × EdgesIn (sceneOf (now positions) (now edges) []) (now boxes) ⌝ }
-    ensures { λ _. ⌜ Filled (sceneAtEntry positions edges triangles) (now (boxes .entry)) (now (boxes .exit)) ⌝ }
+    requires { ⌜ 6 * trianglePlace (sceneOf (now positions) (now edges) [] []) (triangleCount (onlyTriangles (now triangles))) ≤ length (now boxes) ⌝ }
+    requires { ⌜ VerticesIn (onlyPositions (now positions)) (now boxes) × EdgesIn (sceneOf (now positions) (now edges) [] []) (now boxes) ⌝ }
+    ensures { λ _. ⌜ ((w : List ℕ) → Filled (sceneOf (now (positions .entry)) (now (edges .entry)) (now (triangles .entry)) w) (now (boxes .entry)) (now (boxes .exit))) ⌝ }
 {
     let count = triangle_count(triangles);
     let mut j = 0;
@@ -92,10 +92,11 @@ fn fill_triangles(positions: &[i32], edges: &[u16], triangles: &[u16], boxes: &m
     }
 }
 
-// The boxes of all vertices, then of all edges, then of all triangles of an accepted scene.
+// The boxes of all vertices, then of all edges, then of all triangles of a scene. A box looks at no seam, so they are those of the scene with
+// any seams.
 pub fn fill(positions: &[i32], edges: &[u16], triangles: &[u16], boxes: &mut [i32])
-    requires { ⌜ Accepted (sceneIn positions edges triangles) × (boxNumbers ≤ length (now boxes)) ⌝ }
-    ensures { λ _. ⌜ Filled (sceneAtEntry positions edges triangles) (now (boxes .entry)) (now (boxes .exit)) ⌝ }
+    requires { ⌜ Drawn (unsewnIn positions edges triangles) × (boxNumbers ≤ length (now boxes)) ⌝ }
+    ensures { λ _. ⌜ ((w : List ℕ) → Filled (sceneOf (now (positions .entry)) (now (edges .entry)) (now (triangles .entry)) w) (now (boxes .entry)) (now (boxes .exit))) ⌝ }
 {
     fill_vertices(positions, boxes);
     fill_edges(positions, edges, boxes);

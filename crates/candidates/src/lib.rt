@@ -2,7 +2,8 @@
 
 ghost use Prim.Native.Nat.{_<_};
 ghost use mathlib.Core.Path.{_≡_};
-ghost use Rattle.meaning.specs.Scene.{sceneIn, sceneAtEntry, vertexCount, edgeCount, triangleCount};
+ghost use Rattle.meaning.specs.Scene.{vertexCount, edgeCount, triangleCount};
+ghost use Rattle.scenes.specs.Alone.{tabledIn, tabledAtEntry};
 ghost use Rattle.meaning.specs.Boxes.{listed};
 ghost use Rattle.meaning.specs.declared.Kind.the-variants.{PointTriangle, EdgeEdge};
 ghost use Rattle.boxes.specs.Kept.{Boxed};
@@ -20,16 +21,17 @@ fn listed_pt(
     positions: &[i32],
     edges: &[u16],
     triangles: &[u16],
+    stands: &[u16],
     boxes: &[i32],
     v: usize,
     j: usize,
 ) -> bool
-    requires { ⌜ Boxed (sceneIn positions edges triangles) (now boxes) × (v < vertexCount (sceneIn positions edges triangles)) × (j < triangleCount (sceneIn positions edges triangles)) ⌝ }
-    ensures { λ r. ⌜ r ≡ listed (sceneAtEntry positions edges triangles) PointTriangle v j ⌝ }
+    requires { ⌜ Boxed (tabledIn positions edges triangles stands) (now boxes) × (v < vertexCount (tabledIn positions edges triangles stands)) × (j < triangleCount (tabledIn positions edges triangles stands)) ⌝ }
+    ensures { λ r. ⌜ r ≡ listed (tabledAtEntry positions edges triangles stands) PointTriangle v j ⌝ }
 {
     let place = vertex_count(positions) + edge_count(edges) + j;
     if boxes_meet(boxes, v, place) {
-        !shares_pt(triangles, v, j)
+        !shares_pt(triangles, stands, v, j)
     } else {
         false
     }
@@ -39,16 +41,17 @@ fn listed_ee(
     positions: &[i32],
     edges: &[u16],
     triangles: &[u16],
+    stands: &[u16],
     boxes: &[i32],
     i: usize,
     j: usize,
 ) -> bool
-    requires { ⌜ Boxed (sceneIn positions edges triangles) (now boxes) × (i < edgeCount (sceneIn positions edges triangles)) × (j < edgeCount (sceneIn positions edges triangles)) ⌝ }
-    ensures { λ r. ⌜ r ≡ listed (sceneAtEntry positions edges triangles) EdgeEdge i j ⌝ }
+    requires { ⌜ Boxed (tabledIn positions edges triangles stands) (now boxes) × (i < edgeCount (tabledIn positions edges triangles stands)) × (j < edgeCount (tabledIn positions edges triangles stands)) ⌝ }
+    ensures { λ r. ⌜ r ≡ listed (tabledAtEntry positions edges triangles stands) EdgeEdge i j ⌝ }
 {
     let first = vertex_count(positions);
     if boxes_meet(boxes, first + i, first + j) {
-        !shares_ee(edges, i, j)
+        !shares_ee(edges, stands, i, j)
     } else {
         false
     }
@@ -59,23 +62,30 @@ pub fn is_listed(
     positions: &[i32],
     edges: &[u16],
     triangles: &[u16],
+    stands: &[u16],
     boxes: &[i32],
     kind: Kind,
     i: usize,
     j: usize,
 ) -> bool
-    requires { ⌜ Boxed (sceneIn positions edges triangles) (now boxes) × (i < firstCount (sceneIn positions edges triangles) kind) × (j < secondCount (sceneIn positions edges triangles) kind) ⌝ }
-    ensures { λ r. ⌜ r ≡ listed (sceneAtEntry positions edges triangles) kind i j ⌝ }
+    requires { ⌜ Boxed (tabledIn positions edges triangles stands) (now boxes) × (i < firstCount (tabledIn positions edges triangles stands) kind) × (j < secondCount (tabledIn positions edges triangles stands) kind) ⌝ }
+    ensures { λ r. ⌜ r ≡ listed (tabledAtEntry positions edges triangles stands) kind i j ⌝ }
 {
     match kind {
-        Kind::PointTriangle => listed_pt(positions, edges, triangles, boxes, i, j),
-        Kind::EdgeEdge => listed_ee(positions, edges, triangles, boxes, i, j),
+        Kind::PointTriangle => listed_pt(positions, edges, triangles, stands, boxes, i, j),
+        Kind::EdgeEdge => listed_ee(positions, edges, triangles, stands, boxes, i, j),
     }
 }
 
 // How many first places there are, and how many second places.
-pub fn first_count(positions: &[i32], edges: &[u16], triangles: &[u16], kind: Kind) -> usize
-    ensures { λ r. ⌜ r ≡ firstCount (sceneAtEntry positions edges triangles) kind ⌝ }
+pub fn first_count(
+    positions: &[i32],
+    edges: &[u16],
+    triangles: &[u16],
+    stands: &[u16],
+    kind: Kind,
+) -> usize
+    ensures { λ r. ⌜ r ≡ firstCount (tabledAtEntry positions edges triangles stands) kind ⌝ }
 {
     match kind {
         Kind::PointTriangle => vertex_count(positions),
@@ -83,8 +93,14 @@ pub fn first_count(positions: &[i32], edges: &[u16], triangles: &[u16], kind: Ki
     }
 }
 
-pub fn second_count(positions: &[i32], edges: &[u16], triangles: &[u16], kind: Kind) -> usize
-    ensures { λ r. ⌜ r ≡ secondCount (sceneAtEntry positions edges triangles) kind ⌝ }
+pub fn second_count(
+    positions: &[i32],
+    edges: &[u16],
+    triangles: &[u16],
+    stands: &[u16],
+    kind: Kind,
+) -> usize
+    ensures { λ r. ⌜ r ≡ secondCount (tabledAtEntry positions edges triangles stands) kind ⌝ }
 {
     match kind {
         Kind::PointTriangle => triangle_count(triangles),

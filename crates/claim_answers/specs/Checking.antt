@@ -8,6 +8,8 @@ use lib.Dec.{ltb}
 use lib.ListN.{length}
 use borrow.Author.Tests.{lt-ltb, le-ltb, ltb-false}
 use Rattle.scenes.specs.Answering.{refuses, lets-pass, gives, is-given, one-answer}
+use Rattle.scenes.specs.Alone.{tabled}
+use Rattle.scenes.specs.Checking.{Stitched, from-table}
 use Rattle.scenes.specs.Accepting.{after-accepted, after-refused}
 use Rattle.scenes.specs.Speaking.{one-number}
 use Rattle.meaning.specs.Limits.{textLimit}
@@ -129,6 +131,11 @@ module _ (s : Scene) (text o : List ℕ) where
             }
 
 -- ---- one answer
+
+-- what holds beside the scene that the table tells holds beside the scene
+pub checked-in-table : {s : Scene} {t t′ : List ℕ} → Stitched s t t′ → Accepted s → {text o o′ : List ℕ} {r : ClaimsAnswer}
+    → ClaimsChecked (tabled (s .positions) (s .edges) (s .triangles) t′) text o o′ r → ClaimsChecked s text o o′ r
+checked-in-table h a {text} {o} {o′} {r} p = from-table (λ (u : Scene). ClaimsChecked u text o o′ r) h a p
 
 pub one-yes-or-no : (p : Piece) (ws : List ℕ) (a b : Bool) → AnswerIs p ws a → AnswerIs p ws b → a ≡ b
 unfolding AnswerIs

@@ -4,10 +4,11 @@ ghost use Prim.Native.Nat.{_≤_};
 ghost use lib.ListN.{length, getD};
 ghost use mathlib.Core.Path.{_≡_};
 ghost use mathlib.Core.Bool.{false};
-ghost use Rattle.meaning.specs.Scene.{sceneIn, sceneAtEntry, Accepted};
+ghost use Rattle.meaning.specs.Scene.{sceneAtEntry, Accepted};
 ghost use Rattle.meaning.specs.Pieces.{pieceOf};
 ghost use Rattle.meaning.specs.Refusals.{notThere};
 ghost use Rattle.meaning.specs.Claims.{AnswerIs, answerByte, ClaimsChecked};
+ghost use Rattle.scenes.specs.Alone.{tabledIn, tabledAtEntry};
 ghost use Rattle.claim_answers.specs.Inspecting.{Inspected};
 ghost use Rattle.claim_answers.specs.Weighing.{weightsFrom};
 ghost use Rattle.claim_answers.specs.Answering.{Roomy, Answered};
@@ -20,10 +21,11 @@ use meaning::Kind;
 use meaning::Refusal;
 use meaning::SceneAnswer;
 use meaning::TEXT_LIMIT;
+use meaning::VERTEX_LIMIT;
 
 // The first pass: how many claims there are, or the first faulty line with its fault.
-fn inspect(positions: &[i32], edges: &[u16], triangles: &[u16], text: &[u8]) -> ClaimsAnswer
-    ensures { λ r. ⌜ Inspected (sceneAtEntry positions edges triangles) (now (text .entry)) r ⌝ }
+fn inspect(positions: &[i32], edges: &[u16], triangles: &[u16], stands: &[u16], text: &[u8]) -> ClaimsAnswer
+    ensures { λ r. ⌜ Inspected (tabledAtEntry positions edges triangles stands) (now (text .entry)) r ⌝ }
 {
     let mut sizes = [0u64; 9];
     let mut minus = [false; 9];
@@ -34,6 +36,7 @@ fn inspect(positions: &[i32], edges: &[u16], triangles: &[u16], text: &[u8]) -> 
             positions,
             edges,
             triangles,
+            stands,
             text,
             at,
             &mut sizes,
@@ -56,17 +59,18 @@ fn answer(
     positions: &[i32],
     edges: &[u16],
     triangles: &[u16],
+    stands: &[u16],
     kind: Kind,
     numbers: &[u64; 9],
 ) -> bool
-    requires { ⌜ Accepted (sceneIn positions edges triangles) ⌝ }
-    requires { ⌜ notThere (sceneIn positions edges triangles) kind (getD (now numbers) 0 0) (getD (now numbers) 1 0) ≡ false ⌝ }
-    ensures { λ r. ⌜ AnswerIs (pieceOf (sceneAtEntry positions edges triangles) kind (getD (now (numbers .entry)) 0 0) (getD (now (numbers .entry)) 1 0) (getD (now (numbers .entry)) 2 0)) (weightsFrom (now (numbers .entry))) r ⌝ }
+    requires { ⌜ Accepted (tabledIn positions edges triangles stands) ⌝ }
+    requires { ⌜ notThere (tabledIn positions edges triangles stands) kind (getD (now numbers) 0 0) (getD (now numbers) 1 0) ≡ false ⌝ }
+    ensures { λ r. ⌜ AnswerIs (pieceOf (tabledAtEntry positions edges triangles stands) kind (getD (now (numbers .entry)) 0 0) (getD (now (numbers .entry)) 1 0) (getD (now (numbers .entry)) 2 0)) (weightsFrom (now (numbers .entry))) r ⌝ }
 {
     let i = numbers[0] as usize;
     let j = numbers[1] as usize;
     let k = numbers[2] as usize;
-    let six = six_of(positions, edges, triangles, kind, i, j, k);
+    let six = six_of(positions, edges, triangles, stands, kind, i, j, k);
     let weights = [
         numbers[3],
         numbers[4],
@@ -86,10 +90,10 @@ fn byte_of(yes: bool) -> u8
 }
 
 // The second pass, over claims none of which is at fault: the buffer then holds their answers in front.
-fn answer_all(positions: &[i32], edges: &[u16], triangles: &[u16], text: &[u8], answers: &mut [u8])
-    requires { ⌜ Accepted (sceneIn positions edges triangles) ⌝ }
-    requires { ⌜ Roomy (sceneIn positions edges triangles) (now text) (now answers) ⌝ }
-    ensures { λ _. ⌜ Answered (sceneAtEntry positions edges triangles) (now (text .entry)) (now (answers .entry)) (now (answers .exit)) ⌝ }
+fn answer_all(positions: &[i32], edges: &[u16], triangles: &[u16], stands: &[u16], text: &[u8], answers: &mut [u8])
+    requires { ⌜ Accepted (tabledIn positions edges triangles stands) ⌝ }
+    requires { ⌜ Roomy (tabledIn positions edges triangles stands) (now text) (now answers) ⌝ }
+    ensures { λ _. ⌜ Answered (tabledAtEntry positions edges triangles stands) (now (text .entry)) (now (answers .entry)) (now (answers .exit)) ⌝ }
 {
     let mut sizes = [0u64; 9];
     let mut minus = [false; 9];
@@ -100,6 +104,7 @@ fn answer_all(positions: &[i32], edges: &[u16], triangles: &[u16], text: &[u8], 
             positions,
             edges,
             triangles,
+            stands,
             text,
             at,
             &mut sizes,
@@ -109,7 +114,7 @@ fn answer_all(positions: &[i32], edges: &[u16], triangles: &[u16], text: &[u8], 
                 return;
             }
             Step::Taken(kind, next) => {
-                answers[count] = byte_of(answer(positions, edges, triangles, kind, &sizes));
+                answers[count] = byte_of(answer(positions, edges, triangles, stands, kind, &sizes));
                 count += 1;
                 at = next;
             }
@@ -123,24 +128,28 @@ pub fn check_claims(
     positions: &[i32],
     edges: &[u16],
     triangles: &[u16],
+    seams: &[u16],
     text: &[u8],
     answers: &mut [u8],
 ) -> ClaimsAnswer
-    ensures { λ r. ⌜ ClaimsChecked (sceneAtEntry positions edges triangles) (now (text .entry)) (now (answers .entry)) (now (answers .exit)) r ⌝ }
+    ensures { λ r. ⌜ ClaimsChecked (sceneAtEntry positions edges triangles seams) (now (text .entry)) (now (answers .entry)) (now (answers .exit)) r ⌝ }
 {
-    if let SceneAnswer::Refused(refusal) = scenes::check_scene(positions, edges, triangles) {
+    let mut stands = [0u16; VERTEX_LIMIT];
+    if let SceneAnswer::Refused(refusal) = scenes::check_into(
+        positions, edges, triangles, seams, &mut stands,
+    ) {
         return ClaimsAnswer::Refused(refusal, 0);
     }
     if TEXT_LIMIT < text.len() {
         return ClaimsAnswer::Refused(Refusal::LongText, 0);
     }
-    match inspect(positions, edges, triangles, text) {
+    match inspect(positions, edges, triangles, &stands, text) {
         ClaimsAnswer::Refused(fault, line) => ClaimsAnswer::Refused(fault, line),
         ClaimsAnswer::Answered(count) => {
             if answers.len() < count {
                 return ClaimsAnswer::Refused(Refusal::NoRoom, count);
             }
-            answer_all(positions, edges, triangles, text, answers);
+            answer_all(positions, edges, triangles, &stands, text, answers);
             ClaimsAnswer::Answered(count)
         }
     }

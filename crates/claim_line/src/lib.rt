@@ -2,7 +2,7 @@
 ghost use Prim.Native.Nat.{_≤_, _<_};
 ghost use lib.ListN.{length};
 ghost use mathlib.Core.Path.{_≡_};
-ghost use Rattle.meaning.specs.Scene.{sceneAtEntry};
+ghost use Rattle.scenes.specs.Alone.{tabledAtEntry};
 ghost use Rattle.claim_line.specs.Reading.{wideIn, NumbersRead, lineEnded, LineRead};
 ghost use Rattle.claim_line.specs.Stepping.{judgedSays, AskedIs, Stepped};
 use fields::Ending;
@@ -88,12 +88,13 @@ fn judge(
     positions: &[i32],
     edges: &[u16],
     triangles: &[u16],
+    stands: &[u16],
     kind: Kind,
     i: usize,
     j: usize,
     k: usize,
 ) -> Judged
-    ensures { λ r. ⌜ AskedIs (sceneAtEntry positions edges triangles) kind i j k (judgedSays r) ⌝ }
+    ensures { λ r. ⌜ AskedIs (tabledAtEntry positions edges triangles stands) kind i j k (judgedSays r) ⌝ }
 {
     if accepted::not_there(positions, edges, triangles, kind, i, j) {
         return Judged::Fault(Refusal::NotThere);
@@ -101,7 +102,7 @@ fn judge(
     if accepted::piece_count(kind) <= k {
         return Judged::Fault(Refusal::NotThere);
     }
-    if accepted::shares_vertex(positions, edges, triangles, kind, i, j) {
+    if accepted::shares_vertex(positions, edges, triangles, stands, kind, i, j) {
         return Judged::Fault(Refusal::SharedVertex);
     }
     Judged::Good
@@ -118,6 +119,7 @@ pub fn next_claim(
     positions: &[i32],
     edges: &[u16],
     triangles: &[u16],
+    stands: &[u16],
     text: &[u8],
     at: usize,
     sizes: &mut [u64],
@@ -126,7 +128,7 @@ pub fn next_claim(
     requires { ⌜ at < length (now text) ⌝ }
     requires { ⌜ 9 ≤ length (now sizes) ⌝ }
     requires { ⌜ 9 ≤ length (now minus) ⌝ }
-    ensures { λ r. ⌜ Stepped (sceneAtEntry positions edges triangles) (now (text .entry)) at (now (sizes .exit)) (now (minus .exit)) r ⌝ }
+    ensures { λ r. ⌜ Stepped (tabledAtEntry positions edges triangles stands) (now (text .entry)) at (now (sizes .exit)) (now (minus .exit)) r ⌝ }
 {
     match read_line(text, at, sizes, minus) {
         Line::Bad => Step::Fault(Refusal::BadLine),
@@ -134,7 +136,7 @@ pub fn next_claim(
             let i = sizes[0] as usize;
             let j = sizes[1] as usize;
             let k = sizes[2] as usize;
-            match judge(positions, edges, triangles, kind, i, j, k) {
+            match judge(positions, edges, triangles, stands, kind, i, j, k) {
                 Judged::Fault(fault) => Step::Fault(fault),
                 Judged::Good => Step::Taken(kind, next),
             }

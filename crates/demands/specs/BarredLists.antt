@@ -63,11 +63,11 @@ twoPoints =
     (coordinates (at (pos 0) (pos 0) (pos 0)) (at (pos 0) (pos 0) (pos 0)) ++ coordinates (at (pos 4) (pos 0) (pos 0)) (at (pos 4) (pos 0) (pos 0))
     ++ coordinates (at (pos 0) (pos 4) (pos 0)) (at (pos 0) (pos 4) (pos 0)) ++ coordinates (at (pos 1) (pos 1) (pos 1)) (at (pos 1) (pos 1) (neg 1))
     ++ coordinates (at (pos 3) (pos 3) (pos 1)) (at (pos 3) (pos 3) (neg 1)))
-    [] (0 ∷ 1 ∷ 2 ∷ [])
+    [] (0 ∷ 1 ∷ 2 ∷ []) []
 
 two-accepted : Accepted twoPoints
 unfolding someBelow
-two-accepted = record { shapely = refl; inRange = refl; known = refl; distinct = refl }
+two-accepted = record { shapely = refl; inRange = refl; known = refl; sewnWell = refl; distinct = refl }
 
 two-pairs : pairs twoPoints ≡ pair PointTriangle 3 0 ∷ pair PointTriangle 4 0 ∷ []
 unfolding pairs gather over times shares meetOn

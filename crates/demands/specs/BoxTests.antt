@@ -2,7 +2,7 @@
 -- call tells them on success alone.
 use Prim.Native.Nat.{ℕ, _+_, _*_, _/_, _≤_, _<_}
 use mathlib.Core.Bool.{false}
-use mathlib.Core.List.{List, [], _∷_, flatMap}
+use mathlib.Core.List.{List, [], _∷_}
 use mathlib.Core.Path.{_≡_, refl, ap, _∙_}
 use native.Mathlib.Omega.{arith}
 use Rattle.sequences.specs.Range.{times, over}
@@ -12,7 +12,8 @@ use Rattle.meaning.specs.Refusals.{given, refused}
 use Rattle.meaning.specs.Boxes.{listed}
 use Rattle.meaning.specs.List.{listSays, Counted, Listing}
 use Rattle.meaning.specs.Runs.{runsOf, runFrom, runTo, jointSpan, runMeets, boxTests, testsLeft, Tested}
-use Rattle.meaning.specs.Text.{coordinatesIn, cornersIn}
+use Rattle.meaning.specs.Text.{coordinatesIn, endsIn, cornersIn, seamIn}
+use Rattle.meaning.specs.Lines.{afterAll}
 use Rattle.meaning.specs.declared.Kind.the-variants.{PointTriangle}
 use Rattle.meaning.specs.declared.ListAnswer.{ListAnswer}
 use Rattle.runs.specs.Tests.{few-tests}
@@ -53,5 +54,5 @@ module _ {s : Scene} {Right : ListAnswer → Type 0} {t t′ : List ℕ} {r : Li
 -- tested though it shares a vertex
 
 pub printed-tests : boxTests printedScene ≡ 9
-unfolding records printedScene flatMap coordinatesIn cornersIn boxTests sum over times jointSpan
+unfolding records printedScene afterAll coordinatesIn endsIn cornersIn seamIn boxTests sum over times jointSpan
 printed-tests = refl

@@ -10,7 +10,7 @@ use lib.ListN.{length, getD}
 use lib.Signed.{_<ℤ_, ltZ-yes}
 use borrow.Author.Tests.{eqb-true, not-false}
 use Rattle.whole.specs.Vector.{volume, axis}
-use Rattle.meaning.specs.Scene.{Scene, wrongShape, outOfRange, unknownVertex, repeatedVertex, someBelow}
+use Rattle.meaning.specs.Scene.{Scene, wrongShape, outOfRange, unknownVertex, brokenSeam, repeatedVertex, someBelow}
 use Rattle.meaning.specs.Pieces.{Piece, movingTriangle, pieceOf, pieceCount}
 use Rattle.meaning.specs.Equations.{one, total, Balanced}
 use Rattle.meaning.specs.Verdicts.{PairIs, SomePiece}
@@ -47,7 +47,7 @@ differs c k = unlike (getD (c .pieces) k Miss) (pieceWord (c .scene) (c .kind) (
 
 fault : Case → Bool
 fault c =
-    wrongShape (c .scene) || outOfRange (c .scene) || unknownVertex (c .scene) || repeatedVertex (c .scene)
+    wrongShape (c .scene) || outOfRange (c .scene) || unknownVertex (c .scene) || brokenSeam (c .scene) || repeatedVertex (c .scene)
     || notThere (c .scene) (c .kind) (c .first) (c .second)
     || shares (c .scene) (c .kind) (c .first) (c .second)
     || not (eqb (length (c .pieces)) (pieceCount (c .kind)))
@@ -112,6 +112,7 @@ faultless c e =
         shapely = search (or-left, or-rest) depth 12;
         inRange = search (or-left, or-rest) depth 12;
         known = search (or-left, or-rest) depth 12;
+        sewnWell = search (or-left, or-rest) depth 12;
         distinct = search (or-left, or-rest) depth 12;
       };
       there = there;

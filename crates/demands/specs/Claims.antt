@@ -136,8 +136,8 @@ claims-table s text room o h =
       only = h;
     }
 
--- the numbers: 1, 2, 3, 4 and 8 before the lines; 9, 5 and 6 in a line
-pub first-numbers : (s : Scene) (text : List ℕ) (n c : ℕ) → FirstIs s text (refused n c) → List·Memᴰ n (1 ∷ 2 ∷ 3 ∷ 4 ∷ 8 ∷ [])
+-- the numbers: 1, 2, 3, 15, 4 and 8 before the lines; 9, 5 and 6 in a line
+pub first-numbers : (s : Scene) (text : List ℕ) (n c : ℕ) → FirstIs s text (refused n c) → List·Memᴰ n (1 ∷ 2 ∷ 3 ∷ 15 ∷ 4 ∷ 8 ∷ [])
 first-numbers s text n c p = number-known (λ t. Unit {0}) (claimsFirst s text) (refused n c) p n c refl
 
 pub line-numbers : (s : Scene) (text : List ℕ) (n : ℕ) → Lines.Fault (claimLines s) tt text n → List·Memᴰ n (9 ∷ 5 ∷ 6 ∷ [])

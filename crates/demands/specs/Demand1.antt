@@ -8,7 +8,7 @@ use mathlib.Core.Path.{_≡_, refl, sym, _∙_}
 use lib.Dec.{leb, ltb}
 use lib.ListN.{length}
 use borrow.Author.Tests.{ltb-true, ltb-false, lt-ltb, le-ltb}
-use Rattle.meaning.specs.Scene.{Scene, Accepted, wrongShape, outOfRange, unknownVertex, repeatedVertex}
+use Rattle.meaning.specs.Scene.{Scene, Accepted, wrongShape, outOfRange, unknownVertex, brokenSeam, repeatedVertex}
 use Rattle.meaning.specs.Pieces.{pieceOf, pieceCount}
 use Rattle.meaning.specs.Verdicts.{PieceIs, PairIs}
 use Rattle.meaning.specs.Refusals.{Outcome, given, refused, Check, Answers, sceneSays, pairSays, sceneChecks, notThere, shares, SceneChecked, PairJudged, PieceJudged}
@@ -24,22 +24,23 @@ use Rattle.theory.specs.OneVerdict.{one-piece-verdict, one-pair-verdict}
 use Rattle.corner_search.specs.Decided.{one-piece-word, one-pair-word}
 use Rattle.demands.specs.Deciding.{Refuses, carriedBy, NoneHolds, absent, distinct, refused-exactly, carries-only, number-known, gives-exactly}
 
--- ---- 1, 2, 3, 4, each over the whole scene before the next
+-- ---- 1, 2, 3, 15, 4, each over the whole scene before the next
 
 pub record SceneRows {A : Type 0} (s : Scene) (o : Outcome A) : Type 0 where
   pub no1 : (o ≡ refused 1 0) ↔ (wrongShape s ≡ true)
   pub no2 : (o ≡ refused 2 0) ↔ ((wrongShape s ≡ false) × (outOfRange s ≡ true))
   pub no3 : (o ≡ refused 3 0) ↔ ((wrongShape s ≡ false) × ((outOfRange s ≡ false) × (unknownVertex s ≡ true)))
-  pub no4 : (o ≡ refused 4 0) ↔ ((wrongShape s ≡ false) × ((outOfRange s ≡ false) × ((unknownVertex s ≡ false) × (repeatedVertex s ≡ true))))
+  pub no15 : (o ≡ refused 15 0) ↔ ((wrongShape s ≡ false) × ((outOfRange s ≡ false) × ((unknownVertex s ≡ false) × (brokenSeam s ≡ true))))
+  pub no4 : (o ≡ refused 4 0) ↔ ((wrongShape s ≡ false) × ((outOfRange s ≡ false) × ((unknownVertex s ≡ false) × ((brokenSeam s ≡ false) × (repeatedVertex s ≡ true)))))
 
--- none of the four, and then
+-- none of the five, and then
 abbrev ThenIs : Scene → Type 0 → Type 0
-ThenIs s R = (wrongShape s ≡ false) × ((outOfRange s ≡ false) × ((unknownVertex s ≡ false) × ((repeatedVertex s ≡ false) × R)))
+ThenIs s R = (wrongShape s ≡ false) × ((outOfRange s ≡ false) × ((unknownVertex s ≡ false) × ((brokenSeam s ≡ false) × ((repeatedVertex s ≡ false) × R))))
 
 then-accepted : {s : Scene} {R : Type 0} → ThenIs s R ↔ (Accepted s × R)
 then-accepted = (
-  λ h. (record { shapely = h .0; inRange = h .1 .0; known = h .1 .1 .0; distinct = h .1 .1 .1 .0 }, h .1 .1 .1 .1),
-  λ h. (h .0 .shapely, (h .0 .inRange, (h .0 .known, (h .0 .distinct, h .1)))),
+  λ h. (record { shapely = h .0; inRange = h .1 .0; known = h .1 .1 .0; sewnWell = h .1 .1 .1 .0; distinct = h .1 .1 .1 .1 .0 }, h .1 .1 .1 .1 .1),
+  λ h. (h .0 .shapely, (h .0 .inRange, (h .0 .known, (h .0 .sewnWell, (h .0 .distinct, h .1))))),
 )
 
 module _ {A : Type 0} (Right : A → Type 0) (s : Scene) (more : List Check) (o : Outcome A)
@@ -48,7 +49,7 @@ module _ {A : Type 0} (Right : A → Type 0) (s : Scene) (more : List Check) (o 
   unfolding Refuses carriedBy
   scene-rows =
       let row = refused-exactly Right (sceneChecks s ++ more) o d p in
-      record { no1 = row 1; no2 = row 2; no3 = row 3; no4 = row 4 }
+      record { no1 = row 1; no2 = row 2; no3 = row 3; no15 = row 15; no4 = row 4 }
 
   numbers-only : (n c : ℕ) → o ≡ refused n c → List·Memᴰ n (map (λ k. k .number) (sceneChecks s ++ more))
   numbers-only = number-known Right (sceneChecks s ++ more) o p
@@ -57,7 +58,7 @@ module _ {A : Type 0} (Right : A → Type 0) (s : Scene) (more : List Check) (o 
 
 pub record SceneTable (s : Scene) (o : Outcome (Unit {0})) : Type 0 where
   pub rows : SceneRows s o
-  pub only : (n c : ℕ) → o ≡ refused n c → List·Memᴰ n (1 ∷ 2 ∷ 3 ∷ 4 ∷ [])
+  pub only : (n c : ℕ) → o ≡ refused n c → List·Memᴰ n (1 ∷ 2 ∷ 3 ∷ 15 ∷ 4 ∷ [])
   pub accepted : (o ≡ given tt) ↔ Accepted s
 
 pub demand1-scene : (s : Scene) (r : SceneAnswer) → SceneChecked s r → SceneTable s (sceneSays r)
@@ -75,7 +76,7 @@ demand1-scene s r p =
 
 pub record AskedTable {W : Type 0} (s : Scene) (missing shared : Bool) (Is : W → Type 0) (o : Outcome W) : Type 0 where
   pub rows : SceneRows s o
-  pub only : (n c : ℕ) → o ≡ refused n c → List·Memᴰ n (1 ∷ 2 ∷ 3 ∷ 4 ∷ 5 ∷ 6 ∷ [])
+  pub only : (n c : ℕ) → o ≡ refused n c → List·Memᴰ n (1 ∷ 2 ∷ 3 ∷ 15 ∷ 4 ∷ 5 ∷ 6 ∷ [])
   pub no5 : (o ≡ refused 5 0) ↔ (Accepted s × (missing ≡ true))
   pub no6 : (o ≡ refused 6 0) ↔ (Accepted s × ((missing ≡ false) × (shared ≡ true)))
   pub judged : (v : W) → (o ≡ given v) ↔ (Accepted s × ((missing ≡ false) × (shared ≡ false) × Is v))
@@ -132,7 +133,7 @@ demand1-settled-piece s kind i j k r p =
 
 pub record ListTable (s : Scene) (room : ℕ) (o : Outcome ℕ) : Type 0 where
   pub rows : SceneRows s o
-  pub only : (n c : ℕ) → o ≡ refused n c → List·Memᴰ n (1 ∷ 2 ∷ 3 ∷ 4 ∷ 7 ∷ [])
+  pub only : (n c : ℕ) → o ≡ refused n c → List·Memᴰ n (1 ∷ 2 ∷ 3 ∷ 15 ∷ 4 ∷ 7 ∷ [])
   pub no7 : (o ≡ refused 7 (length (pairs s))) ↔ (Accepted s × (room < length (pairs s)))
   pub needed : (c : ℕ) → o ≡ refused 7 c → c ≡ length (pairs s)
   pub listed : (n : ℕ) → (o ≡ given n) ↔ (Accepted s × ((length (pairs s) ≤ room) × (n ≡ length (pairs s))))
@@ -165,10 +166,10 @@ demand1-listing s o o′ r p = demand1-list s (roomOf o) (listSays r) (p .answer
 pub demand1-judging : (s : Scene) (o o′ b b′ : List ℕ) (r : ListAnswer) → SettledScene s o o′ b b′ r → ListTable s (min (roomOf o) (length b)) (listSays r)
 demand1-judging s o o′ b b′ r p = demand1-list s (min (roomOf o) (length b)) (listSays r) (p .answer)
 
--- counting lends no room, and is refused by 1 to 4 alone
+-- counting lends no room, and is refused by the scene's refusals alone
 pub record CountTable (s : Scene) (o : Outcome ℕ) : Type 0 where
   pub rows : SceneRows s o
-  pub only : (n c : ℕ) → o ≡ refused n c → List·Memᴰ n (1 ∷ 2 ∷ 3 ∷ 4 ∷ [])
+  pub only : (n c : ℕ) → o ≡ refused n c → List·Memᴰ n (1 ∷ 2 ∷ 3 ∷ 15 ∷ 4 ∷ [])
   pub counted : (n : ℕ) → (o ≡ given n) ↔ (Accepted s × (n ≡ length (pairs s)))
 
 pub demand1-counted : (s : Scene) (r : ListAnswer) → Counted s r → CountTable s (listSays r)

@@ -20,6 +20,7 @@ pub mod SameAnswer
 pub mod StillAccepted
 pub mod AnyWriting
 pub mod PlayedBackwards
+pub mod Sewn
 pub mod NoCracks
 pub mod Columns
 pub mod FivePoints
@@ -29,3 +30,5 @@ pub mod Barred
 pub mod BarredLists
 pub mod BoxTests
 pub mod Claims
+pub mod NoSeams
+pub mod SewnScenes

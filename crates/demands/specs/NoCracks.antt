@@ -1,13 +1,16 @@
 -- 'They cut two faces that share an edge along different diagonals, and a corner slips through the crack': not in an accepted scene. Two faces
 -- share an edge when they have two corners in common, whether or not the scene has an edge of these two; and what touches a piece of this
--- moving edge touches a piece of both moving triangles, in whatever order their corners are written.
+-- moving edge touches a piece of both moving triangles, in whatever order their corners are written. Two faces either side of a seam share an
+-- edge too: each has corners of its own, and they stand for the same two vertices.
 use Prim.Native.Nat.{ℕ, _<_}
 use mathlib.Core.List.{List}
-use Rattle.meaning.specs.Scene.{Scene, Accepted, triangleCount, rising, cornersOf}
+use mathlib.Core.Path.{_≡_, subst}
+use Rattle.meaning.specs.Scene.{Scene, Accepted, triangleCount, countsAs, rising, cornersOf}
 use Rattle.meaning.specs.Pieces.{Event, movingEdge, movingTriangle}
 use Rattle.meaning.specs.Equations.{Touch}
-use Rattle.theory.specs.NoCrack.{HasTwo, side-pieces-are-faces, touch-through}
+use Rattle.theory.specs.NoCrack.{HasTwo, side-pieces-are-faces, touch-through, cut-alike}
 use Rattle.demands.specs.StillAccepted.{different-corners}
+use Rattle.demands.specs.Sewn.{accepted-sewn}
 
 -- some piece of the moving triangle t touches these points
 pub record TouchesTriangle (s : Scene) (t : ℕ) (points : List Event) : Type 0 where
@@ -28,3 +31,13 @@ pub no-cracks : {s : Scene} → Accepted s → (a b t t′ : ℕ) → t < triang
     → (m : ℕ) (points : List Event) → Touch (movingEdge (s .positions) (rising s a b) m) points → TouchesTriangle s t points × TouchesTriangle s t′ points
 no-cracks accepted a b t t′ there there′ has has′ m points touch =
     (side-touched accepted a b t there has m points touch, side-touched accepted a b t′ there′ has′ m points touch)
+
+-- And at a seam: the first triangle has the corners a and b, the second c and d; c stands for the vertex that a stands for, and d for the one
+-- that b stands for. What touches a piece of the moving side a b touches both triangles: no corner slips through between two sewn pieces.
+pub no-cracks-at-seams : {s : Scene} → Accepted s → (a b c d t t′ : ℕ) → t < triangleCount s → t′ < triangleCount s
+    → HasTwo s t a b → HasTwo s t′ c d → countsAs s a ≡ countsAs s c → countsAs s b ≡ countsAs s d
+    → (m : ℕ) (points : List Event) → Touch (movingEdge (s .positions) (rising s a b) m) points → TouchesTriangle s t points × TouchesTriangle s t′ points
+no-cracks-at-seams {s} accepted a b c d t t′ there there′ has has′ ac bd m points touch = (
+  side-touched accepted a b t there has m points touch,
+  side-touched accepted c d t′ there′ has′ m points (subst (λ (f : List Event). Touch f points) (cut-alike (accepted-sewn accepted) a b c d ac bd m) touch),
+)

@@ -15,13 +15,14 @@ use Rattle.sequences.specs.Gather.{gather}
 use Rattle.sequences.specs.Wrote.{written}
 use Rattle.decimals.specs.Digits.{digits, digitsWithin}
 use Rattle.whole.specs.Vector.{volume}
-use Rattle.meaning.specs.Scene.{Scene, Accepted}
+use Rattle.meaning.specs.Scene.{Scene, Accepted, stoodFor, someBelow}
 use Rattle.meaning.specs.Pieces.{pieceCount}
 use Rattle.meaning.specs.Refusals.{Answers, shares}
 use Rattle.meaning.specs.Boxes.{meetOn}
 use Rattle.meaning.specs.List.{pair, pairs}
 use Rattle.meaning.specs.Lines as Lines
-use Rattle.meaning.specs.Text.{Entry, vertex, edge, triangle, letterOf, numbersOf, numeral, further, lineOf, Short, late, excess, far, unknown, twice, counted, textOf, coordinatesIn, endsIn, cornersIn, sceneFrom, Holds}
+use Rattle.meaning.specs.Lines.{afterAll}
+use Rattle.meaning.specs.Text.{Entry, vertex, edge, triangle, letterOf, numbersOf, numeral, further, lineOf, Short, late, textOf, coordinatesIn, endsIn, cornersIn, seamIn, sceneFrom, Holds}
 use Rattle.meaning.specs.SceneWords.{byteOf, AllSettled}
 use Rattle.meaning.specs.Report.{kindWord, verdictWord, pairLines, isOne, howMany, totalLine, ReportOf, judged, Reported, ReportedRead}
 use Rattle.meaning.specs.declared.Kind.the-variants.{PointTriangle, EdgeEdge}
@@ -62,20 +63,20 @@ unfolding bytesOf records numbersOf flatMap lineOf letterOf further numeral digi
 printed-lines = refl
 
 pub printed-holds : Holds printedText printedScene
-unfolding records printedScene Lines.Sound Short numbersOf Answers late excess far unknown twice counted digits digitsWithin
+unfolding records printedScene Lines.Sound Short numbersOf Answers late someBelow coordinatesIn endsIn cornersIn seamIn stoodFor digits digitsWithin
 printed-holds = record { entries = records; records = record { sound = (omega arith, tt, (omega arith, tt, (omega arith, tt, (omega arith, tt, (omega arith, tt, (omega arith, tt, (omega arith, tt, (omega arith, tt, tt)))))))); lines = printed-lines }; scene = refl }
 
 pub printed-accepted : Accepted printedScene
 printed-accepted = text-accepted printed-holds
 
 pub printed-pairs : pairs printedScene ≡ pair PointTriangle 3 0 ∷ pair EdgeEdge 0 1 ∷ []
-unfolding records printedScene flatMap coordinatesIn endsIn cornersIn pairs gather over times shares meetOn
+unfolding records printedScene afterAll coordinatesIn endsIn cornersIn seamIn stoodFor pairs gather over times shares meetOn
 printed-pairs = refl
 
 -- ---- the report
 
 both-hit : AllSettled printedScene (pairs printedScene) (Hit ∷ Hit ∷ [])
-unfolding AllSettled records printedScene flatMap coordinatesIn endsIn cornersIn pieceCount pieceVerdict joinedBelow joined pointDifferences edgeDifferences startSum endSum volume verdictOf agreeing pairWord settledBy
+unfolding AllSettled records printedScene afterAll coordinatesIn endsIn cornersIn seamIn stoodFor pieceCount pieceVerdict joinedBelow joined pointDifferences edgeDifferences startSum endSum volume verdictOf agreeing pairWord settledBy
 both-hit =
     rw printed-pairs (pair-word-is printedScene PointTriangle 3 0 Hit .1 refl, (pair-word-is printedScene EdgeEdge 0 1 Hit .1 refl, tt))
 

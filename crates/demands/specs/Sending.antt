@@ -47,7 +47,7 @@ module _ (m : Matrix) (a b : Vector) where
 
   unfoldable pub send : Scene → Scene
   unfolding upTo
-  send s = sceneOf (flatMap (sentVertex s) (upTo (vertexCount s))) (s .edges) (s .triangles)
+  send s = sceneOf (flatMap (sentVertex s) (upTo (vertexCount s))) (s .edges) (s .triangles) (s .seams)
 
   module _ (s : Scene) where
     -- the number k of the vertex v, wherever it stands
@@ -72,6 +72,7 @@ module _ (m : Matrix) (a b : Vector) where
       ends = λ v h. vector-eq (sent-at v 3 _ h (omega arith) (omega arith)) (sent-at v 4 _ h (omega arith) (omega arith)) (sent-at v 5 _ h (omega arith) (omega arith));
       edges = refl;
       triangles = refl;
+      seams = refl;
       size = sent-long accepted;
     }
 
@@ -97,7 +98,7 @@ module _ (m : Matrix) (a b : Vector) where
           let known : i < 6 * vertexCount s = omega (arith, h .size, accepted-sized accepted .positionsLong) in
           let e : i ≡ 6 * (i / 6) + i % 6 = omega arith in
           ap (λ n. getD (t .positions) n (pos 0)) e ∙ moved-at (i / 6) (i % 6) (omega arith) (omega arith) ∙ sym (sent-at (i / 6) (i % 6) i (omega arith) (omega arith) e)) in
-          λ n. sceneOf (positions n) (h .edges n) (h .triangles n)
+          λ n. sceneOf (positions n) (h .edges n) (h .triangles n) (h .seams n)
 
 abbrev pub turning : Matrix
 turning = record { a = at (pos 0) (pos 1) (pos 0); b = at (pos 2) (pos 1) (pos 0); c = at (pos 3) (pos 0) (pos 1) }
@@ -105,7 +106,7 @@ turning = record { a = at (pos 0) (pos 1) (pos 0); b = at (pos 2) (pos 1) (pos 0
 -- both scenes can be accepted: the scene of case 1, through a matrix of determinant -2, with two shifts
 pub both-accepted : Accepted (send turning (at (pos 5) (pos 0) (neg 7)) (at (neg 1) (pos 9) (pos 0)) (numbered 1 .scene))
 unfolding send upTo flatMap someBelow
-both-accepted = record { shapely = refl; inRange = refl; known = refl; distinct = refl }
+both-accepted = record { shapely = refl; inRange = refl; known = refl; sewnWell = refl; distinct = refl }
 
 turning-nonzero : det turning ≡ neg 2
 unfolding volume

@@ -12,7 +12,7 @@ use Rattle.meaning.specs.Refusals.{shares}
 use Rattle.meaning.specs.Boxes.{meetOn}
 use Rattle.meaning.specs.List.{pair, pairs}
 use Rattle.meaning.specs.Lines as Lines
-use Rattle.meaning.specs.Text.{Entry, vertex, edge, triangle, letterOf, Sound, Holds, none, textOf, FaultyAt, lineFeed}
+use Rattle.meaning.specs.Text.{Entry, vertex, edge, triangle, seam, letterOf, Sound, Holds, none, textOf, FaultyAt, lineFeed}
 use Rattle.meaning.specs.declared.Kind.the-variants.{PointTriangle}
 use Rattle.scene_line.specs.Rendered.{line-is}
 use Rattle.scene_text.specs.Unique.{sound-anywhere}
@@ -21,15 +21,15 @@ use Rattle.demands.specs.Table.{numbered}
 
 -- ---- nothing at all
 
-pub nothing-accepted : Accepted (sceneOf [] [] [])
+pub nothing-accepted : Accepted (sceneOf [] [] [] [])
 unfolding someBelow
-nothing-accepted = record { shapely = refl; inRange = refl; known = refl; distinct = refl }
+nothing-accepted = record { shapely = refl; inRange = refl; known = refl; sewnWell = refl; distinct = refl }
 
-pub nothing-listed : pairs (sceneOf [] [] []) ≡ []
+pub nothing-listed : pairs (sceneOf [] [] [] []) ≡ []
 unfolding pairs gather over times
 nothing-listed = refl
 
-pub empty-text : Holds [] (sceneOf [] [] [])
+pub empty-text : Holds [] (sceneOf [] [] [] [])
 unfolding Lines.Sound flatMap
 empty-text = record { entries = []; records = record { sound = tt; lines = refl }; scene = refl }
 
@@ -40,6 +40,7 @@ unfolding letterOf
 no-letter (vertex p q) e = omega arith
 no-letter (edge a b) e = omega arith
 no-letter (triangle a b c) e = omega arith
+no-letter (seam i j) e = omega arith
 
 empty-line-bad : (rest : List ℕ) → NoLine (lineFeed ∷ rest)
 empty-line-bad rest r below short e = no-letter r (head-eq-of-cons-eq (e ∙ line-is r below))
@@ -57,6 +58,6 @@ empty-line above rest sound = record {
 
 -- ---- the triangle of case 1 twice: two pairs
 
-pub repeated-triangle : pairs (sceneOf (numbered 1 .scene .positions) [] (0 ∷ 1 ∷ 2 ∷ 2 ∷ 0 ∷ 1 ∷ [])) ≡ pair PointTriangle 3 0 ∷ pair PointTriangle 3 1 ∷ []
+pub repeated-triangle : pairs (sceneOf (numbered 1 .scene .positions) [] (0 ∷ 1 ∷ 2 ∷ 2 ∷ 0 ∷ 1 ∷ []) []) ≡ pair PointTriangle 3 0 ∷ pair PointTriangle 3 1 ∷ []
 unfolding pairs gather over times shares meetOn
 repeated-triangle = refl

@@ -47,7 +47,7 @@ pointCase p q pieces word inList =
     record {
       scene = sceneOf
           (atRest (at (pos 0) (pos 0) (pos 0)) ++ atRest (at (pos 4) (pos 0) (pos 0)) ++ atRest (at (pos 0) (pos 4) (pos 0)) ++ coordinates p q)
-          [] (0 ∷ 1 ∷ 2 ∷ []);
+          [] (0 ∷ 1 ∷ 2 ∷ []) [];
       kind = PointTriangle;
       first = 3;
       second = 0;
@@ -63,7 +63,7 @@ edgeCase c d pieces word inList =
       scene = sceneOf
           (atRest (at (neg 2) (pos 0) (pos 0)) ++ atRest (at (pos 2) (pos 0) (pos 0)) ++ coordinates (c (pos 1)) (c (neg 1))
           ++ coordinates (d (pos 1)) (d (neg 1)))
-          (0 ∷ 1 ∷ 2 ∷ 3 ∷ []) [];
+          (0 ∷ 1 ∷ 2 ∷ 3 ∷ []) [] [];
       kind = EdgeEdge;
       first = 0;
       second = 1;

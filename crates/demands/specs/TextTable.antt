@@ -38,7 +38,7 @@ told-given (given s) c e = (s, refl, cc)
 told-given (refused m place) c e = let z : _≡_ {A = ℕ} 0 1 = cc in absurd (omega arith)
 
 pub record TextRows (text : List ℕ) (lent : Scene) (o : Outcome SceneCounts) : Type 0 where
-  pub only : (n line : ℕ) → o ≡ refused n line → List·Memᴰ n (12 ∷ 8 ∷ 9 ∷ 10 ∷ 11 ∷ 2 ∷ 3 ∷ 4 ∷ [])
+  pub only : (n line : ℕ) → o ≡ refused n line → List·Memᴰ n (12 ∷ 8 ∷ 9 ∷ 10 ∷ 11 ∷ 2 ∷ 3 ∷ 15 ∷ 4 ∷ [])
   pub no12 : (o ≡ refused 12 0) ↔ (shortBuffer lent ≡ true)
   pub no8 : (o ≡ refused 8 0) ↔ ((shortBuffer lent ≡ false) × (longText text ≡ true))
   pub faulty : (n line : ℕ) → inLine n ≡ true → (o ≡ refused n line) ↔ ((shortBuffer lent ≡ false) × (longText text ≡ false) × FaultyAt text n line)
@@ -72,7 +72,7 @@ module _ (text : List ℕ) (lent : Scene) (x : Outcome Scene) (p : TextOutcome t
   never n line o e h k = true≢false (sym (fault-in-line (is-faulty n line e h k .fault)) ∙ o)
 
   -- no other number is given
-  known-number : (n line : ℕ) → x ≡ refused n line → List·Memᴰ n (12 ∷ 8 ∷ 9 ∷ 10 ∷ 11 ∷ 2 ∷ 3 ∷ 4 ∷ [])
+  known-number : (n line : ℕ) → x ≡ refused n line → List·Memᴰ n (12 ∷ 8 ∷ 9 ∷ 10 ∷ 11 ∷ 2 ∷ 3 ∷ 15 ∷ 4 ∷ [])
   known-number n line e =
       by-stage (λ h. List·Memᴰ·head (other-number e (short-buffer h)))
       (λ h k. List·Memᴰ·tail (List·Memᴰ·head (other-number e (long-text h k))))

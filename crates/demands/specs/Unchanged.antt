@@ -8,8 +8,8 @@ use native.Mathlib.Omega.{arith}
 use lib.ListN.{length}
 use borrow.Author.Tests.{ltb-false}
 use Rattle.sequences.specs.Wrote.{Wrote, written, wrote-written}
-use Rattle.meaning.specs.Limits.{vertexLimit, edgeLimit, triangleLimit}
-use Rattle.meaning.specs.Scene.{Scene, vertexCount, edgeCount, triangleCount}
+use Rattle.meaning.specs.Limits.{vertexLimit, edgeLimit, triangleLimit, seamLimit}
+use Rattle.meaning.specs.Scene.{Scene, Accepted, vertexCount, edgeCount, triangleCount, seamCount}
 use Rattle.meaning.specs.Refusals.{Outcome, given, refused, sceneSays}
 use Rattle.meaning.specs.Backwards.{turnedRound, sceneLeft, Turning}
 use Rattle.meaning.specs.List.{pairs, entries, listSays, leaves, Listing}
@@ -70,12 +70,16 @@ listing-holds s o o′ r p n e =
     let fits = wrote-written (entries (pairs s)) o (omega (arith, entries-length (pairs s))) in
     rw (p .buffer ∙ ap (λ (x : Outcome ℕ). leaves x (entries (pairs s)) o) e, ← long) fits
 
--- the text is a scene with these counts, and it stands in front: its positions, its ends and its corners, and behind them nothing changed
+-- the text is a scene with these counts, and it stands in front: its positions, its ends, its corners and its seams, and behind them nothing changed
 pub record SceneInFront (text : List ℕ) (lent left : Scene) (c : SceneCounts) : Type 0 where
   pub reads : Reads text c
   pub positions : Wrote (lent .positions) 0 (reads .scene .positions) (left .positions) (6 * c .vertices)
   pub edges : Wrote (lent .edges) 0 (reads .scene .edges) (left .edges) (2 * c .edges)
   pub triangles : Wrote (lent .triangles) 0 (reads .scene .triangles) (left .triangles) (3 * c .triangles)
+  pub seams : Wrote (lent .seams) 0 (reads .scene .seams) (left .seams) (2 * c .seams)
+
+few-seams : {s : Scene} → Accepted s → seamCount s ≤ seamLimit
+few-seams {s} a = ltb-false seamLimit (seamCount s) (search (or-left, or-rest))
 
 -- a list of m numbers, at most n, in a buffer of at least n
 in-front : {A : Type 0} (l o : List A) (m n : ℕ) → length l ≡ m → m ≤ n → n ≤ length o → Wrote o 0 l (written l o) m
@@ -94,6 +98,8 @@ scene-in-front lent s room holds =
           in-front (s .edges) (lent .edges) (2 * edgeCount s) (2 * edgeLimit) (sized .edgesLong) (omega (arith, sized .fewEdges)) (ltb-false _ _ (search (or-left, or-rest)));
       triangles =
           in-front (s .triangles) (lent .triangles) (3 * triangleCount s) (3 * triangleLimit) (sized .trianglesLong) (omega (arith, sized .fewTriangles)) (ltb-false _ _ (search (or-left, or-rest)));
+      seams =
+          in-front (s .seams) (lent .seams) (2 * seamCount s) (2 * seamLimit) (sized .seamsLong) (omega (arith, few-seams (text-accepted holds))) (ltb-false _ _ (search (or-left, or-rest)));
     }
 
 -- so the buffers are left where the counts are given

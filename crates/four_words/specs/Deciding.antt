@@ -40,7 +40,8 @@ module _ (s : Scene) (five six : Bool) (R : Verdict → Type 0) (S : Settled →
       let (h4, a4) = is-given R _ _ v a3 in
       let (h5, a5) = is-given R _ _ v a4 in
       let (h6, a6) = is-given R _ _ v a5 in
-      (record { shapely = h1; inRange = h2; known = h3; distinct = h4 }, h5, right a6)
+      let (h7, a7) = is-given R _ _ v a6 in
+      (record { shapely = h1; inRange = h2; known = h3; sewnWell = h4; distinct = h5 }, h6, right a7)
 
   word-given : {v : Verdict} → r ≡ Judged v → (w : Settled) → S w → Answers checks S (given w)
   word-given {v} e w h = given-before R S checks [] v (given w) (answered e) (gives S w h)

@@ -2,11 +2,12 @@
 
 ghost use mathlib.Core.Path.{_≡_};
 ghost use mathlib.Core.Bool.{false};
-ghost use Rattle.meaning.specs.Scene.{sceneIn, sceneAtEntry, Accepted};
+ghost use Rattle.meaning.specs.Scene.{Accepted};
 ghost use Rattle.meaning.specs.Pieces.{pieceOf};
 ghost use Rattle.meaning.specs.Refusals.{notThere};
 ghost use Rattle.meaning.specs.Verdicts.{PieceIs, PairIs};
 ghost use Rattle.meaning.specs.Resting.{PieceSettled, PairSettled};
+ghost use Rattle.scenes.specs.Alone.{tabledIn, tabledAtEntry};
 ghost use Rattle.four_words.specs.Words.{TouchSaid};
 use super::six::six_of;
 use meaning::Kind;
@@ -18,16 +19,17 @@ pub(crate) fn piece_word(
     positions: &[i32],
     edges: &[u16],
     triangles: &[u16],
+    stands: &[u16],
     kind: Kind,
     i: usize,
     j: usize,
     k: usize,
     verdict: Verdict,
 ) -> Settled
-    requires { ⌜ Accepted (sceneIn positions edges triangles) × (notThere (sceneIn positions edges triangles) kind i j ≡ false) × PieceIs (pieceOf (sceneIn positions edges triangles) kind i j k) verdict ⌝ }
-    ensures { λ r. ⌜ PieceSettled (pieceOf (sceneAtEntry positions edges triangles) kind i j k) r ⌝ }
+    requires { ⌜ Accepted (tabledIn positions edges triangles stands) × (notThere (tabledIn positions edges triangles stands) kind i j ≡ false) × PieceIs (pieceOf (tabledIn positions edges triangles stands) kind i j k) verdict ⌝ }
+    ensures { λ r. ⌜ PieceSettled (pieceOf (tabledAtEntry positions edges triangles stands) kind i j k) r ⌝ }
 {
-    let six = six_of(positions, edges, triangles, kind, i, j, k);
+    let six = six_of(positions, edges, triangles, stands, kind, i, j, k);
     corner_search::settle_piece(positions, six, verdict)
 }
 
@@ -36,16 +38,17 @@ pub fn piece(
     positions: &[i32],
     edges: &[u16],
     triangles: &[u16],
+    stands: &[u16],
     kind: Kind,
     i: usize,
     j: usize,
     k: usize,
 ) -> Settled
-    requires { ⌜ Accepted (sceneIn positions edges triangles) × (notThere (sceneIn positions edges triangles) kind i j ≡ false) ⌝ }
-    ensures { λ r. ⌜ PieceSettled (pieceOf (sceneAtEntry positions edges triangles) kind i j k) r ⌝ }
+    requires { ⌜ Accepted (tabledIn positions edges triangles stands) × (notThere (tabledIn positions edges triangles stands) kind i j ≡ false) ⌝ }
+    ensures { λ r. ⌜ PieceSettled (pieceOf (tabledAtEntry positions edges triangles stands) kind i j k) r ⌝ }
 {
-    let verdict = three_words::accepted::piece(positions, edges, triangles, kind, i, j, k);
-    piece_word(positions, edges, triangles, kind, i, j, k, verdict)
+    let verdict = three_words::accepted::piece(positions, edges, triangles, stands, kind, i, j, k);
+    piece_word(positions, edges, triangles, stands, kind, i, j, k, verdict)
 }
 
 // Does some piece of the pair touch?
@@ -53,17 +56,18 @@ fn touches(
     positions: &[i32],
     edges: &[u16],
     triangles: &[u16],
+    stands: &[u16],
     kind: Kind,
     i: usize,
     j: usize,
 ) -> bool
-    requires { ⌜ Accepted (sceneIn positions edges triangles) × (notThere (sceneIn positions edges triangles) kind i j ≡ false) ⌝ }
-    ensures { λ r. ⌜ TouchSaid (sceneAtEntry positions edges triangles) kind i j r ⌝ }
+    requires { ⌜ Accepted (tabledIn positions edges triangles stands) × (notThere (tabledIn positions edges triangles stands) kind i j ≡ false) ⌝ }
+    ensures { λ r. ⌜ TouchSaid (tabledAtEntry positions edges triangles stands) kind i j r ⌝ }
 {
     let count = three_words::accepted::piece_count(kind);
     let mut k = 0;
     while k < count {
-        let word = piece(positions, edges, triangles, kind, i, j, k);
+        let word = piece(positions, edges, triangles, stands, kind, i, j, k);
         if let Settled::Touch = word {
             return true;
         }
@@ -77,19 +81,20 @@ pub(crate) fn pair_word(
     positions: &[i32],
     edges: &[u16],
     triangles: &[u16],
+    stands: &[u16],
     kind: Kind,
     i: usize,
     j: usize,
     verdict: Verdict,
 ) -> Settled
-    requires { ⌜ Accepted (sceneIn positions edges triangles) × (notThere (sceneIn positions edges triangles) kind i j ≡ false) × PairIs (sceneIn positions edges triangles) kind i j verdict ⌝ }
-    ensures { λ r. ⌜ PairSettled (sceneAtEntry positions edges triangles) kind i j r ⌝ }
+    requires { ⌜ Accepted (tabledIn positions edges triangles stands) × (notThere (tabledIn positions edges triangles stands) kind i j ≡ false) × PairIs (tabledIn positions edges triangles stands) kind i j verdict ⌝ }
+    ensures { λ r. ⌜ PairSettled (tabledAtEntry positions edges triangles stands) kind i j r ⌝ }
 {
     match verdict {
         Verdict::Hit => Settled::Hit,
         Verdict::Miss => Settled::Miss,
         Verdict::Degenerate => {
-            if touches(positions, edges, triangles, kind, i, j) {
+            if touches(positions, edges, triangles, stands, kind, i, j) {
                 Settled::Touch
             } else {
                 Settled::Apart
@@ -103,13 +108,14 @@ pub fn pair(
     positions: &[i32],
     edges: &[u16],
     triangles: &[u16],
+    stands: &[u16],
     kind: Kind,
     i: usize,
     j: usize,
 ) -> Settled
-    requires { ⌜ Accepted (sceneIn positions edges triangles) × (notThere (sceneIn positions edges triangles) kind i j ≡ false) ⌝ }
-    ensures { λ r. ⌜ PairSettled (sceneAtEntry positions edges triangles) kind i j r ⌝ }
+    requires { ⌜ Accepted (tabledIn positions edges triangles stands) × (notThere (tabledIn positions edges triangles stands) kind i j ≡ false) ⌝ }
+    ensures { λ r. ⌜ PairSettled (tabledAtEntry positions edges triangles stands) kind i j r ⌝ }
 {
-    let verdict = three_words::accepted::pair(positions, edges, triangles, kind, i, j);
-    pair_word(positions, edges, triangles, kind, i, j, verdict)
+    let verdict = three_words::accepted::pair(positions, edges, triangles, stands, kind, i, j);
+    pair_word(positions, edges, triangles, stands, kind, i, j, verdict)
 }

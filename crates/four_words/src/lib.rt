@@ -8,25 +8,38 @@ ghost use Rattle.meaning.specs.Resting.{PairDecided, PieceDecided};
 use meaning::Kind;
 use meaning::PairAnswer;
 use meaning::SettledAnswer;
+use meaning::VERTEX_LIMIT;
 
 // The word of a pair, for a scene that may be anything. The refusals are those of its verdict.
 pub fn settle_pair(
     positions: &[i32],
     edges: &[u16],
     triangles: &[u16],
+    seams: &[u16],
     kind: Kind,
     first: usize,
     second: usize,
 ) -> SettledAnswer
-    ensures { λ r. ⌜ PairDecided (sceneAtEntry positions edges triangles) kind first second r ⌝ }
+    ensures { λ r. ⌜ PairDecided (sceneAtEntry positions edges triangles seams) kind first second r ⌝ }
 {
-    let judged = three_words::judge_pair(positions, edges, triangles, kind, first, second);
+    let mut stands = [0u16; VERTEX_LIMIT];
+    let judged = three_words::pair_into(
+        positions,
+        edges,
+        triangles,
+        seams,
+        &mut stands,
+        kind,
+        first,
+        second,
+    );
     match judged {
         PairAnswer::Judged(verdict) => {
             let word = accepted::pair_word(
                 positions,
                 edges,
                 triangles,
+                &stands,
                 kind,
                 first,
                 second,
@@ -43,20 +56,33 @@ pub fn settle_piece(
     positions: &[i32],
     edges: &[u16],
     triangles: &[u16],
+    seams: &[u16],
     kind: Kind,
     first: usize,
     second: usize,
     piece: usize,
 ) -> SettledAnswer
-    ensures { λ r. ⌜ PieceDecided (sceneAtEntry positions edges triangles) kind first second piece r ⌝ }
+    ensures { λ r. ⌜ PieceDecided (sceneAtEntry positions edges triangles seams) kind first second piece r ⌝ }
 {
-    let judged = three_words::judge_piece(positions, edges, triangles, kind, first, second, piece);
+    let mut stands = [0u16; VERTEX_LIMIT];
+    let judged = three_words::piece_into(
+        positions,
+        edges,
+        triangles,
+        seams,
+        &mut stands,
+        kind,
+        first,
+        second,
+        piece,
+    );
     match judged {
         PairAnswer::Judged(verdict) => {
             let word = accepted::piece_word(
                 positions,
                 edges,
                 triangles,
+                &stands,
                 kind,
                 first,
                 second,

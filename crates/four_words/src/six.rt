@@ -6,9 +6,10 @@ ghost use mathlib.Core.Path.{_≡_};
 ghost use mathlib.Core.Bool.{false};
 ghost use Prim.Native.Nat.{_<_};
 ghost use Rattle.meaning.specs.Limits.{vertexLimit};
-ghost use Rattle.meaning.specs.Scene.{sceneIn, sceneAtEntry, Accepted};
+ghost use Rattle.meaning.specs.Scene.{Accepted};
 ghost use Rattle.meaning.specs.Refusals.{notThere};
 ghost use Rattle.corner_search.specs.Sixes.{pointSix, edgesSix, sixOf};
+ghost use Rattle.scenes.specs.Alone.{tabledIn, tabledAtEntry};
 ghost use Rattle.four_words.specs.Six.{between, PointFew, EdgesFew};
 use corner_leaf::SixPoints;
 use meaning::Corners;
@@ -62,19 +63,20 @@ pub fn six_of(
     positions: &[i32],
     edges: &[u16],
     triangles: &[u16],
+    stands: &[u16],
     kind: Kind,
     i: usize,
     j: usize,
     k: usize,
 ) -> SixPoints
-    requires { ⌜ Accepted (sceneIn positions edges triangles) × (notThere (sceneIn positions edges triangles) kind i j ≡ false) ⌝ }
-    ensures { λ r. ⌜ r ≡ sixOf (sceneAtEntry positions edges triangles) kind i j k ⌝ }
+    requires { ⌜ Accepted (tabledIn positions edges triangles stands) × (notThere (tabledIn positions edges triangles stands) kind i j ≡ false) ⌝ }
+    ensures { λ r. ⌜ r ≡ sixOf (tabledAtEntry positions edges triangles stands) kind i j k ⌝ }
 {
     match kind {
-        Kind::PointTriangle => point_six(i, scenes::parts::corners_of(triangles, j), k),
+        Kind::PointTriangle => point_six(i, scenes::parts::corners_of(triangles, stands, j), k),
         Kind::EdgeEdge => {
-            let first = scenes::parts::ends_of(edges, smaller(i, j));
-            let second = scenes::parts::ends_of(edges, larger(i, j));
+            let first = scenes::parts::ends_of(edges, stands, smaller(i, j));
+            let second = scenes::parts::ends_of(edges, stands, larger(i, j));
             edges_six(first, k / 2, second, k % 2)
         }
     }

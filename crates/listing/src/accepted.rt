@@ -5,7 +5,8 @@ ghost use mathlib.Core.List.{[], _∷_};
 ghost use mathlib.Core.Path.{_≡_};
 ghost use lib.ListN.{length, take};
 ghost use Rattle.sequences.specs.Wrote.{written};
-ghost use Rattle.meaning.specs.Scene.{sceneIn, sceneAtEntry, Accepted};
+ghost use Rattle.meaning.specs.Scene.{Accepted};
+ghost use Rattle.scenes.specs.Alone.{tabledIn, tabledAtEntry};
 ghost use Rattle.meaning.specs.List.{pairs, entries, roomOf};
 ghost use Rattle.meaning.specs.Runs.{boxTests, Tested};
 ghost use Rattle.listing.specs.Answering.{ListedIn};
@@ -26,12 +27,12 @@ pub(crate) fn put_tests(tests: &mut [usize; 1], walked: usize)
     *tests = [walked];
 }
 
-pub fn count_accepted(positions: &[i32], edges: &[u16], triangles: &[u16]) -> Walk
-    requires { ⌜ Accepted (sceneIn positions edges triangles) ⌝ }
-    ensures { λ r. ⌜ (r .next ≡ length (pairs (sceneAtEntry positions edges triangles))) × (r .tests ≡ boxTests (sceneAtEntry positions edges triangles)) ⌝ }
+pub fn count_accepted(positions: &[i32], edges: &[u16], triangles: &[u16], stands: &[u16]) -> Walk
+    requires { ⌜ Accepted (tabledIn positions edges triangles stands) ⌝ }
+    ensures { λ r. ⌜ (r .next ≡ length (pairs (tabledAtEntry positions edges triangles stands))) × (r .tests ≡ boxTests (tabledAtEntry positions edges triangles stands)) ⌝ }
 {
     let mut none = [0u32; 1];
-    walk_accepted(positions, edges, triangles, &mut none, 0)
+    walk_accepted(positions, edges, triangles, stands, &mut none, 0)
 }
 
 // The first entries of one list, in front of another.
@@ -51,17 +52,18 @@ fn enter(
     positions: &[i32],
     edges: &[u16],
     triangles: &[u16],
+    stands: &[u16],
     own: &[u32],
     list: &mut [u32],
     count: usize,
 )
-    requires { ⌜ Accepted (sceneIn positions edges triangles) × OwnList (sceneIn positions edges triangles) (now own) count × (count ≤ length (now list)) ⌝ }
-    ensures { λ _. ⌜ now (list .exit) ≡ written (entries (pairs (sceneAtEntry positions edges triangles))) (now (list .entry)) ⌝ }
+    requires { ⌜ Accepted (tabledIn positions edges triangles stands) × OwnList (tabledIn positions edges triangles stands) (now own) count × (count ≤ length (now list)) ⌝ }
+    ensures { λ _. ⌜ now (list .exit) ≡ written (entries (pairs (tabledAtEntry positions edges triangles stands))) (now (list .entry)) ⌝ }
 {
     if count <= own.len() {
         copy_front(own, list, count);
     } else {
-        walk_accepted(positions, edges, triangles, list, count);
+        walk_accepted(positions, edges, triangles, stands, list, count);
     }
 }
 
@@ -70,20 +72,21 @@ pub fn list_accepted(
     positions: &[i32],
     edges: &[u16],
     triangles: &[u16],
+    stands: &[u16],
     list: &mut [u32],
     room: usize,
     tests: &mut [usize; 1],
 ) -> ListAnswer
-    requires { ⌜ Accepted (sceneIn positions edges triangles) × (room ≤ roomOf (now list)) ⌝ }
-    ensures { λ r. ⌜ Tested (sceneAtEntry positions edges triangles) (ListedIn (sceneAtEntry positions edges triangles) room (now (list .entry)) (now (list .exit))) (now (tests .entry)) (now (tests .exit)) r ⌝ }
+    requires { ⌜ Accepted (tabledIn positions edges triangles stands) × (room ≤ roomOf (now list)) ⌝ }
+    ensures { λ r. ⌜ Tested (tabledAtEntry positions edges triangles stands) (ListedIn (tabledAtEntry positions edges triangles stands) room (now (list .entry)) (now (list .exit))) (now (tests .entry)) (now (tests .exit)) r ⌝ }
 {
     let mut own = [0u32; OWN_ENTRIES];
-    let walk = walk_accepted(positions, edges, triangles, &mut own, OWN_ENTRIES);
+    let walk = walk_accepted(positions, edges, triangles, stands, &mut own, OWN_ENTRIES);
     let count = walk.next;
     if room < count {
         return ListAnswer::Refused(Refusal::NoRoom, count);
     }
-    enter(positions, edges, triangles, &own, list, count);
+    enter(positions, edges, triangles, stands, &own, list, count);
     put_tests(tests, walk.tests);
     ListAnswer::Listed(Made { count })
 }

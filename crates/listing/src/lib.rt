@@ -12,21 +12,24 @@ use entries::room;
 use meaning::ListAnswer;
 use meaning::Made;
 use meaning::SceneAnswer;
-use scenes::check_scene;
+use meaning::VERTEX_LIMIT;
+use scenes::check_into;
 
 // How many pairs are listed, and into the lent number how many boxes of the pt part are tested for that.
 pub fn count_pairs(
     positions: &[i32],
     edges: &[u16],
     triangles: &[u16],
+    seams: &[u16],
     tests: &mut [usize; 1],
 ) -> ListAnswer
-    ensures { λ r. ⌜ Tested (sceneAtEntry positions edges triangles) (Counted (sceneAtEntry positions edges triangles)) (now (tests .entry)) (now (tests .exit)) r ⌝ }
+    ensures { λ r. ⌜ Tested (sceneAtEntry positions edges triangles seams) (Counted (sceneAtEntry positions edges triangles seams)) (now (tests .entry)) (now (tests .exit)) r ⌝ }
 {
-    match check_scene(positions, edges, triangles) {
+    let mut stands = [0u16; VERTEX_LIMIT];
+    match check_into(positions, edges, triangles, seams, &mut stands) {
         SceneAnswer::Refused(why) => ListAnswer::Refused(why, 0),
         SceneAnswer::Accepted => {
-            let walk = count_accepted(positions, edges, triangles);
+            let walk = count_accepted(positions, edges, triangles, &stands);
             put_tests(tests, walk.tests);
             ListAnswer::Listed(Made { count: walk.next })
         }
@@ -38,16 +41,18 @@ pub fn list_pairs(
     positions: &[i32],
     edges: &[u16],
     triangles: &[u16],
+    seams: &[u16],
     list: &mut [u32],
     tests: &mut [usize; 1],
 ) -> ListAnswer
-    ensures { λ r. ⌜ Tested (sceneAtEntry positions edges triangles) (Listing (sceneAtEntry positions edges triangles) (now (list .entry)) (now (list .exit))) (now (tests .entry)) (now (tests .exit)) r ⌝ }
+    ensures { λ r. ⌜ Tested (sceneAtEntry positions edges triangles seams) (Listing (sceneAtEntry positions edges triangles seams) (now (list .entry)) (now (list .exit))) (now (tests .entry)) (now (tests .exit)) r ⌝ }
 {
-    match check_scene(positions, edges, triangles) {
+    let mut stands = [0u16; VERTEX_LIMIT];
+    match check_into(positions, edges, triangles, seams, &mut stands) {
         SceneAnswer::Refused(why) => ListAnswer::Refused(why, 0),
         SceneAnswer::Accepted => {
             let most = room(list);
-            list_accepted(positions, edges, triangles, list, most, tests)
+            list_accepted(positions, edges, triangles, &stands, list, most, tests)
         }
     }
 }

@@ -25,20 +25,20 @@ use meaning::REPORT_BYTES;
 use meaning::SceneCounts;
 use meaning::TextAnswer;
 
-fn put_counts(counts: &mut [usize; 3], c: SceneCounts)
-    ensures { λ _. ⌜ now (counts .exit) ≡ c .vertices ∷ c .edges ∷ c .triangles ∷ [] ⌝ }
+fn put_counts(counts: &mut [usize; 4], c: SceneCounts)
+    ensures { λ _. ⌜ now (counts .exit) ≡ c .vertices ∷ c .edges ∷ c .triangles ∷ c .seams ∷ [] ⌝ }
 {
-    *counts = [c.vertices, c.edges, c.triangles];
+    *counts = [c.vertices, c.edges, c.triangles, c.seams];
 }
 
 // ---- a scene
 
 // May this scene be used?
 #[no_mangle]
-pub extern "C" fn makhnodri_check_scene(positions: &[i32], edges: &[u16], triangles: &[u16]) -> u64
-    ensures { λ r. ⌜ Told sceneNumber (SceneChecked (sceneAtEntry positions edges triangles)) r ⌝ }
+pub extern "C" fn makhnodri_check_scene_slices(positions: &[i32], edges: &[u16], triangles: &[u16], seams: &[u16]) -> u64
+    ensures { λ r. ⌜ Told sceneNumber (SceneChecked (sceneAtEntry positions edges triangles seams)) r ⌝ }
 {
-    scene_number(scenes::check_scene(positions, edges, triangles))
+    scene_number(scenes::check_scene(positions, edges, triangles, seams))
 }
 
 // The scene turned round where it stands: start and end swapped, vertices numbered from last to first.
@@ -55,61 +55,66 @@ pub extern "C" fn makhnodri_turn_scene(
 
 // How many pairs are listed, and into the lent number how many boxes of the pt part are tested for that.
 #[no_mangle]
-pub extern "C" fn makhnodri_count_pairs(
+pub extern "C" fn makhnodri_count_pairs_slices(
     positions: &[i32],
     edges: &[u16],
     triangles: &[u16],
+    seams: &[u16],
     tests: &mut [usize; 1],
 ) -> u64
-    ensures { λ r. ⌜ Told listNumber (Tested (sceneAtEntry positions edges triangles) (Counted (sceneAtEntry positions edges triangles)) (now (tests .entry)) (now (tests .exit))) r ⌝ }
+    ensures { λ r. ⌜ Told listNumber (Tested (sceneAtEntry positions edges triangles seams) (Counted (sceneAtEntry positions edges triangles seams)) (now (tests .entry)) (now (tests .exit))) r ⌝ }
 {
-    list_number(listing::count_pairs(positions, edges, triangles, tests))
+    list_number(listing::count_pairs(positions, edges, triangles, seams, tests))
 }
 
 // The list, in front of a lent buffer, and its box tests.
 #[no_mangle]
-pub extern "C" fn makhnodri_list_pairs(
+pub extern "C" fn makhnodri_list_pairs_slices(
     positions: &[i32],
     edges: &[u16],
     triangles: &[u16],
+    seams: &[u16],
     list: &mut [u32],
     tests: &mut [usize; 1],
 ) -> u64
-    ensures { λ r. ⌜ Told listNumber (Tested (sceneAtEntry positions edges triangles) (Listing (sceneAtEntry positions edges triangles) (now (list .entry)) (now (list .exit))) (now (tests .entry)) (now (tests .exit))) r ⌝ }
+    ensures { λ r. ⌜ Told listNumber (Tested (sceneAtEntry positions edges triangles seams) (Listing (sceneAtEntry positions edges triangles seams) (now (list .entry)) (now (list .exit))) (now (tests .entry)) (now (tests .exit))) r ⌝ }
 {
-    list_number(listing::list_pairs(positions, edges, triangles, list, tests))
+    list_number(listing::list_pairs(positions, edges, triangles, seams, list, tests))
 }
 
 // The list, and the word of each listed pair as a byte: hit, miss, touch or apart.
 #[no_mangle]
-pub extern "C" fn makhnodri_settle_scene(
+pub extern "C" fn makhnodri_settle_scene_slices(
     positions: &[i32],
     edges: &[u16],
     triangles: &[u16],
+    seams: &[u16],
     list: &mut [u32],
     words: &mut [u8],
 ) -> u64
-    ensures { λ r. ⌜ Told listNumber (SettledScene (sceneAtEntry positions edges triangles) (now (list .entry)) (now (list .exit)) (now (words .entry)) (now (words .exit))) r ⌝ }
+    ensures { λ r. ⌜ Told listNumber (SettledScene (sceneAtEntry positions edges triangles seams) (now (list .entry)) (now (list .exit)) (now (words .entry)) (now (words .exit))) r ⌝ }
 {
-    list_number(scene_words::settle_scene(positions, edges, triangles, list, words))
+    list_number(scene_words::settle_scene(positions, edges, triangles, seams, list, words))
 }
 
 // ---- the verdict of a pair and of a piece: hit, miss or degenerate. A kind has functions of its own, so that no bad kind can be asked for
 
 #[no_mangle]
-pub extern "C" fn makhnodri_judge_pt(
+pub extern "C" fn makhnodri_judge_pt_slices(
     positions: &[i32],
     edges: &[u16],
     triangles: &[u16],
+    seams: &[u16],
     vertex: usize,
     triangle: usize,
 ) -> u64
-    ensures { λ r. ⌜ Told pairNumber (PairJudged (sceneAtEntry positions edges triangles) PointTriangle vertex triangle) r ⌝ }
+    ensures { λ r. ⌜ Told pairNumber (PairJudged (sceneAtEntry positions edges triangles seams) PointTriangle vertex triangle) r ⌝ }
 {
     pair_number(three_words::judge_pair(
         positions,
         edges,
         triangles,
+        seams,
         Kind::PointTriangle,
         vertex,
         triangle,
@@ -117,33 +122,36 @@ pub extern "C" fn makhnodri_judge_pt(
 }
 
 #[no_mangle]
-pub extern "C" fn makhnodri_judge_ee(
+pub extern "C" fn makhnodri_judge_ee_slices(
     positions: &[i32],
     edges: &[u16],
     triangles: &[u16],
+    seams: &[u16],
     first: usize,
     second: usize,
 ) -> u64
-    ensures { λ r. ⌜ Told pairNumber (PairJudged (sceneAtEntry positions edges triangles) EdgeEdge first second) r ⌝ }
+    ensures { λ r. ⌜ Told pairNumber (PairJudged (sceneAtEntry positions edges triangles seams) EdgeEdge first second) r ⌝ }
 {
-    pair_number(three_words::judge_pair(positions, edges, triangles, Kind::EdgeEdge, first, second))
+    pair_number(three_words::judge_pair(positions, edges, triangles, seams, Kind::EdgeEdge, first, second))
 }
 
 #[no_mangle]
-pub extern "C" fn makhnodri_judge_pt_piece(
+pub extern "C" fn makhnodri_judge_pt_piece_slices(
     positions: &[i32],
     edges: &[u16],
     triangles: &[u16],
+    seams: &[u16],
     vertex: usize,
     triangle: usize,
     piece: usize,
 ) -> u64
-    ensures { λ r. ⌜ Told pairNumber (PieceJudged (sceneAtEntry positions edges triangles) PointTriangle vertex triangle piece) r ⌝ }
+    ensures { λ r. ⌜ Told pairNumber (PieceJudged (sceneAtEntry positions edges triangles seams) PointTriangle vertex triangle piece) r ⌝ }
 {
     pair_number(three_words::judge_piece(
         positions,
         edges,
         triangles,
+        seams,
         Kind::PointTriangle,
         vertex,
         triangle,
@@ -152,20 +160,22 @@ pub extern "C" fn makhnodri_judge_pt_piece(
 }
 
 #[no_mangle]
-pub extern "C" fn makhnodri_judge_ee_piece(
+pub extern "C" fn makhnodri_judge_ee_piece_slices(
     positions: &[i32],
     edges: &[u16],
     triangles: &[u16],
+    seams: &[u16],
     first: usize,
     second: usize,
     piece: usize,
 ) -> u64
-    ensures { λ r. ⌜ Told pairNumber (PieceJudged (sceneAtEntry positions edges triangles) EdgeEdge first second piece) r ⌝ }
+    ensures { λ r. ⌜ Told pairNumber (PieceJudged (sceneAtEntry positions edges triangles seams) EdgeEdge first second piece) r ⌝ }
 {
     pair_number(three_words::judge_piece(
         positions,
         edges,
         triangles,
+        seams,
         Kind::EdgeEdge,
         first,
         second,
@@ -176,19 +186,21 @@ pub extern "C" fn makhnodri_judge_ee_piece(
 // ---- the same in the four words: a degenerate piece is decided too
 
 #[no_mangle]
-pub extern "C" fn makhnodri_settle_pt(
+pub extern "C" fn makhnodri_settle_pt_slices(
     positions: &[i32],
     edges: &[u16],
     triangles: &[u16],
+    seams: &[u16],
     vertex: usize,
     triangle: usize,
 ) -> u64
-    ensures { λ r. ⌜ Told settledNumber (PairDecided (sceneAtEntry positions edges triangles) PointTriangle vertex triangle) r ⌝ }
+    ensures { λ r. ⌜ Told settledNumber (PairDecided (sceneAtEntry positions edges triangles seams) PointTriangle vertex triangle) r ⌝ }
 {
     settled_number(four_words::settle_pair(
         positions,
         edges,
         triangles,
+        seams,
         Kind::PointTriangle,
         vertex,
         triangle,
@@ -196,19 +208,21 @@ pub extern "C" fn makhnodri_settle_pt(
 }
 
 #[no_mangle]
-pub extern "C" fn makhnodri_settle_ee(
+pub extern "C" fn makhnodri_settle_ee_slices(
     positions: &[i32],
     edges: &[u16],
     triangles: &[u16],
+    seams: &[u16],
     first: usize,
     second: usize,
 ) -> u64
-    ensures { λ r. ⌜ Told settledNumber (PairDecided (sceneAtEntry positions edges triangles) EdgeEdge first second) r ⌝ }
+    ensures { λ r. ⌜ Told settledNumber (PairDecided (sceneAtEntry positions edges triangles seams) EdgeEdge first second) r ⌝ }
 {
     settled_number(four_words::settle_pair(
         positions,
         edges,
         triangles,
+        seams,
         Kind::EdgeEdge,
         first,
         second,
@@ -216,20 +230,22 @@ pub extern "C" fn makhnodri_settle_ee(
 }
 
 #[no_mangle]
-pub extern "C" fn makhnodri_settle_pt_piece(
+pub extern "C" fn makhnodri_settle_pt_piece_slices(
     positions: &[i32],
     edges: &[u16],
     triangles: &[u16],
+    seams: &[u16],
     vertex: usize,
     triangle: usize,
     piece: usize,
 ) -> u64
-    ensures { λ r. ⌜ Told settledNumber (PieceDecided (sceneAtEntry positions edges triangles) PointTriangle vertex triangle piece) r ⌝ }
+    ensures { λ r. ⌜ Told settledNumber (PieceDecided (sceneAtEntry positions edges triangles seams) PointTriangle vertex triangle piece) r ⌝ }
 {
     settled_number(four_words::settle_piece(
         positions,
         edges,
         triangles,
+        seams,
         Kind::PointTriangle,
         vertex,
         triangle,
@@ -238,20 +254,22 @@ pub extern "C" fn makhnodri_settle_pt_piece(
 }
 
 #[no_mangle]
-pub extern "C" fn makhnodri_settle_ee_piece(
+pub extern "C" fn makhnodri_settle_ee_piece_slices(
     positions: &[i32],
     edges: &[u16],
     triangles: &[u16],
+    seams: &[u16],
     first: usize,
     second: usize,
     piece: usize,
 ) -> u64
-    ensures { λ r. ⌜ Told settledNumber (PieceDecided (sceneAtEntry positions edges triangles) EdgeEdge first second piece) r ⌝ }
+    ensures { λ r. ⌜ Told settledNumber (PieceDecided (sceneAtEntry positions edges triangles seams) EdgeEdge first second piece) r ⌝ }
 {
     settled_number(four_words::settle_piece(
         positions,
         edges,
         triangles,
+        seams,
         Kind::EdgeEdge,
         first,
         second,
@@ -261,18 +279,19 @@ pub extern "C" fn makhnodri_settle_ee_piece(
 
 // ---- a text
 
-// Reads a scene text into the lent buffers, and its three counts into the lent array.
+// Reads a scene text into the lent buffers, and its four counts into the lent array.
 #[no_mangle]
-pub extern "C" fn makhnodri_read_scene(
+pub extern "C" fn makhnodri_read_scene_slices(
     text: &[u8],
     positions: &mut [i32],
     edges: &mut [u16],
     triangles: &mut [u16],
-    counts: &mut [usize; 3],
+    seams: &mut [u16],
+    counts: &mut [usize; 4],
 ) -> u64
-    ensures { λ r. ⌜ Told textNumber (ReadInto (now (text .entry)) (sceneAtEntry positions edges triangles) (sceneAtExit positions edges triangles) (now (counts .entry)) (now (counts .exit))) r ⌝ }
+    ensures { λ r. ⌜ Told textNumber (ReadInto (now (text .entry)) (sceneAtEntry positions edges triangles seams) (sceneAtExit positions edges triangles seams) (now (counts .entry)) (now (counts .exit))) r ⌝ }
 {
-    match scene_text::read_scene(text, positions, edges, triangles) {
+    match scene_text::read_scene(text, positions, edges, triangles, seams) {
         TextAnswer::Read(c) => {
             put_counts(counts, c);
             0
@@ -293,14 +312,15 @@ pub extern "C" fn makhnodri_write_report(text: &[u8], out: &mut [u8; REPORT_BYTE
 
 // A partner's claims beside a scene, each answered with a byte in front of the lent buffer: 1 for yes, 0 for no.
 #[no_mangle]
-pub extern "C" fn makhnodri_check_claims(
+pub extern "C" fn makhnodri_check_claims_slices(
     positions: &[i32],
     edges: &[u16],
     triangles: &[u16],
+    seams: &[u16],
     claims: &[u8],
     answers: &mut [u8],
 ) -> u64
-    ensures { λ r. ⌜ Told claimsNumber (ClaimsChecked (sceneAtEntry positions edges triangles) (now (claims .entry)) (now (answers .entry)) (now (answers .exit))) r ⌝ }
+    ensures { λ r. ⌜ Told claimsNumber (ClaimsChecked (sceneAtEntry positions edges triangles seams) (now (claims .entry)) (now (answers .entry)) (now (answers .exit))) r ⌝ }
 {
-    claims_number(claim_answers::check_claims(positions, edges, triangles, claims, answers))
+    claims_number(claim_answers::check_claims(positions, edges, triangles, seams, claims, answers))
 }

@@ -32,6 +32,7 @@ turnedRound s =
     (gather (λ v. endFirst s (fromLast (vertexCount s) v)) 0 (vertexCount s) ++ drop (6 * vertexCount s) (s .positions))
     (map (fromLast (vertexCount s)) (s .edges))
     (map (fromLast (vertexCount s)) (s .triangles))
+    (s .seams)
 
 -- the corresponding pair: a vertex has its new number, triangles and edges have their places
 unfoldable pub firstTurned : Scene → Kind → ℕ → ℕ

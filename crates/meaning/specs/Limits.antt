@@ -17,6 +17,10 @@ edgeLimit = 1_024
 abbrev pub triangleLimit : ℕ
 triangleLimit = 512
 
+-- the seams that a scene has room for
+abbrev pub seamLimit : ℕ
+seamLimit = 512
+
 abbrev pub textLimit : ℕ
 textLimit = 32_768
 

@@ -5,14 +5,14 @@ use mathlib.Core.Bool.{Bool, true, false, cond, _||_}
 use mathlib.Core.List.{List, [], _∷_, _++_}
 use mathlib.Core.Path.{_≡_}
 use lib.Dec.{leb}
-use Rattle.meaning.specs.Scene.{Scene, vertexCount, edgeCount, triangleCount, edgeEnd, corner, same, wrongShape, outOfRange, unknownVertex, repeatedVertex}
+use Rattle.meaning.specs.Scene.{Scene, vertexCount, edgeCount, triangleCount, edgeEnd, corner, same, wrongShape, outOfRange, unknownVertex, brokenSeam, repeatedVertex}
 use Rattle.meaning.specs.Pieces.{pieceCount, pieceOf}
 use Rattle.meaning.specs.Verdicts.{PieceIs, PairIs}
 use Rattle.meaning.specs.declared.Kind.{Kind}
 use Rattle.meaning.specs.declared.Kind.the-variants.{PointTriangle, EdgeEdge}
 use Rattle.meaning.specs.declared.Verdict.{Verdict}
 use Rattle.meaning.specs.declared.Refusal.{Refusal}
-use Rattle.meaning.specs.declared.Refusal.the-variants.{Shape, Coordinate, UnknownVertex, RepeatedVertex, NotThere, SharedVertex, NoRoom, LongText, BadLine, LateRecord, TooMany, ShortBuffer}
+use Rattle.meaning.specs.declared.Refusal.the-variants.{Shape, Coordinate, UnknownVertex, RepeatedVertex, NotThere, SharedVertex, NoRoom, LongText, BadLine, LateRecord, TooMany, ShortBuffer, BrokenSeam}
 use Rattle.meaning.specs.declared.SceneAnswer as SceneAnswers
 use Rattle.meaning.specs.declared.SceneAnswer.{SceneAnswer}
 use Rattle.meaning.specs.declared.PairAnswer as PairAnswers
@@ -31,6 +31,7 @@ numberOf BadLine = 9
 numberOf LateRecord = 10
 numberOf TooMany = 11
 numberOf ShortBuffer = 12
+numberOf BrokenSeam = 15
 
 -- what an answer says in document 01's terms: a value, or a refusal's number with the line or the count that it carries (else 0)
 pub data Outcome (A : Type 0) : Type 0 where
@@ -57,12 +58,13 @@ Answers [] Right (given a) = Right a
 Answers [] Right (refused n c) = ⊥
 Answers (k ∷ ks) Right o = cond (k .holds) (o ≡ refused (k .number) (k .carries)) (Answers ks Right o)
 
--- 1, 2, 3, 4, each over the whole scene before the next
+-- 1, 2, 3, 15, 4, each over the whole scene before the next
 abbrev pub sceneChecks : Scene → List Check
 sceneChecks s =
     record { number = 1; holds = wrongShape s; carries = 0 }
     ∷ record { number = 2; holds = outOfRange s; carries = 0 }
     ∷ record { number = 3; holds = unknownVertex s; carries = 0 }
+    ∷ record { number = 15; holds = brokenSeam s; carries = 0 }
     ∷ record { number = 4; holds = repeatedVertex s; carries = 0 }
     ∷ []
 

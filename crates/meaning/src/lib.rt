@@ -9,6 +9,8 @@ pub const EDGE_LIMIT: usize = 1024;
 
 pub const TRIANGLE_LIMIT: usize = 512;
 
+pub const SEAM_LIMIT: usize = 512;
+
 pub const TEXT_LIMIT: usize = 32768;
 
 pub const DIGIT_LIMIT: usize = 9;
@@ -19,6 +21,8 @@ pub const POSITION_NUMBERS: usize = 6 * VERTEX_LIMIT;
 pub const EDGE_NUMBERS: usize = 2 * EDGE_LIMIT;
 
 pub const TRIANGLE_NUMBERS: usize = 3 * TRIANGLE_LIMIT;
+
+pub const SEAM_NUMBERS: usize = 2 * SEAM_LIMIT;
 
 // The pairs that a report has room for, and the bytes that hold any report.
 pub const REPORT_ROOM: usize = 3072;
@@ -54,7 +58,7 @@ pub enum Settled {
     Apart,
 }
 
-// The refusals of document 01, in the order of their numbers 1 to 12.
+// The refusals of documents 01 and 02, in the order of their numbers: 1 to 12, then 15.
 pub enum Refusal {
     Shape,
     Coordinate,
@@ -68,6 +72,7 @@ pub enum Refusal {
     LateRecord,
     TooMany,
     ShortBuffer,
+    BrokenSeam,
 }
 
 // The answer to "may this scene be used?".
@@ -88,13 +93,13 @@ pub enum SettledAnswer {
     Refused(Refusal),
 }
 
-// An edge's ends, the lower vertex number first.
+// An edge's ends, the lower vertex first; vertices are ordered by the number of the vertex stood for.
 pub struct Ends {
     pub low: usize,
     pub high: usize,
 }
 
-// A triangle's corners, in rising vertex number.
+// A triangle's corners, in rising order of the vertex stood for.
 pub struct Corners {
     pub low: usize,
     pub middle: usize,
@@ -112,11 +117,12 @@ pub enum ListAnswer {
     Refused(Refusal, usize),
 }
 
-// How many vertices, edges and triangles a scene has.
+// How many vertices, edges, triangles and seams a scene has.
 pub struct SceneCounts {
     pub vertices: usize,
     pub edges: usize,
     pub triangles: usize,
+    pub seams: usize,
 }
 
 // The answer to "read this text": the counts of the scene that now stands in the lent buffers, or a refusal with its line (0 where it

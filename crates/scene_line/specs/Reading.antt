@@ -16,35 +16,39 @@ use Rattle.fields.specs.declared.Form.{Form}
 use Rattle.fields.specs.declared.Ending.{Ending}
 use Rattle.fields.specs.declared.Ending.the-variants.{At, Nowhere}
 use Rattle.meaning.specs.Limits.{digitLimit}
-use Rattle.meaning.specs.Text.{Entry, vertex, edge, triangle, coordinates, letterOf, numbersOf, lineOf, Short, tab, lineFeed}
+use Rattle.meaning.specs.Text.{Entry, vertex, edge, triangle, seam, coordinates, letterOf, numbersOf, lineOf, Short, tab, lineFeed}
 use Rattle.fields.specs.Tabbed.{tab-parts, line-ends, first-of}
 use Rattle.scene_line.specs.Rendered.{coordinateForm, numberForm}
 use Rattle.scene_line.specs.declared.Sort.{Sort}
-use Rattle.scene_line.specs.declared.Sort.the-variants.{Vertex, Edge, Triangle}
+use Rattle.scene_line.specs.declared.Sort.the-variants.{Vertex, Edge, Triangle, Seam}
 use Rattle.scene_line.specs.declared.Line.{Line}
 use Rattle.scene_line.specs.declared.Line.the-variants.{Of, Bad}
 
--- ---- the three kinds
+-- ---- the four kinds
 
 unfoldable pub sortOf : Entry → Sort
 sortOf (vertex p q) = Vertex
 sortOf (edge a b) = Edge
 sortOf (triangle a b c) = Triangle
+sortOf (seam a b) = Seam
 
 unfoldable pub letter : Sort → ℕ
 letter Vertex = 118
 letter Edge = 101
 letter Triangle = 116
+letter Seam = 119
 
 unfoldable pub many : Sort → ℕ
 many Vertex = 6
 many Edge = 2
 many Triangle = 3
+many Seam = 2
 
 unfoldable pub formOf : Sort → Form
 formOf Vertex = coordinateForm
 formOf Edge = numberForm
 formOf Triangle = numberForm
+formOf Seam = numberForm
 
 unfoldable pub lineEnded : Sort → Ending → Line
 lineEnded sort (At next) = Of sort next
@@ -74,24 +78,28 @@ unfolding formOf
 tabbed Vertex zs = refl
 tabbed Edge zs = refl
 tabbed Triangle zs = refl
+tabbed Seam zs = refl
 
 parts : (sort : Sort) → ¬ IsDigit (formOf sort .separator)
 unfolding formOf
 parts Vertex = tab-parts
 parts Edge = tab-parts
 parts Triangle = tab-parts
+parts Seam = tab-parts
 
 entry-letter : (r : Entry) → letterOf r ≡ letter (sortOf r)
 unfolding letterOf letter sortOf
 entry-letter (vertex p q) = refl
 entry-letter (edge a b) = refl
 entry-letter (triangle a b c) = refl
+entry-letter (seam a b) = refl
 
 entry-many : (r : Entry) → length (numbersOf r) ≡ many (sortOf r)
 unfolding numbersOf many sortOf
 entry-many (vertex p q) = refl
 entry-many (edge a b) = refl
 entry-many (triangle a b c) = refl
+entry-many (seam a b) = refl
 
 short-signed : (zs : List ℤ) → Short digitLimit zs → EachAllowed coordinateForm zs
 unfolding Short EachAllowed
@@ -108,6 +116,7 @@ entry-allowed (vertex p q) s = short-signed (coordinates p q) s
 entry-allowed (edge a b) s = short-plain a (pos b ∷ []) (s .0) (short-plain b [] (s .1 .0) tt)
 entry-allowed (triangle a b c) s =
     short-plain a (pos b ∷ pos c ∷ []) (s .0) (short-plain b (pos c ∷ []) (s .1 .0) (short-plain c [] (s .1 .1 .0) tt))
+entry-allowed (seam a b) s = short-plain a (pos b ∷ []) (s .0) (short-plain b [] (s .1 .0) tt)
 
 allowed-short : (f : Form) (zs : List ℤ) → EachAllowed f zs → Short (f .most) zs
 unfolding Short EachAllowed
@@ -119,6 +128,7 @@ unfolding formOf
 nine Vertex = refl
 nine Edge = refl
 nine Triangle = refl
+nine Seam = refl
 
 -- ---- numbers of the form make a record
 
@@ -156,6 +166,16 @@ made Edge zs n a =
     let b : EachAllowed numberForm (z0 ∷ z1 ∷ []) = rw all at a in
     record {
       entry = edge (natAbs z0) (natAbs z1);
+      sorted = refl;
+      numbers = cc (unsigned z0 (b .0), unsigned z1 (b .1 .0));
+    }
+made Seam zs n a =
+    let (z0, w0, e0, n0) = first-of zs 1 n in
+    let (z1, w1, e1, n1) = first-of w0 0 n0 in
+    let all : zs ≡ z0 ∷ z1 ∷ [] = cc (none-of w1 n1) in
+    let b : EachAllowed numberForm (z0 ∷ z1 ∷ []) = rw all at a in
+    record {
+      entry = seam (natAbs z0) (natAbs z1);
       sorted = refl;
       numbers = cc (unsigned z0 (b .0), unsigned z1 (b .1 .0));
     }
@@ -205,12 +225,19 @@ unfolding letter
 letter-unique Vertex Vertex e = refl
 letter-unique Vertex Edge e = absurd (omega arith)
 letter-unique Vertex Triangle e = absurd (omega arith)
+letter-unique Vertex Seam e = absurd (omega arith)
 letter-unique Edge Vertex e = absurd (omega arith)
 letter-unique Edge Edge e = refl
 letter-unique Edge Triangle e = absurd (omega arith)
+letter-unique Edge Seam e = absurd (omega arith)
 letter-unique Triangle Vertex e = absurd (omega arith)
 letter-unique Triangle Edge e = absurd (omega arith)
 letter-unique Triangle Triangle e = refl
+letter-unique Triangle Seam e = absurd (omega arith)
+letter-unique Seam Vertex e = absurd (omega arith)
+letter-unique Seam Edge e = absurd (omega arith)
+letter-unique Seam Triangle e = absurd (omega arith)
+letter-unique Seam Seam e = refl
 
 -- the letter of a kind stands here: what is read of the row behind it decides
 pub line-got : (sort : Sort) {text : List ℕ} {at : ℕ} {sizes sizes′ : List ℕ} {minus minus′ : List Bool} {e : Ending} {l : Line}
@@ -239,8 +266,11 @@ line-got sort {text} {at} {sizes} {sizes′} {minus} {minus′} {e} {l} h b row 
         row-unended (parts sort) row q (numbersOf r) next (entry-many r ∙ ap many same) (rw same at line)
 
 -- no letter of a record stands here
-pub line-other : (text : List ℕ) (at : ℕ) → (byteAt text at ≡ 118 → ⊥) → (byteAt text at ≡ 101 → ⊥) → (byteAt text at ≡ 116 → ⊥) → NoLine text at
+pub line-other : (text : List ℕ) (at : ℕ) → (byteAt text at ≡ 118 → ⊥) → (byteAt text at ≡ 101 → ⊥) → (byteAt text at ≡ 116 → ⊥)
+    → (byteAt text at ≡ 119 → ⊥)
+    → NoLine text at
 unfolding letterOf
-line-other text at v e t (vertex p q) next short w = v (line-taken text at (vertex p q) short w .0)
-line-other text at v e t (edge a b) next short w = e (line-taken text at (edge a b) short w .0)
-line-other text at v e t (triangle a b c) next short w = t (line-taken text at (triangle a b c) short w .0)
+line-other text at v e t w (vertex p q) next short l = v (line-taken text at (vertex p q) short l .0)
+line-other text at v e t w (edge a b) next short l = e (line-taken text at (edge a b) short l .0)
+line-other text at v e t w (triangle a b c) next short l = t (line-taken text at (triangle a b c) short l .0)
+line-other text at v e t w (seam a b) next short l = w (line-taken text at (seam a b) short l .0)

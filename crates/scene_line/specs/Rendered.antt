@@ -14,7 +14,7 @@ use Rattle.fields.specs.Tabbed.{tab-parts, line-ends}
 use Rattle.fields.specs.Rows.{rowOf, row-cancel}
 use Rattle.fields.specs.declared.Form.{Form}
 use Rattle.meaning.specs.Limits.{digitLimit}
-use Rattle.meaning.specs.Text.{Entry, vertex, edge, triangle, coordinates, letterOf, numbersOf, numeral, further, rendered, lineOf, tab, lineFeed, sceneLines}
+use Rattle.meaning.specs.Text.{Entry, vertex, edge, triangle, seam, coordinates, letterOf, numbersOf, numeral, further, rendered, lineOf, tab, lineFeed, sceneLines}
 use Rattle.lines.specs.Unique.{Readable}
 use Rattle.lines.specs.Feed.{NoFeed, feed-append, Bodies}
 
@@ -58,6 +58,12 @@ two a b c d e =
     let q : b ≡ d = ap natAbs (head-eq-of-cons-eq (tail-eq-of-cons-eq e)) in
     cc
 
+sewn : (a b c d : ℕ) → _≡_ {A = List ℤ} (pos a ∷ pos b ∷ []) (pos c ∷ pos d ∷ []) → seam a b ≡ seam c d
+sewn a b c d e =
+    let p : a ≡ c = ap natAbs (head-eq-of-cons-eq e) in
+    let q : b ≡ d = ap natAbs (head-eq-of-cons-eq (tail-eq-of-cons-eq e)) in
+    cc
+
 three : (a b c d f g : ℕ) → _≡_ {A = List ℤ} (pos a ∷ pos b ∷ pos c ∷ []) (pos d ∷ pos f ∷ pos g ∷ []) → triangle a b c ≡ triangle d f g
 three a b c d f g e =
     let p : a ≡ d = ap natAbs (head-eq-of-cons-eq e) in
@@ -72,16 +78,25 @@ line-cancel (vertex p q) (vertex p′ q′) x y e =
     (six p q p′ q′ same, rest)
 line-cancel (vertex p q) (edge a b) x y e = absurd (omega (arith, letter-cancel (vertex p q) (edge a b) x y e))
 line-cancel (vertex p q) (triangle a b c) x y e = absurd (omega (arith, letter-cancel (vertex p q) (triangle a b c) x y e))
+line-cancel (vertex p q) (seam a b) x y e = absurd (omega (arith, letter-cancel (vertex p q) (seam a b) x y e))
 line-cancel (edge a b) (vertex p q) x y e = absurd (omega (arith, letter-cancel (edge a b) (vertex p q) x y e))
 line-cancel (edge a b) (edge c d) x y e =
     let (same, rest) = numbers-cancel (edge a b) (edge c d) x y refl e in
     (two a b c d same, rest)
 line-cancel (edge a b) (triangle c d f) x y e = absurd (omega (arith, letter-cancel (edge a b) (triangle c d f) x y e))
+line-cancel (edge a b) (seam c d) x y e = absurd (omega (arith, letter-cancel (edge a b) (seam c d) x y e))
 line-cancel (triangle a b c) (vertex p q) x y e = absurd (omega (arith, letter-cancel (triangle a b c) (vertex p q) x y e))
 line-cancel (triangle a b c) (edge d f) x y e = absurd (omega (arith, letter-cancel (triangle a b c) (edge d f) x y e))
 line-cancel (triangle a b c) (triangle d f g) x y e =
     let (same, rest) = numbers-cancel (triangle a b c) (triangle d f g) x y refl e in
     (three a b c d f g same, rest)
+line-cancel (triangle a b c) (seam d f) x y e = absurd (omega (arith, letter-cancel (triangle a b c) (seam d f) x y e))
+line-cancel (seam a b) (vertex p q) x y e = absurd (omega (arith, letter-cancel (seam a b) (vertex p q) x y e))
+line-cancel (seam a b) (edge c d) x y e = absurd (omega (arith, letter-cancel (seam a b) (edge c d) x y e))
+line-cancel (seam a b) (triangle c d f) x y e = absurd (omega (arith, letter-cancel (seam a b) (triangle c d f) x y e))
+line-cancel (seam a b) (seam c d) x y e =
+    let (same, rest) = numbers-cancel (seam a b) (seam c d) x y refl e in
+    (sewn a b c d same, rest)
 
 -- a text of such lines means one thing
 pub scene-readable : Readable sceneLines
@@ -111,6 +126,7 @@ unfolding letterOf NoFeed
 rendered-feed (vertex p q) = (λ e. omega (arith, e), row-feed (numbersOf (vertex p q)))
 rendered-feed (edge a b) = (λ e. omega (arith, e), row-feed (numbersOf (edge a b)))
 rendered-feed (triangle a b c) = (λ e. omega (arith, e), row-feed (numbersOf (triangle a b c)))
+rendered-feed (seam a b) = (λ e. omega (arith, e), row-feed (numbersOf (seam a b)))
 
 -- so `lines/Feed.first-line` and `no-line` hold of it: its line ends at the first LF, and a text without LF begins with none
 pub scene-bodies : Bodies sceneLines

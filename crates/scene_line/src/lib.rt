@@ -4,13 +4,15 @@ ghost use lib.ListN.{length};
 ghost use mathlib.Core.Path.{_≡_};
 ghost use Rattle.scene_line.specs.Judging.{FaultIs, judgedSays, farIn, Judging};
 ghost use Rattle.scene_line.specs.Reading.{lineEnded, LineRead};
-ghost use Rattle.scene_line.specs.Stepping.{Bounded, countedBy, Stepped};
+ghost use Rattle.scene_line.specs.Above.{Bounded, countedBy};
+ghost use Rattle.scene_line.specs.Stepping.{LineStepped};
 use fields::Ending;
 use fields::Form;
 use meaning::COORDINATE_LIMIT;
 use meaning::DIGIT_LIMIT;
 use meaning::EDGE_LIMIT;
 use meaning::Refusal;
+use meaning::SEAM_LIMIT;
 use meaning::SceneCounts;
 use meaning::TRIANGLE_LIMIT;
 use meaning::VERTEX_LIMIT;
@@ -18,11 +20,12 @@ use meaning::VERTEX_LIMIT;
 // The largest size of a coordinate, as sizes are held.
 const LARGEST: u64 = COORDINATE_LIMIT as u64;
 
-// The three kinds of record.
+// The four kinds of record.
 pub enum Sort {
     Vertex,
     Edge,
     Triangle,
+    Seam,
 }
 
 // What stands at a line's place: a record, and the place of the next line; or no record.
@@ -76,11 +79,17 @@ fn read_line(text: &[u8], at: usize, sizes: &mut [u64], minus: &mut [bool]) -> L
             fields::read_row(text, at + 1, form, 3, sizes, minus),
         );
     }
+    if letter == b'w' {
+        return line_ended(
+            Sort::Seam,
+            fields::read_row(text, at + 1, form, 2, sizes, minus),
+        );
+    }
     Line::Bad
 }
 
 // What a record is, below the records above it.
-enum Judged {
+pub enum Judged {
     Good,
     Fault(Refusal),
 }
@@ -120,7 +129,7 @@ fn far(sizes: &[u64]) -> bool
         | (LARGEST < sizes[5])
 }
 
-// The judgement of a record whose numbers have these sizes, below so many records.
+// The judgement of a record whose numbers have these sizes, below so many records: of a seam up to 3, for 15 and 4 go by the whole scene.
 fn judge(sort: Sort, c: SceneCounts, sizes: &[u64]) -> Judged
     requires { ⌜ 6 ≤ length (now sizes) ⌝ }
     ensures { λ r. ⌜ Judging sort c (now (sizes .entry)) (judgedSays r) ⌝ }
@@ -131,25 +140,32 @@ fn judge(sort: Sort, c: SceneCounts, sizes: &[u64]) -> Judged
     let k = sizes[2];
     match sort {
         Sort::Vertex => first_fault(
-            (0 < c.edges) | (0 < c.triangles),
+            (0 < c.edges) | (0 < c.triangles) | (0 < c.seams),
             VERTEX_LIMIT <= c.vertices,
             far(sizes),
             false,
             false,
         ),
         Sort::Edge => first_fault(
-            0 < c.triangles,
+            (0 < c.triangles) | (0 < c.seams),
             EDGE_LIMIT <= c.edges,
             false,
             (n <= i) | (n <= j),
             i == j,
         ),
         Sort::Triangle => first_fault(
-            false,
+            0 < c.seams,
             TRIANGLE_LIMIT <= c.triangles,
             false,
             (n <= i) | (n <= j) | (n <= k),
             (i == j) | (i == k) | (j == k),
+        ),
+        Sort::Seam => first_fault(
+            false,
+            SEAM_LIMIT <= c.seams,
+            false,
+            (n <= i) | (n <= j),
+            false,
         ),
     }
 }
@@ -169,21 +185,30 @@ fn counted(c: SceneCounts, sort: Sort) -> SceneCounts
             vertices: c.vertices + 1,
             edges: c.edges,
             triangles: c.triangles,
+            seams: c.seams,
         },
         Sort::Edge => SceneCounts {
             vertices: c.vertices,
             edges: c.edges + 1,
             triangles: c.triangles,
+            seams: c.seams,
         },
         Sort::Triangle => SceneCounts {
             vertices: c.vertices,
             edges: c.edges,
             triangles: c.triangles + 1,
+            seams: c.seams,
+        },
+        Sort::Seam => SceneCounts {
+            vertices: c.vertices,
+            edges: c.edges,
+            triangles: c.triangles,
+            seams: c.seams + 1,
         },
     }
 }
 
-// One line, below so many records. Both passes go by it.
+// One line, below the records of a scene with these counts. A seam that is taken is still to be held to 15 and 4.
 pub fn next_line(
     text: &[u8],
     at: usize,
@@ -195,7 +220,7 @@ pub fn next_line(
     requires { ⌜ 6 ≤ length (now sizes) ⌝ }
     requires { ⌜ 6 ≤ length (now minus) ⌝ }
     requires { ⌜ Bounded c ⌝ }
-    ensures { λ r. ⌜ Stepped (now (text .entry)) at c (now (sizes .exit)) (now (minus .exit)) r ⌝ }
+    ensures { λ r. ⌜ LineStepped (now (text .entry)) at c (now (sizes .exit)) (now (minus .exit)) r ⌝ }
 {
     match read_line(text, at, sizes, minus) {
         Line::Bad => Step::Fault(Refusal::BadLine),

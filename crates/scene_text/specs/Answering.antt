@@ -5,22 +5,23 @@ use mathlib.Core.Path.{_≡_, refl, sym, ap, _∙_}
 use Prim.Native.Nat.{ℕ, _*_, _≤_, _<_}
 use native.Mathlib.Omega.{arith}
 use lib.Dec.{ltb}
-use lib.ListN.{length}
+use lib.ListN.{length, take}
 use borrow.Author.Tests.{lt-ltb, le-ltb, ltb-false}
+use Rattle.sequences.specs.Wrote.{written}
 use Rattle.scenes.specs.Below.{or-left, or-rest}
-use Rattle.meaning.specs.Limits.{vertexLimit, edgeLimit, triangleLimit, textLimit}
+use Rattle.meaning.specs.Limits.{textLimit}
 use Rattle.meaning.specs.Scene.{Scene}
 use Rattle.meaning.specs.Refusals.{Outcome, given, refused, numberOf}
-use Rattle.meaning.specs.Text.{Holds, TextIs, shortBuffer, longText, TextOutcome, countsOf, countsTold, textSays, filled, TextRead}
+use Rattle.meaning.specs.Text.{FaultyAt, TextIs, shortBuffer, longText, TextOutcome, countsOf, countsTold, textSays, filled, TextRead}
 use Rattle.meaning.specs.declared.Refusal.{Refusal}
 use Rattle.meaning.specs.declared.Refusal.the-variants.{ShortBuffer, LongText}
 use Rattle.meaning.specs.declared.SceneCounts.{SceneCounts}
 use Rattle.meaning.specs.declared.TextAnswer.{TextAnswer}
 use Rattle.meaning.specs.declared.TextAnswer.the-variants.{Read, Refused}
-use Rattle.scene_text.specs.Unique.{text-unique}
-use Rattle.scene_text.specs.Inspecting.{Inspected}
+use Rattle.scene_line.specs.Above.{Bounded, lengths-count}
 use Rattle.scene_text.specs.Putting.{Roomy}
-use Rattle.scene_text.specs.Filling.{HoldsOne, Filled}
+use Rattle.scene_text.specs.Drafting.{Fronts}
+use Rattle.scene_text.specs.Reading.{DraftRead, DraftIs}
 
 pub roomy : (lent : Scene) → shortBuffer lent ≡ false → Roomy lent
 roomy lent e =
@@ -28,12 +29,40 @@ roomy lent e =
       positions = ltb-false _ _ (search (or-left, or-rest));
       edges = ltb-false _ _ (search (or-left, or-rest));
       triangles = ltb-false _ _ (search (or-left, or-rest));
+      seams = ltb-false _ _ (search (or-left, or-rest));
     }
 
-refused-leaves : (o : Outcome Scene) {n line : ℕ} → refused n line ≡ countsTold o → (lent : Scene) → lent ≡ filled o lent
-unfolding countsTold filled
-refused-leaves (given s) e lent = let z : _≡_ {A = ℕ} 0 1 = cc in absurd (omega arith)
-refused-leaves (refused m place) e lent = refl
+-- ---- the draft copied
+
+-- so many numbers of each of its buffers are in front of the lent ones
+pub record Copied (c : SceneCounts) (own lent left : Scene) : Type 0 where
+  pub positions : left .positions ≡ written (take (6 * c .vertices) (own .positions)) (lent .positions)
+  pub edges : left .edges ≡ written (take (2 * c .edges) (own .edges)) (lent .edges)
+  pub triangles : left .triangles ≡ written (take (3 * c .triangles) (own .triangles)) (lent .triangles)
+  pub seams : left .seams ≡ written (take (2 * c .seams) (own .seams)) (lent .seams)
+
+copied-filled : {c : SceneCounts} {own lent left s : Scene} → Fronts own s c → Copied c own lent left → left ≡ filled (given s) lent
+unfolding filled
+copied-filled {lent} {left} {s} f k =
+    let positions : left .positions ≡ written (s .positions) (lent .positions) = k .positions ∙ ap (λ l. written l (lent .positions)) (f .positions) in
+    let edges : left .edges ≡ written (s .edges) (lent .edges) = k .edges ∙ ap (λ l. written l (lent .edges)) (f .edges) in
+    let triangles : left .triangles ≡ written (s .triangles) (lent .triangles) = k .triangles ∙ ap (λ l. written l (lent .triangles)) (f .triangles) in
+    let seams : left .seams ≡ written (s .seams) (lent .seams) = k .seams ∙ ap (λ l. written l (lent .seams)) (f .seams) in
+    λ i. record { positions = positions i; edges = edges i; triangles = triangles i; seams = seams i }
+
+-- ---- the answer
+
+module _ (text : List ℕ) (own : Scene) (table : List ℕ) {r : TextAnswer} (d : DraftIs text own table r) where
+  faulty : {x : Refusal} {line : ℕ} → r ≡ Refused x line → FaultyAt text (numberOf x) line
+  unfolding DraftIs
+  faulty e = rw e at d
+
+  held : {c : SceneCounts} → r ≡ Read c → DraftRead text own table c
+  unfolding DraftIs
+  held e = rw e at d
+
+  pub draft-bounded : {c : SceneCounts} → r ≡ Read c → Bounded c
+  draft-bounded e = held e .drafted .above .bounded
 
 module _ (text : List ℕ) (lent : Scene) where
   pub read-short : shortBuffer lent ≡ true → TextRead text lent lent (Refused ShortBuffer 0)
@@ -46,34 +75,28 @@ module _ (text : List ℕ) (lent : Scene) where
     read-long h = record { outcome = refused 8 0; right = rw (wide, lt-ltb textLimit (length text) h) refl; says = refl; leaves = refl }
 
     module _ (brief : length text ≤ textLimit) where
-      -- what the first pass found is the outcome
+      -- what the draft found is the outcome
       outcome : (o : Outcome Scene) → TextIs text o → TextOutcome text lent o
       outcome o t = rw (wide, le-ltb textLimit (length text) brief) t
 
-      pub read-refused : {r : TextAnswer} {x : Refusal} {line : ℕ} → Inspected text r → r ≡ Refused x line → TextRead text lent lent (Refused x line)
-      unfolding textSays
-      read-refused {x} {line} i e =
-          let says : refused (numberOf x) line ≡ countsTold (i .outcome) = ap textSays (sym e) ∙ i .says in
-          record { outcome = i .outcome; right = outcome (i .outcome) (i .right); says = says; leaves = refused-leaves (i .outcome) says lent }
+      module _ (own : Scene) (table : List ℕ) {r : TextAnswer} (d : DraftIs text own table r) where
+        pub read-refused : {x : Refusal} {line : ℕ} → r ≡ Refused x line → TextRead text lent lent (Refused x line)
+        unfolding TextIs textSays countsTold filled
+        read-refused {x} {line} e =
+            record {
+              outcome = refused (numberOf x) line;
+              right = outcome (refused (numberOf x) line) (faulty text own table d e);
+              says = refl;
+              leaves = refl;
+            }
 
-      pub read-given : {r : TextAnswer} {c : SceneCounts} {left : Scene} → Inspected text r → r ≡ Read c → Filled text lent left
-          → TextRead text lent left (Read c)
-      unfolding TextIs
-      read-given i e f =
-          let same : i .outcome ≡ given (f .scene) = text-unique text (i .outcome) (given (f .scene)) (i .right) (f .holds) in
-          record {
-            outcome = given (f .scene);
-            right = outcome (given (f .scene)) (f .holds);
-            says = ap textSays (sym e) ∙ i .says ∙ ap countsTold same;
-            leaves = f .leaves;
-          }
-
--- a text that is not refused by the first pass is a scene's
-held : {text : List ℕ} {c : SceneCounts} (o : Outcome Scene) → TextIs text o → given c ≡ countsTold o → HoldsOne text
-unfolding TextIs countsTold
-held (given s) h e = record { scene = s; holds = h }
-held (refused n line) h e = let z : _≡_ {A = ℕ} 0 1 = cc in absurd (omega arith)
-
-pub holds-one : {text : List ℕ} {r : TextAnswer} {c : SceneCounts} → Inspected text r → r ≡ Read c → HoldsOne text
-unfolding textSays
-holds-one i e = held (i .outcome) (i .right) (ap textSays (sym e) ∙ i .says)
+        pub read-given : {c : SceneCounts} {left : Scene} → r ≡ Read c → Copied c own lent left → TextRead text lent left (Read c)
+        unfolding TextIs textSays countsTold
+        read-given e k =
+            let h : DraftRead text own table _ = held text own table d e in
+            record {
+              outcome = given (h .scene);
+              right = outcome (given (h .scene)) (h .holds);
+              says = ap given (lengths-count (h .drafted .above .lengths));
+              leaves = copied-filled (h .drafted .fronts) k;
+            }

@@ -1,8 +1,10 @@
--- Texts of scenes: that the meaning of a text is one, that a scene read from one is accepted, and what the reader's functions promise.
+-- The reader of scene texts: what a draft holds, what each of the reader's steps promises, and what follows from its answer.
 pub mod Unique
-pub mod Inspecting
-pub mod Putting
-pub mod Filling
-pub mod Answering
 pub mod Accepted
+pub mod Putting
+pub mod Holding
+pub mod Drafting
+pub mod Reading
+pub mod Copying
+pub mod Answering
 pub mod Using

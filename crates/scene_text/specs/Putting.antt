@@ -1,5 +1,5 @@
--- What is put into the lent buffers for a record, and when it can be.
-use mathlib.Core.Bool.{Bool, true, false}
+-- What is put into the buffers for a record, and when it can be.
+use mathlib.Core.Bool.{Bool, true, false, _||_}
 use mathlib.Core.List.{List, [], _∷_, _++_, map}
 use mathlib.Core.Path.{_≡_, refl, sym, ap, _∙_}
 use Prim.Native.Nat.{ℕ, suc, _+_, _*_, _^_, _≤_, _<_}
@@ -14,16 +14,18 @@ use Rattle.sequences.specs.Wrote.{Wrote, wrote-none}
 use Rattle.scenes.specs.Below.{or-left, or-rest}
 use Rattle.fields.specs.Field.{negative}
 use Rattle.fields.specs.Ended.{InFront}
-use Rattle.meaning.specs.Limits.{coordinateLimit, vertexLimit, edgeLimit, triangleLimit}
-use Rattle.meaning.specs.Scene.{Scene, sceneOf}
+use Rattle.meaning.specs.Limits.{coordinateLimit, vertexLimit, edgeLimit, triangleLimit, seamLimit}
+use Rattle.meaning.specs.Scene.{Scene, sceneOf, outside}
 use Rattle.meaning.specs.Refusals.{given}
-use Rattle.meaning.specs.Text.{Entry, vertex, edge, triangle, coordinates, numbersOf, EntryJudged, far, unknown, excess, counted, coordinatesIn, endsIn, cornersIn, shortBuffer}
+use Rattle.meaning.specs.Text.{Entry, vertex, edge, triangle, seam, coordinates, numbersOf, coordinatesIn, endsIn, cornersIn, seamIn}
 use Rattle.meaning.specs.declared.SceneCounts.{SceneCounts}
 use Rattle.scene_line.specs.Reading.{sortOf}
 use Rattle.fields.specs.Tabbed.{sized-at}
-use Rattle.scene_line.specs.Stepping.{Bounded, Faultless, faultless}
+use Rattle.scene_line.specs.Above.{Above, Bounded, countedBy, Faultless, faultless}
+use Rattle.scene_line.specs.Checks.{Comes, comes-vertex, comes-edge, comes-triangle, SeamComes, comes-seam}
+use Rattle.scene_line.specs.Judging.{Begun, SeamJudging, SeamBegun}
 use Rattle.scene_line.specs.declared.Sort.{Sort}
-use Rattle.scene_line.specs.declared.Sort.the-variants.{Vertex, Edge, Triangle}
+use Rattle.scene_line.specs.declared.Sort.the-variants.{Vertex, Edge, Triangle, Seam}
 
 -- ---- numbers from the two buffers
 
@@ -90,10 +92,16 @@ pub record TriangleReady (c : SceneCounts) (sizes : List ℕ) : Type 0 where
   pub third : getD sizes 2 0 < vertexLimit
   pub place : c .triangles < triangleLimit
 
+pub record SeamReady (c : SceneCounts) (sizes : List ℕ) : Type 0 where
+  pub first : getD sizes 0 0 < vertexLimit
+  pub second : getD sizes 1 0 < vertexLimit
+  pub place : c .seams < seamLimit
+
 unfoldable pub ReadyAs : Sort → SceneCounts → List ℕ → Type 0
 ReadyAs Vertex c sizes = VertexReady c sizes
 ReadyAs Edge c sizes = EdgeReady c sizes
 ReadyAs Triangle c sizes = TriangleReady c sizes
+ReadyAs Seam c sizes = SeamReady c sizes
 
 pub record Ready (sort : Sort) (c : SceneCounts) (sizes : List ℕ) (minus : List Bool) : Type 0 where
   pub sized : 6 ≤ length sizes
@@ -113,18 +121,24 @@ module _ {sort : Sort} {c : SceneCounts} {sizes : List ℕ} {minus : List Bool} 
   unfolding ReadyAs
   ready-triangle e = rw e at (r .fits)
 
+  pub ready-seam : sort ≡ Seam → SeamReady c sizes
+  unfolding ReadyAs
+  ready-seam e = rw e at (r .fits)
+
 -- the buffers have room for the largest scene
 pub record Roomy (lent : Scene) : Type 0 where
   pub positions : 6 * vertexLimit ≤ length (lent .positions)
   pub edges : 2 * edgeLimit ≤ length (lent .edges)
   pub triangles : 3 * triangleLimit ≤ length (lent .triangles)
+  pub seams : 2 * seamLimit ≤ length (lent .seams)
 
 -- ---- what is put
 
 pub record PutEntry (c : SceneCounts) (r : Entry) (lent left : Scene) : Type 0 where
-  pub positions : Wrote (lent .positions) (6 * c .vertices) (coordinatesIn r) (left .positions) (6 * counted c r .vertices)
-  pub edges : Wrote (lent .edges) (2 * c .edges) (endsIn r) (left .edges) (2 * counted c r .edges)
-  pub triangles : Wrote (lent .triangles) (3 * c .triangles) (cornersIn r) (left .triangles) (3 * counted c r .triangles)
+  pub positions : Wrote (lent .positions) (6 * c .vertices) (coordinatesIn r) (left .positions) (6 * countedBy c (sortOf r) .vertices)
+  pub edges : Wrote (lent .edges) (2 * c .edges) (endsIn r) (left .edges) (2 * countedBy c (sortOf r) .edges)
+  pub triangles : Wrote (lent .triangles) (3 * c .triangles) (cornersIn r) (left .triangles) (3 * countedBy c (sortOf r) .triangles)
+  pub seams : Wrote (lent .seams) (2 * c .seams) (seamIn r) (left .seams) (2 * countedBy c (sortOf r) .seams)
 
 -- whatever record of this kind has these numbers
 unfoldable pub Put : Sort → SceneCounts → List ℕ → List Bool → Scene → Scene → Type 0
@@ -132,6 +146,7 @@ Put Vertex c sizes minus lent left = (p q : Vector) → InFront (coordinates p q
 Put Edge c sizes minus lent left = (a b : ℕ) → InFront (pos a ∷ pos b ∷ []) sizes minus → PutEntry c (edge a b) lent left
 Put Triangle c sizes minus lent left =
     (a b d : ℕ) → InFront (pos a ∷ pos b ∷ pos d ∷ []) sizes minus → PutEntry c (triangle a b d) lent left
+Put Seam c sizes minus lent left = (a b : ℕ) → InFront (pos a ∷ pos b ∷ []) sizes minus → PutEntry c (seam a b) lent left
 
 -- ---- the laws
 
@@ -141,14 +156,16 @@ small : {c : SceneCounts} → Bounded c → (zs : List ℤ) (sizes : List ℕ) (
 small {c} b zs sizes i e h k =
     rw (sized-at zs sizes i e h) (omega (arith, leb-false (c .vertices) (natAbs (getD zs i (pos 0))) k, b .vertices))
 
--- a record that is not at fault, with its numbers in front of the buffers, can be put
-pub ready-entry : {c : SceneCounts} {sizes : List ℕ} {minus : List Bool} (r : Entry) → Bounded c → EntryJudged c r (given tt)
+-- a record that may stand below a scene can be put
+pub ready-entry : {s : Scene} {c : SceneCounts} {sizes : List ℕ} {minus : List Bool} (r : Entry) → Above s c → Begun s r (given tt)
     → InFront (numbersOf r) sizes minus → ReadyAs (sortOf r) c sizes
-unfolding ReadyAs sortOf numbersOf far unknown excess
-ready-entry {c} {sizes} {minus} (vertex p q) b a f =
+unfolding ReadyAs sortOf numbersOf Begun SeamJudging
+ready-entry {s} {c} {sizes} {minus} (vertex p q) a b f =
     let zs : List ℤ = coordinates p q in
-    let z : Faultless c (vertex p q) = faultless (vertex p q) a in
-    let near : far (vertex p q) ≡ false = z .near in
+    let z : Faultless s (vertex p q) = faultless (vertex p q) b in
+    let k = comes-vertex a p q in
+    let near : outside (p .x) || outside (p .y) || outside (p .z) || outside (q .x) || outside (q .y) || outside (q .z) ≡ false =
+    sym (k .range) ∙ z .near in
     record {
       start = record {
         first = rw (sized-at zs sizes 0 (f .sized) (omega arith)) (ltb-false _ _ (search (or-left, or-rest)));
@@ -160,26 +177,37 @@ ready-entry {c} {sizes} {minus} (vertex p q) b a f =
         second = rw (sized-at zs sizes 4 (f .sized) (omega arith)) (ltb-false _ _ (search (or-left, or-rest)));
         third = rw (sized-at zs sizes 5 (f .sized) (omega arith)) (ltb-false _ _ (search (or-left, or-rest)));
       };
-      place = leb-false _ _ (z .room);
+      place = leb-false _ _ (sym (k .over) ∙ z .room);
     }
-ready-entry {c} {sizes} {minus} (edge i j) b a f =
+ready-entry {s} {c} {sizes} {minus} (edge i j) a b f =
     let zs : List ℤ = pos i ∷ pos j ∷ [] in
-    let z : Faultless c (edge i j) = faultless (edge i j) a in
-    let known : unknown c (edge i j) ≡ false = z .known in
+    let z : Faultless s (edge i j) = faultless (edge i j) b in
+    let k = comes-edge a i j in
+    let known : leb (c .vertices) i || leb (c .vertices) j ≡ false = sym (k .known) ∙ z .known in
     record {
-      first = small b zs sizes 0 (f .sized) (omega arith) (search (or-left, or-rest));
-      second = small b zs sizes 1 (f .sized) (omega arith) (search (or-left, or-rest));
-      place = leb-false _ _ (z .room);
+      first = small (a .bounded) zs sizes 0 (f .sized) (omega arith) (search (or-left, or-rest));
+      second = small (a .bounded) zs sizes 1 (f .sized) (omega arith) (search (or-left, or-rest));
+      place = leb-false _ _ (sym (k .over) ∙ z .room);
     }
-ready-entry {c} {sizes} {minus} (triangle i j k) b a f =
-    let zs : List ℤ = pos i ∷ pos j ∷ pos k ∷ [] in
-    let z : Faultless c (triangle i j k) = faultless (triangle i j k) a in
-    let known : unknown c (triangle i j k) ≡ false = z .known in
+ready-entry {s} {c} {sizes} {minus} (triangle i j d) a b f =
+    let zs : List ℤ = pos i ∷ pos j ∷ pos d ∷ [] in
+    let z : Faultless s (triangle i j d) = faultless (triangle i j d) b in
+    let k = comes-triangle a i j d in
+    let known : leb (c .vertices) i || leb (c .vertices) j || leb (c .vertices) d ≡ false = sym (k .known) ∙ z .known in
     record {
-      first = small b zs sizes 0 (f .sized) (omega arith) (search (or-left, or-rest));
-      second = small b zs sizes 1 (f .sized) (omega arith) (search (or-left, or-rest));
-      third = small b zs sizes 2 (f .sized) (omega arith) (search (or-left, or-rest));
-      place = leb-false _ _ (z .room);
+      first = small (a .bounded) zs sizes 0 (f .sized) (omega arith) (search (or-left, or-rest));
+      second = small (a .bounded) zs sizes 1 (f .sized) (omega arith) (search (or-left, or-rest));
+      third = small (a .bounded) zs sizes 2 (f .sized) (omega arith) (search (or-left, or-rest));
+      place = leb-false _ _ (sym (k .over) ∙ z .room);
+    }
+ready-entry {s} {c} {sizes} {minus} (seam i j) a b f =
+    let zs : List ℤ = pos i ∷ pos j ∷ [] in
+    let k : SeamComes a i j = comes-seam a i j in
+    let known : leb (c .vertices) i || leb (c .vertices) j ≡ false = sym (k .known) ∙ b .known in
+    record {
+      first = small (a .bounded) zs sizes 0 (f .sized) (omega arith) (search (or-left, or-rest));
+      second = small (a .bounded) zs sizes 1 (f .sized) (omega arith) (search (or-left, or-rest));
+      place = leb-false _ _ (sym (k .over) ∙ b .room);
     }
 
 -- what was put is the record's
@@ -189,25 +217,27 @@ module _ (c : SceneCounts) (sizes : List ℕ) (minus : List Bool) (lent : Scene)
   put-as (vertex p q) f w = w p q f
   put-as (edge a b) f w = w a b f
   put-as (triangle a b d) f w = w a b d f
+  put-as (seam a b) f w = w a b f
 
   pub put-entry : {sort : Sort} {left : Scene} (r : Entry) → sortOf r ≡ sort → InFront (numbersOf r) sizes minus
       → Put sort c sizes minus lent left → PutEntry c r lent left
   put-entry r e f w = put-as r f (rw e w)
 
   pub puts-vertex : {o : List ℤ} → Wrote (lent .positions) (6 * c .vertices) (vertexFrom sizes minus) o (6 * c .vertices + 6)
-      → Put Vertex c sizes minus lent (sceneOf o (lent .edges) (lent .triangles))
-  unfolding Put counted coordinatesIn endsIn cornersIn
+      → Put Vertex c sizes minus lent (sceneOf o (lent .edges) (lent .triangles) (lent .seams))
+  unfolding Put countedBy sortOf coordinatesIn endsIn cornersIn seamIn
   puts-vertex w p q f =
       let next : 6 * c .vertices + 6 ≡ 6 * (c .vertices + 1) = omega arith in
       record {
         positions = rw (vertex-from p q f, next) at w;
         edges = wrote-none (lent .edges) (2 * c .edges);
         triangles = wrote-none (lent .triangles) (3 * c .triangles);
+        seams = wrote-none (lent .seams) (2 * c .seams);
       }
 
   pub puts-edge : {o : List ℕ} → Wrote (lent .edges) (2 * c .edges) (getD sizes 0 0 ∷ getD sizes 1 0 ∷ []) o (2 * c .edges + 2)
-      → Put Edge c sizes minus lent (sceneOf (lent .positions) o (lent .triangles))
-  unfolding Put counted coordinatesIn endsIn cornersIn
+      → Put Edge c sizes minus lent (sceneOf (lent .positions) o (lent .triangles) (lent .seams))
+  unfolding Put countedBy sortOf coordinatesIn endsIn cornersIn seamIn
   puts-edge w a b f =
       let zs : List ℤ = pos a ∷ pos b ∷ [] in
       let next : 2 * c .edges + 2 ≡ 2 * (c .edges + 1) = omega arith in
@@ -215,11 +245,12 @@ module _ (c : SceneCounts) (sizes : List ℕ) (minus : List Bool) (lent : Scene)
         positions = wrote-none (lent .positions) (6 * c .vertices);
         edges = rw (sized-at zs sizes 0 (f .sized) (omega arith), sized-at zs sizes 1 (f .sized) (omega arith), next) at w;
         triangles = wrote-none (lent .triangles) (3 * c .triangles);
+        seams = wrote-none (lent .seams) (2 * c .seams);
       }
 
   pub puts-triangle : {o : List ℕ} → Wrote (lent .triangles) (3 * c .triangles) (getD sizes 0 0 ∷ getD sizes 1 0 ∷ getD sizes 2 0 ∷ []) o (3 * c .triangles + 3)
-      → Put Triangle c sizes minus lent (sceneOf (lent .positions) (lent .edges) o)
-  unfolding Put counted coordinatesIn endsIn cornersIn
+      → Put Triangle c sizes minus lent (sceneOf (lent .positions) (lent .edges) o (lent .seams))
+  unfolding Put countedBy sortOf coordinatesIn endsIn cornersIn seamIn
   puts-triangle w a b d f =
       let zs : List ℤ = pos a ∷ pos b ∷ pos d ∷ [] in
       let next : 3 * c .triangles + 3 ≡ 3 * (c .triangles + 1) = omega arith in
@@ -232,4 +263,18 @@ module _ (c : SceneCounts) (sizes : List ℕ) (minus : List Bool) (lent : Scene)
           sized-at zs sizes 2 (f .sized) (omega arith),
           next,
         ) at w;
+        seams = wrote-none (lent .seams) (2 * c .seams);
+      }
+
+  pub puts-seam : {o : List ℕ} → Wrote (lent .seams) (2 * c .seams) (getD sizes 0 0 ∷ getD sizes 1 0 ∷ []) o (2 * c .seams + 2)
+      → Put Seam c sizes minus lent (sceneOf (lent .positions) (lent .edges) (lent .triangles) o)
+  unfolding Put countedBy sortOf coordinatesIn endsIn cornersIn seamIn
+  puts-seam w a b f =
+      let zs : List ℤ = pos a ∷ pos b ∷ [] in
+      let next : 2 * c .seams + 2 ≡ 2 * (c .seams + 1) = omega arith in
+      record {
+        positions = wrote-none (lent .positions) (6 * c .vertices);
+        edges = wrote-none (lent .edges) (2 * c .edges);
+        triangles = wrote-none (lent .triangles) (3 * c .triangles);
+        seams = rw (sized-at zs sizes 0 (f .sized) (omega arith), sized-at zs sizes 1 (f .sized) (omega arith), next) at w;
       }

@@ -5,16 +5,15 @@ use Prim.Native.Nat.{ℕ}
 use Rattle.meaning.specs.Scene.{Scene}
 use Rattle.meaning.specs.Refusals.{Outcome, given, refused}
 use Rattle.meaning.specs.Lines as Lines
-use Rattle.meaning.specs.Text.{Entry, counted, sceneLines, Sound, sceneFrom, Holds, FaultyAt, TextIs}
-use Rattle.meaning.specs.declared.SceneCounts.{SceneCounts}
+use Rattle.meaning.specs.Text.{Entry, sceneWith, sceneLines, Sound, sceneFrom, Holds, FaultyAt, TextIs}
 use Rattle.lines.specs.Unique.{records-unique, sound-or-faulty, faulty-unique}
 use Rattle.scene_line.specs.Rendered.{scene-readable}
 
 -- no check of a scene's record asks whether its line is the last
-pub sound-anywhere : (c : SceneCounts) (rs : List Entry) (x y : List ℕ) → Lines.Sound sceneLines c rs x → Lines.Sound sceneLines c rs y
+pub sound-anywhere : (s : Scene) (rs : List Entry) (x y : List ℕ) → Lines.Sound sceneLines s rs x → Lines.Sound sceneLines s rs y
 unfolding Lines.Sound
-sound-anywhere c [] x y h = tt
-sound-anywhere c (r ∷ rs) x y h = (h .0, h .1, sound-anywhere (counted c r) rs x y (h .2))
+sound-anywhere s [] x y h = tt
+sound-anywhere s (r ∷ rs) x y h = (h .0, h .1, sound-anywhere (sceneWith s r) rs x y (h .2))
 
 pub text-unique : (text : List ℕ) (o o′ : Outcome Scene) → TextIs text o → TextIs text o′ → o ≡ o′
 unfolding TextIs

@@ -5,7 +5,7 @@ use mathlib.Core.List.{List, _++_}
 use mathlib.Core.Logic.{_⊎_, inl, inr, ⊎-elim}
 use mathlib.Core.Path.{_≡_, refl, sym, ap, _∙_, subst}
 use Prim.Native.Nat.{ℕ, _*_, _≤_}
-use Rattle.meaning.specs.Limits.{vertexLimit, edgeLimit, triangleLimit, textLimit}
+use Rattle.meaning.specs.Limits.{vertexLimit, edgeLimit, triangleLimit, seamLimit, textLimit}
 use native.Mathlib.Omega.{arith}
 use borrow.Author.Tests.{ltb-false}
 use lib.ListN.{length, take, drop}
@@ -13,7 +13,8 @@ use lib.Seq.{take-append-seam}
 use Rattle.sequences.specs.Pick.{either}
 use Rattle.scenes.specs.Facts.{Sized, accepted-sized}
 use Rattle.scenes.specs.Speaking.{one-number}
-use Rattle.meaning.specs.Scene.{Scene, sceneOf, Accepted}
+use Rattle.meaning.specs.Scene.{Scene, sceneOf, Accepted, seamCount, wrongShape}
+use Rattle.scenes.specs.Below.{or-left, or-rest}
 use Rattle.meaning.specs.Refusals.{Outcome, given, refused, numberOf}
 use Rattle.meaning.specs.Text.{Holds, FaultyAt, TextIs, shortBuffer, longText, TextOutcome, countsOf, countsTold, textSays, filled, TextRead}
 use Rattle.meaning.specs.declared.Refusal.{Refusal}
@@ -67,6 +68,7 @@ one-text-answer {text} {lent} {left} {left′} {r} {r′} a b =
 abbrev pub frontOf : SceneCounts → Scene → Scene
 frontOf c b =
     sceneOf (take (6 * c .vertices) (b .positions)) (take (2 * c .edges) (b .edges)) (take (3 * c .triangles) (b .triangles))
+    (take (2 * c .seams) (b .seams))
 
 outcome-read : {c : SceneCounts} (o : Outcome Scene) → given c ≡ countsTold o → (s : Scene) × (o ≡ given s) × (c ≡ countsOf s)
 unfolding countsTold
@@ -99,7 +101,11 @@ read-scene-of {text} {lent} {left} {c} a =
     let triangles : take (3 * c .triangles) (left .triangles) ≡ s .triangles =
     front-is (s .triangles) (lent .triangles) (left .triangles) (3 * c .triangles) (ap (λ (b : Scene). b .triangles) leaves)
     (sized .trianglesLong ∙ ap (λ (k : SceneCounts). 3 * k .triangles) (sym counts)) in
-    let front : frontOf c left ≡ s = λ i. record { positions = positions i; edges = edges i; triangles = triangles i } in
+    let seams : take (2 * c .seams) (left .seams) ≡ s .seams =
+    front-is (s .seams) (lent .seams) (left .seams) (2 * c .seams) (ap (λ (b : Scene). b .seams) leaves)
+    (sized .seamsLong ∙ ap (λ (k : SceneCounts). 2 * k .seams) (sym counts)) in
+    let front : frontOf c left ≡ s =
+    λ i. record { positions = positions i; edges = edges i; triangles = triangles i; seams = seams i } in
     (rw front holds, rw front (text-accepted holds))
 
 -- ---- after a refusal
@@ -122,13 +128,17 @@ pub record FewOf (c : SceneCounts) : Type 0 where
   pub vertices : c .vertices ≤ vertexLimit
   pub edges : c .edges ≤ edgeLimit
   pub triangles : c .triangles ≤ triangleLimit
+  pub seams : c .seams ≤ seamLimit
 
 pub read-counts-few : {text : List ℕ} {lent left : Scene} {c : SceneCounts} → TextRead text lent left (Read c) → FewOf c
 unfolding textSays
 read-counts-few {text} {lent} {left} {c} a =
     let (s, is, counts) = outcome-read (a .outcome) (a .says) in
-    let sized : Sized s = accepted-sized (text-accepted (given-holds s (came text lent (a .outcome) (a .right)) is)) in
-    rw counts (record { vertices = sized .fewVertices; edges = sized .fewEdges; triangles = sized .fewTriangles })
+    let accepted : Accepted s = text-accepted (given-holds s (came text lent (a .outcome) (a .right)) is) in
+    let shapely : wrongShape s ≡ false = accepted .shapely in
+    let sized : Sized s = accepted-sized accepted in
+    let few : seamCount s ≤ seamLimit = ltb-false _ _ (search (or-left, or-rest)) in
+    rw counts (record { vertices = sized .fewVertices; edges = sized .fewEdges; triangles = sized .fewTriangles; seams = few })
 
 -- ---- an answer that turned out so
 

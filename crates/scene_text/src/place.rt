@@ -1,4 +1,4 @@
-// A record goes to its place in the lent buffers: coordinates, ends or corners.
+// A record goes to its place in the buffers: coordinates, ends, corners, or the two vertices of a seam.
 ghost use Prim.Native.Nat.{_+_, _≤_};
 ghost use lib.ListN.{length};
 ghost use mathlib.Core.List.{[], _∷_};
@@ -47,7 +47,8 @@ fn put_vertex(out: &mut [i32], at: usize, sizes: &[u64], minus: &[bool])
     put_point(out, at + 3, sizes, minus, 3);
 }
 
-fn put_edge(out: &mut [u16], at: usize, a: u16, b: u16)
+// An edge, or a seam.
+fn put_two(out: &mut [u16], at: usize, a: u16, b: u16)
     requires { ⌜ at + 2 ≤ length (now out) ⌝ }
     ensures { λ _. ⌜ Wrote (now (out .entry)) at (a ∷ b ∷ []) (now (out .exit)) (at + 2) ⌝ }
 {
@@ -73,14 +74,15 @@ pub(crate) fn put(
     positions: &mut [i32],
     edges: &mut [u16],
     triangles: &mut [u16],
+    seams: &mut [u16],
 )
     requires { ⌜ Ready sort c (now sizes) (now minus) ⌝ }
-    requires { ⌜ Roomy (sceneIn positions edges triangles) ⌝ }
-    ensures { λ _. ⌜ Put sort c (now (sizes .entry)) (now (minus .entry)) (sceneAtEntry positions edges triangles) (sceneAtExit positions edges triangles) ⌝ }
+    requires { ⌜ Roomy (sceneIn positions edges triangles seams) ⌝ }
+    ensures { λ _. ⌜ Put sort c (now (sizes .entry)) (now (minus .entry)) (sceneAtEntry positions edges triangles seams) (sceneAtExit positions edges triangles seams) ⌝ }
 {
     match sort {
         Sort::Vertex => put_vertex(positions, 6 * c.vertices, sizes, minus),
-        Sort::Edge => put_edge(edges, 2 * c.edges, sizes[0] as u16, sizes[1] as u16),
+        Sort::Edge => put_two(edges, 2 * c.edges, sizes[0] as u16, sizes[1] as u16),
         Sort::Triangle => put_triangle(
             triangles,
             3 * c.triangles,
@@ -88,5 +90,6 @@ pub(crate) fn put(
             sizes[1] as u16,
             sizes[2] as u16,
         ),
+        Sort::Seam => put_two(seams, 2 * c.seams, sizes[0] as u16, sizes[1] as u16),
     }
 }

@@ -20,6 +20,8 @@ use Rattle.scene_words.specs.Listed.{wordsOf, bytesOf, all-judged, ListS
 use Rattle.meaning.specs.declared.Made.{Made}
 use Rattle.entries.specs.Entries.{written-at, written-room}
 use Rattle.scenes.specs.Answering.{is-given}
+use Rattle.scenes.specs.Alone.{tabled}
+use Rattle.scenes.specs.Checking.{Stitched, from-table}
 use borrow.Author.Tests.{ltb-false}
 use native.Mathlib.Nat.{le-trans}
 
@@ -50,6 +52,11 @@ judged-accepted s {o} {o′} {b} {b′} {r} a j =
       right = all-judged s (pairs s);
       bytes = j .bytes;
     }
+
+-- what holds of the scene that the table tells holds of the scene
+pub settled-in-table : {s : Scene} {t t′ : List ℕ} → Stitched s t t′ → Accepted s → {room : ℕ} {o o′ b b′ : List ℕ} {r : ListAnswer}
+    → SettledIn (tabled (s .positions) (s .edges) (s .triangles) t′) room o o′ b b′ r → SettledIn s room o o′ b b′ r
+settled-in-table h a {room} {o} {o′} {b} {b′} {r} p = from-table (λ (u : Scene). SettledIn u room o o′ b b′ r) h a p
 
 -- ---- what a made list says
 

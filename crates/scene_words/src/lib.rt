@@ -4,14 +4,16 @@ ghost use Prim.Native.Nat.{_≤_, _<_, min};
 ghost use mathlib.Core.Path.{_≡_};
 ghost use lib.ListN.{length, getD};
 ghost use Rattle.sequences.specs.Wrote.{written};
-ghost use Rattle.meaning.specs.Scene.{sceneIn, sceneAtEntry, Accepted};
+ghost use Rattle.meaning.specs.Scene.{sceneAtEntry, Accepted};
 ghost use Rattle.meaning.specs.List.{pairs, roomOf};
 ghost use Rattle.meaning.specs.SceneWords.{byteOf, SettledScene};
+ghost use Rattle.scenes.specs.Alone.{tabledIn, tabledAtEntry};
 ghost use Rattle.scene_words.specs.Listed.{bytesOf, ListStands, StandsFor};
 ghost use Rattle.scene_words.specs.Answering.{SettledIn};
 use meaning::ListAnswer;
 use meaning::SceneAnswer;
 use meaning::Settled;
+use meaning::VERTEX_LIMIT;
 
 // The answer to "which word does this byte stand for?".
 pub enum ByteAnswer {
@@ -51,15 +53,22 @@ pub fn word_of(byte: u8) -> ByteAnswer
 }
 
 // The k-th entry of the list, judged.
-fn settle_entry(positions: &[i32], edges: &[u16], triangles: &[u16], list: &[u32], k: usize) -> u8
-    requires { ⌜ Accepted (sceneIn positions edges triangles) × ListStands (sceneIn positions edges triangles) (now list) × (k < length (pairs (sceneIn positions edges triangles))) ⌝ }
-    ensures { λ r. ⌜ r ≡ getD (bytesOf (sceneAtEntry positions edges triangles) (pairs (sceneAtEntry positions edges triangles))) k 0 ⌝ }
+fn settle_entry(
+    positions: &[i32],
+    edges: &[u16],
+    triangles: &[u16],
+    stands: &[u16],
+    list: &[u32],
+    k: usize,
+) -> u8
+    requires { ⌜ Accepted (tabledIn positions edges triangles stands) × ListStands (tabledIn positions edges triangles stands) (now list) × (k < length (pairs (tabledIn positions edges triangles stands))) ⌝ }
+    ensures { λ r. ⌜ r ≡ getD (bytesOf (tabledAtEntry positions edges triangles stands) (pairs (tabledAtEntry positions edges triangles stands))) k 0 ⌝ }
 {
     let entry = list[k];
     let kind = entries::kind_of(entry);
     let first = entries::first_of(entry);
     let second = entries::second_of(entry);
-    byte_of(four_words::accepted::pair(positions, edges, triangles, kind, first, second))
+    byte_of(four_words::accepted::pair(positions, edges, triangles, stands, kind, first, second))
 }
 
 // Each entry in turn.
@@ -67,16 +76,17 @@ fn settle_entries(
     positions: &[i32],
     edges: &[u16],
     triangles: &[u16],
+    stands: &[u16],
     list: &[u32],
     out: &mut [u8],
     count: usize,
 )
-    requires { ⌜ Accepted (sceneIn positions edges triangles) × ListStands (sceneIn positions edges triangles) (now list) × (count ≡ length (pairs (sceneIn positions edges triangles))) × (count ≤ length (now out)) ⌝ }
-    ensures { λ _. ⌜ now (out .exit) ≡ written (bytesOf (sceneAtEntry positions edges triangles) (pairs (sceneAtEntry positions edges triangles))) (now (out .entry)) ⌝ }
+    requires { ⌜ Accepted (tabledIn positions edges triangles stands) × ListStands (tabledIn positions edges triangles stands) (now list) × (count ≡ length (pairs (tabledIn positions edges triangles stands))) × (count ≤ length (now out)) ⌝ }
+    ensures { λ _. ⌜ now (out .exit) ≡ written (bytesOf (tabledAtEntry positions edges triangles stands) (pairs (tabledAtEntry positions edges triangles stands))) (now (out .entry)) ⌝ }
 {
     let mut k = 0;
     while k < count {
-        out[k] = settle_entry(positions, edges, triangles, list, k);
+        out[k] = settle_entry(positions, edges, triangles, stands, list, k);
         k += 1;
     }
 }
@@ -92,17 +102,18 @@ pub fn settle_accepted(
     positions: &[i32],
     edges: &[u16],
     triangles: &[u16],
+    stands: &[u16],
     list: &mut [u32],
     out: &mut [u8],
 ) -> ListAnswer
-    requires { ⌜ Accepted (sceneIn positions edges triangles) ⌝ }
-    ensures { λ r. ⌜ SettledIn (sceneAtEntry positions edges triangles) (min (roomOf (now (list .entry))) (length (now (out .entry)))) (now (list .entry)) (now (list .exit)) (now (out .entry)) (now (out .exit)) r ⌝ }
+    requires { ⌜ Accepted (tabledIn positions edges triangles stands) ⌝ }
+    ensures { λ r. ⌜ SettledIn (tabledAtEntry positions edges triangles stands) (min (roomOf (now (list .entry))) (length (now (out .entry)))) (now (list .entry)) (now (list .exit)) (now (out .entry)) (now (out .exit)) r ⌝ }
 {
     let room = smaller(entries::room(list), out.len());
     let mut tests = [0usize; 1];
-    match listing::accepted::list_accepted(positions, edges, triangles, list, room, &mut tests) {
+    match listing::accepted::list_accepted(positions, edges, triangles, stands, list, room, &mut tests) {
         ListAnswer::Listed(made) => {
-            settle_entries(positions, edges, triangles, list, out, made.count);
+            settle_entries(positions, edges, triangles, stands, list, out, made.count);
             ListAnswer::Listed(made)
         }
         ListAnswer::Refused(refusal, needed) => ListAnswer::Refused(refusal, needed),
@@ -114,13 +125,17 @@ pub fn settle_scene(
     positions: &[i32],
     edges: &[u16],
     triangles: &[u16],
+    seams: &[u16],
     list: &mut [u32],
     out: &mut [u8],
 ) -> ListAnswer
-    ensures { λ r. ⌜ SettledScene (sceneAtEntry positions edges triangles) (now (list .entry)) (now (list .exit)) (now (out .entry)) (now (out .exit)) r ⌝ }
+    ensures { λ r. ⌜ SettledScene (sceneAtEntry positions edges triangles seams) (now (list .entry)) (now (list .exit)) (now (out .entry)) (now (out .exit)) r ⌝ }
 {
-    if let SceneAnswer::Refused(refusal) = scenes::check_scene(positions, edges, triangles) {
+    let mut stands = [0u16; VERTEX_LIMIT];
+    if let SceneAnswer::Refused(refusal) = scenes::check_into(
+        positions, edges, triangles, seams, &mut stands,
+    ) {
         return ListAnswer::Refused(refusal, 0);
     }
-    settle_accepted(positions, edges, triangles, list, out)
+    settle_accepted(positions, edges, triangles, &stands, list, out)
 }

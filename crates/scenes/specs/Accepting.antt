@@ -1,4 +1,4 @@
--- From the check of a scene to an accepted scene and back, and the checks that come after the four.
+-- From the check of a scene to an accepted scene and back, and the checks that come after the five.
 use mathlib.Core.List.{List, _++_}
 use mathlib.Core.Path.{_≡_, subst}
 use Rattle.meaning.specs.Scene.{Scene, Accepted}
@@ -10,7 +10,7 @@ use Rattle.scenes.specs.Answering.{is-given, refused-before, given-befor
 
 pub accepted-checked : (s : Scene) → Accepted s → SceneChecked s SceneAnswers.the-variants.Accepted
 unfolding Answers sceneSays
-accepted-checked s a = rw (a .shapely, a .inRange, a .known, a .distinct) tt
+accepted-checked s a = rw (a .shapely, a .inRange, a .known, a .sewnWell, a .distinct) tt
 
 pub checked-accepted : (s : Scene) → SceneChecked s SceneAnswers.the-variants.Accepted → Accepted s
 unfolding sceneSays
@@ -19,7 +19,8 @@ checked-accepted s a =
     let (h2, a2) = is-given (λ t. Unit {0}) _ _ tt a1 in
     let (h3, a3) = is-given (λ t. Unit {0}) _ _ tt a2 in
     let (h4, a4) = is-given (λ t. Unit {0}) _ _ tt a3 in
-    record { shapely = h1; inRange = h2; known = h3; distinct = h4 }
+    let (h5, a5) = is-given (λ t. Unit {0}) _ _ tt a4 in
+    record { shapely = h1; inRange = h2; known = h3; sewnWell = h4; distinct = h5 }
 
 -- of an answer that turned out so
 pub accepted-by : (s : Scene) {r : SceneAnswer} → r ≡ SceneAnswers.the-variants.Accepted → SceneChecked s r → Accepted s

@@ -1,8 +1,8 @@
 -- What the computed `someBelow` says: some number below n passes the test, or none does.
 use Prim.Native.Nat.{ℕ, zero, suc, _+_, _<_}
-use mathlib.Core.Bool.{Bool, true, false, _||_}
+use mathlib.Core.Bool.{Bool, true, false, _||_, or-assoc, or-false}
 use mathlib.Core.Logic.{⊎-elim}
-use mathlib.Core.Path.{_≡_, refl, sym, _∙_}
+use mathlib.Core.Path.{_≡_, refl, sym, _∙_, ap}
 use native.Mathlib.Nat.{not-suc-le-zero, le-of-suc-le-suc, eq-or-lt-of-le}
 use native.Mathlib.Numerals.{add-one}
 use native.Mathlib.Omega.{arith}
@@ -54,3 +54,16 @@ some-passes test n i h e = by-cases (someBelow n test) refl
     by-cases : (b : Bool) → someBelow n test ≡ b → b ≡ true
     by-cases true q = refl
     by-cases false q = sym (none-passes test n q i h) ∙ e
+
+-- tests that agree below n
+pub some-alike : (f g : ℕ → Bool) (n : ℕ) → ((i : ℕ) → i < n → f i ≡ g i) → someBelow n f ≡ someBelow n g
+unfolding someBelow
+some-alike f g zero all = refl
+some-alike f g (suc n) all = rw (some-alike f g n (λ i h. all i (omega arith)), all n (omega arith))
+
+-- the first test split off
+pub some-first : (test : ℕ → Bool) (n : ℕ) → someBelow (suc n) test ≡ test 0 || someBelow n (λ i. test (suc i))
+unfolding someBelow
+some-first test zero = sym (or-false (test 0))
+some-first test (suc n) =
+    ap (λ b. b || test (suc n)) (some-first test n) ∙ or-assoc (test 0) (someBelow n (λ i. test (suc i))) (test (suc n))

@@ -1,30 +1,30 @@
--- What holds in a scene that none of the four checks refuses: its sizes, its coordinates, its vertex numbers.
+-- What holds in a scene that none of the five checks refuses: its sizes, its coordinates, its vertex numbers.
 use Prim.Native.Nat.{ℕ, _+_, _*_, _%_, _≤_, _<_}
 use mathlib.Core.Bool.{false, not}
 use mathlib.Core.List.{List}
 use mathlib.Core.Path.{_≡_}
-use mathlib.Core.Logic.{_≢_}
 use native.Mathlib.Decide.{decLt}
 use native.Mathlib.Nat.{le-trans}
 use native.Mathlib.Omega.{arith}
 use lib.Dec.{leb, eqb}
 use lib.IntN.{pos, natAbs}
 use lib.ListN.{length, getD, List·getD-eq-default}
-use borrow.Author.Tests.{ltb-false, le-ltb, leb-false, eqb-true, eqb-false, not-false}
+use borrow.Author.Tests.{ltb-false, le-ltb, leb-false, eqb-true, not-false}
 use Rattle.meaning.specs.Limits.{vertexLimit, edgeLimit, triangleLimit}
-use Rattle.meaning.specs.Scene.{Scene, AcceptedWithin, vertexCount, edgeCount, triangleCount, edgeEnd, corner, beyond, unknownIn, twiceInEdge, twiceInTriangle}
+use Rattle.meaning.specs.Scene.{Scene, AcceptedWithin, vertexCount, edgeCount, triangleCount, seamCount, edgeEnd, corner, beyond, unknownIn}
 use Rattle.scenes.specs.Below.{or-left, or-rest, none-passes, none-below}
 
--- six numbers to each vertex, two to each edge, three to each triangle, and no more of them than their sizes
+-- six numbers to each vertex, two to each edge, three to each triangle, two to each seam, and no more of them than their sizes
 pub record Sized (s : Scene) : Type 0 where
   pub positionsLong : length (s .positions) ≡ 6 * vertexCount s
   pub edgesLong : length (s .edges) ≡ 2 * edgeCount s
   pub trianglesLong : length (s .triangles) ≡ 3 * triangleCount s
+  pub seamsLong : length (s .seams) ≡ 2 * seamCount s
   pub fewVertices : vertexCount s ≤ vertexLimit
   pub fewEdges : edgeCount s ≤ edgeLimit
   pub fewTriangles : triangleCount s ≤ triangleLimit
 
-none-over : (n d : ℕ) → not (eqb (n % d) 0) ≡ false → n % d ≡ 0
+pub none-over : (n d : ℕ) → not (eqb (n % d) 0) ≡ false → n % d ≡ 0
 none-over n d h = eqb-true (n % d) 0 (not-false (eqb (n % d) 0) h)
 
 pub accepted-sized : {s : Scene} {B : ℕ} → AcceptedWithin B s → Sized s
@@ -33,6 +33,7 @@ accepted-sized {s} a =
       positionsLong = omega (arith, none-over (length (s .positions)) 6 (search (or-left, or-rest)));
       edgesLong = omega (arith, none-over (length (s .edges)) 2 (search (or-left, or-rest)));
       trianglesLong = omega (arith, none-over (length (s .triangles)) 3 (search (or-left, or-rest)));
+      seamsLong = omega (arith, none-over (length (s .seams)) 2 (search (or-left, or-rest)));
       fewVertices = ltb-false _ _ (search (or-left, or-rest));
       fewEdges = ltb-false _ _ (search (or-left, or-rest));
       fewTriangles = ltb-false _ _ (search (or-left, or-rest));
@@ -63,6 +64,7 @@ accepted-wider {s} {B} {C} h a =
       shapely = a .shapely;
       inRange = none-below (λ i. beyond C (getD (s .positions) i (pos 0))) (length (s .positions)) (λ i l. le-ltb C _ (le-trans (accepted-coordinate a i) h));
       known = a .known;
+      sewnWell = a .sewnWell;
       distinct = a .distinct;
     }
 
@@ -74,21 +76,3 @@ accepted-end {s} a j k h l = known-inside _ (s .edges) (search (or-left, or-rest
 
 pub accepted-corner : {s : Scene} {B : ℕ} → AcceptedWithin B s → (j k : ℕ) → j < triangleCount s → k < 3 → corner s j k < vertexCount s
 accepted-corner {s} a j k h l = known-inside _ (s .triangles) (search (or-left, or-rest)) (3 * j + k) (omega arith)
-
-pub accepted-ends-differ : {s : Scene} {B : ℕ} → AcceptedWithin B s → (j : ℕ) → j < edgeCount s → edgeEnd s j 0 ≢ edgeEnd s j 1
-accepted-ends-differ {s} a j h = eqb-false _ _ (none-passes (twiceInEdge s) (edgeCount s) (search (or-left, or-rest)) j h)
-
--- no two corners are one
-pub record Apart (a b c : ℕ) : Type 0 where
-  pub ab : a ≢ b
-  pub ac : a ≢ c
-  pub bc : b ≢ c
-
-pub accepted-corners-differ : {s : Scene} {B : ℕ} → AcceptedWithin B s → (j : ℕ) → j < triangleCount s → Apart (corner s j 0) (corner s j 1) (corner s j 2)
-accepted-corners-differ {s} a j h =
-    let e : twiceInTriangle s j ≡ false = none-passes (twiceInTriangle s) (triangleCount s) (search (or-left, or-rest)) j h in
-    record {
-      ab = eqb-false _ _ (search (or-left, or-rest));
-      ac = eqb-false _ _ (search (or-left, or-rest));
-      bc = eqb-false _ _ (search (or-left, or-rest));
-    }

@@ -6,18 +6,18 @@ use lib.ListN.{getD}
 use Rattle.meaning.specs.Scene.{Scene}
 use Rattle.meaning.specs.Refusals.{numberOf, sceneSays, pairSays, sceneChecks, SceneChecked}
 use Rattle.meaning.specs.declared.Refusal.{Refusal}
-use Rattle.meaning.specs.declared.Refusal.the-variants.{Shape, Coordinate, UnknownVertex, RepeatedVertex, NotThere, SharedVertex, NoRoom, LongText, BadLine, LateRecord, TooMany, ShortBuffer}
+use Rattle.meaning.specs.declared.Refusal.the-variants.{Shape, Coordinate, UnknownVertex, RepeatedVertex, NotThere, SharedVertex, NoRoom, LongText, BadLine, LateRecord, TooMany, ShortBuffer, BrokenSeam}
 use Rattle.meaning.specs.declared.SceneAnswer as SceneAnswers
 use Rattle.meaning.specs.declared.SceneAnswer.{SceneAnswer}
 use Rattle.meaning.specs.declared.PairAnswer as PairAnswers
 use Rattle.meaning.specs.declared.PairAnswer.{PairAnswer}
 use Rattle.scenes.specs.Answering.{one-answer}
 
--- the refusal with the number n
+-- the refusal with the number n, of those that there are
 abbrev numbered : ℕ → Refusal
 numbered n =
     getD
-    (Shape ∷ Coordinate ∷ UnknownVertex ∷ RepeatedVertex ∷ NotThere ∷ SharedVertex ∷ NoRoom ∷ LongText ∷ BadLine ∷ LateRecord ∷ TooMany ∷ ShortBuffer ∷ [])
+    (Shape ∷ Coordinate ∷ UnknownVertex ∷ RepeatedVertex ∷ NotThere ∷ SharedVertex ∷ NoRoom ∷ LongText ∷ BadLine ∷ LateRecord ∷ TooMany ∷ ShortBuffer ∷ Shape ∷ Shape ∷ BrokenSeam ∷ [])
     (pred n)
     Shape
 
@@ -35,6 +35,7 @@ own-number BadLine = refl
 own-number LateRecord = refl
 own-number TooMany = refl
 own-number ShortBuffer = refl
+own-number BrokenSeam = refl
 
 pub one-number : (x y : Refusal) → numberOf x ≡ numberOf y → x ≡ y
 one-number x y e = sym (own-number x) ∙ ap numbered e ∙ own-number y

@@ -1,4 +1,4 @@
-// What each of the refusals 1 to 4 asks of the whole scene.
+// What the refusals 1, 2, 3 and 4 ask of the whole scene; 15 is decided as the table of seams is made.
 
 ghost use Prim.Native.Nat.{_<_};
 ghost use mathlib.Core.List.{[]};
@@ -6,26 +6,30 @@ ghost use mathlib.Core.Path.{_≡_};
 ghost use lib.Dec.{leb};
 ghost use lib.IntN.{pos};
 ghost use lib.ListN.{length, getD};
-ghost use Rattle.meaning.specs.Scene.{sceneAtEntry, sceneOf, edgeCount, triangleCount, someBelow, wrongShape, outside, outOfRange, unknownIn, unknownVertex, twiceInEdge, twiceInTriangle, repeatedVertex};
-ghost use Rattle.scenes.specs.Alone.{onlyPositions, onlyEdges, onlyTriangles};
-use super::written::corner;
-use super::written::edge_end;
+ghost use Rattle.meaning.specs.Scene.{sceneAtEntry, edgeCount, triangleCount, someBelow, wrongShape, outside, outOfRange, unknownIn, unknownVertex, twiceInEdge, twiceInTriangle, repeatedVertex};
+ghost use Rattle.scenes.specs.Alone.{onlyPositions, onlyEdges, onlyTriangles, edgesSewn, trianglesSewn, tabled};
+use super::parts::corner_counts_as;
+use super::parts::end_counts_as;
 use super::written::wide;
 use meaning::COORDINATE_LIMIT;
 use meaning::EDGE_LIMIT;
+use meaning::SEAM_LIMIT;
 use meaning::TRIANGLE_LIMIT;
 use meaning::VERTEX_LIMIT;
 
 // 1: a length that is no multiple, or a count over its size.
-pub fn wrong_shape(positions: &[i32], edges: &[u16], triangles: &[u16]) -> bool
-    ensures { λ r. ⌜ r ≡ wrongShape (sceneAtEntry positions edges triangles) ⌝ }
+pub fn wrong_shape(positions: &[i32], edges: &[u16], triangles: &[u16], seams: &[u16]) -> bool
+    ensures { λ r. ⌜ r ≡ wrongShape (sceneAtEntry positions edges triangles seams) ⌝ }
 {
-    (positions.len() % 6 != 0)
+    let uneven = (positions.len() % 6 != 0)
         | (edges.len() % 2 != 0)
         | (triangles.len() % 3 != 0)
-        | (VERTEX_LIMIT < positions.len() / 6)
+        | (seams.len() % 2 != 0);
+    let over = (VERTEX_LIMIT < positions.len() / 6)
         | (EDGE_LIMIT < edges.len() / 2)
         | (TRIANGLE_LIMIT < triangles.len() / 3)
+        | (SEAM_LIMIT < seams.len() / 2);
+    uneven | over
 }
 
 // 2: a coordinate outside its range.
@@ -69,59 +73,59 @@ fn unknown_in(list: &[u16], count: usize) -> bool
     found
 }
 
-pub fn unknown_vertex(positions: &[i32], edges: &[u16], triangles: &[u16]) -> bool
-    ensures { λ r. ⌜ r ≡ unknownVertex (sceneAtEntry positions edges triangles) ⌝ }
+pub fn unknown_vertex(positions: &[i32], edges: &[u16], triangles: &[u16], seams: &[u16]) -> bool
+    ensures { λ r. ⌜ r ≡ unknownVertex (sceneAtEntry positions edges triangles seams) ⌝ }
 {
     let count = positions.len() / 6;
-    unknown_in(edges, count) | unknown_in(triangles, count)
+    unknown_in(edges, count) | unknown_in(triangles, count) | unknown_in(seams, count)
 }
 
-// 4: a vertex twice in one edge or triangle.
-fn twice_in_edge(edges: &[u16], j: usize) -> bool
+// 4: a vertex twice in one edge or triangle, by the vertex stood for.
+fn twice_in_edge(edges: &[u16], stands: &[u16], j: usize) -> bool
     requires { ⌜ j < edgeCount (onlyEdges (now edges)) ⌝ }
-    ensures { λ r. ⌜ r ≡ twiceInEdge (onlyEdges (now (edges .entry))) j ⌝ }
+    ensures { λ r. ⌜ r ≡ twiceInEdge (edgesSewn (now (edges .entry)) (now (stands .entry))) j ⌝ }
 {
-    edge_end(edges, j, 0) == edge_end(edges, j, 1)
+    end_counts_as(edges, stands, j, 0) == end_counts_as(edges, stands, j, 1)
 }
 
-fn twice_in_triangle(triangles: &[u16], j: usize) -> bool
+fn twice_in_triangle(triangles: &[u16], stands: &[u16], j: usize) -> bool
     requires { ⌜ j < triangleCount (onlyTriangles (now triangles)) ⌝ }
-    ensures { λ r. ⌜ r ≡ twiceInTriangle (onlyTriangles (now (triangles .entry))) j ⌝ }
+    ensures { λ r. ⌜ r ≡ twiceInTriangle (trianglesSewn (now (triangles .entry)) (now (stands .entry))) j ⌝ }
 {
-    let a = corner(triangles, j, 0);
-    let b = corner(triangles, j, 1);
-    let c = corner(triangles, j, 2);
+    let a = corner_counts_as(triangles, stands, j, 0);
+    let b = corner_counts_as(triangles, stands, j, 1);
+    let c = corner_counts_as(triangles, stands, j, 2);
     (a == b) | (a == c) | (b == c)
 }
 
-fn repeated_in_edges(edges: &[u16]) -> bool
-    ensures { λ r. ⌜ r ≡ someBelow (edgeCount (onlyEdges (now (edges .entry)))) (twiceInEdge (onlyEdges (now (edges .entry)))) ⌝ }
+fn repeated_in_edges(edges: &[u16], stands: &[u16]) -> bool
+    ensures { λ r. ⌜ r ≡ someBelow (edgeCount (onlyEdges (now (edges .entry)))) (twiceInEdge (edgesSewn (now (edges .entry)) (now (stands .entry)))) ⌝ }
 {
     let count = edges.len() / 2;
     let mut found = false;
     let mut j = 0;
     while j < count {
-        found = found | twice_in_edge(edges, j);
+        found = found | twice_in_edge(edges, stands, j);
         j += 1;
     }
     found
 }
 
-fn repeated_in_triangles(triangles: &[u16]) -> bool
-    ensures { λ r. ⌜ r ≡ someBelow (triangleCount (onlyTriangles (now (triangles .entry)))) (twiceInTriangle (onlyTriangles (now (triangles .entry)))) ⌝ }
+fn repeated_in_triangles(triangles: &[u16], stands: &[u16]) -> bool
+    ensures { λ r. ⌜ r ≡ someBelow (triangleCount (onlyTriangles (now (triangles .entry)))) (twiceInTriangle (trianglesSewn (now (triangles .entry)) (now (stands .entry)))) ⌝ }
 {
     let count = triangles.len() / 3;
     let mut found = false;
     let mut j = 0;
     while j < count {
-        found = found | twice_in_triangle(triangles, j);
+        found = found | twice_in_triangle(triangles, stands, j);
         j += 1;
     }
     found
 }
 
-pub fn repeated_vertex(edges: &[u16], triangles: &[u16]) -> bool
-    ensures { λ r. ⌜ r ≡ repeatedVertex (sceneOf [] (now (edges .entry)) (now (triangles .entry))) ⌝ }
+pub fn repeated_vertex(edges: &[u16], triangles: &[u16], stands: &[u16]) -> bool
+    ensures { λ r. ⌜ r ≡ repeatedVertex (tabled [] (now (edges .entry)) (now (triangles .entry)) (now (stands .entry))) ⌝ }
 {
-    repeated_in_edges(edges) | repeated_in_triangles(triangles)
+    repeated_in_edges(edges, stands) | repeated_in_triangles(triangles, stands)
 }

@@ -23,7 +23,7 @@ fn show_made(
     let first = repeat(out, 0, a, m);
     let second = repeat(out, first, b, n);
     let third = repeat(out, second, c, k);
-    show_read(&out[..third], want, &[0, 1], &[0, 1, 2]);
+    show_read(&out[..third], want, &[0, 1], &[0, 1, 2], &[1, 0]);
 }
 
 // At the sizes, and one past them.
@@ -54,6 +54,10 @@ pub(crate) fn longer() {
     show_lines(&[0], v, 2, e, 1024, b"e\t0\t0\n", 1);
     print(b"\n513 t");
     show_lines(&[0], v, 3, t, 513, b"", 0);
+    print(b"\na seam below 512 v");
+    show_lines(&[0], v, 512, b"w\t1\t0\n", 1, b"", 0);
+    print(b"\n513 w, the second one at fault");
+    show_lines(&[0], v, 512, b"w\t1\t0\n", 513, b"", 0);
 }
 
 pub(crate) fn longest() {
@@ -71,15 +75,17 @@ pub(crate) fn longest() {
 pub(crate) fn buffers() {
     let v = b"v\t1\t2\t3\t4\t5\t6\n";
     print(b"\nlonger buffers");
-    show_cut(v, 3080, 2056, 1544);
+    show_cut(v, 3080, 2056, 1544, 1032);
     print(b"\none position too few");
-    show_cut(v, 3071, 2048, 1536);
+    show_cut(v, 3071, 2048, 1536, 1024);
     print(b"\none edge number too few");
-    show_cut(v, 3072, 2047, 1536);
+    show_cut(v, 3072, 2047, 1536, 1024);
     print(b"\none triangle number too few");
-    show_cut(v, 3072, 2048, 1535);
+    show_cut(v, 3072, 2048, 1535, 1024);
+    print(b"\none seam number too few");
+    show_cut(v, 3072, 2048, 1536, 1023);
     print(b"\n12 and 9");
-    show_cut(b"\n", 3071, 2048, 1536);
+    show_cut(b"\n", 3071, 2048, 1536, 1024);
     print(b"\n12 and 8");
-    show_cut(&[0u8; 32769], 3071, 2048, 1536);
+    show_cut(&[0u8; 32769], 3072, 2048, 1536, 1023);
 }

@@ -63,11 +63,13 @@ pub(crate) fn taken() {
         &PRINTED,
         &[0, 1, 3, 4],
         &[0, 1, 2],
+        &[],
     );
     print(b"\nthe largest coordinates");
     show_read(
         b"v\t524287\t-524287\t0\t262144\t-262144\t524286\n",
         &[524287, -524287, 0, 262144, -262144, 524286],
+        &[],
         &[],
         &[],
     );
@@ -77,5 +79,22 @@ pub(crate) fn taken() {
         &[0, 0, 0, 0, 0, 0],
         &[2, 0, 2, 0],
         &[2, 1, 0],
+        &[],
+    );
+    print(b"\nthree seams, two of them to one vertex");
+    show_read(
+        b"v\t0\t0\t0\t0\t0\t0\nv\t0\t0\t0\t0\t0\t0\nv\t0\t0\t0\t0\t0\t0\nv\t0\t0\t0\t0\t0\t0\nv\t0\t0\t0\t0\t0\t0\nw\t1\t0\nw\t3\t2\nw\t4\t0\n",
+        &[0, 0, 0, 0, 0, 0],
+        &[],
+        &[],
+        &[1, 0, 3, 2, 4, 0],
+    );
+    print(b"\nedges and triangles that became one");
+    show_read(
+        b"v\t0\t0\t0\t0\t0\t0\nv\t0\t0\t0\t0\t0\t0\nv\t0\t0\t0\t0\t0\t0\nv\t0\t0\t0\t0\t0\t0\ne\t0\t1\ne\t0\t3\nt\t0\t1\t2\nt\t0\t3\t2\nw\t3\t1\n",
+        &[0, 0, 0, 0, 0, 0],
+        &[0, 1, 0, 3],
+        &[0, 1, 2, 0, 3, 2],
+        &[3, 1],
     );
 }

@@ -1,16 +1,16 @@
 -- Demand 3: a scene sent through a whole-number 3 by 3 matrix of nonzero determinant, with one shift added to all start positions and another to all
 -- end positions, keeps the verdict of every piece and of every pair. A pair culled in either scene is hit in neither.
-use mathlib.Core.Path.{_≡_, refl, sym, _∙_, ap}
+use mathlib.Core.Path.{_≡_, refl, sym, _∙_, ap, ap₂}
 use mathlib.Core.Logic.{_≢_, _↔_, _⊎_, inl, inr}
 use mathlib.Core.Bool.{true}
-use mathlib.Core.List.{List}
-use Prim.Native.Nat.{ℕ, _+_, _*_, _<_}
+use mathlib.Core.List.{List, []}
+use Prim.Native.Nat.{ℕ, _<_}
 use native.Mathlib.Omega.{arith}
 use lib.IntN.{pos}
-use lib.ListN.{length, getD}
+use lib.ListN.{length}
 use Rattle.whole.specs.Vector.{Vector, plus}
 use Rattle.whole.specs.VectorLaws.{Matrix, apply, det}
-use Rattle.meaning.specs.Scene.{Scene, sceneOf, vertexCount, startOf, endOf, endsOf, rising, among}
+use Rattle.meaning.specs.Scene.{Scene, sceneOf, vertexCount, startOf, endOf, endsOf, cornersOf}
 use Rattle.meaning.specs.Pieces.{pieceOf}
 use Rattle.meaning.specs.Verdicts.{PieceIs, PairIs}
 use Rattle.meaning.specs.Resting.{PieceSettled, PairSettled}
@@ -31,24 +31,26 @@ use Rattle.theory.specs.MovingParts.{Follows, SameParts, piece-follows}
 use Rattle.theory.specs.Sent.{sent}
 use Rattle.theory.specs.SentPieces.{sentPiece, start-sent, end-sent, piece-alike}
 
--- t is s sent through m, with the shift a at the start and b at the end; the edges and triangles stay
+-- t is s sent through m, with the shift a at the start and b at the end; the edges, triangles and seams stay
 pub record Moves (m : Matrix) (a b : Vector) (s t : Scene) : Type 0 where
   pub nonzero : det m ≢ pos 0
   pub starts : (v : ℕ) → v < vertexCount s → startOf t v ≡ plus (apply m (startOf s v)) a
   pub ends : (v : ℕ) → v < vertexCount s → endOf t v ≡ plus (apply m (endOf s v)) b
   pub edges : t .edges ≡ s .edges
   pub triangles : t .triangles ≡ s .triangles
+  pub seams : t .seams ≡ s .seams
   pub size : length (t .positions) ≡ length (s .positions)
 
--- there are such scenes: one vertex, sent and shifted, whatever edges and triangles are beside it
-pub one-vertex : (m : Matrix) (a b p q : Vector) (e f : List ℕ) → det m ≢ pos 0
-    → Moves m a b (sceneOf (coordinates p q) e f) (sceneOf (coordinates (plus (apply m p) a) (plus (apply m q) b)) e f)
-one-vertex m a b p q e f nonzero = record {
+-- there are such scenes: one vertex, sent and shifted, whatever edges, triangles and seams are beside it
+pub one-vertex : (m : Matrix) (a b p q : Vector) (e f w : List ℕ) → det m ≢ pos 0
+    → Moves m a b (sceneOf (coordinates p q) e f w) (sceneOf (coordinates (plus (apply m p) a) (plus (apply m q) b)) e f w)
+one-vertex m a b p q e f w nonzero = record {
   nonzero = nonzero;
   starts = λ v below. let first : v ≡ 0 = omega arith in rw first refl;
   ends = λ v below. let first : v ≡ 0 = omega arith in rw first refl;
   edges = refl;
   triangles = refl;
+  seams = refl;
   size = refl;
 }
 
@@ -70,11 +72,11 @@ module _ {m : Matrix} {a b : Vector} {s t : Scene} (h : Moves m a b s t) where
   pub same-parts : (kind : Kind) (i j : ℕ) → SameParts s t kind i j
   unfolding SameParts
   same-parts PointTriangle i j =
-      ap (λ (l : List ℕ). among s (rising s (getD l (3 * j + 0) 0) (getD l (3 * j + 1) 0)) (getD l (3 * j + 2) 0)) (h .triangles)
+      ap₂ (λ (l w : List ℕ). cornersOf (sceneOf [] [] l w) j) (h .triangles) (h .seams)
   same-parts EdgeEdge i j = (edge i, edge j)
     where
       edge : (j : ℕ) → endsOf t j ≡ endsOf s j
-      edge j = ap (λ (l : List ℕ). rising s (getD l (2 * j + 0) 0) (getD l (2 * j + 1) 0)) (h .edges)
+      edge j = ap₂ (λ (l w : List ℕ). endsOf (sceneOf [] l [] w) j) (h .edges) (h .seams)
 
   pub piece-moves : (kind : Kind) (i j : ℕ) → Known s kind i j → (k : ℕ) → pieceOf t kind i j k ≡ sentPiece m a b (pieceOf s kind i j k)
   piece-moves kind i j known = piece-follows follows kind i j (same-parts kind i j) (known .first) (known .second)

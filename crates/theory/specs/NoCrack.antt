@@ -1,13 +1,16 @@
 -- No cracks: the two pieces of a moving edge are faces of pieces of every moving triangle that has its two ends. So two triangles that share two
--- corners cut the side between them alike, and what touches it touches both.
+-- corners cut the side between them alike, and what touches it touches both. At a seam too, where each has corners of its own that stand for the
+-- same two vertices.
 use mathlib.Core.Logic.{_≢_}
-use mathlib.Core.Path.{_≡_, refl, _∙_, ap, subst}
+use mathlib.Core.Path.{_≡_, refl, sym, _∙_, ap, ap₂, subst}
+use mathlib.Core.Bool.{Bool, true, false, cond}
 use mathlib.Core.List.{List, [], _∷_}
 use Prim.Native.Nat.{ℕ, zero, suc, _<_}
 use native.Mathlib.Omega.{arith}
+use lib.Dec.{ltb}
 use lib.IntN.{ℤ, pos, _+ℤ_, _*ℤ_, +ℤ-idl, zero-*ℤ}
-use Rattle.meaning.specs.Scene.{Scene, corner, rising, before, among, cornersOf}
-use Rattle.meaning.specs.Pieces.{Event, movingEdge, movingTriangle}
+use Rattle.meaning.specs.Scene.{Scene, corner, countsAs, rising, before, among, cornersOf}
+use Rattle.meaning.specs.Pieces.{Event, starting, ending, movingEdge, movingTriangle}
 use Rattle.meaning.specs.Equations.{total, one, xOf, yOf, zOf, timeOf, Touch}
 use Rattle.meaning.specs.declared.Ends.{Ends}
 use Rattle.meaning.specs.declared.Corners.{Corners}
@@ -81,6 +84,39 @@ any-two-corners s t (suc (suc (suc i))) j h k n = absurd (omega arith)
 any-two-corners s t zero (suc (suc (suc j))) h k n = absurd (omega arith)
 any-two-corners s t (suc zero) (suc (suc (suc j))) h k n = absurd (omega arith)
 any-two-corners s t (suc (suc zero)) (suc (suc (suc j))) h k n = absurd (omega arith)
+
+-- ---- at a seam
+
+-- each vertex is, at both times, where the vertex that it stands for is
+pub record Sewn (s : Scene) : Type 0 where
+  pub starts : (v : ℕ) → starting (s .positions) (countsAs s v) ≡ starting (s .positions) v
+  pub ends : (v : ℕ) → ending (s .positions) (countsAs s v) ≡ ending (s .positions) v
+
+module _ {s : Scene} (sewn : Sewn s) where
+  -- two vertices that stand for one are in one place
+  pub one-start : (a b : ℕ) → countsAs s a ≡ countsAs s b → starting (s .positions) a ≡ starting (s .positions) b
+  one-start a b e = sym (sewn .starts a) ∙ ap (starting (s .positions)) e ∙ sewn .starts b
+
+  pub one-end : (a b : ℕ) → countsAs s a ≡ countsAs s b → ending (s .positions) a ≡ ending (s .positions) b
+  one-end a b e = sym (sewn .ends a) ∙ ap (ending (s .positions)) e ∙ sewn .ends b
+
+  -- edges with ends in one place have the same pieces
+  pieces-alike : (x y z w : ℕ) → countsAs s x ≡ countsAs s z → countsAs s y ≡ countsAs s w → (m : ℕ)
+      → movingEdge (s .positions) (record { low = x; high = y }) m ≡ movingEdge (s .positions) (record { low = z; high = w }) m
+  unfolding movingEdge
+  pieces-alike x y z w xz yw zero = λ i. one-start x z xz i ∷ one-start y w yw i ∷ one-end y w yw i ∷ []
+  pieces-alike x y z w xz yw (suc m) = λ i. one-start x z xz i ∷ one-end x z xz i ∷ one-end y w yw i ∷ []
+
+  module _ (a b c d : ℕ) (ac : countsAs s a ≡ countsAs s c) (bd : countsAs s b ≡ countsAs s d) where
+    -- the edges a b and c d are cut alike
+    pub cut-alike : (m : ℕ) → movingEdge (s .positions) (rising s a b) m ≡ movingEdge (s .positions) (rising s c d) m
+    cut-alike m =
+        by-order (before s b a) ∙ ap (λ (t : Bool). movingEdge (s .positions) (cond t (record { low = d; high = c }) (record { low = c; high = d })) m) (ap₂ ltb bd ac)
+      where
+        by-order : (t : Bool) → movingEdge (s .positions) (cond t (record { low = b; high = a }) (record { low = a; high = b })) m
+            ≡ movingEdge (s .positions) (cond t (record { low = d; high = c }) (record { low = c; high = d })) m
+        by-order true = pieces-alike b a d c bd ac m
+        by-order false = pieces-alike a b c d ac bd m
 
 -- ---- what touches a face touches the piece, with weight 0 for the point left out
 

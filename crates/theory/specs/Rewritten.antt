@@ -8,7 +8,7 @@ use Prim.Native.Nat.{ℕ, _<_}
 use native.Mathlib.Omega.{arith}
 use lib.IntN.{ℤ}
 use lib.ListN.{length}
-use Rattle.meaning.specs.Scene.{Scene, sceneOf, edgeCount, triangleCount, same}
+use Rattle.meaning.specs.Scene.{Scene, sceneOf, edgeCount, triangleCount, edgeEnd, same, rising, endsOf, cornersOf}
 use Rattle.meaning.specs.Pieces.{starting, ending, Event, Piece, pieceOf}
 use Rattle.meaning.specs.Verdicts.{PieceIs, PairIs}
 use Rattle.meaning.specs.Resting.{PieceSettled, PairSettled}
@@ -26,19 +26,21 @@ use Rattle.theory.specs.Rearranged.{Rearranged, rearranged-back}
 use Rattle.theory.specs.Written.{endsWritten, cornersWritten, Different, ends-any-order, corners-any-order}
 use Rattle.theory.specs.AnyOrder.{any, any-rearranged, spanIn, span-rearranged, shares-corners, shares-ends, edge-box-is, triangle-box-is}
 
--- t is s with the same edges and triangles, each written in any order
+-- t is s with the same edges and triangles, each written in any order, and with the same seams
 pub record Rewritten (s t : Scene) : Type 0 where
   pub positions : t .positions ≡ s .positions
+  pub seams : t .seams ≡ s .seams
   pub edgesLong : length (t .edges) ≡ length (s .edges)
   pub trianglesLong : length (t .triangles) ≡ length (s .triangles)
   pub edges : (j : ℕ) → j < edgeCount s → Rearranged (endsWritten s j) (endsWritten t j)
   pub triangles : (j : ℕ) → j < triangleCount s → Rearranged (cornersWritten s j) (cornersWritten t j)
 
 -- there are such scenes: one edge and one triangle, each in any order, over the same vertices
-pub one-of-each : (p : List ℤ) {a b c d e a′ b′ c′ d′ e′ : ℕ} → Rearranged (a ∷ b ∷ []) (a′ ∷ b′ ∷ []) → Rearranged (c ∷ d ∷ e ∷ []) (c′ ∷ d′ ∷ e′ ∷ [])
-    → Rewritten (sceneOf p (a ∷ b ∷ []) (c ∷ d ∷ e ∷ [])) (sceneOf p (a′ ∷ b′ ∷ []) (c′ ∷ d′ ∷ e′ ∷ []))
-one-of-each p edge triangle = record {
+pub one-of-each : (p : List ℤ) (w : List ℕ) {a b c d e a′ b′ c′ d′ e′ : ℕ} → Rearranged (a ∷ b ∷ []) (a′ ∷ b′ ∷ []) → Rearranged (c ∷ d ∷ e ∷ []) (c′ ∷ d′ ∷ e′ ∷ [])
+    → Rewritten (sceneOf p (a ∷ b ∷ []) (c ∷ d ∷ e ∷ []) w) (sceneOf p (a′ ∷ b′ ∷ []) (c′ ∷ d′ ∷ e′ ∷ []) w)
+one-of-each p w edge triangle = record {
   positions = refl;
+  seams = refl;
   edgesLong = refl;
   trianglesLong = refl;
   edges = λ j below. let first : j ≡ 0 = omega arith in rw first edge;
@@ -49,6 +51,7 @@ one-of-each p edge triangle = record {
 pub rewritten-back : {s t : Scene} → Rewritten s t → Rewritten t s
 rewritten-back h = record {
   positions = sym (h .positions);
+  seams = sym (h .seams);
   edgesLong = sym (h .edgesLong);
   trianglesLong = sym (h .trianglesLong);
   edges = λ j below. rearranged-back (h .edges j (omega (arith, h .edgesLong)));
@@ -74,8 +77,13 @@ module _ {s t : Scene} (h : Rewritten s t) where
 
   pub same-parts : (kind : Kind) (i j : ℕ) → WellMade s kind i j → SameParts s t kind i j
   unfolding SameParts WellMade
-  same-parts PointTriangle i j w = sym (corners-any-order s (h .triangles j (w .0)) (w .1))
-  same-parts EdgeEdge i j w = (sym (ends-any-order s (h .edges i (w .0)) (w .1)), sym (ends-any-order s (h .edges j (w .2)) (w .3)))
+  same-parts PointTriangle i j w =
+      ap (λ (k : List ℕ). cornersOf (sceneOf [] [] (t .triangles) k) j) (h .seams)
+      ∙ sym (corners-any-order s (h .triangles j (w .0)) (w .1))
+  same-parts EdgeEdge i j w = (edge i ∙ sym (ends-any-order s (h .edges i (w .0)) (w .1)), edge j ∙ sym (ends-any-order s (h .edges j (w .2)) (w .3)))
+    where
+      edge : (j : ℕ) → endsOf t j ≡ rising s (edgeEnd t j 0) (edgeEnd t j 1)
+      edge j = ap (λ (k : List ℕ). endsOf (sceneOf [] (t .edges) [] k) j) (h .seams)
 
   -- ---- the pieces
 
@@ -114,17 +122,22 @@ module _ {s t : Scene} (h : Rewritten s t) where
   rewritten-notThere PointTriangle i j = rw (h .positions, h .trianglesLong)
   rewritten-notThere EdgeEdge i j = rw (h .edgesLong)
 
+  -- the seams are the same, so vertices are alike in both
+  alike : (v : ℕ) (l : List ℕ) → any (same t v) l ≡ any (same s v) l
+  alike v l = ap (λ (k : List ℕ). any (same (sceneOf [] [] [] k) v) l) (h .seams)
+
   pub rewritten-shares : (kind : Kind) (i j : ℕ) → PartsThere s kind i j → shares t kind i j ≡ shares s kind i j
   unfolding PartsThere
   rewritten-shares PointTriangle i j w =
-      shares-corners t i j ∙ sym (any-rearranged (same s i) (h .triangles j w)) ∙ sym (shares-corners s i j)
+      shares-corners t i j ∙ alike i (cornersWritten t j) ∙ sym (any-rearranged (same s i) (h .triangles j w)) ∙ sym (shares-corners s i j)
   rewritten-shares EdgeEdge i j w =
-      shares-ends t i j ∙ sym (any-rearranged (λ a. any (same s a) (endsWritten t j)) (h .edges i (w .0)))
+      shares-ends t i j ∙ ap (λ (f : ℕ → Bool). any f (endsWritten t i)) (fun-ext (λ a. alike a (endsWritten t j)))
+      ∙ sym (any-rearranged (λ a. any (same s a) (endsWritten t j)) (h .edges i (w .0)))
       ∙ ap (λ (f : ℕ → Bool). any f (endsWritten s i)) (fun-ext (λ a. sym (any-rearranged (same s a) (h .edges j (w .1)))))
       ∙ sym (shares-ends s i j)
 
   pub vertex-boxes : (a : Axis) → vertexSpan t a ≡ vertexSpan s a
-  vertex-boxes a = ap (λ (l : List ℤ). vertexSpan (sceneOf l [] []) a) (h .positions)
+  vertex-boxes a = ap (λ (l : List ℤ). vertexSpan (sceneOf l [] [] []) a) (h .positions)
 
   pub box-rewritten : (a : Axis) {k l : List ℕ} → Rearranged k l → spanIn (vertexSpan t a) l ≡ spanIn (vertexSpan s a) k
   box-rewritten a {k} {l} r = ap (λ (f : ℕ → Span). spanIn f l) (vertex-boxes a) ∙ sym (span-rearranged (vertexSpan s a) r)

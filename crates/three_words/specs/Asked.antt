@@ -1,4 +1,4 @@
--- The refusals of a pair that is asked for: 1 to 4 of the scene, then 5, not there, then 6, a shared vertex; and from them the answer.
+-- The refusals of a pair that is asked for: 1, 2, 3, 15 and 4 of the scene, then 5, not there, then 6, a shared vertex; and from them the answer.
 use Prim.Native.Nat.{ℕ}
 use mathlib.Core.Bool.{Bool, true, false, _||_, or-false}
 use mathlib.Core.List.{List, [], _∷_, _++_, append-nil}
@@ -70,7 +70,8 @@ module _ (s : Scene) (kind : Kind) (i j : ℕ) (missing : Bool) (r : SceneAnswer
         let (h3, a3) = is-given Passes _ _ tt a2 in
         let (h4, a4) = is-given Passes _ _ tt a3 in
         let (h5, a5) = is-given Passes _ _ tt a4 in
-        (record { shapely = h1; inRange = h2; known = h3; distinct = h4 }, or-left (notThere s kind i j) missing h5)
+        let (h6, a6) = is-given Passes _ _ tt a5 in
+        (record { shapely = h1; inRange = h2; known = h3; sewnWell = h4; distinct = h5 }, or-left (notThere s kind i j) missing h6)
 
     pub then-judged : (Right : Verdict → Type 0) (v : Verdict) → Right v → Answers checks Right (given v)
     then-judged Right v right =

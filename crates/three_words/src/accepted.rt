@@ -4,11 +4,12 @@ ghost use mathlib.Core.Path.{_≡_};
 ghost use mathlib.Core.Bool.{false};
 ghost use mathlib.Core.List.{List};
 ghost use Prim.Native.Nat.{ℕ, _<_, min, max};
-ghost use Rattle.meaning.specs.Scene.{sceneIn, sceneAtEntry, sceneOf, Accepted, endsOf, cornersOf};
+ghost use Rattle.meaning.specs.Scene.{sceneOf, Accepted, endsOf, cornersOf};
 ghost use Rattle.meaning.specs.Pieces.{pieceOf, pieceCount};
 ghost use Rattle.meaning.specs.Refusals.{notThere, shares};
 ghost use Rattle.meaning.specs.Verdicts.{PieceIs, PairIs};
 ghost use Rattle.meaning.specs.declared.Kind.the-variants.{PointTriangle, EdgeEdge};
+ghost use Rattle.scenes.specs.Alone.{tabledIn, tabledAtEntry};
 ghost use Rattle.theory.specs.Computed.{joined};
 ghost use Rattle.sign_sums.specs.BySigns.{told};
 ghost use Rattle.three_words.specs.Ready.{PointReady, EdgesReady};
@@ -32,7 +33,7 @@ pub fn not_there(
     i: usize,
     j: usize,
 ) -> bool
-    ensures { λ r. ⌜ r ≡ notThere (sceneAtEntry positions edges triangles) kind i j ⌝ }
+    ensures { λ r. ⌜ ((w : List ℕ) → r ≡ notThere (sceneOf (now (positions .entry)) (now (edges .entry)) (now (triangles .entry)) w) kind i j) ⌝ }
 {
     match kind {
         Kind::PointTriangle => (positions.len() / 6 <= i) | (triangles.len() / 3 <= j),
@@ -54,16 +55,17 @@ pub fn shares_vertex(
     positions: &[i32],
     edges: &[u16],
     triangles: &[u16],
+    stands: &[u16],
     kind: Kind,
     i: usize,
     j: usize,
 ) -> bool
-    requires { ⌜ notThere (sceneIn positions edges triangles) kind i j ≡ false ⌝ }
-    ensures { λ r. ⌜ r ≡ shares (sceneAtEntry positions edges triangles) kind i j ⌝ }
+    requires { ⌜ notThere (tabledIn positions edges triangles stands) kind i j ≡ false ⌝ }
+    ensures { λ r. ⌜ r ≡ shares (tabledAtEntry positions edges triangles stands) kind i j ⌝ }
 {
     match kind {
-        Kind::PointTriangle => scenes::parts::shares_pt(triangles, i, j),
-        Kind::EdgeEdge => scenes::parts::shares_ee(edges, i, j),
+        Kind::PointTriangle => scenes::parts::shares_pt(triangles, stands, i, j),
+        Kind::EdgeEdge => scenes::parts::shares_ee(edges, stands, i, j),
     }
 }
 
@@ -85,21 +87,22 @@ pub fn piece(
     positions: &[i32],
     edges: &[u16],
     triangles: &[u16],
+    stands: &[u16],
     kind: Kind,
     i: usize,
     j: usize,
     k: usize,
 ) -> Verdict
-    requires { ⌜ Accepted (sceneIn positions edges triangles) × (notThere (sceneIn positions edges triangles) kind i j ≡ false) ⌝ }
-    ensures { λ r. ⌜ PieceIs (pieceOf (sceneAtEntry positions edges triangles) kind i j k) r ⌝ }
+    requires { ⌜ Accepted (tabledIn positions edges triangles stands) × (notThere (tabledIn positions edges triangles stands) kind i j ≡ false) ⌝ }
+    ensures { λ r. ⌜ PieceIs (pieceOf (tabledAtEntry positions edges triangles stands) kind i j k) r ⌝ }
 {
     match kind {
         Kind::PointTriangle => {
-            crate::pieces::point_piece(positions, i, scenes::parts::corners_of(triangles, j), k)
+            crate::pieces::point_piece(positions, i, scenes::parts::corners_of(triangles, stands, j), k)
         }
         Kind::EdgeEdge => {
-            let first = scenes::parts::ends_of(edges, smaller(i, j));
-            let second = scenes::parts::ends_of(edges, larger(i, j));
+            let first = scenes::parts::ends_of(edges, stands, smaller(i, j));
+            let second = scenes::parts::ends_of(edges, stands, larger(i, j));
             crate::pieces::edges_piece(positions, first, k / 2, second, k % 2)
         }
     }
@@ -117,7 +120,7 @@ pub fn either(a: Signs, b: Signs) -> Signs
 // The pieces of a pair share their determinants, so a pair takes the volumes of all its pieces at once.
 fn point_pair(positions: &[i32], p: usize, c: Corners) -> Verdict
     requires { ⌜ PointReady (now positions) p c ⌝ }
-    ensures { λ r. ⌜ ((e t : List ℕ) (j : ℕ) → cornersOf (sceneOf (now (positions .entry)) e t) j ≡ c → PairIs (sceneOf (now (positions .entry)) e t) PointTriangle p j r) ⌝ }
+    ensures { λ r. ⌜ ((e t w : List ℕ) (j : ℕ) → cornersOf (sceneOf (now (positions .entry)) e t w) j ≡ c → PairIs (sceneOf (now (positions .entry)) e t w) PointTriangle p j r) ⌝ }
 {
     let v = point_volumes(positions, 6 * p, 6 * c.low, 6 * c.middle, 6 * c.high);
     let first = v.first;
@@ -131,7 +134,7 @@ fn point_pair(positions: &[i32], p: usize, c: Corners) -> Verdict
 
 fn edges_pair(positions: &[i32], first: Ends, second: Ends) -> Verdict
     requires { ⌜ EdgesReady (now positions) first second ⌝ }
-    ensures { λ r. ⌜ ((e t : List ℕ) (i j : ℕ) → endsOf (sceneOf (now (positions .entry)) e t) (min i j) ≡ first → endsOf (sceneOf (now (positions .entry)) e t) (max i j) ≡ second → PairIs (sceneOf (now (positions .entry)) e t) EdgeEdge i j r) ⌝ }
+    ensures { λ r. ⌜ ((e t w : List ℕ) (i j : ℕ) → endsOf (sceneOf (now (positions .entry)) e t w) (min i j) ≡ first → endsOf (sceneOf (now (positions .entry)) e t w) (max i j) ≡ second → PairIs (sceneOf (now (positions .entry)) e t w) EdgeEdge i j r) ⌝ }
 {
     let v = edge_volumes(
         positions,
@@ -156,18 +159,19 @@ pub fn pair(
     positions: &[i32],
     edges: &[u16],
     triangles: &[u16],
+    stands: &[u16],
     kind: Kind,
     i: usize,
     j: usize,
 ) -> Verdict
-    requires { ⌜ Accepted (sceneIn positions edges triangles) × (notThere (sceneIn positions edges triangles) kind i j ≡ false) ⌝ }
-    ensures { λ r. ⌜ PairIs (sceneAtEntry positions edges triangles) kind i j r ⌝ }
+    requires { ⌜ Accepted (tabledIn positions edges triangles stands) × (notThere (tabledIn positions edges triangles stands) kind i j ≡ false) ⌝ }
+    ensures { λ r. ⌜ PairIs (tabledAtEntry positions edges triangles stands) kind i j r ⌝ }
 {
     match kind {
-        Kind::PointTriangle => { point_pair(positions, i, scenes::parts::corners_of(triangles, j)) }
+        Kind::PointTriangle => { point_pair(positions, i, scenes::parts::corners_of(triangles, stands, j)) }
         Kind::EdgeEdge => {
-            let first = scenes::parts::ends_of(edges, smaller(i, j));
-            let second = scenes::parts::ends_of(edges, larger(i, j));
+            let first = scenes::parts::ends_of(edges, stands, smaller(i, j));
+            let second = scenes::parts::ends_of(edges, stands, larger(i, j));
             edges_pair(positions, first, second)
         }
     }

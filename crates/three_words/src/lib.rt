@@ -5,11 +5,14 @@ pub mod accepted; // accepted.rt: pieces and pairs of a scene that was checked a
 
 ghost use Rattle.meaning.specs.Scene.{sceneAtEntry};
 ghost use Rattle.meaning.specs.Refusals.{Answers, sceneSays, PairJudged, PieceJudged};
+ghost use Rattle.scenes.specs.Sewing.{Blank};
+ghost use Rattle.scenes.specs.Checking.{Stitched};
 ghost use Rattle.three_words.specs.Asked.{Passes, askedChecks, PairAsked};
 use meaning::Kind;
 use meaning::PairAnswer;
 use meaning::Refusal;
 use meaning::SceneAnswer;
+use meaning::VERTEX_LIMIT;
 
 // The first of 5 and 6 that holds.
 fn first_of(missing: bool, shared: bool) -> SceneAnswer
@@ -25,45 +28,54 @@ fn first_of(missing: bool, shared: bool) -> SceneAnswer
 }
 
 // The refusals of a pair that is asked for, in the table's order: those of the scene, then 5, then 6. `missing`: what is asked for of the pair
-// isn't there.
+// isn't there. The seams are in the table then.
 fn asked(
     positions: &[i32],
     edges: &[u16],
     triangles: &[u16],
+    seams: &[u16],
+    stands: &mut [u16],
     kind: Kind,
     first: usize,
     second: usize,
     missing: bool,
 ) -> SceneAnswer
-    ensures { λ r. ⌜ PairAsked (sceneAtEntry positions edges triangles) kind first second missing r ⌝ }
+    requires { ⌜ Blank (now seams) (now stands) ⌝ }
+    ensures { λ r. ⌜ PairAsked (sceneAtEntry positions edges triangles seams) kind first second missing r × Stitched (sceneAtEntry positions edges triangles seams) (now (stands .entry)) (now (stands .exit)) ⌝ }
 {
-    if let SceneAnswer::Refused(refusal) = scenes::check_scene(positions, edges, triangles) {
+    if let SceneAnswer::Refused(refusal) = scenes::check_into(
+        positions, edges, triangles, seams, stands,
+    ) {
         return SceneAnswer::Refused(refusal);
     }
     if accepted::not_there(positions, edges, triangles, kind, first, second) {
         return first_of(true, false);
     }
-    let shared = accepted::shares_vertex(positions, edges, triangles, kind, first, second);
+    let shared = accepted::shares_vertex(positions, edges, triangles, stands, kind, first, second);
     first_of(missing, shared)
 }
 
-// The verdict of a pair, for a scene that may be anything.
-pub fn judge_pair(
+// The verdict of a pair, for a scene that may be anything; and the table of its seams.
+pub fn pair_into(
     positions: &[i32],
     edges: &[u16],
     triangles: &[u16],
+    seams: &[u16],
+    stands: &mut [u16],
     kind: Kind,
     first: usize,
     second: usize,
 ) -> PairAnswer
-    ensures { λ r. ⌜ PairJudged (sceneAtEntry positions edges triangles) kind first second r ⌝ }
+    requires { ⌜ Blank (now seams) (now stands) ⌝ }
+    ensures { λ r. ⌜ PairJudged (sceneAtEntry positions edges triangles seams) kind first second r × Stitched (sceneAtEntry positions edges triangles seams) (now (stands .entry)) (now (stands .exit)) ⌝ }
 {
-    match asked(positions, edges, triangles, kind, first, second, false) {
+    match asked(positions, edges, triangles, seams, stands, kind, first, second, false) {
         SceneAnswer::Refused(refusal) => PairAnswer::Refused(refusal),
         SceneAnswer::Accepted => PairAnswer::Judged(accepted::pair(
             positions,
             edges,
             triangles,
+            stands,
             kind,
             first,
             second,
@@ -71,29 +83,74 @@ pub fn judge_pair(
     }
 }
 
-// The verdict of one piece of a pair.
-pub fn judge_piece(
+pub fn judge_pair(
     positions: &[i32],
     edges: &[u16],
     triangles: &[u16],
+    seams: &[u16],
+    kind: Kind,
+    first: usize,
+    second: usize,
+) -> PairAnswer
+    ensures { λ r. ⌜ PairJudged (sceneAtEntry positions edges triangles seams) kind first second r ⌝ }
+{
+    let mut stands = [0u16; VERTEX_LIMIT];
+    pair_into(positions, edges, triangles, seams, &mut stands, kind, first, second)
+}
+
+// The verdict of one piece of a pair; and the table of the scene's seams.
+pub fn piece_into(
+    positions: &[i32],
+    edges: &[u16],
+    triangles: &[u16],
+    seams: &[u16],
+    stands: &mut [u16],
     kind: Kind,
     first: usize,
     second: usize,
     piece: usize,
 ) -> PairAnswer
-    ensures { λ r. ⌜ PieceJudged (sceneAtEntry positions edges triangles) kind first second piece r ⌝ }
+    requires { ⌜ Blank (now seams) (now stands) ⌝ }
+    ensures { λ r. ⌜ PieceJudged (sceneAtEntry positions edges triangles seams) kind first second piece r × Stitched (sceneAtEntry positions edges triangles seams) (now (stands .entry)) (now (stands .exit)) ⌝ }
 {
     let missing = accepted::piece_count(kind) <= piece;
-    match asked(positions, edges, triangles, kind, first, second, missing) {
+    match asked(positions, edges, triangles, seams, stands, kind, first, second, missing) {
         SceneAnswer::Refused(refusal) => PairAnswer::Refused(refusal),
         SceneAnswer::Accepted => PairAnswer::Judged(accepted::piece(
             positions,
             edges,
             triangles,
+            stands,
             kind,
             first,
             second,
             piece,
         )),
     }
+}
+
+pub fn judge_piece(
+    positions: &[i32],
+    edges: &[u16],
+    triangles: &[u16],
+    seams: &[u16],
+    kind: Kind,
+    first: usize,
+    second: usize,
+    piece: usize,
+) -> PairAnswer
+    ensures { λ r. ⌜ PieceJudged (sceneAtEntry positions edges triangles seams) kind first second piece r ⌝ }
+{
+    let mut stands = [0u16; VERTEX_LIMIT];
+    piece_into(
+        positions,
+        edges,
+        triangles,
+        seams,
+        &mut stands,
+        kind,
+        first,
+        second,
+        piece,
+    )
 }

@@ -7,7 +7,8 @@ mod steps; // steps.rt: a pair, a run, a row, the rows
 ghost use Prim.Native.Nat.{_≤_};
 ghost use mathlib.Core.Path.{_≡_};
 ghost use lib.ListN.{length};
-ghost use Rattle.meaning.specs.Scene.{sceneIn, sceneAtEntry, Accepted};
+ghost use Rattle.meaning.specs.Scene.{Accepted};
+ghost use Rattle.scenes.specs.Alone.{tabledIn, tabledAtEntry};
 ghost use Rattle.meaning.specs.List.{pairs};
 ghost use Rattle.meaning.specs.Runs.{boxTests};
 ghost use Rattle.entries.specs.UpTo.{Walked};
@@ -27,18 +28,20 @@ pub fn walk_accepted(
     positions: &[i32],
     edges: &[u16],
     triangles: &[u16],
+    stands: &[u16],
     list: &mut [u32],
     most: usize,
 ) -> Walk
-    requires { ⌜ Accepted (sceneIn positions edges triangles) × (most ≤ length (now list)) ⌝ }
-    ensures { λ r. ⌜ Walked most (now (list .entry)) 0 (pairs (sceneAtEntry positions edges triangles)) (now (list .exit)) (r .next) × (r .tests ≡ boxTests (sceneAtEntry positions edges triangles)) ⌝ }
+    requires { ⌜ Accepted (tabledIn positions edges triangles stands) × (most ≤ length (now list)) ⌝ }
+    ensures { λ r. ⌜ Walked most (now (list .entry)) 0 (pairs (tabledAtEntry positions edges triangles stands)) (now (list .exit)) (r .next) × (r .tests ≡ boxTests (tabledAtEntry positions edges triangles stands)) ⌝ }
 {
     let mut boxes = [0i32; WALK_NUMBERS];
-    prepare(positions, edges, triangles, &mut boxes);
+    prepare(positions, edges, triangles, stands, &mut boxes);
     let points = walk_rows(
         positions,
         edges,
         triangles,
+        stands,
         &boxes,
         Kind::PointTriangle,
         list,
@@ -49,6 +52,7 @@ pub fn walk_accepted(
         positions,
         edges,
         triangles,
+        stands,
         &boxes,
         Kind::EdgeEdge,
         list,

@@ -4,7 +4,8 @@
 ghost use Prim.Native.Nat.{_≤_, _<_};
 ghost use mathlib.Core.Path.{_≡_};
 ghost use lib.ListN.{length};
-ghost use Rattle.meaning.specs.Scene.{sceneIn, sceneAtEntry, Accepted};
+ghost use Rattle.meaning.specs.Scene.{Accepted};
+ghost use Rattle.scenes.specs.Alone.{tabledIn, tabledAtEntry};
 ghost use Rattle.meaning.specs.Runs.{runsOf};
 ghost use Rattle.boxes.specs.Kept.{meetBoxes};
 ghost use Rattle.candidates.specs.Rows.{firstCount, secondCount};
@@ -23,9 +24,15 @@ use scenes::parts::vertex_count;
 // Six numbers for each part, and for each run: 64 of edges, 32 of triangles.
 pub(crate) const WALK_NUMBERS: usize = BOX_NUMBERS + 576;
 
-pub(crate) fn prepare(positions: &[i32], edges: &[u16], triangles: &[u16], boxes: &mut [i32])
-    requires { ⌜ Accepted (sceneIn positions edges triangles) × (walkNumbers ≤ length (now boxes)) ⌝ }
-    ensures { λ _. ⌜ Prepared (sceneAtEntry positions edges triangles) (now (boxes .exit)) ⌝ }
+pub(crate) fn prepare(
+    positions: &[i32],
+    edges: &[u16],
+    triangles: &[u16],
+    stands: &[u16],
+    boxes: &mut [i32],
+)
+    requires { ⌜ Accepted (tabledIn positions edges triangles stands) × (walkNumbers ≤ length (now boxes)) ⌝ }
+    ensures { λ _. ⌜ Prepared (tabledAtEntry positions edges triangles stands) (now (boxes .exit)) ⌝ }
 {
     fill(positions, edges, triangles, boxes);
     let vertices = vertex_count(positions);
@@ -37,9 +44,16 @@ pub(crate) fn prepare(positions: &[i32], edges: &[u16], triangles: &[u16], boxes
     fill_runs(boxes, vertices + edge_parts, triangle_parts, behind);
 }
 
-fn first_place(positions: &[i32], edges: &[u16], triangles: &[u16], kind: Kind, i: usize) -> usize
+fn first_place(
+    positions: &[i32],
+    edges: &[u16],
+    triangles: &[u16],
+    stands: &[u16],
+    kind: Kind,
+    i: usize,
+) -> usize
     requires { ⌜ i < 65536 ⌝ }
-    ensures { λ r. ⌜ r ≡ firstPlace (sceneAtEntry positions edges triangles) kind i ⌝ }
+    ensures { λ r. ⌜ r ≡ firstPlace (tabledAtEntry positions edges triangles stands) kind i ⌝ }
 {
     match kind {
         Kind::PointTriangle => i,
@@ -47,9 +61,16 @@ fn first_place(positions: &[i32], edges: &[u16], triangles: &[u16], kind: Kind, 
     }
 }
 
-fn run_place(positions: &[i32], edges: &[u16], triangles: &[u16], kind: Kind, run: usize) -> usize
-    requires { ⌜ Accepted (sceneIn positions edges triangles) × (run < 65536) ⌝ }
-    ensures { λ r. ⌜ r ≡ runPlace (sceneAtEntry positions edges triangles) kind run ⌝ }
+fn run_place(
+    positions: &[i32],
+    edges: &[u16],
+    triangles: &[u16],
+    stands: &[u16],
+    kind: Kind,
+    run: usize,
+) -> usize
+    requires { ⌜ Accepted (tabledIn positions edges triangles stands) × (run < 65536) ⌝ }
+    ensures { λ r. ⌜ r ≡ runPlace (tabledAtEntry positions edges triangles stands) kind run ⌝ }
 {
     let all = vertex_count(positions) + edge_count(edges) + triangle_count(triangles);
     match kind {
@@ -62,15 +83,16 @@ pub(crate) fn run_meets(
     positions: &[i32],
     edges: &[u16],
     triangles: &[u16],
+    stands: &[u16],
     boxes: &[i32],
     kind: Kind,
     i: usize,
     run: usize,
 ) -> bool
-    requires { ⌜ Prepared (sceneIn positions edges triangles) (now boxes) × (i < firstCount (sceneIn positions edges triangles) kind) × (run < runsOf (secondCount (sceneIn positions edges triangles) kind)) ⌝ }
-    ensures { λ r. ⌜ r ≡ meetBoxes (firstBox (sceneAtEntry positions edges triangles) kind i) (runBox (sceneAtEntry positions edges triangles) kind run) ⌝ }
+    requires { ⌜ Prepared (tabledIn positions edges triangles stands) (now boxes) × (i < firstCount (tabledIn positions edges triangles stands) kind) × (run < runsOf (secondCount (tabledIn positions edges triangles stands) kind)) ⌝ }
+    ensures { λ r. ⌜ r ≡ meetBoxes (firstBox (tabledAtEntry positions edges triangles stands) kind i) (runBox (tabledAtEntry positions edges triangles stands) kind run) ⌝ }
 {
-    let first = first_place(positions, edges, triangles, kind, i);
-    let second = run_place(positions, edges, triangles, kind, run);
+    let first = first_place(positions, edges, triangles, stands, kind, i);
+    let second = run_place(positions, edges, triangles, stands, kind, run);
     boxes_meet(boxes, first, second)
 }

@@ -5,7 +5,7 @@ ghost use Prim.Native.Nat.{_+_, _/_, _≤_, _<_};
 ghost use mathlib.Core.Path.{_≡_};
 ghost use lib.ListN.{length};
 ghost use Rattle.sequences.specs.Gather.{gather};
-ghost use Rattle.meaning.specs.Scene.{sceneIn, sceneAtEntry};
+ghost use Rattle.scenes.specs.Alone.{tabledIn, tabledAtEntry};
 ghost use Rattle.meaning.specs.Runs.{runTo};
 ghost use Rattle.entries.specs.UpTo.{Walked};
 ghost use Rattle.candidates.specs.Rows.{firstCount, secondCount, candidate, rowOf, rowsOf};
@@ -25,6 +25,7 @@ fn walk_one(
     positions: &[i32],
     edges: &[u16],
     triangles: &[u16],
+    stands: &[u16],
     boxes: &[i32],
     kind: Kind,
     i: usize,
@@ -33,11 +34,11 @@ fn walk_one(
     most: usize,
     from: usize,
 ) -> usize
-    requires { ⌜ Prepared (sceneIn positions edges triangles) (now boxes) × (i < firstCount (sceneIn positions edges triangles) kind) × (j < secondCount (sceneIn positions edges triangles) kind) ⌝ }
+    requires { ⌜ Prepared (tabledIn positions edges triangles stands) (now boxes) × (i < firstCount (tabledIn positions edges triangles stands) kind) × (j < secondCount (tabledIn positions edges triangles stands) kind) ⌝ }
     requires { ⌜ (most ≤ length (now list)) × (from < 4294967296) ⌝ }
-    ensures { λ r. ⌜ Walked most (now (list .entry)) from (candidate (sceneAtEntry positions edges triangles) kind i j) (now (list .exit)) r ⌝ }
+    ensures { λ r. ⌜ Walked most (now (list .entry)) from (candidate (tabledAtEntry positions edges triangles stands) kind i j) (now (list .exit)) r ⌝ }
 {
-    if is_listed(positions, edges, triangles, boxes, kind, i, j) {
+    if is_listed(positions, edges, triangles, stands, boxes, kind, i, j) {
         put_below(list, most, from, kind, i, j);
         from + 1
     } else {
@@ -50,6 +51,7 @@ fn walk_stretch(
     positions: &[i32],
     edges: &[u16],
     triangles: &[u16],
+    stands: &[u16],
     boxes: &[i32],
     kind: Kind,
     i: usize,
@@ -59,9 +61,9 @@ fn walk_stretch(
     most: usize,
     from: usize,
 ) -> usize
-    requires { ⌜ Prepared (sceneIn positions edges triangles) (now boxes) × (i < firstCount (sceneIn positions edges triangles) kind) × (first ≤ end) × (end ≤ secondCount (sceneIn positions edges triangles) kind) ⌝ }
+    requires { ⌜ Prepared (tabledIn positions edges triangles stands) (now boxes) × (i < firstCount (tabledIn positions edges triangles stands) kind) × (first ≤ end) × (end ≤ secondCount (tabledIn positions edges triangles stands) kind) ⌝ }
     requires { ⌜ (most ≤ length (now list)) × (from < 2147483648) ⌝ }
-    ensures { λ r. ⌜ Walked most (now (list .entry)) from (gather (candidate (sceneAtEntry positions edges triangles) kind i) first end) (now (list .exit)) r ⌝ }
+    ensures { λ r. ⌜ Walked most (now (list .entry)) from (gather (candidate (tabledAtEntry positions edges triangles stands) kind i) first end) (now (list .exit)) r ⌝ }
 {
     let mut k = from;
     let mut j = first;
@@ -70,6 +72,7 @@ fn walk_stretch(
             positions,
             edges,
             triangles,
+            stands,
             boxes,
             kind,
             i,
@@ -98,6 +101,7 @@ fn walk_run(
     positions: &[i32],
     edges: &[u16],
     triangles: &[u16],
+    stands: &[u16],
     boxes: &[i32],
     kind: Kind,
     i: usize,
@@ -106,17 +110,18 @@ fn walk_run(
     most: usize,
     from: usize,
 ) -> Walk
-    requires { ⌜ Prepared (sceneIn positions edges triangles) (now boxes) × (i < firstCount (sceneIn positions edges triangles) kind) × (j < secondCount (sceneIn positions edges triangles) kind) × AtRun kind (secondCount (sceneIn positions edges triangles) kind) j ⌝ }
+    requires { ⌜ Prepared (tabledIn positions edges triangles stands) (now boxes) × (i < firstCount (tabledIn positions edges triangles stands) kind) × (j < secondCount (tabledIn positions edges triangles stands) kind) × AtRun kind (secondCount (tabledIn positions edges triangles stands) kind) j ⌝ }
     requires { ⌜ (most ≤ length (now list)) × (from < 2147483648) ⌝ }
-    ensures { λ r. ⌜ Walked most (now (list .entry)) from (gather (candidate (sceneAtEntry positions edges triangles) kind i) j (runTo (secondCount (sceneAtEntry positions edges triangles) kind) (j / 16))) (now (list .exit)) (r .next) × (r .tests ≡ testsAt (sceneAtEntry positions edges triangles) kind i (j / 16)) ⌝ }
+    ensures { λ r. ⌜ Walked most (now (list .entry)) from (gather (candidate (tabledAtEntry positions edges triangles stands) kind i) j (runTo (secondCount (tabledAtEntry positions edges triangles stands) kind) (j / 16))) (now (list .exit)) (r .next) × (r .tests ≡ testsAt (tabledAtEntry positions edges triangles stands) kind i (j / 16)) ⌝ }
 {
     let run = j / 16;
-    if run_meets(positions, edges, triangles, boxes, kind, i, run) {
-        let end = run_to(second_count(positions, edges, triangles, kind), run);
+    if run_meets(positions, edges, triangles, stands, boxes, kind, i, run) {
+        let end = run_to(second_count(positions, edges, triangles, stands, kind), run);
         let next = walk_stretch(
             positions,
             edges,
             triangles,
+            stands,
             boxes,
             kind,
             i,
@@ -138,6 +143,7 @@ fn walk_row(
     positions: &[i32],
     edges: &[u16],
     triangles: &[u16],
+    stands: &[u16],
     boxes: &[i32],
     kind: Kind,
     i: usize,
@@ -145,11 +151,11 @@ fn walk_row(
     most: usize,
     from: usize,
 ) -> Walk
-    requires { ⌜ Prepared (sceneIn positions edges triangles) (now boxes) × (i < firstCount (sceneIn positions edges triangles) kind) ⌝ }
+    requires { ⌜ Prepared (tabledIn positions edges triangles stands) (now boxes) × (i < firstCount (tabledIn positions edges triangles stands) kind) ⌝ }
     requires { ⌜ (most ≤ length (now list)) × (from < 1073741824) ⌝ }
-    ensures { λ r. ⌜ Walked most (now (list .entry)) from (rowOf (sceneAtEntry positions edges triangles) kind i) (now (list .exit)) (r .next) × (r .tests ≡ testsOfRow (sceneAtEntry positions edges triangles) kind i) ⌝ }
+    ensures { λ r. ⌜ Walked most (now (list .entry)) from (rowOf (tabledAtEntry positions edges triangles stands) kind i) (now (list .exit)) (r .next) × (r .tests ≡ testsOfRow (tabledAtEntry positions edges triangles stands) kind i) ⌝ }
 {
-    let end = second_count(positions, edges, triangles, kind);
+    let end = second_count(positions, edges, triangles, stands, kind);
     let mut k = from;
     let mut tests = 0usize;
     let mut j = second_from(kind, i);
@@ -158,6 +164,7 @@ fn walk_row(
             positions,
             edges,
             triangles,
+            stands,
             boxes,
             kind,
             i,
@@ -177,22 +184,34 @@ pub(crate) fn walk_rows(
     positions: &[i32],
     edges: &[u16],
     triangles: &[u16],
+    stands: &[u16],
     boxes: &[i32],
     kind: Kind,
     list: &mut [u32],
     most: usize,
     from: usize,
 ) -> Walk
-    requires { ⌜ Prepared (sceneIn positions edges triangles) (now boxes) ⌝ }
+    requires { ⌜ Prepared (tabledIn positions edges triangles stands) (now boxes) ⌝ }
     requires { ⌜ (most ≤ length (now list)) × (from < 1048577) ⌝ }
-    ensures { λ r. ⌜ Walked most (now (list .entry)) from (rowsOf (sceneAtEntry positions edges triangles) kind) (now (list .exit)) (r .next) × (r .tests ≡ testsOfRows (sceneAtEntry positions edges triangles) kind) ⌝ }
+    ensures { λ r. ⌜ Walked most (now (list .entry)) from (rowsOf (tabledAtEntry positions edges triangles stands) kind) (now (list .exit)) (r .next) × (r .tests ≡ testsOfRows (tabledAtEntry positions edges triangles stands) kind) ⌝ }
 {
-    let end = first_count(positions, edges, triangles, kind);
+    let end = first_count(positions, edges, triangles, stands, kind);
     let mut k = from;
     let mut tests = 0usize;
     let mut i = 0;
     while i < end {
-        let row = walk_row(positions, edges, triangles, boxes, kind, i, list, most, k);
+        let row = walk_row(
+            positions,
+            edges,
+            triangles,
+            stands,
+            boxes,
+            kind,
+            i,
+            list,
+            most,
+            k,
+        );
         k = row.next;
         tests += row.tests;
         i += 1;

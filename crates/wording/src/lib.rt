@@ -25,5 +25,6 @@ pub fn number_of(refusal: Refusal) -> u64
         Refusal::LateRecord => 10,
         Refusal::TooMany => 11,
         Refusal::ShortBuffer => 12,
+        Refusal::BrokenSeam => 15,
     }
 }

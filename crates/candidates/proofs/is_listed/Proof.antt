@@ -7,14 +7,14 @@ use Rattle.candidates.proofs.is_listed.Tie as tie
 listed-pt-requires : tie.Need-listed-pt-requires
 unfolding firstCount secondCount
 listed-pt-requires c κs =
-    let start = c .before .before .before .before in
+    let start = c .before .before .before .before .before in
     let kind = c .enum-told .given .1 in
     (start .pre .0, rw kind at (start .pre .1), rw kind at (start .pre .2))
 
 listed-ee-requires : tie.Need-listed-ee-requires
 unfolding firstCount secondCount
 listed-ee-requires c κs =
-    let start = c .before .before .before .before in
+    let start = c .before .before .before .before .before in
     let kind = c .enum-told2 .given .1 in
     (start .pre .0, rw kind at (start .pre .1), rw kind at (start .pre .2))
 

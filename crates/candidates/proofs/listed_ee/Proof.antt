@@ -1,7 +1,7 @@
 -- `listed_ee`: boxes first, and then the vertices.
 use borrow.Author.Needs.{needs}
 use native.Mathlib.Omega.{arith}
-use Rattle.meaning.specs.Scene.{sceneOf}
+use Rattle.scenes.specs.Alone.{tabled}
 use Rattle.meaning.specs.declared.Kind.the-variants.{EdgeEdge}
 use Rattle.candidates.specs.Meeting.{meets-ee, listed-unless, not-listed}
 use Rattle.candidates.proofs.listed_ee.Statement.{statement}
@@ -9,9 +9,9 @@ use Rattle.candidates.proofs.listed_ee.Tie as tie
 
 returns : tie.Need-returns
 returns c =
-    let start = c .before .before .before .before .before .before in
+    let start = c .before .before .before .before .before .before .before in
     let a = start .args in
-    let s = sceneOf (a .positions .now) (a .edges .now) (a .triangles .now) in
+    let s = tabled (a .positions .now) (a .edges .now) (a .triangles .now) (a .stands .now) in
     listed-unless s EdgeEdge (a .i) (a .j)
     (meets-ee (start .pre .0) (a .i) (a .j) (c .before .before .boxes-meet .ensures) (omega arith) (omega arith) (start .pre .1) (start .pre .2))
     (c .before .if1 .taken)
@@ -19,9 +19,9 @@ returns c =
 
 returns-2 : tie.Need-returns-2
 returns-2 c =
-    let start = c .before .before .before .before .before in
+    let start = c .before .before .before .before .before .before in
     let a = start .args in
-    let s = sceneOf (a .positions .now) (a .edges .now) (a .triangles .now) in
+    let s = tabled (a .positions .now) (a .edges .now) (a .triangles .now) (a .stands .now) in
     not-listed s EdgeEdge (a .i) (a .j)
     (meets-ee (start .pre .0) (a .i) (a .j) (c .before .boxes-meet .ensures) (omega arith) (omega arith) (start .pre .1) (start .pre .2))
     (c .if1 .left)

@@ -1,6 +1,6 @@
 -- The six points are the piece's, and the weights those in the buffer.
 use borrow.Author.Needs.{needs}
-use Rattle.meaning.specs.Scene.{Scene, sceneOf}
+use Rattle.scenes.specs.Alone.{tabled}
 use Rattle.claim_answers.specs.Weighing.{points-in, points-answer}
 use Rattle.claim_answers.proofs.answer.Statement.{statement}
 use Rattle.claim_answers.proofs.answer.Tie as tie
@@ -8,16 +8,16 @@ use Rattle.claim_answers.proofs.answer.Tie as tie
 borne-out-requires : tie.Need-borne-out-requires
 borne-out-requires c κs =
     let six = c .before .before .before .before .before .before .before in
-    let start = six .before .before .before .before .before .before in
+    let start = six .before .before .before .before .before .before .before in
     let a = start .args in
-    points-in (sceneOf (a .positions .now) (a .edges .now) (a .triangles .now)) (a .kind) _ _ _ (six .six-of .ensures) (start .pre .0) (start .pre .1)
+    points-in (tabled (a .positions .now) (a .edges .now) (a .triangles .now) (a .stands .now)) (a .kind) _ _ _ (six .six-of .ensures) (start .pre .0) (start .pre .1)
 
 returns : tie.Need-returns
 returns c =
     let six = c .before .before .before .before .before .before .before .before in
-    let start = six .before .before .before .before .before .before in
+    let start = six .before .before .before .before .before .before .before in
     let a = start .args in
-    points-answer (sceneOf (a .positions .now) (a .edges .now) (a .triangles .now)) (a .kind) _ _ _ (six .six-of .ensures) _ _ (c .borne-out .ensures)
+    points-answer (tabled (a .positions .now) (a .edges .now) (a .triangles .now) (a .stands .now)) (a .kind) _ _ _ (six .six-of .ensures) _ _ (c .borne-out .ensures)
 
 pub answer-spec : {M : Type 1} → statement M
 answer-spec =

@@ -4,21 +4,21 @@ use Prim.Native.Nat.{_-_}
 use native.Mathlib.Omega.{arith}
 use lib.ListN.{length}
 use borrow.Author.Needs.{needs}
-use Rattle.meaning.specs.Scene.{sceneOf}
+use Rattle.scenes.specs.Alone.{tabled}
 use Rattle.claim_answers.specs.Weighing.{claim-there, claim-answer}
 use Rattle.claim_answers.specs.Answering.{Answering, answer-starts, answer-never, taken, answer-room, answer-goes, answer-ends}
 use Rattle.claim_answers.proofs.answer_all.Statement.{statement}
 use Rattle.claim_answers.proofs.answer_all.Tie as tie
 
 abbrev Inv-loop : tie.InvT-loop
-Inv-loop positions edges triangles text answers₀ sizes₀ minus₀ count₀ at₀ answers sizes minus count at =
-    Answering (sceneOf positions edges triangles) text answers₀ answers count at × (length sizes ≡ 9) × (length minus ≡ 9)
+Inv-loop positions edges triangles stands text answers₀ sizes₀ minus₀ count₀ at₀ answers sizes minus count at =
+    Answering (tabled positions edges triangles stands) text answers₀ answers count at × (length sizes ≡ 9) × (length minus ≡ 9)
 
 abbrev μ-loop : tie.MeasureT-loop
-μ-loop positions edges triangles text answers₀ sizes₀ minus₀ count₀ at₀ answers sizes minus count at = length text - at
+μ-loop positions edges triangles stands text answers₀ sizes₀ minus₀ count₀ at₀ answers sizes minus count at = length text - at
 
 loop-holds : tie.Need-loop-holds Inv-loop μ-loop
-loop-holds c = (answer-starts _ _ _ (c .before .before .before .before .pre .1), search needs, search needs)
+loop-holds c = (answer-starts _ _ _ (c .before .before .before .before .before .pre .1), search needs, search needs)
 
 next-claim-requires : tie.Need-next-claim-requires Inv-loop μ-loop
 next-claim-requires c κs =
@@ -36,7 +36,7 @@ answer-requires c κs =
     let kind = c .before .before in
     let line = kind .before .before .before .before in
     let test = line .before .before .before in
-    let start = test .before .before .before .before .before .before in (
+    let start = test .before .before .before .before .before .before .before in (
       start .pre .0,
       claim-there _ _ _ _ _ (taken (test .before .loop .inv .0) (test .loop-test .taken) _ _ (line .next-claim .ensures) (kind .kind .given .1)),
     )
@@ -46,7 +46,7 @@ slice-write-answers c =
     let kind = c .before .before .before .before in
     let line = kind .before .before .before .before in
     let test = line .before .before .before in
-    let last = line .next-claim .last .1 .1 .1 .1 .1 in
+    let last = line .next-claim .last .1 .1 .1 .1 .1 .1 in
     answer-room (test .before .loop .inv .0) (test .loop-test .taken) (last .0) (last .1 .0) (line .next-claim .ensures) (kind .kind .given .1)
 
 add-count : tie.Need-add-count Inv-loop μ-loop
@@ -57,7 +57,7 @@ loop-less c =
     let kind = c .before .before .before .before in
     let line = kind .before .before .before .before in
     let test = line .before .before .before in
-    let last = line .next-claim .last .1 .1 .1 .1 .1 in
+    let last = line .next-claim .last .1 .1 .1 .1 .1 .1 in
     let i = test .before .loop .inv .0 in
     let took = taken i (test .loop-test .taken) (last .0) (last .1 .0) (line .next-claim .ensures) (kind .kind .given .1) in
     let on = answer-goes i (test .loop-test .taken) (last .0) (last .1 .0) (line .next-claim .ensures) (kind .kind .given .1) (c .before .answer .result)
@@ -69,14 +69,14 @@ loop-again c =
     let kind = c .before .before .before .before in
     let line = kind .before .before .before .before in
     let test = line .before .before .before in
-    let last = line .next-claim .last .1 .1 .1 .1 .1 in
+    let last = line .next-claim .last .1 .1 .1 .1 .1 .1 in
     let i = test .before .loop .inv in
     let took = taken (i .0) (test .loop-test .taken) (last .0) (last .1 .0) (line .next-claim .ensures) (kind .kind .given .1) in (
       rw (c .byte-of .ensures)
           (answer-goes (i .0) (test .loop-test .taken) (last .0) (last .1 .0) (line .next-claim .ensures) (kind .kind .given .1) (c .before .answer .result)
           (claim-answer _ _ _ (last .0) (last .1 .0) (took .line) _ (c .before .answer .ensures)) .0),
-      line .next-claim .kept .1 .1 .1 .1 .1 .0 ∙ i .1,
-      line .next-claim .kept .1 .1 .1 .1 .1 .1 .0 ∙ i .2,
+      line .next-claim .kept .1 .1 .1 .1 .1 .1 .0 ∙ i .1,
+      line .next-claim .kept .1 .1 .1 .1 .1 .1 .1 .0 ∙ i .2,
     )
 
 pub answer-all-spec : {M : Type 1} → statement M

@@ -4,17 +4,17 @@ use Prim.Native.Nat.{_-_}
 use native.Mathlib.Omega.{arith}
 use lib.ListN.{length}
 use borrow.Author.Needs.{needs}
-use Rattle.meaning.specs.Scene.{sceneOf}
+use Rattle.scenes.specs.Alone.{tabled}
 use Rattle.claim_answers.specs.Inspecting.{Inspecting, inspect-starts, inspect-goes, inspect-fails, inspect-ends}
 use Rattle.claim_answers.proofs.inspect.Statement.{statement}
 use Rattle.claim_answers.proofs.inspect.Tie as tie
 
 abbrev Inv-loop : tie.InvT-loop
-Inv-loop positions edges triangles text sizes₀ minus₀ count₀ at₀ sizes minus count at =
-    Inspecting (sceneOf positions edges triangles) text count at × (length sizes ≡ 9) × (length minus ≡ 9)
+Inv-loop positions edges triangles stands text sizes₀ minus₀ count₀ at₀ sizes minus count at =
+    Inspecting (tabled positions edges triangles stands) text count at × (length sizes ≡ 9) × (length minus ≡ 9)
 
 abbrev μ-loop : tie.MeasureT-loop
-μ-loop positions edges triangles text sizes₀ minus₀ count₀ at₀ sizes minus count at = length text - at
+μ-loop positions edges triangles stands text sizes₀ minus₀ count₀ at₀ sizes minus count at = length text - at
 
 loop-holds : tie.Need-loop-holds Inv-loop μ-loop
 loop-holds c = (inspect-starts _ _, search needs, search needs)
@@ -24,8 +24,8 @@ next-claim-requires c κs =
     let i = c .before .before .before .loop .inv in
     (c .before .before .loop-test .taken, (omega (arith, i .1), omega (arith, i .2)))
 
-add-t18 : tie.Need-add-t18 Inv-loop μ-loop
-add-t18 c = omega (arith, c .before .before .before .before .before .before .before .before .before .loop .inv .0 .few)
+add-t19 : tie.Need-add-t19 Inv-loop μ-loop
+add-t19 c = omega (arith, c .before .before .before .before .before .before .before .before .before .loop .inv .0 .few)
 
 returns : tie.Need-returns Inv-loop μ-loop
 returns c =
@@ -39,7 +39,7 @@ loop-less : tie.Need-loop-less Inv-loop μ-loop
 loop-less c =
     let line = c .before .before .before .before .before in
     let i = line .before .before .before .before .loop .inv .0 in
-    let last = line .next-claim .last .1 .1 .1 .1 .1 in
+    let last = line .next-claim .last .1 .1 .1 .1 .1 .1 in
     let on = inspect-goes i (last .0) (last .1 .0) (line .next-claim .ensures) (c .before .behind .given .1) in
     omega (arith, on .1, i .reached .within, on .0 .reached .within)
 
@@ -48,8 +48,8 @@ loop-again c =
     let line = c .before .before .before .before .before in
     let i = line .before .before .before .before .loop .inv in (
       inspect-goes (i .0) _ _ (line .next-claim .ensures) (c .before .behind .given .1) .0,
-      line .next-claim .kept .1 .1 .1 .1 .1 .0 ∙ i .1,
-      line .next-claim .kept .1 .1 .1 .1 .1 .1 .0 ∙ i .2,
+      line .next-claim .kept .1 .1 .1 .1 .1 .1 .0 ∙ i .1,
+      line .next-claim .kept .1 .1 .1 .1 .1 .1 .1 .0 ∙ i .2,
     )
 
 pub inspect-spec : {M : Type 1} → statement M
@@ -63,7 +63,7 @@ inspect-spec =
     (λ c. search needs)
     next-claim-requires
     (λ c. search needs)
-    add-t18
+    add-t19
     returns
     (λ c. search needs)
     add-count

@@ -1,6 +1,5 @@
 -- A line that is no claim's, a claim at fault, or a claim that is not.
 use borrow.Author.Needs.{needs}
-use Rattle.meaning.specs.Scene.{sceneOf}
 use Rattle.claim_line.specs.Stepping.{step-bad, step-fault, step-good}
 use Rattle.claim_line.proofs.next_claim.Statement.{statement}
 use Rattle.claim_line.proofs.next_claim.Tie as tie
@@ -8,7 +7,7 @@ use Rattle.claim_line.proofs.next_claim.Tie as tie
 returns : tie.Need-returns
 returns c =
     let read = c .before .before .before .before .before .before in
-    step-bad _ _ _ _ _ (read .before .before .before .before .before .before .before .before .pre .0) (read .read-line .ensures) (c .enum-told .given .1)
+    step-bad _ _ _ _ _ (read .before .before .before .before .before .before .before .before .before .pre .0) (read .read-line .ensures) (c .enum-told .given .1)
 
 returns-2 : tie.Need-returns-2
 returns-2 c =

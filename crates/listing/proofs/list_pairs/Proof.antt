@@ -1,36 +1,48 @@
--- `list_pairs`: a refusal of the check is passed on, and an accepted scene's list is made.
+-- `list_pairs`: a refusal of the check is passed on, and an accepted scene's list is made, by the table of its seams.
 use borrow.Author.Needs.{needs}
 use native.Mathlib.Omega.{arith}
-use Rattle.meaning.specs.Scene.{sceneOf}
-use Rattle.listing.specs.Answering.{accepted-from, listing-refused, listing-accepted, tested-refused, tested-as}
+use Rattle.meaning.specs.Scene.{Scene, sceneIn, Accepted}
+use Rattle.meaning.specs.Runs.{Tested}
+use Rattle.scenes.specs.Checking.{to-table, from-table}
+use Rattle.scenes.specs.Sewing.{blank-table}
+use Rattle.listing.specs.Answering.{ListedIn, accepted-from, listing-refused, listing-accepted, tested-refused, tested-as}
 use Rattle.listing.proofs.list_pairs.Statement.{statement}
 use Rattle.listing.proofs.list_pairs.Tie as tie
 
 list-accepted-requires : tie.Need-list-accepted-requires
-list-accepted-requires c κs = (accepted-from _ (c .before .before .before .before .before .before .check-scene .ensures) (c .before .before .before .before .enum-told .given .1), omega (arith, c .before .before .room .ensures))
+list-accepted-requires c κs =
+    let called = c .before .before .before .before .before .before .before .before .check-into in
+    let accepted = accepted-from _ (called .ensures .checked) (c .before .before .before .before .before .enum-told .given .1) in
+    (to-table Accepted (called .ensures .into) accepted accepted, omega (arith, c .before .before .before .room .ensures))
 
 returns : tie.Need-returns
 returns c =
-    let start = c .before .before .before .before .before .before .before in
-    let a = start .args in
-    let s = sceneOf (a .positions .now) (a .edges .now) (a .triangles .now) in
-    tested-refused s (listing-refused s (c .before .before .before .check-scene .ensures) _ _ (c .before .why .given .1))
+    let a = c .before .before .before .before .before .before .before .before .before .before .args in
+    let s = sceneIn (a .positions) (a .edges) (a .triangles) (a .seams) in
+    tested-refused s (listing-refused s (c .before .before .before .before .check-into .ensures .checked) _ _ (c .before .why .given .1))
 
 returns-2 : tie.Need-returns-2
 returns-2 c =
-    let start = c .before .before .before .before .before .before .before .before .before .before .before .before .before in
-    let a = start .args in
-    let s = sceneOf (a .positions .now) (a .edges .now) (a .triangles .now) in
-    tested-as s (listing-accepted s (c .before .before .before .before .before .before .before .before .before .check-scene .ensures) _ (c .before .before .before .before .before .before .before .enum-told .given .1) (c .before .before .before .before .before .room .ensures)) (c .before .before .list-accepted .ensures)
+    let a = c .before .before .before .before .before .before .before .before .before .before .before .before .before .before .before .before .before .args in
+    let s = sceneIn (a .positions) (a .edges) (a .triangles) (a .seams) in
+    let called = c .before .before .before .before .before .before .before .before .before .before .before .check-into in
+    let told = c .before .before .before .before .before .before .before .before .enum-told .given .1 in
+    let accepted = accepted-from s (called .ensures .checked) told in
+    let room = c .before .before .before .before .before .before .room in
+    let made = c .before .before .list-accepted in
+    tested-as s (listing-accepted s (called .ensures .checked) _ told (room .ensures))
+    (from-table (λ (u : Scene). Tested u (ListedIn u (room .result) _ _) _ _ (made .result)) (called .ensures .into) accepted (made .ensures))
 
 pub list-pairs-spec : {M : Type 1} → statement M
 list-pairs-spec =
     tie.close
     (tie.spec
-    (λ c κs. search needs)
+    (λ c. search needs)
+    (λ c κs. blank-table _)
     (λ c. search needs)
     (λ c. search needs)
     (λ c κs. search needs)
+    (λ c. search needs)
     list-accepted-requires
     returns
     (λ c. search needs)

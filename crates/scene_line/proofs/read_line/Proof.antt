@@ -1,8 +1,8 @@
--- `scene_line::read_line` meets its contract: the letter says which row to read, and without one of the three there is no record.
+-- `scene_line::read_line` meets its contract: the letter says which row to read, and without one of the four there is no record.
 use mathlib.Core.Path.{_∙_}
 use borrow.Author.Needs.{needs}
 use Rattle.scene_line.specs.Reading.{letter, many, formOf, LineRead, line-got, line-other}
-use Rattle.scene_line.specs.declared.Sort.the-variants.{Vertex, Edge, Triangle}
+use Rattle.scene_line.specs.declared.Sort.the-variants.{Vertex, Edge, Triangle, Seam}
 use Rattle.scene_line.proofs.read_line.Statement.{statement}
 use Rattle.scene_line.proofs.read_line.Tie as tie
 
@@ -29,8 +29,16 @@ returns-3 c =
     (c .line-ended3 .ensures)
 
 returns-4 : tie.Need-returns-4
+unfolding letter many formOf
+returns-4 c =
+    let row = c .before .before .before .before .before in
+    let test = row .before .before .before in
+    line-got Seam (test .before .before .before .before .before .before .before .before .pre .0) (test .if4 .taken) (row .read-row4 .ensures)
+    (c .line-ended4 .ensures)
+
+returns-5 : tie.Need-returns-5
 unfolding LineRead
-returns-4 c = line-other _ _ (c .before .before .if1 .left) (c .before .if2 .left) (c .if3 .left)
+returns-5 c = line-other _ _ (c .before .before .before .if1 .left) (c .before .before .if2 .left) (c .before .if3 .left) (c .if4 .left)
 
 pub read-line-spec : {M : Type 1} → statement M
 read-line-spec =
@@ -55,4 +63,10 @@ read-line-spec =
     (λ c. search needs)
     (λ c. search needs)
     returns-3
-    returns-4)
+    (λ c. search needs)
+    (λ c κs. search needs)
+    (λ c κs. search needs)
+    (λ c. search needs)
+    (λ c. search needs)
+    returns-4
+    returns-5)

@@ -1,7 +1,10 @@
--- `scene_text::read_scene` meets its contract: 12, 8, then what the first pass found; and only where it found no fault are the buffers
--- filled.
+-- `scene_text::read_scene` meets its contract: 12, 8, then what the draft found; and only where it found no fault is it copied into the lent
+-- buffers.
+use mathlib.Core.List.{[]}
+use mathlib.Core.Path.{refl}
 use borrow.Author.Needs.{needs}
-use Rattle.scene_text.specs.Answering.{roomy, holds-one, read-short, read-long, read-refused, read-given}
+use Rattle.scene_text.specs.Reading.{own-table, own-room, same-roomy}
+use Rattle.scene_text.specs.Answering.{roomy, draft-bounded, read-short, read-long, read-refused, read-given}
 use Rattle.scene_text.proofs.read_scene.Statement.{statement}
 use Rattle.scene_text.proofs.read_scene.Tie as tie
 
@@ -11,37 +14,57 @@ returns c = read-short _ _ (c .if1 .taken)
 returns-2 : tie.Need-returns-2
 returns-2 c = read-long _ _ (c .before .if1 .left) (c .if2 .taken)
 
-fill-requires : tie.Need-fill-requires
-fill-requires c κs =
-    let i = c .before .before .before .before .before .before in
-    (holds-one (i .inspect .ensures) (c .before .before .before .before .c .given .1), roomy _ (i .before .before .if1 .left))
+draft-text-requires : tie.Need-draft-text-requires
+draft-text-requires c κs = (own-room, own-table)
+
+copy-scene-requires : tie.Need-copy-scene-requires
+copy-scene-requires c κs =
+    let d = c .before .before .before .before .before .before .before .before .before .before .before .before .before .before .before .before in (
+      draft-bounded _ _ _ (d .draft-text .ensures) (c .before .before .before .before .before .before .before .before .before .c .given .1),
+      (
+        same-roomy {table₀ = []} {table = []} own-room (record {
+          positions = d .draft-text .kept .1 .0;
+          edges = d .draft-text .kept .1 .1 .0;
+          triangles = d .draft-text .kept .1 .1 .1 .0;
+          seams = d .draft-text .kept .1 .1 .1 .1 .0;
+          sewn = refl;
+        }),
+        roomy _ (d .before .before .before .before .before .before .before .if1 .left),
+      ),
+    )
 
 returns-3 : tie.Need-returns-3
 returns-3 c =
-    let i = c .before .before .before in
-    read-refused _ _ (i .before .before .if1 .left) (i .before .if2 .left) (i .inspect .ensures) (c .before .fault .given .1)
+    let d = c .before .before .before .before .before .before .before .before in
+    read-refused _ _ (d .before .before .before .before .before .before .before .if1 .left) (d .before .before .before .before .before .before .if2 .left) _ _ (d .draft-text .ensures) (c .before .fault .given .1)
 
 returns-4 : tie.Need-returns-4
 returns-4 c =
-    let f = c .before .before .before .before .before in
-    let i = f .before .before .before .before .before .before .before in
-    read-given _ _ (i .before .before .if1 .left) (i .before .if2 .left) (i .inspect .ensures)
-    (f .before .before .before .before .before .c .given .1) (f .fill .ensures)
+    let copy = c .before .before .before .before .before .before .before in
+    let d = copy .before .before .before .before .before .before .before .before .before .before .before .before .before .before .before .before .before in
+    read-given _ _ (d .before .before .before .before .before .before .before .if1 .left) (d .before .before .before .before .before .before .if2 .left) _ _ (d .draft-text .ensures) (copy .before .before .before .before .before .before .before .before .before .before .c .given .1) (copy .copy-scene .ensures)
 
 pub read-scene-spec : {M : Type 1} → statement M
 read-scene-spec =
     tie.close
     (tie.spec
-    (λ c. search needs)
-    (λ c. search needs)
-    (λ c. search needs)
     returns
     returns-2
-    (λ c κs. search needs)
     (λ c. search needs)
     (λ c. search needs)
-    fill-requires
+    (λ c. search needs)
+    (λ c. search needs)
+    (λ c. search needs)
+    draft-text-requires
+    (λ c. search needs)
+    (λ c. search needs)
+    (λ c. search needs)
+    (λ c. search needs)
+    (λ c. search needs)
+    (λ c. search needs)
+    copy-scene-requires
     returns-3
+    (λ c. search needs)
     (λ c. search needs)
     (λ c. search needs)
     (λ c. search needs)

@@ -7,7 +7,7 @@ use Rattle.scene_words.proofs.settle_accepted.Tie as tie
 
 settle-entries-requires : tie.Need-settle-entries-requires
 settle-entries-requires c κs =
-    let start = c .before .before .before .before .before .before .before .before .before .before .before .before .before .before .before .before .before in
+    let start = c .before .before .before .before .before .before .before .before .before .before .before .before .before .before .before .before .before .before in
     let room = c .before .before .before .before .before .before .before .before .before .before .smaller .ensures in
     let m = made-list (c .before .before .before .before .before .before .before .list-accepted .ensures .list) {m = c .before .before .before .made .given .0 .0} (search) in (
       start .pre,
@@ -24,7 +24,7 @@ returns c =
 returns-2 : tie.Need-returns-2
 returns-2 c =
     let l = c .before .before .before .before .before .list-accepted .ensures .list in
-    rw (c .before .before .before .before .before .before .before .before .smaller .ensures, c .before .before .before .before .before .before .before .before .before .room .ensures) at (judged-without-room l {x = c .before .refusal .given .0 .0} {n = c .before .refusal .given .0 .1 .0} {b = c .before .before .before .before .before .before .before .before .before .before .before .before .before .before .before .args .out .now} (search))
+    rw (c .before .before .before .before .before .before .before .before .smaller .ensures, c .before .before .before .before .before .before .before .before .before .room .ensures) at (judged-without-room l {x = c .before .refusal .given .0 .0} {n = c .before .refusal .given .0 .1 .0} {b = c .before .before .before .before .before .before .before .before .before .before .before .before .before .before .before .before .args .out .now} (search))
 
 pub settle-accepted-spec : {M : Type 1} → statement M
 settle-accepted-spec =

@@ -8,13 +8,13 @@ use Rattle.scene_words.proofs.settle_entry.Tie as tie
 
 pair-requires : tie.Need-pair-requires
 pair-requires c κs =
-    let start = c .before .before .before .before .before .before .before in
+    let start = c .before .before .before .before .before .before .before .before in
     let p = start .pre in
     (p .0, entry-there (p .1) (start .args .k) (p .2) (pair (c .before .before .kind-of .result) (c .before .first-of .result) (c .second-of .result)) (c .before .before .kind-of .ensures) (c .before .first-of .ensures) (c .second-of .ensures))
 
 returns : tie.Need-returns
 returns c =
-    let start = c .before .before .before .before .before .before .before .before .before in
+    let start = c .before .before .before .before .before .before .before .before .before .before in
     let p = start .pre in
     c .byte-of .ensures ∙ entry-byte (p .1) (start .args .k) (p .2) (pair (c .before .before .before .before .kind-of .result) (c .before .before .before .first-of .result) (c .before .before .second-of .result)) (c .before .before .before .before .kind-of .ensures) (c .before .before .before .first-of .ensures) (c .before .before .second-of .ensures) (c .before .pair .result) (c .before .pair .ensures)
 

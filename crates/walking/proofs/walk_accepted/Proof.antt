@@ -2,7 +2,7 @@
 use borrow.Author.Needs.{needs}
 use native.Mathlib.Omega.{arith}
 use mathlib.Core.Path.{_∙_}
-use Rattle.meaning.specs.Scene.{sceneOf}
+use Rattle.scenes.specs.Alone.{tabled}
 use Rattle.meaning.specs.declared.Kind.the-variants.{PointTriangle, EdgeEdge}
 use Rattle.entries.specs.UpTo.{walked-then, walked-length}
 use Rattle.candidates.specs.Rows.{rowsOf, rows-short, pairs-rows}
@@ -14,17 +14,17 @@ use Rattle.walking.proofs.walk_accepted.Lts as lts
 
 walk-rows-requires-2 : tie.Need-walk-rows-requires-2
 walk-rows-requires-2 c κs =
-    let start = c .before .before .before .before .before .before .before .before .before .before .before .before .before in
+    let start = c .before .before .before .before .before .before .before .before .before .before .before .before .before .before in
     let a = start .args in
-    let s = sceneOf (a .positions .now) (a .edges .now) (a .triangles .now) in
+    let s = tabled (a .positions .now) (a .edges .now) (a .triangles .now) (a .stands .now) in
     let done = c .before .before .before .before .walk-rows .ensures .0 in
     (c .before .before .before .before .before .before .before .before .prepare .ensures, (omega (arith, start .pre .1, walked-length done), omega (arith, done .counts, rows-short s PointTriangle (start .pre .0))))
 
 returns : tie.Need-returns
 returns c =
-    let start = c .before .before .before .before .before .before .before .before .before .before .before .before .before .before .before .before in
+    let start = c .before .before .before .before .before .before .before .before .before .before .before .before .before .before .before .before .before in
     let a = start .args in
-    let s = sceneOf (a .positions .now) (a .edges .now) (a .triangles .now) in
+    let s = tabled (a .positions .now) (a .edges .now) (a .triangles .now) (a .stands .now) in
     let points = c .before .before .before .before .before .before .before .walk-rows .ensures in (
       rw (pairs-rows s) (walked-then {ps = rowsOf s PointTriangle} {qs = rowsOf s EdgeEdge} (points .0) (c .before .before .walk-rows2 .ensures .0)),
       points .1 ∙ point-rows s,

@@ -1,35 +1,34 @@
--- `filling::fill`: an accepted scene has no more parts than there is room for, and its ends and corners are vertices.
+-- `filling::fill`: there is room for a box of each part, and ends and corners are vertices.
 use borrow.Author.Needs.{needs}
 use native.Mathlib.Omega.{arith}
-use Rattle.scenes.specs.Facts.{accepted-sized}
 use Rattle.boxes.specs.Filling.{kept-then}
-use Rattle.boxes.specs.Parts.{ends-known, corners-known}
 use Rattle.boxes.proofs.filling.fill.Statement.{statement}
 use Rattle.boxes.proofs.filling.fill.Tie as tie
 
 fill-vertices-requires : tie.Need-fill-vertices-requires
 fill-vertices-requires c κs =
     let start = c .before .before .before in
-    omega (arith, accepted-sized (start .pre .0))
+    omega (arith, start .pre .0 .2, start .pre .1)
 
 fill-edges-requires : tie.Need-fill-edges-requires
 fill-edges-requires c κs =
     let start = c .before .before .before .before .before .before in
     let filled = c .before .before .fill-vertices .ensures in
-    (ends-known (start .pre .0), (omega (arith, accepted-sized (start .pre .0), start .pre .1, filled .1 .same), filled .0))
+    (start .pre .0 .0, (omega (arith, start .pre .0 .2, start .pre .1, filled .1 .same), filled .0))
 
 fill-triangles-requires : tie.Need-fill-triangles-requires
 fill-triangles-requires c κs =
     let start = c .before .before .before .before .before .before .before .before .before in
     let filled = c .before .before .fill-edges .ensures in
     let before = c .before .before .before .before .before .fill-vertices .ensures in (
-      corners-known (start .pre .0),
-      (omega (arith, accepted-sized (start .pre .0), start .pre .1, filled .2 .same, before .1 .same), (filled .0, filled .1)),
+      start .pre .0 .1,
+      (omega (arith, start .pre .0 .2, start .pre .1, filled .2 .same, before .1 .same), (filled .0, filled .1)),
     )
 
 returns : tie.Need-returns
 returns c =
-    let filled = c .before .fill-triangles .ensures in
+    λ w.
+    let filled = c .before .fill-triangles .ensures w in
     record {
       boxed = filled .boxed;
       kept =

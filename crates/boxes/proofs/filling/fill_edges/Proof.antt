@@ -14,7 +14,7 @@ use Rattle.boxes.proofs.filling.fill_edges.Tie as tie
 abbrev Inv-loop : tie.InvT-loop
 Inv-loop positions edges boxes₀ count j₀ boxes j =
     (j ≤ count) × KeptBehind boxes₀ boxes (vertexCount (onlyPositions positions) + j) × VerticesIn (onlyPositions positions) boxes
-    × Holds boxes (vertexCount (onlyPositions positions)) j (edgeBox (sceneOf positions edges []))
+    × Holds boxes (vertexCount (onlyPositions positions)) j (edgeBox (sceneOf positions edges [] []))
 
 abbrev μ-loop : tie.MeasureT-loop
 μ-loop positions edges boxes₀ count j₀ boxes j = count - j

@@ -13,10 +13,10 @@ use Rattle.boxes.proofs.filling.fill_triangles.Tie as tie
 
 abbrev Inv-loop : tie.InvT-loop
 Inv-loop positions edges triangles boxes₀ count j₀ boxes j =
-    (j ≤ count) × KeptBehind boxes₀ boxes (vertexCount (onlyPositions positions) + edgeCount (sceneOf positions edges []) + j)
+    (j ≤ count) × KeptBehind boxes₀ boxes (vertexCount (onlyPositions positions) + edgeCount (sceneOf positions edges [] []) + j)
     × VerticesIn (onlyPositions positions) boxes
-    × EdgesIn (sceneOf positions edges []) boxes
-    × Holds boxes (vertexCount (onlyPositions positions) + edgeCount (sceneOf positions edges [])) j (triangleBox (sceneOf positions edges triangles))
+    × EdgesIn (sceneOf positions edges [] []) boxes
+    × Holds boxes (vertexCount (onlyPositions positions) + edgeCount (sceneOf positions edges [] [])) j (triangleBox (sceneOf positions edges triangles []))
 
 abbrev μ-loop : tie.MeasureT-loop
 μ-loop positions edges triangles boxes₀ count j₀ boxes j = count - j
@@ -48,7 +48,7 @@ returns c =
     let start = c .before .before .before .before .before in
     let inv = c .before .loop .inv in
     let room = start .pre .1 .0 in
-    record {
+    λ w. record {
       boxed = record { vertices = inv .2; edges = inv .3; triangles = holds-all (omega arith) (inv .4); room = omega (arith, room, inv .1 .same) };
       kept = kept-wider (omega arith) (inv .1);
     }

@@ -11,11 +11,11 @@ pair-word-spec =
     (λ c. search needs)
     (λ c. search needs)
     (λ c κs. search needs)
-    (λ c. hit-stays _ _ _ _ (c .enum-told .given .1) (c .before .before .before .before .pre .2))
-    (λ c. miss-stays _ _ _ _ (c .enum-told2 .given .1) (c .before .before .before .before .pre .2))
+    (λ c. hit-stays _ _ _ _ (c .enum-told .given .1) (c .before .before .before .before .before .pre .2))
+    (λ c. miss-stays _ _ _ _ (c .enum-told2 .given .1) (c .before .before .before .before .before .pre .2))
     (λ c.
     let m = c .before .before in
-    goes-to-touch _ _ _ _ (m .enum-told3 .given .1) (m .before .before .before .before .pre .2) (c .before .touches .ensures) (c .if1 .taken))
+    goes-to-touch _ _ _ _ (m .enum-told3 .given .1) (m .before .before .before .before .before .pre .2) (c .before .touches .ensures) (c .if1 .taken))
     (λ c.
     let m = c .before .before in
-    goes-to-apart _ _ _ _ (m .enum-told3 .given .1) (m .before .before .before .before .pre .2) (c .before .touches .ensures) (c .if1 .left)))
+    goes-to-apart _ _ _ _ (m .enum-told3 .given .1) (m .before .before .before .before .before .pre .2) (c .before .touches .ensures) (c .if1 .left)))

@@ -1,6 +1,6 @@
 -- The search says of the six points what is to be said of the piece.
 use borrow.Author.Needs.{needs}
-use Rattle.meaning.specs.Scene.{sceneOf}
+use Rattle.scenes.specs.Alone.{tabled}
 use Rattle.four_words.specs.Six.{asked, settled}
 use Rattle.four_words.proofs.accepted.piece_word.Statement.{statement}
 use Rattle.four_words.proofs.accepted.piece_word.Tie as tie
@@ -11,9 +11,9 @@ piece-word-spec =
     (tie.spec
     (λ c κs. search needs)
     (λ c κs.
-    let a = c .before .before .before .args in
-    let p = c .before .before .before .pre in
-    asked (sceneOf (a .positions .now) (a .edges .now) (a .triangles .now)) (a .kind) (a .i) (a .j) (a .k) _ (c .six-of .ensures) (p .0) (p .1) _ (p .2))
-    (λ c.
     let a = c .before .before .before .before .args in
-    settled (sceneOf (a .positions .now) (a .edges .now) (a .triangles .now)) (a .kind) (a .i) (a .j) (a .k) _ (c .before .six-of .ensures) _ (c .settle-piece .ensures)))
+    let p = c .before .before .before .before .pre in
+    asked (tabled (a .positions .now) (a .edges .now) (a .triangles .now) (a .stands .now)) (a .kind) (a .i) (a .j) (a .k) _ (c .six-of .ensures) (p .0) (p .1) _ (p .2))
+    (λ c.
+    let a = c .before .before .before .before .before .args in
+    settled (tabled (a .positions .now) (a .edges .now) (a .triangles .now) (a .stands .now)) (a .kind) (a .i) (a .j) (a .k) _ (c .before .six-of .ensures) _ (c .settle-piece .ensures)))

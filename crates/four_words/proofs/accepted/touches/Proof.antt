@@ -7,7 +7,7 @@ use mathlib.Core.List.{[], _∷_}
 use types.Run.{OneOf}
 use denote.Enum.Declared.{tagOf}
 use borrow.Author.Needs.{needs}
-use Rattle.meaning.specs.Scene.{sceneOf}
+use Rattle.scenes.specs.Alone.{tabled}
 use Rattle.meaning.specs.declared.Settled.{Settled}
 use Rattle.meaning.specs.declared.Settled.the-variants.{Touch}
 use Rattle.meaning.proofs.Settled.{the-type}
@@ -16,10 +16,10 @@ use Rattle.four_words.proofs.accepted.touches.Statement.{statement}
 use Rattle.four_words.proofs.accepted.touches.Tie as tie
 
 abbrev Inv-loop : tie.InvT-loop
-Inv-loop positions edges triangles kind i j count k₀ k = NoneBefore (sceneOf positions edges triangles) kind i j k
+Inv-loop positions edges triangles stands kind i j count k₀ k = NoneBefore (tabled positions edges triangles stands) kind i j k
 
 abbrev μ-loop : tie.MeasureT-loop
-μ-loop positions edges triangles kind i j count k₀ k = count - k
+μ-loop positions edges triangles stands kind i j count k₀ k = count - k
 
 -- the word that was passed over is another
 other-word : (w : Settled) → OneOf (0 ∷ 1 ∷ 3 ∷ []) (tagOf the-type w) → ¬ (w ≡ Touch)
@@ -36,7 +36,7 @@ touches-spec =
     μ-loop
     (λ c κs. tt)
     (λ c. none-before _ _ _ _)
-    (λ c κs. c .before .before .before .before .before .pre)
+    (λ c κs. c .before .before .before .before .before .before .pre)
     (λ c. search needs)
     (λ c.
     let p = c .before .before in

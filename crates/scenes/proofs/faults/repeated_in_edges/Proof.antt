@@ -2,16 +2,16 @@
 use Prim.Native.Nat.{_-_}
 use native.Mathlib.Omega.{arith}
 use Rattle.meaning.specs.Scene.{edgeCount, twiceInEdge}
-use Rattle.scenes.specs.Alone.{onlyEdges}
+use Rattle.scenes.specs.Alone.{onlyEdges, edgesSewn}
 use Rattle.scenes.specs.Scanning.{Scanned, scan-starts, scan-goes, scan-ends}
 use Rattle.scenes.proofs.faults.repeated_in_edges.Statement.{statement}
 use Rattle.scenes.proofs.faults.repeated_in_edges.Tie as tie
 
 abbrev Inv-loop : tie.InvT-loop
-Inv-loop edges count found₀ j₀ found j = Scanned (edgeCount (onlyEdges edges)) (twiceInEdge (onlyEdges edges)) found j
+Inv-loop edges stands count found₀ j₀ found j = Scanned (edgeCount (onlyEdges edges)) (twiceInEdge (edgesSewn edges stands)) found j
 
 abbrev μ-loop : tie.MeasureT-loop
-μ-loop edges count found₀ j₀ found j = count - j
+μ-loop edges stands count found₀ j₀ found j = count - j
 
 pub repeated-in-edges-spec : {M : Type 1} → statement M
 repeated-in-edges-spec =

@@ -2,16 +2,16 @@
 use Prim.Native.Nat.{_-_}
 use native.Mathlib.Omega.{arith}
 use Rattle.meaning.specs.Scene.{triangleCount, twiceInTriangle}
-use Rattle.scenes.specs.Alone.{onlyTriangles}
+use Rattle.scenes.specs.Alone.{onlyTriangles, trianglesSewn}
 use Rattle.scenes.specs.Scanning.{Scanned, scan-starts, scan-goes, scan-ends}
 use Rattle.scenes.proofs.faults.repeated_in_triangles.Statement.{statement}
 use Rattle.scenes.proofs.faults.repeated_in_triangles.Tie as tie
 
 abbrev Inv-loop : tie.InvT-loop
-Inv-loop triangles count found₀ j₀ found j = Scanned (triangleCount (onlyTriangles triangles)) (twiceInTriangle (onlyTriangles triangles)) found j
+Inv-loop triangles stands count found₀ j₀ found j = Scanned (triangleCount (onlyTriangles triangles)) (twiceInTriangle (trianglesSewn triangles stands)) found j
 
 abbrev μ-loop : tie.MeasureT-loop
-μ-loop triangles count found₀ j₀ found j = count - j
+μ-loop triangles stands count found₀ j₀ found j = count - j
 
 pub repeated-in-triangles-spec : {M : Type 1} → statement M
 repeated-in-triangles-spec =

@@ -5,4 +5,6 @@ use Rattle.scenes.proofs.faults.twice_in_triangle.Tie as tie
 
 pub twice-in-triangle-spec : {M : Type 1} → statement M
 twice-in-triangle-spec =
-    tie.close (tie.spec (λ c κs. search needs) (λ c κs. search needs) (λ c κs. search needs) (λ c. rw (c .before .before .corner .ensures, c .before .corner2 .ensures, c .corner3 .ensures)))
+    tie.close
+    (tie.spec (λ c κs. search needs) (λ c κs. search needs) (λ c κs. search needs)
+    (λ c. rw (c .before .before .corner-counts-as .ensures, c .before .corner-counts-as2 .ensures, c .corner-counts-as3 .ensures)))

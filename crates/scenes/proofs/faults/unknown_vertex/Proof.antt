@@ -5,4 +5,6 @@ use Rattle.scenes.proofs.faults.unknown_vertex.Tie as tie
 
 pub unknown-vertex-spec : {M : Type 1} → statement M
 unknown-vertex-spec =
-    tie.close (tie.spec (λ c κs. search needs) (λ c κs. search needs) (λ c. rw (c .before .unknown-in .ensures, c .unknown-in2 .ensures)))
+    tie.close
+    (tie.spec (λ c κs. search needs) (λ c κs. search needs) (λ c κs. search needs)
+    (λ c. rw (c .before .before .unknown-in .ensures, c .before .unknown-in2 .ensures, c .unknown-in3 .ensures)))

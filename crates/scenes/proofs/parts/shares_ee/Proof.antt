@@ -6,7 +6,7 @@ use Rattle.scenes.proofs.parts.shares_ee.Tie as tie
 
 returns : tie.Need-returns
 unfolding shares
-returns c p t = rw (c .before .before .before .edge-end .ensures, c .before .before .edge-end2 .ensures, c .before .edge-end3 .ensures, c .edge-end4 .ensures)
+returns c p t = rw (c .before .before .before .end-counts-as .ensures, c .before .before .end-counts-as2 .ensures, c .before .end-counts-as3 .ensures, c .end-counts-as4 .ensures)
 
 pub shares-ee-spec : {M : Type 1} → statement M
 shares-ee-spec =

@@ -21,6 +21,7 @@ show-made-spec =
     slice-aggregate-show-read
     (λ c. search needs)
     (λ c. search needs)
+    (λ c. search needs)
     (λ c κs. search needs)
     (λ c. search needs)
     (λ c. search needs))

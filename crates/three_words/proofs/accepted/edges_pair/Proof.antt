@@ -16,8 +16,8 @@ returns c =
     let d = c .before .before .before .before in
     let a = d .before .before .before .before .before .before .before .before .before .before .before .before .before .args in
     let v = d .before .before .before .before .before .before .before .before .edge-volumes .ensures in
-    λ e t i j one two.
-    let s : Scene = sceneOf (a .positions .now) e t in
+    λ e t w i j one two.
+    let s : Scene = sceneOf (a .positions .now) e t w in
     let aa = d .before .before .before .edge-signs in
     let ab = d .before .before .edge-signs2 in
     let ba = d .before .edge-signs3 in

@@ -16,12 +16,12 @@ enum-told-2 c = search needs
 -- src/accepted.rt:21:1
 returns : tie.Need-returns
 unfolding notThere
-returns c = rw (c .enum-told .given .1)
+returns c w = rw (c .enum-told .given .1)
 
 -- src/accepted.rt:21:1
 returns-2 : tie.Need-returns-2
 unfolding notThere
-returns-2 c = rw (c .enum-told2 .given .1)
+returns-2 c w = rw (c .enum-told2 .given .1)
 
 pub not-there-spec : {M : Type 1} → statement M
 not-there-spec = tie.close (tie.spec enum-told enum-told-2 returns returns-2)

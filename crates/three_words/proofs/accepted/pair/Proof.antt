@@ -1,6 +1,6 @@
 use borrow.Author.Needs.{needs}
 use mathlib.Core.Path.{sym}
-use Rattle.meaning.specs.Scene.{sceneOf}
+use Rattle.scenes.specs.Alone.{tabled}
 use Rattle.three_words.specs.Pairs.{pt-there, ee-smaller-there, ee-larger-there, pt-ready, ee-ready}
 use Rattle.three_words.proofs.accepted.pair.Statement.{statement}
 use Rattle.three_words.proofs.accepted.pair.Tie as tie
@@ -20,14 +20,14 @@ enum-told c = search needs
 -- src/accepted.rt:137:38
 corners-of-requires : tie.Need-corners-of-requires
 corners-of-requires c κs =
-    let a = c .before .before .before .before .args in
-    pt-there (sceneOf (a .positions .now) (a .edges .now) (a .triangles .now)) (a .i) (a .j) (rw (c .enum-told .given .1) at (c .before .before .before .before .pre .1)) .1
+    let a = c .before .before .before .before .before .args in
+    pt-there (tabled (a .positions .now) (a .edges .now) (a .triangles .now) (a .stands .now)) (a .i) (a .j) (rw (c .enum-told .given .1) at (c .before .before .before .before .before .pre .1)) .1
 
 -- src/accepted.rt:137:13
 point-pair-requires : tie.Need-point-pair-requires
 point-pair-requires c κs =
-    let a = c .before .before .before .before .before .args in
-    rw (c .corners-of .ensures) (pt-ready (sceneOf (a .positions .now) (a .edges .now) (a .triangles .now)) (a .i) (a .j) (c .before .before .before .before .before .pre .0) (rw (c .before .enum-told .given .1) at (c .before .before .before .before .before .pre .1)))
+    let a = c .before .before .before .before .before .before .args in
+    rw (c .corners-of .ensures) (pt-ready (tabled (a .positions .now) (a .edges .now) (a .triangles .now) (a .stands .now)) (a .i) (a .j) (c .before .before .before .before .before .before .pre .0) (rw (c .before .enum-told .given .1) at (c .before .before .before .before .before .before .pre .1)))
 
 -- src/accepted.rt:140:55
 enum-told-2 : tie.Need-enum-told-2
@@ -40,8 +40,8 @@ smaller-requires c κs = search needs
 -- src/accepted.rt:140:17
 ends-of-requires : tie.Need-ends-of-requires
 ends-of-requires c κs =
-    let a = c .before .before .before .before .before .args in
-    rw (c .smaller .ensures) (ee-smaller-there (sceneOf (a .positions .now) (a .edges .now) (a .triangles .now)) (a .i) (a .j) (rw (c .before .enum-told2 .given .1) at (c .before .before .before .before .before .pre .1)))
+    let a = c .before .before .before .before .before .before .args in
+    rw (c .smaller .ensures) (ee-smaller-there (tabled (a .positions .now) (a .edges .now) (a .triangles .now) (a .stands .now)) (a .i) (a .j) (rw (c .before .enum-told2 .given .1) at (c .before .before .before .before .before .before .pre .1)))
 
 -- src/accepted.rt:141:56
 larger-requires : tie.Need-larger-requires
@@ -50,29 +50,29 @@ larger-requires c κs = search needs
 -- src/accepted.rt:141:17
 ends-of-requires-2 : tie.Need-ends-of-requires-2
 ends-of-requires-2 c κs =
-    let a = c .before .before .before .before .before .before .before .args in
-    rw (c .larger .ensures) (ee-larger-there (sceneOf (a .positions .now) (a .edges .now) (a .triangles .now)) (a .i) (a .j) (rw (c .before .before .before .enum-told2 .given .1) at (c .before .before .before .before .before .before .before .pre .1)))
+    let a = c .before .before .before .before .before .before .before .before .args in
+    rw (c .larger .ensures) (ee-larger-there (tabled (a .positions .now) (a .edges .now) (a .triangles .now) (a .stands .now)) (a .i) (a .j) (rw (c .before .before .before .enum-told2 .given .1) at (c .before .before .before .before .before .before .before .before .pre .1)))
 
 -- src/accepted.rt:142:13
 edges-pair-requires : tie.Need-edges-pair-requires
 edges-pair-requires c κs =
-    let a = c .before .before .before .before .before .before .before .before .args in
+    let a = c .before .before .before .before .before .before .before .before .before .args in
     rw (c .ends-of2 .ensures, c .before .before .ends-of .ensures, c .before .larger .ensures, c .before .before .before .smaller .ensures)
-    (ee-ready (sceneOf (a .positions .now) (a .edges .now) (a .triangles .now)) (a .i) (a .j) (c .before .before .before .before .before .before .before .before .pre .0) (rw (c .before .before .before .before .enum-told2 .given .1) at (c .before .before .before .before .before .before .before .before .pre .1)))
+    (ee-ready (tabled (a .positions .now) (a .edges .now) (a .triangles .now) (a .stands .now)) (a .i) (a .j) (c .before .before .before .before .before .before .before .before .before .pre .0) (rw (c .before .before .before .before .enum-told2 .given .1) at (c .before .before .before .before .before .before .before .before .before .pre .1)))
 
 -- src/accepted.rt:124:1
 returns : tie.Need-returns
 returns c =
-    let a = c .before .before .before .before .before .before .args in
+    let a = c .before .before .before .before .before .before .before .args in
     rw (c .before .before .enum-told .given .1)
-    (c .point-pair .ensures (a .edges .now) (a .triangles .now) (a .j) (sym (c .before .corners-of .ensures)))
+    (c .point-pair .ensures (a .edges .now) (a .triangles .now) _ (a .j) (sym (c .before .corners-of .ensures)))
 
 -- src/accepted.rt:124:1
 returns-2 : tie.Need-returns-2
 returns-2 c =
-    let a = c .before .before .before .before .before .before .before .before .before .args in
+    let a = c .before .before .before .before .before .before .before .before .before .before .args in
     rw (c .before .before .before .before .before .enum-told2 .given .1)
-    (c .edges-pair .ensures (a .edges .now) (a .triangles .now) (a .i) (a .j)
+    (c .edges-pair .ensures (a .edges .now) (a .triangles .now) _ (a .i) (a .j)
     (sym (rw (c .before .before .before .before .smaller .ensures) at (c .before .before .before .ends-of .ensures)))
     (sym (rw (c .before .before .larger .ensures) at (c .before .ends-of2 .ensures))))
 

@@ -16,8 +16,8 @@ returns c =
     let d = c .before .before .before in
     let a = d .before .before .before .before .before .before .before .before .before .before .args in
     let v = d .before .before .before .before .before .before .point-volumes .ensures in
-    λ e t j same.
-    let s : Scene = sceneOf (a .positions .now) e t in
+    λ e t w j same.
+    let s : Scene = sceneOf (a .positions .now) e t w in
     rw (c .verdict-of .ensures, c .before .either2 .ensures, c .before .before .either .ensures)
     (of-three s (a .p) j (told (d .before .before .point-signs .result)) (told (d .before .point-signs2 .result)) (told (d .point-signs3 .result))
     (rw same (point-held s (a .p) (a .c) 0 (told (d .before .before .point-signs .result)) (v .holds0) (d .before .before .point-signs .ensures)))

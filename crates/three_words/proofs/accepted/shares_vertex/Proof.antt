@@ -1,5 +1,5 @@
 use borrow.Author.Needs.{needs}
-use Rattle.meaning.specs.Scene.{Scene, sceneOf}
+use Rattle.scenes.specs.Alone.{tabled}
 use Rattle.three_words.specs.Pairs.{pt-there, ee-there}
 use Rattle.three_words.proofs.accepted.shares_vertex.Statement.{statement}
 use Rattle.three_words.proofs.accepted.shares_vertex.Tie as tie
@@ -15,8 +15,8 @@ enum-told c = search needs
 -- src/accepted.rt:45:32
 shares-pt-requires : tie.Need-shares-pt-requires
 shares-pt-requires c κs =
-    let a = c .before .before .before .before .args in
-    pt-there (sceneOf (a .positions .now) (a .edges .now) (a .triangles .now)) (a .i) (a .j) (rw (c .enum-told .given .1) at (c .before .before .before .before .pre)) .1
+    let a = c .before .before .before .before .before .args in
+    pt-there (tabled (a .positions .now) (a .edges .now) (a .triangles .now) (a .stands .now)) (a .i) (a .j) (rw (c .enum-told .given .1) at (c .before .before .before .before .before .pre)) .1
 
 -- src/accepted.rt:46:27
 enum-told-2 : tie.Need-enum-told-2
@@ -25,8 +25,8 @@ enum-told-2 c = search needs
 -- src/accepted.rt:46:27
 shares-ee-requires : tie.Need-shares-ee-requires
 shares-ee-requires c κs =
-    let a = c .before .before .before .before .args in
-    ee-there (sceneOf (a .positions .now) (a .edges .now) (a .triangles .now)) (a .i) (a .j) (rw (c .enum-told2 .given .1) at (c .before .before .before .before .pre))
+    let a = c .before .before .before .before .before .args in
+    ee-there (tabled (a .positions .now) (a .edges .now) (a .triangles .now) (a .stands .now)) (a .i) (a .j) (rw (c .enum-told2 .given .1) at (c .before .before .before .before .before .pre))
 
 -- src/accepted.rt:40:1
 returns : tie.Need-returns

@@ -11,7 +11,7 @@ returns : tie.Need-returns
 unfolding flags edgeDifferences
 returns c =
     let a = c .before .before .before .before .before .args in
-    let s : Scene = sceneOf (a .positions .now) [] [] in
+    let s : Scene = sceneOf (a .positions .now) [] [] [] in
     edges-right s (a .e) 1 (a .f) 1 (c .judge-edges .result) (c .judge-edges .ensures)
 
 pub both-b-spec : {M : Type 1} → statement M

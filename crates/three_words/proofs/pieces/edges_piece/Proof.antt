@@ -11,7 +11,7 @@ returns : tie.Need-returns
 unfolding movingEdge
 returns c =
     let a = c .before .before .before .args in
-    let s : Scene = sceneOf (a .positions .now) [] [] in
+    let s : Scene = sceneOf (a .positions .now) [] [] [] in
     at-none
     (λ i. PieceIs (record { first = movingEdge (s .positions) (a .e) i; second = movingEdge (s .positions) (a .f) (a .j) }) (c .both-a .result))
     (a .i) (c .before .before .if1 .taken)
@@ -23,7 +23,7 @@ returns-2 : tie.Need-returns-2
 unfolding movingEdge
 returns-2 c =
     let a = c .before .before .before .args in
-    let s : Scene = sceneOf (a .positions .now) [] [] in
+    let s : Scene = sceneOf (a .positions .now) [] [] [] in
     at-none
     (λ i. PieceIs (record { first = movingEdge (s .positions) (a .e) i; second = movingEdge (s .positions) (a .f) (a .j) }) (c .a-against-b .result))
     (a .i) (c .before .before .if1 .taken)
@@ -35,7 +35,7 @@ returns-3 : tie.Need-returns-3
 unfolding movingEdge
 returns-3 c =
     let a = c .before .before .before .args in
-    let s : Scene = sceneOf (a .positions .now) [] [] in
+    let s : Scene = sceneOf (a .positions .now) [] [] [] in
     at-some
     (λ i. PieceIs (record { first = movingEdge (s .positions) (a .e) i; second = movingEdge (s .positions) (a .f) (a .j) }) (c .b-against-a .result))
     (a .i) (c .before .before .if1 .left)
@@ -47,7 +47,7 @@ returns-4 : tie.Need-returns-4
 unfolding movingEdge
 returns-4 c =
     let a = c .before .before .before .args in
-    let s : Scene = sceneOf (a .positions .now) [] [] in
+    let s : Scene = sceneOf (a .positions .now) [] [] [] in
     at-some
     (λ i. PieceIs (record { first = movingEdge (s .positions) (a .e) i; second = movingEdge (s .positions) (a .f) (a .j) }) (c .both-b .result))
     (a .i) (c .before .before .if1 .left)

@@ -14,7 +14,7 @@ returns : tie.Need-returns
 unfolding pointDifferences
 returns c =
     let a = c .before .before .before .before .before .args in
-    let s : Scene = sceneOf (a .positions .now) [] [] in
+    let s : Scene = sceneOf (a .positions .now) [] [] [] in
     at-none
     (λ k. PieceIs (record { first = movingPoint (s .positions) (a .p); second = movingTriangle (s .positions) (a .c) k }) (c .judge-point .result))
     (a .k) (c .before .if1 .taken) (point-right s (a .p) (a .c) 0 (c .judge-point .result) (c .judge-point .ensures))
@@ -23,7 +23,7 @@ returns-2 : tie.Need-returns-2
 unfolding pointDifferences
 returns-2 c =
     let a = c .before .before .before .before .before .before .args in
-    let s : Scene = sceneOf (a .positions .now) [] [] in
+    let s : Scene = sceneOf (a .positions .now) [] [] [] in
     at-one
     (λ k. PieceIs (record { first = movingPoint (s .positions) (a .p); second = movingTriangle (s .positions) (a .c) k }) (c .judge-point2 .result))
     (a .k) (c .before .if2 .taken) (point-right s (a .p) (a .c) 1 (c .judge-point2 .result) (c .judge-point2 .ensures))
@@ -32,7 +32,7 @@ returns-3 : tie.Need-returns-3
 unfolding pointDifferences
 returns-3 c =
     let a = c .before .before .before .before .before .before .args in
-    let s : Scene = sceneOf (a .positions .now) [] [] in
+    let s : Scene = sceneOf (a .positions .now) [] [] [] in
     at-more
     (λ k. PieceIs (record { first = movingPoint (s .positions) (a .p); second = movingTriangle (s .positions) (a .c) k }) (c .judge-point3 .result))
     (a .k) (c .before .before .if1 .left) (c .before .if2 .left) (λ m. point-right s (a .p) (a .c) (suc (suc m)) (c .judge-point3 .result) (c .judge-point3 .ensures))

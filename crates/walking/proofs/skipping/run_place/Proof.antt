@@ -7,7 +7,7 @@ use Rattle.walking.proofs.skipping.run_place.Statement.{statement}
 use Rattle.walking.proofs.skipping.run_place.Tie as tie
 
 runs-of-requires : tie.Need-runs-of-requires
-runs-of-requires c κs = omega (arith, c .edge-count2 .ensures, accepted-sized (c .before .before .before .before .before .before .before .before .pre .0))
+runs-of-requires c κs = omega (arith, c .edge-count2 .ensures, accepted-sized (c .before .before .before .before .before .before .before .before .before .pre .0))
 
 returns : tie.Need-returns
 unfolding runPlace

@@ -1,7 +1,7 @@
 -- `steps::walk_one`: a pair that is listed is counted, and one that is not leaves everything as it is.
 use borrow.Author.Needs.{needs}
 use native.Mathlib.Omega.{arith}
-use Rattle.meaning.specs.Scene.{sceneOf}
+use Rattle.scenes.specs.Alone.{tabled}
 use Rattle.meaning.specs.Boxes.{listed}
 use Rattle.meaning.specs.List.{pair}
 use Rattle.entries.specs.UpTo.{walked-pair, walked-no-pair}
@@ -13,14 +13,14 @@ use Rattle.walking.proofs.steps.walk_one.Lts as lts
 
 is-listed-requires : tie.Need-is-listed-requires
 is-listed-requires c κs =
-    let p = c .before .before .before .pre .0 in
+    let p = c .before .before .before .before .pre .0 in
     (p .0 .boxed, p .1, p .2)
 
 put-below-requires : tie.Need-put-below-requires
 put-below-requires c κs =
-    let start = c .before .before .before .before .before .before in
+    let start = c .before .before .before .before .before .before .before in
     let a = start .args in
-    let s = sceneOf (a .positions .now) (a .edges .now) (a .triangles .now) in
+    let s = tabled (a .positions .now) (a .edges .now) (a .triangles .now) (a .stands .now) in
     let accepted = start .pre .0 .0 .accepted in (
       start .pre .1 .0,
       omega (arith, start .pre .0, few-firsts s (a .kind) accepted),
@@ -29,16 +29,16 @@ put-below-requires c κs =
 
 returns : tie.Need-returns
 returns c =
-    let start = c .before .before .before .before .before .before .before .before .before in
+    let start = c .before .before .before .before .before .before .before .before .before .before in
     let a = start .args in
-    let s = sceneOf (a .positions .now) (a .edges .now) (a .triangles .now) in
+    let s = tabled (a .positions .now) (a .edges .now) (a .triangles .now) (a .stands .now) in
     walked-pair (listed s (a .kind) (a .i) (a .j)) (pair (a .kind) (a .i) (a .j)) (c .before .before .before .before .before .is-listed .ensures) (c .before .before .before .before .if1 .taken) (c .before .before .put-below .ensures)
 
 returns-2 : tie.Need-returns-2
 returns-2 c =
-    let start = c .before .before .before .before .before in
+    let start = c .before .before .before .before .before .before in
     let a = start .args in
-    let s = sceneOf (a .positions .now) (a .edges .now) (a .triangles .now) in
+    let s = tabled (a .positions .now) (a .edges .now) (a .triangles .now) (a .stands .now) in
     walked-no-pair (listed s (a .kind) (a .i) (a .j)) (pair (a .kind) (a .i) (a .j)) (c .before .is-listed .ensures) (c .if1 .left)
 
 pub walk-one-spec : {M : Type 1} → statement M

@@ -3,7 +3,7 @@ use borrow.Author.Needs.{needs}
 use native.Mathlib.Omega.{arith}
 use Prim.Native.Nat.{_-_, _/_, _≤_}
 use mathlib.Core.Path.{_≡_, sym}
-use Rattle.meaning.specs.Scene.{sceneOf}
+use Rattle.scenes.specs.Alone.{tabled}
 use Rattle.meaning.specs.Runs.{runTo}
 use Rattle.entries.specs.UpTo.{Walking, walking-starts, walking-more, walked-length}
 use Rattle.candidates.specs.Rows.{secondCount, secondFrom, candidate, row-begins, stretch-short, few-firsts, few-seconds}
@@ -14,25 +14,25 @@ use Rattle.walking.proofs.steps.walk_row.Reads as reads
 use Rattle.walking.proofs.steps.walk_row.Lts as lts
 
 abbrev Inv-loop : tie.InvT-loop
-Inv-loop positions edges triangles boxes kind i list₀ most from end k₀ tests₀ j₀ list k tests j =
+Inv-loop positions edges triangles stands boxes kind i list₀ most from end k₀ tests₀ j₀ list k tests j =
     (j ≤ end)
-    × Walking (candidate (sceneOf positions edges triangles) kind i) most list₀ from (secondFrom kind i) list k j
+    × Walking (candidate (tabled positions edges triangles stands) kind i) most list₀ from (secondFrom kind i) list k j
     × AtRun kind end j
-    × (tests ≡ testsUpTo (sceneOf positions edges triangles) kind i j)
+    × (tests ≡ testsUpTo (tabled positions edges triangles stands) kind i j)
 
 abbrev μ-loop : tie.MeasureT-loop
-μ-loop positions edges triangles boxes kind i list₀ most from end k₀ tests₀ j₀ list k tests j = end - j
+μ-loop positions edges triangles stands boxes kind i list₀ most from end k₀ tests₀ j₀ list k tests j = end - j
 
 second-from-requires : tie.Need-second-from-requires Inv-loop μ-loop
 second-from-requires c κs =
-    let start = c .before .before .before .before in
+    let start = c .before .before .before .before .before in
     omega (arith, start .pre .0 .1, few-firsts _ (start .args .kind) (start .pre .0 .0 .accepted))
 
 loop-holds : tie.Need-loop-holds Inv-loop μ-loop
 loop-holds c =
-    let start = c .before .before .before .before .before in
+    let start = c .before .before .before .before .before .before in
     let a = start .args in
-    let s = sceneOf (a .positions .now) (a .edges .now) (a .triangles .now) in (
+    let s = tabled (a .positions .now) (a .edges .now) (a .triangles .now) (a .stands .now) in (
       omega (arith, c .second-from .ensures, c .before .second-count .ensures, row-begins s (a .kind) (a .i) (start .pre .0 .1)),
       rw (c .second-from .ensures) (walking-starts _ _ _ _),
       rw (c .second-from .ensures) (at-begun (a .kind) _ (a .i)),
@@ -41,9 +41,9 @@ loop-holds c =
 
 walk-run-requires : tie.Need-walk-run-requires Inv-loop μ-loop
 walk-run-requires c κs =
-    let start = c .before .before .before .before .before .before .before .before in
+    let start = c .before .before .before .before .before .before .before .before .before in
     let a = start .args in
-    let s = sceneOf (a .positions .now) (a .edges .now) (a .triangles .now) in
+    let s = tabled (a .positions .now) (a .edges .now) (a .triangles .now) (a .stands .now) in
     let inv = c .before .before .loop .inv in
     let n = c .before .before .before .before .second-count .ensures in
     let few = few-seconds s (a .kind) (start .pre .0 .0 .accepted) in
@@ -54,9 +54,9 @@ walk-run-requires c κs =
 
 add-tests : tie.Need-add-tests Inv-loop μ-loop
 add-tests c =
-    let start = c .before .before .before .before .before .before .before .before .before .before .before .before in
+    let start = c .before .before .before .before .before .before .before .before .before .before .before .before .before in
     let a = start .args in
-    let s = sceneOf (a .positions .now) (a .edges .now) (a .triangles .now) in
+    let s = tabled (a .positions .now) (a .edges .now) (a .triangles .now) (a .stands .now) in
     let inv = c .before .before .before .before .before .before .loop .inv in
     let j = c .before .before .before .before .before .before .loop .j in
     let ran = c .before .before .before .walk-run .ensures in
@@ -64,14 +64,14 @@ add-tests c =
 
 run-to-requires : tie.Need-run-to-requires Inv-loop μ-loop
 run-to-requires c κs =
-    let start = c .before .before .before .before .before .before .before .before .before .before .before .before in
+    let start = c .before .before .before .before .before .before .before .before .before .before .before .before .before in
     omega (arith, c .before .before .before .before .before .before .before .before .second-count .ensures, few-seconds _ (start .args .kind) (start .pre .0 .0 .accepted))
 
 loop-again : tie.Need-loop-again Inv-loop μ-loop
 loop-again c =
-    let start = c .before .before .before .before .before .before .before .before .before .before .before .before .before in
+    let start = c .before .before .before .before .before .before .before .before .before .before .before .before .before .before in
     let a = start .args in
-    let s = sceneOf (a .positions .now) (a .edges .now) (a .triangles .now) in
+    let s = tabled (a .positions .now) (a .edges .now) (a .triangles .now) (a .stands .now) in
     let inv = c .before .before .before .before .before .before .before .loop .inv in
     let j = c .before .before .before .before .before .before .before .loop .j in
     let n = c .before .before .before .before .before .before .before .before .before .second-count .ensures in
@@ -87,9 +87,9 @@ same-length c = walked-length (c .before .loop .inv .1 .done)
 
 returns : tie.Need-returns Inv-loop μ-loop
 returns c =
-    let start = c .before .before .before .before .before .before .before in
+    let start = c .before .before .before .before .before .before .before .before in
     let a = start .args in
-    let s = sceneOf (a .positions .now) (a .edges .now) (a .triangles .now) in
+    let s = tabled (a .positions .now) (a .edges .now) (a .triangles .now) (a .stands .now) in
     let all : c .before .loop .j ≡ secondCount s (a .kind) = omega (arith, c .before .loop .inv .0, c .before .before .before .second-count .ensures) in
     (rw all at (c .before .loop .inv .1 .done), rw all at (c .before .loop .inv .3))
 
