@@ -248,12 +248,7 @@ fn of_slices(question: &Question, answer: &Answer) -> Vec<String> {
     let given = answer.refusal();
     if SCENE_CHECKS.contains(&given) {
         out.push(format!("{}: refused {given}", call.name()));
-        faults.extend(no_room.then_some((NO_ROOM, "no room")));
     }
-    let others = faults.iter().filter(|fault| given != 0 && given != NO_ROOM && before(given, fault.0));
-    out.extend(others.map(|(other, _)| format!("{}: {given} before {other}", call.name())));
-    let by_a_seam = given == SHARES_A_VERTEX && of_scene(&question.lent).is_empty() && !shares_by_number(question);
-    out.extend(by_a_seam.then(|| format!("{}: 6 by a seam", call.name())));
     // of so many seams some are at fault too
     let alone_or_first = match &faults[..] {
         [only] => Some(*only),
@@ -262,6 +257,13 @@ fn of_slices(question: &Question, answer: &Answer) -> Vec<String> {
         }
         _ => None,
     };
+    if SCENE_CHECKS.contains(&given) || given == BEYOND_OLD_RANGE {
+        faults.extend(no_room.then_some((NO_ROOM, "no room")));
+    }
+    let others = faults.iter().filter(|fault| given != 0 && given != NO_ROOM && before(given, fault.0));
+    out.extend(others.map(|(other, _)| format!("{}: {given} before {other}", call.name())));
+    let by_a_seam = given == SHARES_A_VERTEX && of_scene(&question.lent).is_empty() && !shares_by_number(question);
+    out.extend(by_a_seam.then(|| format!("{}: 6 by a seam", call.name())));
     if let Some((number, fault)) = alone_or_first {
         out.push(if SCENE_CHECKS.contains(&number) { alone(number, fault) } else { asked_for(call, number, fault) });
     } else if let Some((number, fault)) = faults.first().filter(|fault| [NOT_THERE, SHARES_A_VERTEX].contains(&fault.0)) {
