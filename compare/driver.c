@@ -39,8 +39,8 @@ static void give_up(const char *why) {
 static uint64_t answer(const struct question *q) {
     switch (q->call) {
     case 0: return makhnodri_check_scene(SCENE);
-    case 1: return makhnodri_count_pairs(SCENE);
-    case 2: return makhnodri_list_pairs(SCENE, lent(LIST), q->length[LIST]);
+    case 1: return makhnodri_count_pairs(SCENE, lent(COUNTS));
+    case 2: return makhnodri_list_pairs(SCENE, lent(LIST), q->length[LIST], lent(COUNTS));
     case 3: return makhnodri_settle_scene(SCENE, lent(LIST), q->length[LIST], lent(WORDS), q->length[WORDS]);
     case 4: return makhnodri_judge_pt(PAIR);
     case 5: return makhnodri_judge_ee(PAIR);

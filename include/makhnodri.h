@@ -83,8 +83,8 @@ extern "C" {
  * MAKHNODRI_STACK bytes of stack are enough for any call. As measured by `examples/c/run stack`, in bytes:
  *
  *     check_scene         120      judge_pt, judge_pt_piece       480
- *     count_pairs      52,016      judge_ee, judge_ee_piece       480
- *     list_pairs       84,848      settle_pt, settle_pt_piece   2,800
+ *     count_pairs      52,168      judge_ee, judge_ee_piece       480
+ *     list_pairs       85,000      settle_pt, settle_pt_piece   2,800
  *     settle_scene     85,184      settle_ee, settle_ee_piece   2,448
  *     read_scene          680      write_report               120,048
  *     turn_scene          168      check_claims                   832
@@ -229,18 +229,25 @@ makhnodri_answer makhnodri_check_scene(const int32_t *positions, size_t position
 makhnodri_answer makhnodri_turn_scene(int32_t *positions, size_t positions_length, uint16_t *edges, size_t edges_length,
                                       uint16_t *triangles, size_t triangles_length);
 
-/* How many pairs are listed: those whose swept boxes meet, equal ends included, and that share no vertex. */
+/*
+ * How many pairs are listed: those whose swept boxes meet, equal ends included, and that share no vertex.
+ * Into tests[0] goes how many boxes the pt part tests in one pass over the scene: triangles stand in runs of 16 by place, each vertex
+ * tests the joint box of every run, and in a run that it meets the box of every triangle, sharing a vertex or not. It is never
+ * more than vertices x (triangles + runs). A refusal leaves it as it was.
+ */
 makhnodri_answer makhnodri_count_pairs(const int32_t *positions, size_t positions_length, const uint16_t *edges,
-                                       size_t edges_length, const uint16_t *triangles, size_t triangles_length);
+                                       size_t edges_length, const uint16_t *triangles, size_t triangles_length,
+                                       size_t tests[MAKHNODRI_AT_LEAST(1)]);
 
 /*
  * Makes the list, one number an entry (makhnodri_entry_kind and its neighbours take it apart). Room is list_length.
  * Order: pt by vertex then triangle, then ee by first then second edge, first below second.
  * The answer is the count of entries, which stand in front of the list; the rest of it is unchanged. Or 7, with the count needed.
+ * Into tests[0] go the box tests, the same number that makhnodri_count_pairs gives; a refusal leaves it as it was.
  */
 makhnodri_answer makhnodri_list_pairs(const int32_t *positions, size_t positions_length, const uint16_t *edges,
                                       size_t edges_length, const uint16_t *triangles, size_t triangles_length,
-                                      uint32_t *list, size_t list_length);
+                                      uint32_t *list, size_t list_length, size_t tests[MAKHNODRI_AT_LEAST(1)]);
 
 /*
  * Makes the list and settles each pair of it, in four words: words[i] is the word of entry i. Room is the smaller of

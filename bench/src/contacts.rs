@@ -63,7 +63,7 @@ impl Lent {
     }
 
     fn listed(&mut self, product: &Product) -> u64 {
-        product.list(&self.slices, &mut self.list).expect("there is room") as u64
+        product.list(&self.slices, &mut self.list, &mut [0]).expect("there is room") as u64
     }
 
     /// Plain Rust's words and contacts of the listed pairs, the list left out.

@@ -12,11 +12,13 @@ mod product;
 mod resting;
 mod scenes;
 mod slices;
+mod sweep;
 #[cfg(test)]
 mod tests;
 mod timing;
 mod wide;
 
+use compare::box_tests;
 use compare::cubic;
 use compare::random::Random;
 use compare::scene::{Scene, EDGE_LIMIT, REPORT_ROOM, TRIANGLE_LIMIT, VERTEX_LIMIT};
@@ -81,7 +83,7 @@ impl Bench {
         let mut ways = baselines(slices, list);
         if let Some(product) = &self.product {
             ways.push(Way::new(OURS, || product.settle_scene(slices, &mut made, &mut words).expect("there is room") as u64));
-            ways.push(Way::new("its list", || product.list(slices, &mut made_alone).expect("there is room") as u64));
+            ways.push(Way::new("its list", || product.list(slices, &mut made_alone, &mut [0; 1]).expect("there is room") as u64));
         }
         let mut times = shortest(ways, self.rounds);
         if self.product.is_some() {
@@ -97,17 +99,35 @@ impl Bench {
 
     fn lists(&self) {
         for fold in [32, 8, 2] {
-            let slices = Slices::of(&scenes::full_size(&mut Random::new(fold as u64), fold));
-            let count = plain::list(&slices, &mut []);
-            let (mut plain, mut ours) = (vec![0; count], vec![0; count]);
-            let mut ways = vec![Way::new("every pair tested, in plain safe Rust", || plain::list(&slices, &mut plain) as u64)];
-            if let Some(product) = &self.product {
-                ways.push(Way::new(OURS, || product.list(&slices, &mut ours).expect("there is room") as u64));
-            }
-            let times = shortest(ways, self.rounds);
-            assert!(self.product.is_none() || plain == ours, "the library's list is that of plain Rust");
-            table(&format!("the list of a full-size scene, folds of {fold} columns ({count} pairs)"), ("us", 1e6), &times);
+            let scene = scenes::full_size(&mut Random::new(fold as u64), fold);
+            self.list(&format!("folds of {fold} columns"), &scene);
+            let mixed = scenes::in_random_order(&mut Random::new(1), scene);
+            self.list(&format!("folds of {fold} columns, parts in random order"), &mixed);
         }
+        self.list("everything in one place", &scenes::in_one_place(&mut Random::new(1)));
+    }
+
+    fn list(&self, name: &str, scene: &Scene) {
+        let slices = Slices::of(scene);
+        let count = plain::list(&slices, &mut []);
+        let (mut plain, mut swept, mut ours, mut tests) = (vec![0; count], vec![0; count], vec![0; count], [0; 1]);
+        let mut ways = vec![
+            Way::new("every pair tested, in plain safe Rust", || plain::list(&slices, &mut plain) as u64),
+            Way::new("a sweep along one axis, in plain safe Rust", || sweep::list(&slices, &mut swept) as u64),
+        ];
+        if let Some(product) = &self.product {
+            ways.push(Way::new(OURS, || product.list(&slices, &mut ours, &mut tests).expect("there is room") as u64));
+        }
+        let times = shortest(ways, self.rounds);
+        assert!(plain == swept, "the sweep's list is that of all pairs");
+        assert!(self.product.is_none() || plain == ours, "the library's list is that of plain Rust");
+        assert!(
+            self.product.is_none() || tests[0] == box_tests::of(scene),
+            "the library's box tests are those of the independent program"
+        );
+        let title =
+            format!("the list of a full-size scene, {name} ({count} pairs, {} box tests of points)", box_tests::of(scene));
+        table(&title, ("us", 1e6), &times);
     }
 
     fn reports(&self) {

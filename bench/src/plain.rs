@@ -113,26 +113,26 @@ pub fn judge(slices: &Slices, entry: u32) -> Verdict {
     }
 }
 
-type Box = [i32; 6];
+pub type Box = [i32; 6];
 
 fn joint(a: &Box, b: &Box) -> Box {
     [a[0].min(b[0]), a[1].min(b[1]), a[2].min(b[2]), a[3].max(b[3]), a[4].max(b[4]), a[5].max(b[5])]
 }
 
 #[inline]
-fn meet(a: &Box, b: &Box) -> bool {
+pub fn meet(a: &Box, b: &Box) -> bool {
     (0..3).all(|axis| a[axis] <= b[axis + 3] && b[axis] <= a[axis + 3])
 }
 
 /// Boxes worked out once.
 pub struct Boxes {
-    vertices: Vec<Box>,
-    edges: Vec<Box>,
-    triangles: Vec<Box>,
+    pub vertices: Vec<Box>,
+    pub edges: Vec<Box>,
+    pub triangles: Vec<Box>,
 }
 
 impl Boxes {
-    fn of(slices: &Slices) -> Boxes {
+    pub fn of(slices: &Slices) -> Boxes {
         let at = |v: &[i32]| [0, 1, 2, 3, 4, 5].map(|i| if i < 3 { v[i].min(v[i + 3]) } else { v[i - 3].max(v[i]) });
         let vertices: Vec<Box> = slices.positions.chunks_exact(6).map(at).collect();
         let of = |places: &[u16]| places.iter().map(|&v| vertices[v as usize]).reduce(|a, b| joint(&a, &b)).unwrap();

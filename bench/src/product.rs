@@ -6,7 +6,7 @@
 //! | function | takes | gives |
 //! |---|---|---|
 //! | makhnodri_settle_scene | positions i32, edges u16, triangles u16, list u32, words u8 | an answer; the list's entries, and for each its word: 0 hit, 1 miss, 3 touch, 4 apart |
-//! | makhnodri_list_pairs | positions i32, edges u16, triangles u16, list u32 | an answer; the list's entries |
+//! | makhnodri_list_pairs | positions i32, edges u16, triangles u16, list u32, one number | an answer; the list's entries, the box tests of its pt part |
 //! | makhnodri_settle_pt, makhnodri_settle_ee | positions i32, edges u16, triangles u16, two places | an answer: the pair's word |
 //! | makhnodri_settle_pt_piece, makhnodri_settle_ee_piece | positions i32, edges u16, triangles u16, two places, a piece | an answer: the piece's word |
 //! | makhnodri_contact_scene | positions i32, edges u16, triangles u16, list u32, words u8, contacts u32 | as makhnodri_settle_scene, and five numbers for each hit |
@@ -99,6 +99,7 @@ mod linked {
             triangles_len: usize,
             list: *mut u32,
             list_len: usize,
+            tests: *mut usize,
         ) -> u64;
         fn makhnodri_read_scene(
             text: *const u8,
@@ -216,8 +217,9 @@ mod linked {
             })
         }
 
-        pub fn list(&self, s: &Slices, list: &mut [u32]) -> Answer {
-            // SAFETY: as above
+        /// The box tests of its pt part go into the lent number.
+        pub fn list(&self, s: &Slices, list: &mut [u32], tests: &mut [usize; 1]) -> Answer {
+            // SAFETY: as above, and there is one number
             answer(unsafe {
                 makhnodri_list_pairs(
                     s.positions.as_ptr(),
@@ -228,6 +230,7 @@ mod linked {
                     s.triangles.len(),
                     list.as_mut_ptr(),
                     list.len(),
+                    tests.as_mut_ptr(),
                 )
             })
         }
@@ -290,7 +293,7 @@ mod missing {
             match *self {}
         }
 
-        pub fn list(&self, _: &Slices, _: &mut [u32]) -> Answer {
+        pub fn list(&self, _: &Slices, _: &mut [u32], _: &mut [usize; 1]) -> Answer {
             match *self {}
         }
 

@@ -37,7 +37,7 @@ impl Lent {
     }
 
     fn library_list(&mut self, product: &Product) -> u64 {
-        product.list(&self.slices, &mut self.list).expect("there is room") as u64
+        product.list(&self.slices, &mut self.list, &mut [0; 1]).expect("there is room") as u64
     }
 
     fn said(&self) -> String {

@@ -72,6 +72,32 @@ fn folds(random: &mut Random, fold: usize, thick: i64, creased: i64) -> Scene {
     scene
 }
 
+/// The same scene with its vertices numbered anew and its edges and triangles in other places: no part stands by its neighbours.
+pub fn in_random_order(random: &mut Random, scene: Scene) -> Scene {
+    let mut mixed = |length: usize| {
+        let mut places: Vec<usize> = (0..length).collect();
+        for place in 1..length {
+            places.swap(place, random.below(place + 1));
+        }
+        places
+    };
+    let (vertices, edges, triangles) = (mixed(scene.vertices.len()), mixed(scene.edges.len()), mixed(scene.triangles.len()));
+    let mut number = vec![0; vertices.len()];
+    vertices.iter().enumerate().for_each(|(to, &from)| number[from] = to);
+    Scene {
+        vertices: vertices.iter().map(|&from| scene.vertices[from]).collect(),
+        edges: edges.iter().map(|&from| scene.edges[from].map(|v| number[v])).collect(),
+        triangles: triangles.iter().map(|&from| scene.triangles[from].map(|v| number[v])).collect(),
+    }
+}
+
+/// Every vertex starts and ends anywhere in one place, so that nearly all boxes meet: some 680,000 pairs.
+pub fn in_one_place(random: &mut Random) -> Scene {
+    let mut scene = full_size(random, 32);
+    scene.vertices.iter_mut().flatten().for_each(|n| *n = random.between(-1_000, 1_000));
+    scene
+}
+
 /// A scene that moves, and the same at rest: each end is its start.
 fn and_at_rest(scene: Scene) -> [Scene; 2] {
     let mut rest = scene.clone();

@@ -3,7 +3,8 @@
 use crate::errors::{self, Kind, Set, Source};
 use crate::scenes;
 use crate::slices::Slices;
-use crate::{plain, plain_contacts, plain_report, plain_rest, wide};
+use crate::{plain, plain_contacts, plain_report, plain_rest, sweep, wide};
+use compare::box_tests;
 use compare::contacts::{self, making};
 use compare::generate;
 use compare::listing::listed;
@@ -22,6 +23,8 @@ fn plain_and_wide_verdicts_and_lists_are_the_exact_ones() {
         let (slices, right) = (Slices::of(&scene), listed(&scene));
         let mut list = vec![0; right.len() + 2];
         assert_eq!(plain::list(&slices, &mut list), right.len());
+        let mut swept = vec![0; right.len() + 2];
+        assert_eq!((sweep::list(&slices, &mut swept), &swept), (right.len(), &list), "seed {seed}");
         for (&entry, pair) in list.iter().zip(right).take(300) {
             let kind = (pair.kind == PairKind::EdgeEdge) as u32;
             assert_eq!(entry, 1_048_576 * kind + 1_024 * pair.first as u32 + pair.second as u32);
@@ -50,6 +53,17 @@ fn plain_contacts_are_the_exact_ones() {
         }
     }
     assert!(hits > 200, "{hits}");
+}
+
+/// The same parts in other places: as many pairs, and others tested.
+#[test]
+fn a_scene_in_random_order_has_the_same_parts() {
+    let scene = scenes::full_size(&mut Random::new(8), 8);
+    let mixed = scenes::in_random_order(&mut Random::new(1), scene.clone());
+    assert_eq!(listed(&mixed).len(), listed(&scene).len());
+    assert!(box_tests::of(&mixed) > 2 * box_tests::of(&scene));
+    let many = listed(&scenes::in_one_place(&mut Random::new(1))).len();
+    assert!(many > 650_000, "{many}");
 }
 
 /// Nothing moves: every listed pair is singular, and the words are the exact ones.

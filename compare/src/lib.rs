@@ -1,4 +1,4 @@
-//! Document 01, and §1, §5, §10, §11 and §13 of document 02, a second time, written from their text alone, so that the proved program has something to be held
+//! Document 01, and §1, §5, §10, §11, §12 and §13 of document 02, a second time, written from their text alone, so that the proved program has something to be held
 //! against. Where the proved program takes signs of 3 by 3 determinants of differences, this one sets up the six
 //! equations as they are written and solves them; where those are singular, it eliminates bounds, and leaves no corner
 //! out. Nothing here is meant to be fast.
@@ -6,6 +6,7 @@
 pub mod affine;
 pub mod backwards;
 pub mod blame;
+pub mod box_tests;
 pub mod cases;
 pub mod claims;
 pub mod contacts;

@@ -23,12 +23,15 @@ int main(void) {
     static int32_t positions[MAKHNODRI_POSITIONS_LENGTH];
     static uint16_t edges[MAKHNODRI_EDGES_LENGTH], triangles[MAKHNODRI_TRIANGLES_LENGTH];
     static uint8_t out[MAKHNODRI_REPORT_LENGTH];
-    size_t counts[3] = {7, 7, 7};
+    size_t counts[3] = {7, 7, 7}, tests[1] = {7};
 
     hold("check_scene", makhnodri_check_scene(NO_SCENE), 0, 0);
     hold("turn_scene", makhnodri_turn_scene(NO_SCENE), 0, 0);
-    hold("count_pairs", makhnodri_count_pairs(NO_SCENE), 0, 0);
-    hold("list_pairs", makhnodri_list_pairs(NO_SCENE, NULL, 0), 0, 0);
+    hold("count_pairs", makhnodri_count_pairs(NO_SCENE, tests), 0, 0);
+    if (tests[0]) wrong = 1, puts("box tests of no scene");
+    tests[0] = 7;
+    hold("list_pairs", makhnodri_list_pairs(NO_SCENE, NULL, 0, tests), 0, 0);
+    if (tests[0]) wrong = 1, puts("box tests of no list");
     hold("settle_scene", makhnodri_settle_scene(NO_SCENE, NULL, 0, NULL, 0), 0, 0);
     hold("judge_pt", makhnodri_judge_pt(NO_SCENE, 0, 0), MAKHNODRI_NOT_THERE, 0);
     hold("judge_ee", makhnodri_judge_ee(NO_SCENE, 0, 0), MAKHNODRI_NOT_THERE, 0);

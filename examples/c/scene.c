@@ -39,8 +39,10 @@ int main(void) {
     size_t p = 6 * counts[0], e = 2 * counts[1], t = 3 * counts[2];
     printf("%zu vertices, %zu edges, %zu triangles\n", counts[0], counts[1], counts[2]);
 
-    makhnodri_answer room = makhnodri_count_pairs(positions, p, edges, e, triangles, t);
+    size_t tests[1];
+    makhnodri_answer room = makhnodri_count_pairs(positions, p, edges, e, triangles, t, tests);
     show("listed pairs", room);
+    printf("found with %zu box tests of points\n", tests[0]);
     /* one entry more than needed: malloc(0) may give null, which here means that there is no memory */
     uint32_t *list = malloc((room + 1) * sizeof *list);
     uint8_t *words = malloc(room + 1);
@@ -61,7 +63,7 @@ int main(void) {
     }
 
     /* refused: nothing that was lent has changed */
-    show("room for one pair", makhnodri_list_pairs(positions, p, edges, e, triangles, t, list, 1));
+    show("room for one pair", makhnodri_list_pairs(positions, p, edges, e, triangles, t, list, 1, tests));
     show("no such vertex", makhnodri_judge_pt(positions, p, edges, e, triangles, t, counts[0], 0));
     show("an edge with itself", makhnodri_judge_ee(positions, p, edges, e, triangles, t, 0, 0));
     show("half a vertex", makhnodri_check_scene(positions, 3, edges, 0, triangles, 0));

@@ -24,7 +24,7 @@ static uint8_t words[MAKHNODRI_PAIR_LIMIT];
 static uint32_t contacts[MAKHNODRI_CONTACT_LENGTH * MAKHNODRI_PAIR_LIMIT];
 static char text[MAKHNODRI_TEXT_LIMIT + 1];
 static uint8_t report[MAKHNODRI_REPORT_LENGTH];
-static size_t text_length, counts[3], place;
+static size_t text_length, counts[3], tests[1], place;
 
 static int32_t read_positions[MAKHNODRI_POSITIONS_LENGTH];
 static uint16_t read_edges[MAKHNODRI_EDGES_LENGTH], read_triangles[MAKHNODRI_TRIANGLES_LENGTH];
@@ -34,8 +34,8 @@ static uint16_t read_edges[MAKHNODRI_EDGES_LENGTH], read_triangles[MAKHNODRI_TRI
 static void check(void) { makhnodri_check_scene(SCENE); }
 /* it stands there turned round then, as good a scene */
 static void turn(void) { makhnodri_turn_scene(SCENE); }
-static void count(void) { makhnodri_count_pairs(SCENE); }
-static void make_list(void) { makhnodri_list_pairs(SCENE, list, sizeof list / sizeof list[0]); }
+static void count(void) { makhnodri_count_pairs(SCENE, tests); }
+static void make_list(void) { makhnodri_list_pairs(SCENE, list, sizeof list / sizeof list[0], tests); }
 static void settle_scene(void) { makhnodri_settle_scene(SCENE, list, sizeof list / sizeof list[0], words, sizeof words); }
 static void judge_pt(void) { makhnodri_judge_pt(SCENE, place, place / 3); }
 static void judge_ee(void) { makhnodri_judge_ee(SCENE, place, place / 3); }

@@ -64,6 +64,16 @@ impl Pair {
     }
 }
 
+/// A list that was counted or made.
+#[derive(Clone, Copy, Debug, PartialEq, Eq, Hash)]
+pub struct Listed {
+    /// Its pairs.
+    pub count: usize,
+    /// The boxes that its pt part tests in one pass: each vertex tests the joint box of every run of 16 triangles, and in a run that
+    /// it meets the box of every triangle, sharing a vertex or not. Never more than vertices x (triangles + runs).
+    pub box_tests: usize,
+}
+
 /// Why a call was refused, by its number: 1 to 12, and 16.
 #[derive(Clone, Copy, Debug, PartialEq, Eq, Hash)]
 pub enum Refusal {

@@ -112,7 +112,7 @@ impl Scene<'_> {
 
     /// The list with the contact of each pair, with room of its own.
     pub fn contacts(self) -> Result<Vec<(Pair, Contact)>, Refusal> {
-        let count = self.count_pairs()?;
+        let count = self.count_pairs()?.count;
         let (mut list, mut words) = (vec![0; count], vec![0; count]);
         let mut contacts = vec![0; CONTACT_LENGTH * count];
         self.contact_scene(&mut list, &mut words, &mut contacts).map_err(ListRefusal::refusal)?;

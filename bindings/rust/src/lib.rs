@@ -54,7 +54,7 @@ mod raw;
 mod scenes;
 mod texts;
 
-pub use answers::{ClaimsRefusal, Kind, ListRefusal, Pair, Refusal, Settled, TextRefusal, Verdict};
+pub use answers::{ClaimsRefusal, Kind, ListRefusal, Listed, Pair, Refusal, Settled, TextRefusal, Verdict};
 pub use contacts::Contact;
 pub use scenes::{turn_scene, Scene};
 pub use texts::{read_scene, report, write_report, Counts, OwnedScene};

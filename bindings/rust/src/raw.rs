@@ -4,8 +4,8 @@
 extern "C" {
     pub fn makhnodri_check_scene(positions: *const i32, positions_length: usize, edges: *const u16, edges_length: usize, triangles: *const u16, triangles_length: usize) -> u64;
     pub fn makhnodri_turn_scene(positions: *mut i32, positions_length: usize, edges: *mut u16, edges_length: usize, triangles: *mut u16, triangles_length: usize) -> u64;
-    pub fn makhnodri_count_pairs(positions: *const i32, positions_length: usize, edges: *const u16, edges_length: usize, triangles: *const u16, triangles_length: usize) -> u64;
-    pub fn makhnodri_list_pairs(positions: *const i32, positions_length: usize, edges: *const u16, edges_length: usize, triangles: *const u16, triangles_length: usize, list: *mut u32, list_length: usize) -> u64;
+    pub fn makhnodri_count_pairs(positions: *const i32, positions_length: usize, edges: *const u16, edges_length: usize, triangles: *const u16, triangles_length: usize, tests: *mut usize) -> u64;
+    pub fn makhnodri_list_pairs(positions: *const i32, positions_length: usize, edges: *const u16, edges_length: usize, triangles: *const u16, triangles_length: usize, list: *mut u32, list_length: usize, tests: *mut usize) -> u64;
     pub fn makhnodri_settle_scene(positions: *const i32, positions_length: usize, edges: *const u16, edges_length: usize, triangles: *const u16, triangles_length: usize, list: *mut u32, list_length: usize, words: *mut u8, words_length: usize) -> u64;
     pub fn makhnodri_judge_pt(positions: *const i32, positions_length: usize, edges: *const u16, edges_length: usize, triangles: *const u16, triangles_length: usize, vertex: usize, triangle: usize) -> u64;
     pub fn makhnodri_judge_ee(positions: *const i32, positions_length: usize, edges: *const u16, edges_length: usize, triangles: *const u16, triangles_length: usize, first: usize, second: usize) -> u64;

@@ -1,7 +1,7 @@
 //! A scene as slices, and what can be asked of it.
 
 use crate::answers::{heard, settled, verdict};
-use crate::{raw, ClaimsRefusal, Kind, ListRefusal, Pair, Refusal, Settled, Verdict};
+use crate::{raw, ClaimsRefusal, Kind, ListRefusal, Listed, Pair, Refusal, Settled, Verdict};
 
 /// Six numbers a vertex (start x, y, z, end x, y, z), two vertex numbers an edge, three a triangle, the latter in any order.
 /// Whether it may be used is found by each call: none is made from a scene that is refused.
@@ -29,15 +29,20 @@ impl Scene<'_> {
         heard(ask!(self, makhnodri_check_scene)).map(drop).map_err(bare)
     }
 
-    /// How many pairs are listed.
-    pub fn count_pairs(self) -> Result<usize, Refusal> {
-        heard(ask!(self, makhnodri_count_pairs)).map_err(bare)
+    /// How many pairs are listed, and how many boxes are tested for that.
+    pub fn count_pairs(self) -> Result<Listed, Refusal> {
+        let mut tests = [0; 1];
+        let count = heard(ask!(self, makhnodri_count_pairs, tests.as_mut_ptr())).map_err(bare)?;
+        Ok(Listed { count, box_tests: tests[0] })
     }
 
-    /// Makes the list in front of `list`, one number an entry ([`Pair::of_entry`] takes it apart), and returns the count of entries.
-    /// The rest of `list` is unchanged, and all of it after a refusal.
-    pub fn list_pairs(self, list: &mut [u32]) -> Result<usize, ListRefusal> {
-        heard(ask!(self, makhnodri_list_pairs, list.as_mut_ptr(), list.len())).map_err(list_refusal)
+    /// Makes the list in front of `list`, one number an entry ([`Pair::of_entry`] takes it apart), and returns the count of entries
+    /// with the box tests. The rest of `list` is unchanged, and all of it after a refusal.
+    pub fn list_pairs(self, list: &mut [u32]) -> Result<Listed, ListRefusal> {
+        let mut tests = [0; 1];
+        let (l, n) = (list.as_mut_ptr(), list.len());
+        let count = heard(ask!(self, makhnodri_list_pairs, l, n, tests.as_mut_ptr())).map_err(list_refusal)?;
+        Ok(Listed { count, box_tests: tests[0] })
     }
 
     /// Makes the list and settles it: `words[i]` is 0, 1, 3 or 4, for hit, miss, touch or apart, of entry i.
@@ -48,14 +53,14 @@ impl Scene<'_> {
 
     /// The list, with room of its own.
     pub fn listed(self) -> Result<Vec<Pair>, Refusal> {
-        let mut list = vec![0; self.count_pairs()?];
+        let mut list = vec![0; self.count_pairs()?.count];
         self.list_pairs(&mut list).map_err(ListRefusal::refusal)?;
         Ok(list.into_iter().map(Pair::of_entry).collect())
     }
 
     /// The list and its words, with room of their own.
     pub fn settled(self) -> Result<Vec<(Pair, Settled)>, Refusal> {
-        let count = self.count_pairs()?;
+        let count = self.count_pairs()?.count;
         let (mut list, mut words) = (vec![0; count], vec![0; count]);
         self.settle_scene(&mut list, &mut words).map_err(ListRefusal::refusal)?;
         Ok(list.into_iter().map(Pair::of_entry).zip(words.iter().map(|&byte| settled(byte as usize))).collect())

@@ -85,7 +85,7 @@ pub fn listed(flat: &Flat, room: usize) -> Answer<Vec<u32>> {
     let mut list: Vec<u32> = painted(room);
     let before = list.clone();
     let answer = flat.scene().list_pairs(&mut list).map_err(of_list);
-    let front = answer.unwrap_or(0);
+    let front = answer.map_or(0, |listed| listed.count);
     assert!(front <= list.len());
     assert_eq!(list[front..], before[front..], "behind the list");
     answer.map(|_| list[..front].to_vec())

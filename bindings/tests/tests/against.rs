@@ -6,7 +6,7 @@ use compare::generate::{self, rewritten, KINDS as SCENES};
 use compare::random::Random;
 use compare::refusal::{NOT_THERE, SHARES_A_VERTEX};
 use compare::scene::{in_range, Kind, Pair, Scene};
-use compare::{backwards, settled, slices, verdict};
+use compare::{backwards, box_tests, settled, slices, verdict};
 use makhnodri::{Refusal, Settled, Verdict};
 use makhnodri_tests::*;
 
@@ -69,7 +69,9 @@ fn hold_list(scene: &Scene) -> usize {
     let flat = Flat::of(scene);
     let wanted = flat.independent(|slices| slices::list(slices, usize::MAX)).unwrap();
     let count = wanted.len();
-    assert_eq!(flat.scene().count_pairs(), Ok(count));
+    let box_tests = box_tests::of(scene);
+    assert_eq!(flat.scene().count_pairs(), Ok(makhnodri::Listed { count, box_tests }));
+    assert_eq!(flat.scene().list_pairs(&mut vec![0; count]), Ok(makhnodri::Listed { count, box_tests }));
     assert_eq!(listed(&flat, count).as_ref(), Ok(&wanted));
     assert_eq!(listed(&flat, count + 9).as_ref(), Ok(&wanted));
     let pairs = wanted.iter().map(|&entry| {

@@ -223,7 +223,7 @@ fn no_listed_pair_shares_a_vertex() {
 #[test]
 fn room_is_the_smaller_of_the_two_and_the_last_check() {
     let flat = good();
-    let count = flat.scene().count_pairs().unwrap();
+    let count = flat.scene().count_pairs().unwrap().count;
     assert!(count > 1);
     for room in 0..count {
         assert_eq!(listed(&flat, room), Err((7, count as u64)));

@@ -10,13 +10,15 @@ use crate::faults::cells;
 use crate::random::Random;
 use crate::scene::*;
 use crate::text::{self, write};
-use crate::{backwards, cases, crossed, generate, listing, trials};
+use crate::{backwards, box_tests, cases, crossed, generate, listing, trials};
 
 /// Pairs that are asked about in one scene, and cells of the table of faults in texts that a seed takes.
 const MOST_PAIRS: usize = 24;
 const CELLS: usize = 4;
 /// Longer lists are made, and their pairs not judged in one call.
 const LONGEST_JUDGED: usize = 2_500;
+/// What stands in the number of box tests before a call: no scene has so many.
+const NO_TESTS: u64 = u64::MAX - 5;
 /// A scene of full size comes with one seed in so many.
 const SELDOM: u64 = 40;
 
@@ -29,7 +31,18 @@ pub fn fixed() -> Vec<Question> {
         out.extend(about(&case.scene, case.pair));
     }
     out.extend(trials::fixed().into_iter().flat_map(|trial| about_text(&mut random, trial.text)));
+    out.extend(box_tests::SIZES.into_iter().flat_map(about_runs));
     out
+}
+
+/// Strips and heaps of so many triangles, counted and listed: the box tests change where a run begins, and long lists are walked twice.
+fn about_runs(triangles: usize) -> Vec<Question> {
+    let ask = |scene: Scene| {
+        let room = listing::listed(&scene).len();
+        [with_room(Call::CountPairs, &scene, 0, 0), with_room(Call::ListPairs, &scene, room, 0)]
+    };
+    let heap = triangles.min(128);
+    [box_tests::strip(triangles), box_tests::heap(heap)].into_iter().flat_map(ask).collect()
 }
 
 pub fn seeded(seed: u64) -> Vec<Question> {
@@ -114,6 +127,9 @@ fn with_room(call: Call, scene: &Scene, list: usize, words: usize) -> Question {
     if call == Call::SettleScene {
         lent.words = marks(words);
     }
+    if call.tells_tests() {
+        lent.counts = vec![NO_TESTS];
+    }
     Question::new(call, lent)
 }
 
@@ -130,12 +146,7 @@ fn whole(random: &mut Random, scene: &Scene) -> Vec<Question> {
     let fewer = count.saturating_sub(1);
     let mut rooms = vec![(0, 0), (count, 0), (0, count), (count, fewer), (fewer, count), (fewer, fewer)];
     if count <= LONGEST_JUDGED {
-        rooms.extend([
-            (count, count),
-            (count + more, count),
-            (count, count + more),
-            (count + more, count + more),
-        ]);
+        rooms.extend([(count, count), (count + more, count), (count, count + more), (count + more, count + more)]);
     }
     out.extend(rooms.into_iter().map(|(list, words)| with_room(Call::SettleScene, scene, list, words)));
     if count <= LONGEST_JUDGED {
@@ -289,6 +300,9 @@ fn on_harmed(random: &mut Random, call: Call, harmed: &Lent) -> Vec<Question> {
     }
     if call.settles_a_scene() {
         lent.words = marks(random.pick(&[0, 1_000]));
+    }
+    if call.tells_tests() {
+        lent.counts = vec![NO_TESTS];
     }
     if call == Call::ContactScene {
         lent.contacts = marks_of_32(ROW * lent.words.len());

@@ -5,6 +5,7 @@ use super::harm::{of_asked, of_range, of_scene, SCENE_CHECKS};
 use super::question::*;
 use super::sorts::row;
 use crate::backwards;
+use crate::box_tests;
 use crate::contacts::mistakes::{self, Mistake};
 use crate::listing;
 use crate::refusal::*;
@@ -33,6 +34,7 @@ pub fn all() -> Vec<Damage> {
     out.extend(bytes());
     out.extend(turning());
     out.extend(claims());
+    out.extend(box_tests());
     out.extend(contacts());
     out.extend(contact_rows());
     out.extend(wrong_contacts());
@@ -62,6 +64,37 @@ fn numbers() -> Vec<Damage> {
             }
         }),
     ]
+}
+
+fn leave_tests(answer: &mut Answer, tests: usize) {
+    answer.buffers[COUNTS][MARGIN..MARGIN + 8].copy_from_slice(&(tests as u64).to_le_bytes());
+}
+
+/// The box tests, wrongly counted, or told with a refusal.
+fn box_tests() -> Vec<Damage> {
+    let wrong = box_tests::wrong().into_iter().map(|wrong| {
+        damage(format!("box tests: {}", wrong.name), move |question: &Question, answer: &mut Answer| {
+            if question.call.tells_tests() && answer.refusal() == 0 {
+                leave_tests(answer, (wrong.count)(&expected::scene(&question.lent).unwrap()));
+            }
+        })
+    });
+    let refused = damage("box tests: a refused scene has none", |question, answer| {
+        if question.call.tells_tests() && answer.refusal() > 0 && answer.refusal() != NO_ROOM {
+            leave_tests(answer, 0);
+        }
+    });
+    let no_room = damage("box tests: told with 7", |question, answer| {
+        if question.call.tells_tests() && answer.refusal() == NO_ROOM {
+            leave_tests(answer, box_tests::of(&expected::scene(&question.lent).unwrap()));
+        }
+    });
+    let settled = damage("box tests: the number behind the lent one is written", |question, answer| {
+        if question.call.tells_tests() && answer.refusal() == 0 {
+            answer.buffers[COUNTS][MARGIN + 8] = 0;
+        }
+    });
+    wrong.chain([refused, no_room, settled]).collect()
 }
 
 /// Answers to claims.

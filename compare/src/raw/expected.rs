@@ -1,4 +1,5 @@
-//! What each call must answer, and what it must leave in every buffer, by document 01 and docs/DECISIONS.md, D13, D15 and D25.
+//! What each call must answer, and what it must leave in every buffer, by document 01, §12 of document 02, and
+//! docs/DECISIONS.md, D13, D15, D25 and D68.
 
 use super::question::*;
 use crate::contacts::{self, Contact};
@@ -7,7 +8,7 @@ use crate::scene::*;
 use crate::settled::{self, Settled};
 use crate::slices::{self, Slices};
 use crate::verdict::{self, Verdict};
-use crate::{backwards, claims, listing, report, text};
+use crate::{backwards, box_tests, claims, listing, report, text};
 use std::collections::HashMap;
 
 /// Remembers the words of the last scene's pieces, which take their time.
@@ -39,10 +40,16 @@ impl Expecting {
     fn called(&mut self, question: &Question, lent: &mut Lent) -> Result<u64, Refusal> {
         match question.call {
             Call::CheckScene => scene(lent).map(|_| 0),
-            Call::CountPairs => scene(lent).map(|scene| listing::listed(&scene).len() as u64),
+            Call::CountPairs => {
+                let scene = scene(lent)?;
+                lent.counts = vec![box_tests::of(&scene) as u64];
+                Ok(listing::listed(&scene).len() as u64)
+            }
             Call::ListPairs => {
                 let room = lent.list.len();
-                listed(lent, room).map(|(_, pairs)| pairs.len() as u64)
+                let (scene, pairs) = listed(lent, room)?;
+                lent.counts = vec![box_tests::of(&scene) as u64];
+                Ok(pairs.len() as u64)
             }
             Call::SettleScene => {
                 let room = lent.list.len().min(lent.words.len());

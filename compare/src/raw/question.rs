@@ -92,6 +92,11 @@ impl Call {
         matches!(self, Call::Contact(_) | Call::ContactScene)
     }
 
+    /// Whether it tells its box tests, in a lent number.
+    pub fn tells_tests(self) -> bool {
+        matches!(self, Call::CountPairs | Call::ListPairs)
+    }
+
     pub fn name(self) -> String {
         let of = |asked: Asked| ["pt", "ee", "pt_piece", "ee_piece"][ASKED.iter().position(|&a| a == asked).unwrap()];
         match self {
@@ -120,6 +125,7 @@ pub struct Lent {
     pub list: Vec<u32>,
     pub words: Vec<u8>,
     pub text: Vec<u8>,
+    /// The three counts of a text, or the box tests of a list.
     pub counts: Vec<u64>,
     pub report: Vec<u8>,
     pub contacts: Vec<u32>,

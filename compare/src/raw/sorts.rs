@@ -3,6 +3,7 @@
 use super::expected;
 use super::harm::*;
 use super::question::*;
+use crate::box_tests;
 use crate::faults::{self, Cell};
 use crate::listing;
 use crate::refusal::*;
@@ -21,6 +22,9 @@ pub fn none_yet() -> Sorts {
             out.extend([format!("{name}: answered"), format!("{name}: a scene of full size")]);
             out.extend(of_scenes(call));
         }
+        if call.tells_tests() {
+            out.extend(box_tests::SIZES.map(|triangles| tested(call, triangles)));
+        }
         if let Some(asked) = call.asked() {
             out.extend(of_pairs(call, asked));
         }
@@ -30,6 +34,7 @@ pub fn none_yet() -> Sorts {
             );
         }
     }
+    out.push(LONG_LIST.into());
     out.extend(["the list too short", "the words too short", "both too short"].map(|which| format!("settle_scene: {which}")));
     out.extend(of_contact_scenes());
     out.extend(SCENE_FAULTS.map(|(number, fault)| alone(number, fault)));
@@ -108,6 +113,13 @@ fn of_texts() -> Vec<String> {
         out.extend(faults::cells().into_iter().filter(|&cell| can_be_given(call, cell)).map(|cell| in_cell(call, cell)));
     }
     out
+}
+
+/// Walked twice by the library.
+const LONG_LIST: &str = "list_pairs: more pairs than one pass has room for";
+
+fn tested(call: Call, triangles: usize) -> String {
+    format!("{}: box tests of {triangles} triangles", call.name())
 }
 
 fn alone(number: u64, fault: &str) -> String {
@@ -240,6 +252,13 @@ fn of_slices(question: &Question, answer: &Answer) -> Vec<String> {
     if given == 0 || given == NO_ROOM {
         let full = sizes == [6 * VERTEX_LIMIT, 2 * EDGE_LIMIT, 3 * TRIANGLE_LIMIT];
         out.extend(full.then(|| format!("{}: a scene of full size", call.name())));
+    }
+    let triangles = question.lent.triangles.len() / 3;
+    if given == 0 && call.tells_tests() && box_tests::SIZES.contains(&triangles) {
+        out.push(tested(call, triangles));
+    }
+    if given == 0 && call == Call::ListPairs && answer.number as usize > box_tests::ONE_PASS {
+        out.push(LONG_LIST.into());
     }
     if given == 0 {
         out.push(format!("{}: answered", call.name()));

@@ -27,4 +27,5 @@ pub mod Printed
 pub mod AnyText
 pub mod Barred
 pub mod BarredLists
+pub mod BoxTests
 pub mod Claims

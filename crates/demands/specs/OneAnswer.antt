@@ -11,6 +11,7 @@ use Rattle.meaning.specs.Refusals.{Check, Answers, sceneSays, pairSays, sceneCh
 use Rattle.meaning.specs.Resting.{PieceSettled, PairSettled, settledSays, PairDecided, PieceDecided}
 use Rattle.meaning.specs.Backwards.{sceneLeft, Turning}
 use Rattle.meaning.specs.List.{Pair, pairs, entries, roomOf, listSays, listChecks, leaves, Counted, Listing}
+use Rattle.meaning.specs.Runs.{testsLeft, Tested}
 use Rattle.meaning.specs.SceneWords.{byteOf, AllSettled, SettledScene}
 use Rattle.meaning.specs.declared.Kind.{Kind}
 use Rattle.meaning.specs.declared.Settled.{Settled}
@@ -75,6 +76,21 @@ pub one-listing : (s : Scene) (o o′ o″ : List ℕ) (r r′ : ListAnswer) →
 one-listing s o o′ o″ r r′ p q =
     let same : r ≡ r′ = one-count s (listChecks s (roomOf o)) r r′ (p .answer) (q .answer) in
     (same, p .buffer ∙ ap (λ (a : ListAnswer). leaves (listSays a) (entries (pairs s)) o) same ∙ sym (q .buffer))
+
+-- with the box tests in a lent number
+same-tests : {s : Scene} {R S : ListAnswer → Type 0} {t t′ t″ : List ℕ} {r r′ : ListAnswer} → r ≡ r′ → Tested s R t t′ r → Tested s S t t″ r′ → t′ ≡ t″
+same-tests {s} {t = t} e p q = p .tests ∙ ap (λ (a : ListAnswer). testsLeft s (listSays a) t) e ∙ sym (q .tests)
+
+pub one-tested-count : (s : Scene) (t t′ t″ : List ℕ) (r r′ : ListAnswer) → Tested s (Counted s) t t′ r → Tested s (Counted s) t t″ r′ → (r ≡ r′) × (t′ ≡ t″)
+one-tested-count s t t′ t″ r r′ p q =
+    let same : r ≡ r′ = one-counted s r r′ (p .list) (q .list) in
+    (same, same-tests same p q)
+
+pub one-tested-listing : (s : Scene) (o o′ o″ t t′ t″ : List ℕ) (r r′ : ListAnswer) → Tested s (Listing s o o′) t t′ r → Tested s (Listing s o o″) t t″ r′
+    → (r ≡ r′) × (o′ ≡ o″) × (t′ ≡ t″)
+one-tested-listing s o o′ o″ t t′ t″ r r′ p q =
+    let (same, list) = one-listing s o o′ o″ r r′ (p .list) (q .list) in
+    (same, list, same-tests same p q)
 
 pub all-judged-one : (s : Scene) (ps : List Pair) (vs ws : List Settled) → AllSettled s ps vs → AllSettled s ps ws → vs ≡ ws
 unfolding AllSettled

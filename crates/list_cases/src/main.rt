@@ -1,5 +1,5 @@
-// Runs the list on the printed scene with rooms that are too short, exact, left over and none, and prints each answer with every
-// number of the buffer. What it must print stands in the file stdout.
+// Runs the list on the printed scene with rooms that are too short, exact, left over and none, and prints each answer with the lent
+// number of box tests, 7 before each call, and every number of the buffer. What it must print stands in the file stdout.
 
 use meaning::ListAnswer;
 
@@ -77,10 +77,25 @@ fn show_answer(answer: ListAnswer) {
     }
 }
 
+fn show_tests(tests: usize) {
+    io::write_all(libc::STDOUT_FILENO, b"\ttests\t");
+    io::print_decimal(libc::STDOUT_FILENO, tests as u64);
+}
+
 // The printed scene, listed into a buffer.
 fn try_room(list: &mut [u32]) {
-    show_answer(listing::list_pairs(&POSITIONS, &EDGES, &TRIANGLES, list));
+    let mut tests = [7usize; 1];
+    show_answer(listing::list_pairs(&POSITIONS, &EDGES, &TRIANGLES, list, &mut tests));
+    show_tests(tests[0]);
     show_buffer(list);
+}
+
+// The printed scene, counted.
+fn try_count() {
+    let mut tests = [7usize; 1];
+    show_answer(listing::count_pairs(&POSITIONS, &EDGES, &TRIANGLES, &mut tests));
+    show_tests(tests[0]);
+    end_line();
 }
 
 // The empty scene, whose list fits any buffer.
@@ -88,13 +103,23 @@ fn try_empty(list: &mut [u32]) {
     let positions = [0i32; 1];
     let edges = [0u16; 1];
     let triangles = [0u16; 1];
-    show_answer(listing::list_pairs(&positions[..0], &edges[..0], &triangles[..0], list));
+    let mut tests = [7usize; 1];
+    show_answer(listing::list_pairs(
+        &positions[..0],
+        &edges[..0],
+        &triangles[..0],
+        list,
+        &mut tests,
+    ));
+    show_tests(tests[0]);
     show_buffer(list);
 }
 
 // A scene that is refused: its positions are no multiple of 6.
 fn try_bad(list: &mut [u32]) {
-    show_answer(listing::list_pairs(&POSITIONS[..29], &EDGES, &TRIANGLES, list));
+    let mut tests = [7usize; 1];
+    show_answer(listing::list_pairs(&POSITIONS[..29], &EDGES, &TRIANGLES, list, &mut tests));
+    show_tests(tests[0]);
     show_buffer(list);
 }
 
@@ -109,8 +134,7 @@ fn main() {
     try_room(&mut three);
     let mut four = [9u32; 4];
     try_room(&mut four);
-    show_answer(listing::count_pairs(&POSITIONS, &EDGES, &TRIANGLES));
-    end_line();
+    try_count();
     try_empty(&mut none[..0]);
     try_empty(&mut two);
     let mut fresh = [9u32; 4];

@@ -2,7 +2,7 @@
 use Prim.Native.Nat.{ℕ, _≤_, _<_}
 use mathlib.Core.Bool.{true, false}
 use mathlib.Core.List.{List, [], _∷_, append-nil}
-use mathlib.Core.Path.{_≡_, refl, sym, ap}
+use mathlib.Core.Path.{_≡_, refl, sym, ap, _∙_}
 use lib.Dec.{ltb}
 use lib.ListN.{length}
 use borrow.Author.Tests.{lt-ltb, le-ltb}
@@ -10,6 +10,8 @@ use Rattle.sequences.specs.Wrote.{written}
 use Rattle.meaning.specs.Scene.{Scene, Accepted}
 use Rattle.meaning.specs.Refusals.{Check, Outcome, given, refused, numberOf, Answers, sceneChecks, SceneChecked}
 use Rattle.meaning.specs.List.{pairs, entries, roomOf, listSays, leaves, Counted, Listing}
+use Rattle.meaning.specs.Runs.{boxTests, testsLeft, Tested}
+use Rattle.meaning.specs.declared.Made.{Made}
 use Rattle.meaning.specs.declared.Refusal.{Refusal}
 use Rattle.meaning.specs.declared.Refusal.the-variants.{NoRoom}
 use Rattle.meaning.specs.declared.SceneAnswer as SceneAnswers
@@ -49,6 +51,21 @@ module _ (s : Scene) (room : ℕ) {n : ℕ} (counted : IsCount s n) (o : List �
         answer = lets-pass (IsCount s) _ [] (given n) (le-ltb room (length (pairs s)) (rw counted at h)) (gives (IsCount s) n counted);
         buffer = e;
       }
+
+-- ---- with the box tests in a lent number
+
+module _ (s : Scene) {Right : ListAnswer → Type 0} {t : List ℕ} where
+  pub tested-refused : {x : Refusal} {n : ℕ} → Right (ListAnswers.the-variants.Refused x n) → Tested s Right t t (ListAnswers.the-variants.Refused x n)
+  unfolding listSays testsLeft
+  tested-refused p = record { list = p; tests = refl }
+
+  pub tested-listed : {m : Made} {t′ : List ℕ} {n : ℕ} → Right (ListAnswers.the-variants.Listed m) → t′ ≡ n ∷ [] → n ≡ boxTests s
+      → Tested s Right t t′ (ListAnswers.the-variants.Listed m)
+  unfolding listSays testsLeft
+  tested-listed p e h = record { list = p; tests = e ∙ ap (λ (k : ℕ). k ∷ []) h }
+
+  pub tested-as : {Wanted : ListAnswer → Type 0} {t′ : List ℕ} {r : ListAnswer} → (Right r → Wanted r) → Tested s Right t t′ r → Tested s Wanted t t′ r
+  tested-as f p = record { list = f (p .list); tests = p .tests }
 
 -- ---- any scene, from what its check answered
 

@@ -19,7 +19,7 @@ use Rattle.meaning.specs.declared.Kind.{Kind}
 use Rattle.meaning.specs.declared.Kind.the-variants.{PointTriangle, EdgeEdge}
 use Rattle.entries.specs.Entries.{Narrow, AllNarrow, number-small}
 use Rattle.scenes.specs.Facts.{accepted-sized}
-use Rattle.walking.specs.Rows.{firstCount, secondCount, secondFrom, rowOf, rowsOf, row-short, pairs-length}
+use Rattle.candidates.specs.Rows.{firstCount, secondCount, secondFrom, rowOf, rowsOf, row-short, pairs-length}
 use Rattle.listing.specs.InOrder.{are-there, list-is}
 
 -- each vertex with each triangle, and each two edges: 785,920

@@ -11,6 +11,7 @@ use Rattle.meaning.specs.Refusals.{given, refused, Answers, sceneChecks, pairCh
 use Rattle.meaning.specs.Resting.{PieceSettled, PairSettled, PairDecided, PieceDecided}
 use Rattle.meaning.specs.Backwards.{sceneLeft, Turning}
 use Rattle.meaning.specs.List.{pairs, entries, roomOf, listChecks, leaves, Counted, Listing}
+use Rattle.meaning.specs.Runs.{testsLeft, Tested}
 use Rattle.meaning.specs.SceneWords.{byteOf, SettledScene}
 use Rattle.meaning.specs.Text.{textSays}
 use Rattle.meaning.specs.declared.Kind.{Kind}
@@ -18,7 +19,7 @@ use Rattle.meaning.specs.declared.SceneCounts.{SceneCounts}
 use Rattle.meaning.specs.declared.TextAnswer.{TextAnswer}
 use Rattle.meaning.specs.declared.TextAnswer.the-variants.{Read, Refused}
 use Rattle.scene_words.specs.Listed.{wordOfByte}
-use Rattle.demands.specs.OneAnswer.{one-scene, one-turning, one-pair, one-piece, one-settled-pair, one-settled-piece, one-counted, one-listing, one-judging}
+use Rattle.demands.specs.OneAnswer.{one-scene, one-turning, one-pair, one-piece, one-settled-pair, one-settled-piece, one-tested-count, one-tested-listing, one-judging}
 use Rattle.demands.specs.OneText.{one-reading}
 use Rattle.demands.specs.TextTable.{TextRows, demand1-text}
 use Rattle.demands.specs.Unchanged.{reading-unchanged, SceneInFront, reading-holds}
@@ -50,13 +51,17 @@ one-settled-pair-told s kind i j r r′ p q = one-number p q (one-settled-pair s
 pub one-settled-piece-told : (s : Scene) (kind : Kind) (i j k r r′ : ℕ) → Told settledNumber (PieceDecided s kind i j k) r → Told settledNumber (PieceDecided s kind i j k) r′ → r ≡ r′
 one-settled-piece-told s kind i j k r r′ p q = one-number p q (one-settled-piece s kind i j k (p .answer) (q .answer) (p .right) (q .right))
 
-pub one-count-told : (s : Scene) (r r′ : ℕ) → Told listNumber (Counted s) r → Told listNumber (Counted s) r′ → r ≡ r′
-one-count-told s r r′ p q = one-number p q (one-counted s (p .answer) (q .answer) (p .right) (q .right))
+pub one-count-told : (s : Scene) (t t′ t″ : List ℕ) (r r′ : ℕ) → Told listNumber (Tested s (Counted s) t t′) r
+    → Told listNumber (Tested s (Counted s) t t″) r′ → (r ≡ r′) × (t′ ≡ t″)
+one-count-told s t t′ t″ r r′ p q =
+    let (same, tests) = one-tested-count s t t′ t″ (p .answer) (q .answer) (p .right) (q .right) in
+    (one-number p q same, tests)
 
-pub one-list-told : (s : Scene) (o o′ o″ : List ℕ) (r r′ : ℕ) → Told listNumber (Listing s o o′) r → Told listNumber (Listing s o o″) r′ → (r ≡ r′) × (o′ ≡ o″)
-one-list-told s o o′ o″ r r′ p q =
-    let (same, list) = one-listing s o o′ o″ (p .answer) (q .answer) (p .right) (q .right) in
-    (one-number p q same, list)
+pub one-list-told : (s : Scene) (o o′ o″ t t′ t″ : List ℕ) (r r′ : ℕ) → Told listNumber (Tested s (Listing s o o′) t t′) r
+    → Told listNumber (Tested s (Listing s o o″) t t″) r′ → (r ≡ r′) × (o′ ≡ o″) × (t′ ≡ t″)
+one-list-told s o o′ o″ t t′ t″ r r′ p q =
+    let (same, list, tests) = one-tested-listing s o o′ o″ t t′ t″ (p .answer) (q .answer) (p .right) (q .right) in
+    (one-number p q same, list, tests)
 
 pub one-judging-told : (s : Scene) (o o′ o″ b b′ b″ : List ℕ) (r r′ : ℕ) → Told listNumber (SettledScene s o o′ b b′) r
     → Told listNumber (SettledScene s o o″ b b″) r′ → (r ≡ r′) × (o′ ≡ o″) × (b′ ≡ b″)
@@ -95,12 +100,17 @@ pub settled-piece-heard : (s : Scene) (kind : Kind) (i j k r : ℕ) → Told set
     → Answers (pieceChecks s kind i j k) (PieceSettled (pieceOf s kind i j k)) (heard wordOfByte r)
 settled-piece-heard s kind i j k r p = rw (p .is, settled-heard (p .answer)) (p .right)
 
-pub count-heard : (s : Scene) (r : ℕ) → Told listNumber (Counted s) r → Answers (sceneChecks s) (λ n. n ≡ length (pairs s)) (heard count r)
-count-heard s r p = rw (p .is, list-heard (p .answer) (counted-small s (p .answer) (p .right))) (p .right)
+pub count-heard : (s : Scene) (t t′ : List ℕ) (r : ℕ) → Told listNumber (Tested s (Counted s) t t′) r
+    → Answers (sceneChecks s) (λ n. n ≡ length (pairs s)) (heard count r) × (t′ ≡ testsLeft s (heard count r) t)
+count-heard s t t′ r p =
+    rw (p .is, list-heard (p .answer) (counted-small s (p .answer) (p .right .list))) (p .right .list, p .right .tests)
 
-pub list-told-heard : (s : Scene) (o o′ : List ℕ) (r : ℕ) → Told listNumber (Listing s o o′) r
-    → Answers (listChecks s (roomOf o)) (λ n. n ≡ length (pairs s)) (heard count r) × (o′ ≡ leaves (heard count r) (entries (pairs s)) o)
-list-told-heard s o o′ r p = rw (p .is, list-heard (p .answer) (listing-small (p .right))) (p .right .answer, p .right .buffer)
+pub list-told-heard : (s : Scene) (o o′ t t′ : List ℕ) (r : ℕ) → Told listNumber (Tested s (Listing s o o′) t t′) r
+    → Answers (listChecks s (roomOf o)) (λ n. n ≡ length (pairs s)) (heard count r)
+    × (o′ ≡ leaves (heard count r) (entries (pairs s)) o)
+    × (t′ ≡ testsLeft s (heard count r) t)
+list-told-heard s o o′ t t′ r p =
+    rw (p .is, list-heard (p .answer) (listing-small (p .right .list))) (p .right .list .answer, p .right .list .buffer, p .right .tests)
 
 pub judging-told-heard : (s : Scene) (o o′ b b′ : List ℕ) (r : ℕ) → (p : Told listNumber (SettledScene s o o′ b b′) r)
     → Answers (listChecks s (min (roomOf o) (length b))) (λ n. n ≡ length (pairs s)) (heard count r)

@@ -7,6 +7,7 @@ ghost use Rattle.meaning.specs.Refusals.{SceneChecked, PairJudged, PieceJudged}
 ghost use Rattle.meaning.specs.Backwards.{Turning};
 ghost use Rattle.meaning.specs.Resting.{PairDecided, PieceDecided};
 ghost use Rattle.meaning.specs.List.{Counted, Listing};
+ghost use Rattle.meaning.specs.Runs.{Tested};
 ghost use Rattle.meaning.specs.SceneWords.{SettledScene};
 ghost use Rattle.meaning.specs.declared.Kind.the-variants.{PointTriangle, EdgeEdge};
 ghost use Rattle.meaning.specs.Report.{Reported};
@@ -52,25 +53,31 @@ pub extern "C" fn makhnodri_turn_scene(
     scene_number(turning::turn_scene(positions, edges, triangles))
 }
 
-// How many pairs are listed.
+// How many pairs are listed, and into the lent number how many boxes of the pt part are tested for that.
 #[no_mangle]
-pub extern "C" fn makhnodri_count_pairs(positions: &[i32], edges: &[u16], triangles: &[u16]) -> u64
-    ensures { λ r. ⌜ Told listNumber (Counted (sceneAtEntry positions edges triangles)) r ⌝ }
+pub extern "C" fn makhnodri_count_pairs(
+    positions: &[i32],
+    edges: &[u16],
+    triangles: &[u16],
+    tests: &mut [usize; 1],
+) -> u64
+    ensures { λ r. ⌜ Told listNumber (Tested (sceneAtEntry positions edges triangles) (Counted (sceneAtEntry positions edges triangles)) (now (tests .entry)) (now (tests .exit))) r ⌝ }
 {
-    list_number(listing::count_pairs(positions, edges, triangles))
+    list_number(listing::count_pairs(positions, edges, triangles, tests))
 }
 
-// The list, in front of a lent buffer.
+// The list, in front of a lent buffer, and its box tests.
 #[no_mangle]
 pub extern "C" fn makhnodri_list_pairs(
     positions: &[i32],
     edges: &[u16],
     triangles: &[u16],
     list: &mut [u32],
+    tests: &mut [usize; 1],
 ) -> u64
-    ensures { λ r. ⌜ Told listNumber (Listing (sceneAtEntry positions edges triangles) (now (list .entry)) (now (list .exit))) r ⌝ }
+    ensures { λ r. ⌜ Told listNumber (Tested (sceneAtEntry positions edges triangles) (Listing (sceneAtEntry positions edges triangles) (now (list .entry)) (now (list .exit))) (now (tests .entry)) (now (tests .exit))) r ⌝ }
 {
-    list_number(listing::list_pairs(positions, edges, triangles, list))
+    list_number(listing::list_pairs(positions, edges, triangles, list, tests))
 }
 
 // The list, and the word of each listed pair as a byte: hit, miss, touch or apart.

@@ -8,8 +8,8 @@ pub mod Resting
 pub mod Refusals
 pub mod Boxes
 pub mod Motion
-pub mod Runs
 pub mod List
+pub mod Runs
 pub mod SceneWords
 pub mod Lines
 pub mod Backwards

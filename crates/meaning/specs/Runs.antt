@@ -1,10 +1,16 @@
--- Document 02, §12: triangles in runs of 16 by place, the joint box of a run, and how many boxes the pt part tests in one pass.
+-- Document 02, §12: triangles in runs of 16 by place, the joint box of a run, how many boxes the pt part tests in one pass, and how a call
+-- tells that.
 use Prim.Native.Nat.{ℕ, zero, suc, _+_, _*_, _-_, _/_, min}
 use mathlib.Core.Bool.{Bool, _&&_}
+use mathlib.Core.List.{List, [], _∷_}
+use mathlib.Core.Path.{_≡_}
 use Rattle.sequences.specs.Gather.{sum}
 use Rattle.sequences.specs.Pick.{pick}
 use Rattle.meaning.specs.Scene.{Scene, vertexCount, triangleCount}
 use Rattle.meaning.specs.Boxes.{Span, Axis, xAxis, yAxis, zAxis, joint, meet, vertexSpan, triangleSpan}
+use Rattle.meaning.specs.Refusals.{Outcome, given, refused}
+use Rattle.meaning.specs.List.{listSays}
+use Rattle.meaning.specs.declared.ListAnswer.{ListAnswer}
 
 -- 'runs is triangles / 16 rounded up'
 abbrev pub runsOf : ℕ → ℕ
@@ -41,3 +47,13 @@ testsOfVertex s v = sum (testsInRun s v) 0 (runsOf (triangleCount s))
 
 unfoldable pub boxTests : Scene → ℕ
 boxTests s = sum (testsOfVertex s) 0 (vertexCount s)
+
+-- 'Return the number of box tests for the pt part': beside the count, in a lent number. A refusal leaves what stood there
+unfoldable pub testsLeft : Scene → Outcome ℕ → List ℕ → List ℕ
+testsLeft s (given n) t = boxTests s ∷ []
+testsLeft s (refused n c) t = t
+
+-- an answer of the list that is right, with its box tests in a lent number that held t and holds t′
+pub record Tested (s : Scene) (Right : ListAnswer → Type 0) (t t′ : List ℕ) (r : ListAnswer) : Type 0 where
+  pub list : Right r
+  pub tests : t′ ≡ testsLeft s (listSays r) t

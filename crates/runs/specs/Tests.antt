@@ -10,7 +10,7 @@ use Rattle.meaning.specs.Scene.{Scene, vertexCount, triangleCount}
 use Rattle.meaning.specs.Runs.{runsOf, runFrom, runTo, runMeets, testsInRun, testsOfVertex, boxTests}
 
 -- where each of the numbers is at most b
-sum-short : (f : ℕ → ℕ) (b n : ℕ) → ((j : ℕ) → f j ≤ b) → (i : ℕ) → sum f i n ≤ (n - i) * b
+pub sum-short : (f : ℕ → ℕ) (b n : ℕ) → ((j : ℕ) → f j ≤ b) → (i : ℕ) → sum f i n ≤ (n - i) * b
 sum-short f b n h =
     towards n (λ i. sum f i n ≤ (n - i) * b)
     (λ i past. rw (sum-none f i n past) (omega arith))
@@ -18,7 +18,7 @@ sum-short f b n h =
     let more : n - i ≡ suc (n - (i + 1)) = omega arith in
     rw (sum-first f i n lt, more) (omega (arith, next, h i)))
 
-at-most-all : (t : Bool) (n : ℕ) → pick t n 0 ≤ n
+pub at-most-all : (t : Bool) (n : ℕ) → pick t n 0 ≤ n
 at-most-all true n = omega arith
 at-most-all false n = omega arith
 

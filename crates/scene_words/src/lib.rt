@@ -99,7 +99,8 @@ pub fn settle_accepted(
     ensures { λ r. ⌜ SettledIn (sceneAtEntry positions edges triangles) (min (roomOf (now (list .entry))) (length (now (out .entry)))) (now (list .entry)) (now (list .exit)) (now (out .entry)) (now (out .exit)) r ⌝ }
 {
     let room = smaller(entries::room(list), out.len());
-    match listing::accepted::list_accepted(positions, edges, triangles, list, room) {
+    let mut tests = [0usize; 1];
+    match listing::accepted::list_accepted(positions, edges, triangles, list, room, &mut tests) {
         ListAnswer::Listed(made) => {
             settle_entries(positions, edges, triangles, list, out, made.count);
             ListAnswer::Listed(made)

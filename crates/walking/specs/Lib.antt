@@ -1,5 +1,4 @@
--- The walk: rows of pairs, the boxes that it tests, and the runs that it may skip.
-pub mod Rows
-pub mod Meeting
+-- The walk: the runs that it may skip, the boxes that it is prepared with, and how many of them it tests.
 pub mod Skipping
 pub mod Preparing
+pub mod Testing

@@ -13,7 +13,7 @@ use Rattle.boxes.specs.Kept.{Box, boxAt, vertexBox, edgeBox, triangleBox, Holds
 use Rattle.boxes.specs.Storing.{same-box}
 use Rattle.runs.specs.Joined.{jointBoxes, joint-same}
 use Rattle.runs.specs.Filled.{runBoxIn, RunsFilling, RunsFilled, run-inside}
-use Rattle.walking.specs.Rows.{secondCount}
+use Rattle.candidates.specs.Rows.{secondCount}
 use Rattle.walking.specs.Skipping.{secondBox, runBox, allParts, walkNumbers, Prepared}
 
 -- boxes in front of where runs were filled in are as they were

@@ -18,7 +18,7 @@ use Rattle.meaning.specs.declared.Kind.{Kind}
 use Rattle.meaning.specs.declared.Kind.the-variants.{PointTriangle, EdgeEdge}
 use Rattle.boxes.specs.Kept.{Box, boxAt, vertexBox, edgeBox, triangleBox, meetBoxes, Holds, Boxed, boxNumbers}
 use Rattle.runs.specs.Joined.{jointBoxes, run-misses}
-use Rattle.walking.specs.Rows.{firstCount, secondCount, candidate}
+use Rattle.candidates.specs.Rows.{firstCount, secondCount, candidate}
 
 abbrev pub walkNumbers : ℕ
 walkNumbers = boxNumbers + 576

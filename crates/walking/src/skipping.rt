@@ -7,7 +7,7 @@ ghost use lib.ListN.{length};
 ghost use Rattle.meaning.specs.Scene.{sceneIn, sceneAtEntry, Accepted};
 ghost use Rattle.meaning.specs.Runs.{runsOf};
 ghost use Rattle.boxes.specs.Kept.{meetBoxes};
-ghost use Rattle.walking.specs.Rows.{firstCount, secondCount};
+ghost use Rattle.candidates.specs.Rows.{firstCount, secondCount};
 ghost use Rattle.walking.specs.Skipping.{firstPlace, runPlace, firstBox, runBox, walkNumbers};
 ghost use Rattle.walking.specs.Skipping.{Prepared};
 use boxes::filling::BOX_NUMBERS;

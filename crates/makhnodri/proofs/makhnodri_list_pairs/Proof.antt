@@ -8,6 +8,6 @@ makhnodri-list-pairs-spec =
     tie.close
     (tie.spec
     (λ c κs. search needs)
-    (λ c κs. listing-small (c .before .before .list-pairs .ensures))
+    (λ c κs. listing-small (c .before .before .list-pairs .ensures .list))
     (λ c. search needs)
     (λ c. search needs))

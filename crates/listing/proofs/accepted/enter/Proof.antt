@@ -14,7 +14,7 @@ returns-2 c =
     let start = c .before .before .before .before .before .before .before .before .before in
     let a = start .args in
     let s = sceneOf (a .positions .now) (a .edges .now) (a .triangles .now) in
-    walked-whole s (c .before .before .walk-accepted .ensures) (start .pre .1 .counts) (start .pre .2)
+    walked-whole s (c .before .before .walk-accepted .ensures .0) (start .pre .1 .counts) (start .pre .2)
 
 pub enter-spec : {M : Type 1} → statement M
 enter-spec =

@@ -3,7 +3,7 @@ use borrow.Author.Needs.{needs}
 use native.Mathlib.Omega.{arith}
 use mathlib.Core.Path.{refl}
 use Rattle.meaning.specs.Scene.{sceneOf}
-use Rattle.listing.specs.Answering.{too-many, listed}
+use Rattle.listing.specs.Answering.{too-many, listed, tested-refused, tested-listed}
 use Rattle.listing.specs.Own.{own-list}
 use Rattle.listing.proofs.accepted.list_accepted.Statement.{statement}
 use Rattle.listing.proofs.accepted.list_accepted.Tie as tie
@@ -13,21 +13,22 @@ returns c =
     let start = c .before .before .before .before .before .before .before in
     let a = start .args in
     let s = sceneOf (a .positions .now) (a .edges .now) (a .triangles .now) in
-    too-many s _ (own-list s (c .before .before .walk-accepted .ensures) refl .counts) _ (c .if1 .taken)
+    tested-refused s (too-many s _ (own-list s (c .before .before .walk-accepted .ensures .0) refl .counts) _ (c .if1 .taken))
 
 enter-requires : tie.Need-enter-requires
 enter-requires c κs =
     let start = c .before .before .before .before .before .before .before .before .before in
     let a = start .args in
     let s = sceneOf (a .positions .now) (a .edges .now) (a .triangles .now) in
-    (start .pre .0, own-list s (c .before .before .before .before .walk-accepted .ensures) refl, omega (arith, start .pre .1, c .before .before .if1 .left))
+    (start .pre .0, own-list s (c .before .before .before .before .walk-accepted .ensures .0) refl, omega (arith, start .pre .1, c .before .before .if1 .left))
 
 returns-2 : tie.Need-returns-2
 returns-2 c =
-    let start = c .before .before .before .before .before .before .before .before .before .before .before .before in
+    let start = c .before .before .before .before .before .before .before .before .before .before .before .before .before .before in
     let a = start .args in
     let s = sceneOf (a .positions .now) (a .edges .now) (a .triangles .now) in
-    listed s _ (own-list s (c .before .before .before .before .before .before .before .walk-accepted .ensures) refl .counts) _ (c .before .before .before .before .before .if1 .left) (c .before .before .enter .ensures)
+    let walked = c .before .before .before .before .before .before .before .before .before .walk-accepted .ensures in
+    tested-listed s (listed s _ (own-list s (walked .0) refl .counts) _ (c .before .before .before .before .before .before .before .if1 .left) (c .before .before .before .before .enter .ensures)) (c .put-tests .ensures) (walked .1)
 
 pub list-accepted-spec : {M : Type 1} → statement M
 list-accepted-spec =
@@ -38,5 +39,6 @@ list-accepted-spec =
     returns
     (λ c. search needs)
     enter-requires
+    (λ c κs. search needs)
     (λ c. search needs)
     returns-2)

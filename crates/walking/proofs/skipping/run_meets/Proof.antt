@@ -2,7 +2,7 @@
 use borrow.Author.Needs.{needs}
 use native.Mathlib.Omega.{arith}
 use Rattle.meaning.specs.Scene.{sceneOf}
-use Rattle.walking.specs.Rows.{few-firsts, few-seconds}
+use Rattle.candidates.specs.Rows.{few-firsts, few-seconds}
 use Rattle.walking.specs.Skipping.{meets-run, places-inside}
 use Rattle.walking.proofs.skipping.run_meets.Statement.{statement}
 use Rattle.walking.proofs.skipping.run_meets.Tie as tie

@@ -5,7 +5,7 @@ use Rattle.meaning.specs.Scene.{sceneOf}
 use Rattle.meaning.specs.Boxes.{listed}
 use Rattle.meaning.specs.List.{pair}
 use Rattle.entries.specs.UpTo.{walked-pair, walked-no-pair}
-use Rattle.walking.specs.Rows.{few-firsts, few-seconds}
+use Rattle.candidates.specs.Rows.{few-firsts, few-seconds}
 use Rattle.walking.proofs.steps.walk_one.Statement.{statement}
 use Rattle.walking.proofs.steps.walk_one.Tie as tie
 use Rattle.walking.proofs.steps.walk_one.Reads as reads

@@ -5,7 +5,7 @@ use Prim.Native.Nat.{_-_, _≤_}
 use mathlib.Core.Path.{_≡_}
 use Rattle.meaning.specs.Scene.{sceneOf}
 use Rattle.entries.specs.UpTo.{Walking, walking-starts, walking-next, walked-length}
-use Rattle.walking.specs.Rows.{candidate, stretch-short, few-seconds}
+use Rattle.candidates.specs.Rows.{candidate, stretch-short, few-seconds}
 use Rattle.walking.proofs.steps.walk_stretch.Statement.{statement}
 use Rattle.walking.proofs.steps.walk_stretch.Tie as tie
 use Rattle.walking.proofs.steps.walk_stretch.Reads as reads

@@ -1,11 +1,11 @@
--- `candidates::listed_pt`: boxes first, and then the vertices.
+-- `listed_pt`: boxes first, and then the vertices.
 use borrow.Author.Needs.{needs}
 use native.Mathlib.Omega.{arith}
 use Rattle.meaning.specs.Scene.{sceneOf}
 use Rattle.meaning.specs.declared.Kind.the-variants.{PointTriangle}
-use Rattle.walking.specs.Meeting.{meets-pt, listed-unless, not-listed}
-use Rattle.walking.proofs.candidates.listed_pt.Statement.{statement}
-use Rattle.walking.proofs.candidates.listed_pt.Tie as tie
+use Rattle.candidates.specs.Meeting.{meets-pt, listed-unless, not-listed}
+use Rattle.candidates.proofs.listed_pt.Statement.{statement}
+use Rattle.candidates.proofs.listed_pt.Tie as tie
 
 returns : tie.Need-returns
 returns c =

@@ -6,7 +6,7 @@ ghost use Rattle.meaning.specs.Scene.{sceneIn, sceneAtEntry, vertexCount, edgeC
 ghost use Rattle.meaning.specs.Boxes.{listed};
 ghost use Rattle.meaning.specs.declared.Kind.the-variants.{PointTriangle, EdgeEdge};
 ghost use Rattle.boxes.specs.Kept.{Boxed};
-ghost use Rattle.walking.specs.Rows.{firstCount, secondCount, secondFrom};
+ghost use Rattle.candidates.specs.Rows.{firstCount, secondCount, secondFrom};
 use boxes::kept::boxes_meet;
 use meaning::Kind;
 use scenes::parts::edge_count;
@@ -55,7 +55,7 @@ fn listed_ee(
 }
 
 // Whether the pair of a kind and two places is listed.
-pub(crate) fn is_listed(
+pub fn is_listed(
     positions: &[i32],
     edges: &[u16],
     triangles: &[u16],
@@ -74,7 +74,7 @@ pub(crate) fn is_listed(
 }
 
 // How many first places there are, and how many second places.
-pub(crate) fn first_count(positions: &[i32], edges: &[u16], triangles: &[u16], kind: Kind) -> usize
+pub fn first_count(positions: &[i32], edges: &[u16], triangles: &[u16], kind: Kind) -> usize
     ensures { λ r. ⌜ r ≡ firstCount (sceneAtEntry positions edges triangles) kind ⌝ }
 {
     match kind {
@@ -83,7 +83,7 @@ pub(crate) fn first_count(positions: &[i32], edges: &[u16], triangles: &[u16], k
     }
 }
 
-pub(crate) fn second_count(positions: &[i32], edges: &[u16], triangles: &[u16], kind: Kind) -> usize
+pub fn second_count(positions: &[i32], edges: &[u16], triangles: &[u16], kind: Kind) -> usize
     ensures { λ r. ⌜ r ≡ secondCount (sceneAtEntry positions edges triangles) kind ⌝ }
 {
     match kind {
@@ -93,7 +93,7 @@ pub(crate) fn second_count(positions: &[i32], edges: &[u16], triangles: &[u16], 
 }
 
 // The first second place: each two edges make one pair.
-pub(crate) fn second_from(kind: Kind, i: usize) -> usize
+pub fn second_from(kind: Kind, i: usize) -> usize
     requires { ⌜ i < 65536 ⌝ }
     ensures { λ r. ⌜ r ≡ secondFrom kind i ⌝ }
 {

@@ -1,8 +1,8 @@
--- `candidates::second_count`: by the kind.
+-- `second_count`: by the kind.
 use borrow.Author.Needs.{needs}
-use Rattle.walking.specs.Rows.{secondCount}
-use Rattle.walking.proofs.candidates.second_count.Statement.{statement}
-use Rattle.walking.proofs.candidates.second_count.Tie as tie
+use Rattle.candidates.specs.Rows.{secondCount}
+use Rattle.candidates.proofs.second_count.Statement.{statement}
+use Rattle.candidates.proofs.second_count.Tie as tie
 
 returns : tie.Need-returns
 unfolding secondCount

@@ -1,8 +1,8 @@
--- `candidates::second_from`: by the kind.
+-- `second_from`: by the kind.
 use borrow.Author.Needs.{needs}
-use Rattle.walking.specs.Rows.{secondFrom}
-use Rattle.walking.proofs.candidates.second_from.Statement.{statement}
-use Rattle.walking.proofs.candidates.second_from.Tie as tie
+use Rattle.candidates.specs.Rows.{secondFrom}
+use Rattle.candidates.proofs.second_from.Statement.{statement}
+use Rattle.candidates.proofs.second_from.Tie as tie
 
 returns : tie.Need-returns
 unfolding secondFrom

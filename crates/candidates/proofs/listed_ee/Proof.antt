@@ -1,11 +1,11 @@
--- `candidates::listed_ee`: boxes first, and then the vertices.
+-- `listed_ee`: boxes first, and then the vertices.
 use borrow.Author.Needs.{needs}
 use native.Mathlib.Omega.{arith}
 use Rattle.meaning.specs.Scene.{sceneOf}
 use Rattle.meaning.specs.declared.Kind.the-variants.{EdgeEdge}
-use Rattle.walking.specs.Meeting.{meets-ee, listed-unless, not-listed}
-use Rattle.walking.proofs.candidates.listed_ee.Statement.{statement}
-use Rattle.walking.proofs.candidates.listed_ee.Tie as tie
+use Rattle.candidates.specs.Meeting.{meets-ee, listed-unless, not-listed}
+use Rattle.candidates.proofs.listed_ee.Statement.{statement}
+use Rattle.candidates.proofs.listed_ee.Tie as tie
 
 returns : tie.Need-returns
 returns c =

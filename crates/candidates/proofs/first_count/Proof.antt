@@ -1,8 +1,8 @@
--- `candidates::first_count`: by the kind.
+-- `first_count`: by the kind.
 use borrow.Author.Needs.{needs}
-use Rattle.walking.specs.Rows.{firstCount}
-use Rattle.walking.proofs.candidates.first_count.Statement.{statement}
-use Rattle.walking.proofs.candidates.first_count.Tie as tie
+use Rattle.candidates.specs.Rows.{firstCount}
+use Rattle.candidates.proofs.first_count.Statement.{statement}
+use Rattle.candidates.proofs.first_count.Tie as tie
 
 returns : tie.Need-returns
 unfolding firstCount

@@ -1,8 +1,8 @@
--- `candidates::is_listed`: by the kind.
+-- `is_listed`: by the kind.
 use borrow.Author.Needs.{needs}
-use Rattle.walking.specs.Rows.{firstCount, secondCount}
-use Rattle.walking.proofs.candidates.is_listed.Statement.{statement}
-use Rattle.walking.proofs.candidates.is_listed.Tie as tie
+use Rattle.candidates.specs.Rows.{firstCount, secondCount}
+use Rattle.candidates.proofs.is_listed.Statement.{statement}
+use Rattle.candidates.proofs.is_listed.Tie as tie
 
 listed-pt-requires : tie.Need-listed-pt-requires
 unfolding firstCount secondCount
