@@ -82,13 +82,13 @@ extern "C" {
  * with the same corners left each step is asked once at most, so that the calls are never more than 14 deep.
  * MAKHNODRI_STACK bytes of stack are enough for any call. As measured by `examples/c/run stack`, in bytes:
  *
- *     check_scene         120      judge_pt, judge_pt_piece       480
- *     count_pairs      52,168      judge_ee, judge_ee_piece       480
+ *     check_scene         120      judge_pt, judge_pt_piece       664
+ *     count_pairs      52,168      judge_ee, judge_ee_piece       680
  *     list_pairs       85,000      settle_pt, settle_pt_piece   2,800
  *     settle_scene     85,184      settle_ee, settle_ee_piece   2,448
  *     read_scene          680      write_report               120,048
  *     turn_scene          168      check_claims                   832
- *     contact_scene         0      contact_pt, contact_ee           0
+ *     contact_scene    84,944      contact_pt, contact_ee       2,544
  *
  * ---- An answer ----
  *
