@@ -97,7 +97,7 @@ extern "C" {
  *     settle_scene     85,184      settle_ee, settle_ee_piece   1,632
  *     read_scene          680      write_report               120,048
  *     turn_scene          168      check_claims                   832
- *     contact_scene         0      contact_pt, contact_ee           0
+ *     contact_scene    84,944      contact_pt, contact_ee       2,544
  *
  * ---- An answer ----
  *
