@@ -66,7 +66,13 @@ pub fn write_answers(scene: &[u8], claims: &[u8], out: &mut [u8; ANSWERS_BYTES])
     let mut edges = [0u16; EDGE_NUMBERS];
     let mut triangles = [0u16; TRIANGLE_NUMBERS];
     let mut seams = [0u16; SEAM_NUMBERS];
-    match scene_text::read_scene(scene, &mut positions, &mut edges, &mut triangles, &mut seams) {
+    match scene_text::read_scene(
+        scene,
+        &mut positions,
+        &mut edges,
+        &mut triangles,
+        &mut seams,
+    ) {
         TextAnswer::Read(counts) => {
             let p = 6 * counts.vertices;
             let e = 2 * counts.edges;

@@ -307,14 +307,15 @@ fn contact_told(
     positions: &[i32],
     edges: &[u16],
     triangles: &[u16],
+    seams: &[u16],
     kind: Kind,
     first: usize,
     second: usize,
     contact: &mut [u32; ROW_NUMBERS],
 ) -> u64
-    ensures { λ r. ⌜ Told meetingNumber (ContactInto (sceneAtEntry positions edges triangles) kind first second (now (contact .entry)) (now (contact .exit))) r ⌝ }
+    ensures { λ r. ⌜ Told meetingNumber (ContactInto (sceneAtEntry positions edges triangles seams) kind first second (now (contact .entry)) (now (contact .exit))) r ⌝ }
 {
-    match meetings::meeting_pair(positions, edges, triangles, kind, first, second) {
+    match meetings::meeting_pair(positions, edges, triangles, seams, kind, first, second) {
         MeetingAnswer::Found(meeting) => {
             put_contact(contact, meeting);
             word_number(meeting)
@@ -324,20 +325,22 @@ fn contact_told(
 }
 
 #[no_mangle]
-pub extern "C" fn makhnodri_contact_pt(
+pub extern "C" fn makhnodri_contact_pt_slices(
     positions: &[i32],
     edges: &[u16],
     triangles: &[u16],
+    seams: &[u16],
     vertex: usize,
     triangle: usize,
     contact: &mut [u32; ROW_NUMBERS],
 ) -> u64
-    ensures { λ r. ⌜ Told meetingNumber (ContactInto (sceneAtEntry positions edges triangles) PointTriangle vertex triangle (now (contact .entry)) (now (contact .exit))) r ⌝ }
+    ensures { λ r. ⌜ Told meetingNumber (ContactInto (sceneAtEntry positions edges triangles seams) PointTriangle vertex triangle (now (contact .entry)) (now (contact .exit))) r ⌝ }
 {
     contact_told(
         positions,
         edges,
         triangles,
+        seams,
         Kind::PointTriangle,
         vertex,
         triangle,
@@ -346,20 +349,22 @@ pub extern "C" fn makhnodri_contact_pt(
 }
 
 #[no_mangle]
-pub extern "C" fn makhnodri_contact_ee(
+pub extern "C" fn makhnodri_contact_ee_slices(
     positions: &[i32],
     edges: &[u16],
     triangles: &[u16],
+    seams: &[u16],
     first: usize,
     second: usize,
     contact: &mut [u32; ROW_NUMBERS],
 ) -> u64
-    ensures { λ r. ⌜ Told meetingNumber (ContactInto (sceneAtEntry positions edges triangles) EdgeEdge first second (now (contact .entry)) (now (contact .exit))) r ⌝ }
+    ensures { λ r. ⌜ Told meetingNumber (ContactInto (sceneAtEntry positions edges triangles seams) EdgeEdge first second (now (contact .entry)) (now (contact .exit))) r ⌝ }
 {
     contact_told(
         positions,
         edges,
         triangles,
+        seams,
         Kind::EdgeEdge,
         first,
         second,
@@ -369,17 +374,26 @@ pub extern "C" fn makhnodri_contact_ee(
 
 // The list, the word of each listed pair, and for each hit its five numbers in its row.
 #[no_mangle]
-pub extern "C" fn makhnodri_contact_scene(
+pub extern "C" fn makhnodri_contact_scene_slices(
     positions: &[i32],
     edges: &[u16],
     triangles: &[u16],
+    seams: &[u16],
     list: &mut [u32],
     words: &mut [u8],
     contacts: &mut [u32],
 ) -> u64
-    ensures { λ r. ⌜ Told listNumber (MetScene (sceneAtEntry positions edges triangles) (now (list .entry)) (now (list .exit)) (now (words .entry)) (now (words .exit)) (now (contacts .entry)) (now (contacts .exit))) r ⌝ }
+    ensures { λ r. ⌜ Told listNumber (MetScene (sceneAtEntry positions edges triangles seams) (now (list .entry)) (now (list .exit)) (now (words .entry)) (now (words .exit)) (now (contacts .entry)) (now (contacts .exit))) r ⌝ }
 {
-    list_number(scene_contacts::meet_scene(positions, edges, triangles, list, words, contacts))
+    list_number(scene_contacts::meet_scene(
+        positions,
+        edges,
+        triangles,
+        seams,
+        list,
+        words,
+        contacts,
+    ))
 }
 
 // ---- a text

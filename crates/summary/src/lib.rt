@@ -85,7 +85,13 @@ pub fn write_report(text: &[u8], out: &mut [u8; REPORT_BYTES]) -> usize
             let e = 2 * counts.edges;
             let t = 3 * counts.triangles;
             let w = 2 * counts.seams;
-            scene_report(&positions[..p], &edges[..e], &triangles[..t], &seams[..w], out)
+            scene_report(
+                &positions[..p],
+                &edges[..e],
+                &triangles[..t],
+                &seams[..w],
+                out,
+            )
         }
         TextAnswer::Refused(refusal, line) => refused_line(out, 0, number_of(refusal), line as u64),
     }

@@ -8,18 +8,18 @@ use Rattle.makhnodri.proofs.contact_told.Tie as tie
 
 put-contact-requires : tie.Need-put-contact-requires
 put-contact-requires c κs =
-    let a = c .before .before .before .before .before .before .before .args in
-    found-small (sceneOf (a .positions .now) (a .edges .now) (a .triangles .now)) (a .kind) (a .first) (a .second) _ (c .before .before .before .before .meeting-pair .ensures) (c .before .before .meeting .given .0 .0) (search)
+    let a = c .before .before .before .before .before .before .before .before .args in
+    found-small (sceneOf (a .positions .now) (a .edges .now) (a .triangles .now) (a .seams .now)) (a .kind) (a .first) (a .second) _ (c .before .before .before .before .meeting-pair .ensures) (c .before .before .meeting .given .0 .0) (search)
 
 returns : tie.Need-returns
 returns c =
-    let a = c .before .before .before .before .before .before .before .before .before .args in
-    contact-told (sceneOf (a .positions .now) (a .edges .now) (a .triangles .now)) (a .kind) (a .first) (a .second) _ (c .before .before .before .before .before .before .meeting-pair .ensures) (c .before .before .before .before .meeting .given .0 .0) _ _ _ (search) (c .before .put-contact .ensures) (c .word-number .ensures)
+    let a = c .before .before .before .before .before .before .before .before .before .before .args in
+    contact-told (sceneOf (a .positions .now) (a .edges .now) (a .triangles .now) (a .seams .now)) (a .kind) (a .first) (a .second) _ (c .before .before .before .before .before .before .meeting-pair .ensures) (c .before .before .before .before .meeting .given .0 .0) _ _ _ (search) (c .before .put-contact .ensures) (c .word-number .ensures)
 
 returns-2 : tie.Need-returns-2
 returns-2 c =
-    let a = c .before .before .before .before .before .before .before .args in
-    contact-refused-told (sceneOf (a .positions .now) (a .edges .now) (a .triangles .now)) (a .kind) (a .first) (a .second) _ (c .before .before .before .before .meeting-pair .ensures) (c .before .before .why .given .0 .0) _ _ (search) (c .refused .ensures)
+    let a = c .before .before .before .before .before .before .before .before .args in
+    contact-refused-told (sceneOf (a .positions .now) (a .edges .now) (a .triangles .now) (a .seams .now)) (a .kind) (a .first) (a .second) _ (c .before .before .before .before .meeting-pair .ensures) (c .before .before .why .given .0 .0) _ _ (search) (c .refused .ensures)
 
 pub contact-told-spec : {M : Type 1} → statement M
 contact-told-spec =

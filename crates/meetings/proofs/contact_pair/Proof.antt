@@ -7,13 +7,13 @@ use Rattle.meetings.proofs.contact_pair.Tie as tie
 
 returns : tie.Need-returns
 returns c =
-    let a = c .before .before .before .before .before .before .args in
-    contact-refused (sceneOf (a .positions .now) (a .edges .now) (a .triangles .now)) (a .kind) (a .first) (a .second) _ (c .before .before .before .meeting-pair .ensures) {x = c .before .refusal .given .0 .0} (search)
+    let a = c .before .before .before .before .before .before .before .args in
+    contact-refused (sceneOf (a .positions .now) (a .edges .now) (a .triangles .now) (a .seams .now)) (a .kind) (a .first) (a .second) _ (c .before .before .before .meeting-pair .ensures) {x = c .before .refusal .given .0 .0} (search)
 
 returns-2 : tie.Need-returns-2
 returns-2 c =
-    let a = c .before .before .before .before .before .before .before .args in
-    contact-given (sceneOf (a .positions .now) (a .edges .now) (a .triangles .now)) (a .kind) (a .first) (a .second) _ (c .before .before .before .before .meeting-pair .ensures) {m = c .before .before .meeting .given .0 .0} (search) _ (c .contact-of .ensures)
+    let a = c .before .before .before .before .before .before .before .before .args in
+    contact-given (sceneOf (a .positions .now) (a .edges .now) (a .triangles .now) (a .seams .now)) (a .kind) (a .first) (a .second) _ (c .before .before .before .before .meeting-pair .ensures) {m = c .before .before .meeting .given .0 .0} (search) _ (c .contact-of .ensures)
 
 pub contact-pair-spec : {M : Type 1} → statement M
 contact-pair-spec =

@@ -1,10 +1,10 @@
 use borrow.Author.Needs.{needs}
 use Rattle.answer_numbers.specs.Small.{met-small}
-use Rattle.makhnodri.proofs.makhnodri_contact_scene.Statement.{statement}
-use Rattle.makhnodri.proofs.makhnodri_contact_scene.Tie as tie
+use Rattle.makhnodri.proofs.makhnodri_contact_scene_slices.Statement.{statement}
+use Rattle.makhnodri.proofs.makhnodri_contact_scene_slices.Tie as tie
 
-pub makhnodri-contact-scene-spec : {M : Type 1} → statement M
-makhnodri-contact-scene-spec =
+pub makhnodri-contact-scene-slices-spec : {M : Type 1} → statement M
+makhnodri-contact-scene-slices-spec =
     tie.close
     (tie.spec
     (λ c κs. search needs)
