@@ -2,7 +2,7 @@
  * Answers questions from another program with what the library answers, number for number: one question after the other on
  * standard input, one answer after the other on standard output, until the input ends. compare/raw runs it.
  *
- * A question is `struct question`, then each of the eight buffers in the order of the `enum`: as many numbers as its length
+ * A question is `struct question`, then each of the nine buffers in the order of the `enum`: as many numbers as its length
  * says, with MARGIN bytes in front of them and MARGIN behind, which are not lent. An answer is the number that the call gave,
  * then all those bytes as the call left them.
  */
@@ -14,8 +14,8 @@
 /* each buffer is aligned for 64-bit numbers, and not for more */
 enum { MARGIN = 24, CAPACITY = 1 << 22 };
 
-enum { POSITIONS, EDGES, TRIANGLES, LIST, WORDS, TEXT, COUNTS, REPORT, BUFFERS };
-static const size_t size_of[BUFFERS] = {4, 2, 2, 4, 1, 1, sizeof(size_t), 1};
+enum { POSITIONS, EDGES, TRIANGLES, SEAMS, LIST, WORDS, TEXT, COUNTS, REPORT, CONTACTS, BUFFERS };
+static const size_t size_of[BUFFERS] = {4, 2, 2, 2, 4, 1, 1, sizeof(size_t), 1, 4};
 
 struct question {
     uint64_t call, asked[3], length[BUFFERS];
@@ -32,28 +32,33 @@ static void give_up(const char *why) {
     exit(1);
 }
 
-#define SCENE                                                                                                                   \
-    lent(POSITIONS), q->length[POSITIONS], lent(EDGES), q->length[EDGES], lent(TRIANGLES), q->length[TRIANGLES]
+#define THREE lent(POSITIONS), q->length[POSITIONS], lent(EDGES), q->length[EDGES], lent(TRIANGLES), q->length[TRIANGLES]
+#define SCENE THREE, lent(SEAMS), q->length[SEAMS]
 #define PAIR SCENE, q->asked[0], q->asked[1]
 
 static uint64_t answer(const struct question *q) {
     switch (q->call) {
-    case 0: return makhnodri_check_scene(SCENE);
-    case 1: return makhnodri_count_pairs(SCENE, lent(COUNTS));
-    case 2: return makhnodri_list_pairs(SCENE, lent(LIST), q->length[LIST], lent(COUNTS));
-    case 3: return makhnodri_settle_scene(SCENE, lent(LIST), q->length[LIST], lent(WORDS), q->length[WORDS]);
-    case 4: return makhnodri_judge_pt(PAIR);
-    case 5: return makhnodri_judge_ee(PAIR);
-    case 6: return makhnodri_judge_pt_piece(PAIR, q->asked[2]);
-    case 7: return makhnodri_judge_ee_piece(PAIR, q->asked[2]);
-    case 8: return makhnodri_settle_pt(PAIR);
-    case 9: return makhnodri_settle_ee(PAIR);
-    case 10: return makhnodri_settle_pt_piece(PAIR, q->asked[2]);
-    case 11: return makhnodri_settle_ee_piece(PAIR, q->asked[2]);
-    case 12: return makhnodri_read_scene(lent(TEXT), q->length[TEXT], SCENE, lent(COUNTS));
+    case 0: return makhnodri_check_scene_slices(SCENE);
+    case 1: return makhnodri_count_pairs_slices(SCENE, lent(COUNTS));
+    case 2: return makhnodri_list_pairs_slices(SCENE, lent(LIST), q->length[LIST], lent(COUNTS));
+    case 3: return makhnodri_settle_scene_slices(SCENE, lent(LIST), q->length[LIST], lent(WORDS), q->length[WORDS]);
+    case 4: return makhnodri_judge_pt_slices(PAIR);
+    case 5: return makhnodri_judge_ee_slices(PAIR);
+    case 6: return makhnodri_judge_pt_piece_slices(PAIR, q->asked[2]);
+    case 7: return makhnodri_judge_ee_piece_slices(PAIR, q->asked[2]);
+    case 8: return makhnodri_settle_pt_slices(PAIR);
+    case 9: return makhnodri_settle_ee_slices(PAIR);
+    case 10: return makhnodri_settle_pt_piece_slices(PAIR, q->asked[2]);
+    case 11: return makhnodri_settle_ee_piece_slices(PAIR, q->asked[2]);
+    case 12: return makhnodri_read_scene_slices(lent(TEXT), q->length[TEXT], SCENE, lent(COUNTS));
     case 13: return makhnodri_write_report(lent(TEXT), q->length[TEXT], lent(REPORT));
-    case 14: return makhnodri_turn_scene(SCENE);
-    case 15: return makhnodri_check_claims(SCENE, lent(TEXT), q->length[TEXT], lent(WORDS), q->length[WORDS]);
+    case 14: return makhnodri_turn_scene(THREE);
+    case 15: return makhnodri_check_claims_slices(SCENE, lent(TEXT), q->length[TEXT], lent(WORDS), q->length[WORDS]);
+    case 16: return makhnodri_contact_pt_slices(PAIR, lent(CONTACTS));
+    case 17: return makhnodri_contact_ee_slices(PAIR, lent(CONTACTS));
+    case 18:
+        return makhnodri_contact_scene_slices(SCENE, lent(LIST), q->length[LIST], lent(WORDS), q->length[WORDS], lent(CONTACTS),
+                                              q->length[CONTACTS]);
     }
     give_up("no such call");
     return 0;

@@ -21,9 +21,9 @@ extern "C" {
 /* ---- Version: of this header and of the library that was installed with it; docs/CHANGES.md tells what changed ---- */
 
 #define MAKHNODRI_VERSION_MAJOR 0
-#define MAKHNODRI_VERSION_MINOR 3
+#define MAKHNODRI_VERSION_MINOR 4
 #define MAKHNODRI_VERSION_PATCH 0
-#define MAKHNODRI_VERSION "0.3.0"
+#define MAKHNODRI_VERSION "0.4.0"
 
 /* ---- Sizes ---- */
 
@@ -31,9 +31,14 @@ extern "C" {
 #define MAKHNODRI_VERTEX_LIMIT 512
 #define MAKHNODRI_EDGE_LIMIT 1024
 #define MAKHNODRI_TRIANGLE_LIMIT 512
+#define MAKHNODRI_SEAM_LIMIT 512
 #define MAKHNODRI_TEXT_LIMIT 32768 /* bytes of a scene text */
 #define MAKHNODRI_REPORT_ROOM 3072 /* pairs that a report has room for */
 #define MAKHNODRI_PAIR_LIMIT 785920 /* no scene lists more: 512 x 512 of points and triangles, 1024 x 1023 / 2 of edges */
+
+#define MAKHNODRI_CONTACT_LIMIT 262143 /* contacts are given in scenes whose coordinates are no larger in size */
+#define MAKHNODRI_CONTACT_UNIT 1048576 /* 2^20: times and shares of a contact are so many parts of 1 */
+#define MAKHNODRI_CONTACT_LENGTH 5     /* numbers of a contact */
 
 #define MAKHNODRI_WEIGHT_LIMIT 1099511627776 /* 2^40: a claim with a larger weight is answered no */
 
@@ -41,6 +46,7 @@ extern "C" {
 #define MAKHNODRI_POSITIONS_LENGTH 3072 /* 512 x 6 */
 #define MAKHNODRI_EDGES_LENGTH 2048     /* 1024 x 2 */
 #define MAKHNODRI_TRIANGLES_LENGTH 1536 /* 512 x 3 */
+#define MAKHNODRI_SEAMS_LENGTH 1024     /* 512 x 2 */
 
 /* enough stack for any call, in bytes */
 #define MAKHNODRI_STACK 131072
@@ -54,7 +60,14 @@ extern "C" {
  * positions: six numbers a vertex: start x, y, z, then end x, y, z.
  * edges:     two vertex numbers an edge, from 0, in any order.
  * triangles: three vertex numbers a triangle, from 0, in any order.
+ * seams:     two vertex numbers a seam, i and j: vertex i stands for vertex j. In rising i, each i once, j below i, j not itself
+ *            replaced, and the two in one place at the start and at the end.
  * Zero of each is a scene.
+ *
+ * Sewn pieces of cloth have two vertices in one place. Parts share a vertex, and a face or an edge is cut by the order of its
+ * vertices, by the vertices that they stand for: so a sewn vertex is in no list with its neighbours across the seam, and the faces
+ * either side are cut along one diagonal, with no crack between. A replaced vertex keeps its own pairs with triangles; edges or
+ * triangles that seams make one are kept, each with its own pairs. Places are as they were: seams number nothing anew.
  *
  * ---- Places ----
  *
@@ -64,7 +77,7 @@ extern "C" {
  *
  * ---- Pointers ----
  *
- * A slice goes as a pointer and a length, counted in numbers and not in bytes. Where the length is 0 the pointer may be null:
+ * A list goes as a pointer and a length, counted in numbers and not in bytes. Where the length is 0 the pointer may be null:
  * nothing is read or written through it. Else it points to so many numbers, aligned for their type. A buffer that is written
  * overlaps no other argument of the same call; one that is only read (const) may overlap another such. No pointer is kept after
  * the call. That is the caller's part, and the proof takes it as given.
@@ -84,17 +97,18 @@ extern "C" {
  *     settle_scene     85,184      settle_ee, settle_ee_piece   1,632
  *     read_scene          680      write_report               120,048
  *     turn_scene          168      check_claims                   832
+ *     contact_scene    84,944      contact_pt, contact_ee       2,544
  *
  * ---- An answer ----
  *
  * One 64-bit number. Below 2^32 it is the value itself. From 2^32 on it is a refusal: the upper 32 bits are its number, the
  * lower 32 bits the line or the needed count that it carries, else 0. No two answers of a function have the same number
- * (makhnodri_read_scene answers 0 for every text that it read, and the counts tell which). After a refusal no lent byte or
- * number has changed.
+ * (makhnodri_read_scene answers 0 for every text that it read, and the scene tells which; a hit's contact is told by its numbers).
+ * After a refusal no lent byte or number has changed.
  */
 typedef uint64_t makhnodri_answer;
 
-/* the refusal's number, 1 to 12, or 0 where the answer is a value */
+/* the refusal's number, 1 to 12, 15 or 16, or 0 where the answer is a value */
 static inline uint32_t makhnodri_refusal(makhnodri_answer answer) { return (uint32_t)(answer >> 32); }
 
 /* the value; of a refusal, the line or the needed count. Look at makhnodri_refusal first: both may be 0 */
@@ -112,7 +126,8 @@ static inline uint32_t makhnodri_value(makhnodri_answer answer) { return (uint32
  *
  * Three words, HIT, MISS and DEGENERATE, are the answers of makhnodri_judge_pt, _judge_ee, _judge_pt_piece and _judge_ee_piece.
  * Four words, HIT, MISS, TOUCH and APART, are the answers of makhnodri_settle_pt, _settle_ee, _settle_pt_piece and
- * _settle_ee_piece, the bytes that makhnodri_settle_scene writes, and the words of the report.
+ * _settle_ee_piece, of makhnodri_contact_pt and _contact_ee, the bytes that makhnodri_settle_scene and _contact_scene write, and the
+ * words of the report.
  */
 enum {
     MAKHNODRI_HIT = 0,        /* a piece: its six equations have one solution, and its weights are not negative; one that is 0 counts */
@@ -151,15 +166,15 @@ static inline uint32_t makhnodri_entry_second(uint32_t entry) { return entry & 1
 
 /*
  * Refusals. Each is given exactly when its condition holds and no check before it refuses.
- * Of scene slices: 1, 2, 3, 4, each over the whole scene before the next; then 5, 6; 7 last.
- * Of a text: 12, 8, then the first faulty line, and in it 9, 10, 11, 2, 3, 4.
+ * Of a scene: 1, 2, 3, 15, 4, each over the whole scene before the next; then 5, 6, for contacts 16; 7 last.
+ * Of a text: 12, 8, then the first faulty line, and in it 9, 10, 11, 2, 3, 15, 4.
  * Of claims: the scene's, 8, then the first faulty line, and in it 9, 5, 6; 7 last.
  */
 enum {
-    MAKHNODRI_SHAPE = 1,           /* positions not a multiple of 6 long, edges of 2, triangles of 3, or a count over its size */
+    MAKHNODRI_SHAPE = 1,           /* positions not a multiple of 6 long, edges of 2, triangles of 3, seams of 2, or a count over its size */
     MAKHNODRI_COORDINATE = 2,      /* a coordinate outside its range; of a text, with the line */
     MAKHNODRI_UNKNOWN_VERTEX = 3,  /* a vertex number not below the vertex count (of a text, the count of v lines above, and with the line) */
-    MAKHNODRI_REPEATED_VERTEX = 4, /* a vertex twice in one edge or triangle; of a text, with the line */
+    MAKHNODRI_REPEATED_VERTEX = 4, /* a vertex twice in one edge or triangle, or two that stand for one vertex; of a text, with the line */
     MAKHNODRI_NOT_THERE = 5,       /* a vertex, edge, triangle or piece asked for that is not there; of claims, with the line */
     MAKHNODRI_SHARED_VERTEX = 6,   /* the pair asked for shares a vertex (an edge with itself too); of claims, with the line */
     MAKHNODRI_NO_ROOM = 7,         /* more listed pairs, or claims, than room; with the count needed */
@@ -167,7 +182,9 @@ enum {
     MAKHNODRI_BAD_LINE = 9,        /* a line not of the form, or a last line without LF; with the line */
     MAKHNODRI_LATE_RECORD = 10,    /* a record after one of a later kind; with the line */
     MAKHNODRI_TOO_MANY = 11,       /* one record more than its size; with the line */
-    MAKHNODRI_SHORT_BUFFER = 12    /* a lent scene buffer shorter than 3,072 positions, 2,048 edge or 1,536 triangle numbers */
+    MAKHNODRI_SHORT_BUFFER = 12,   /* a lent scene buffer shorter than 3,072 positions, 2,048 edge, 1,536 triangle or 1,024 seam numbers */
+    MAKHNODRI_BROKEN_SEAM = 15,    /* a seam that breaks the rules of seams, or whose two positions differ at either time; of a text, with the line */
+    MAKHNODRI_BEYOND_OLD_RANGE = 16 /* a contact asked for in a scene with a coordinate beyond MAKHNODRI_CONTACT_LIMIT in size */
 };
 /* A line is counted from 1. */
 
@@ -189,10 +206,10 @@ static inline const char *makhnodri_word(uint32_t number) {
 static inline const char *makhnodri_refusal_words(uint32_t refusal) {
     switch (refusal) {
     case 0: return "not refused";
-    case MAKHNODRI_SHAPE: return "positions not a multiple of 6 long, edges of 2, triangles of 3, or a count over its size";
+    case MAKHNODRI_SHAPE: return "positions not a multiple of 6 long, edges of 2, triangles of 3, seams of 2, or a count over its size";
     case MAKHNODRI_COORDINATE: return "a coordinate outside its range";
     case MAKHNODRI_UNKNOWN_VERTEX: return "a vertex number not below the vertex count";
-    case MAKHNODRI_REPEATED_VERTEX: return "a vertex twice in one edge or triangle";
+    case MAKHNODRI_REPEATED_VERTEX: return "a vertex twice in one edge or triangle, or two that stand for one";
     case MAKHNODRI_NOT_THERE: return "a vertex, edge, triangle or piece asked for that isn't there";
     case MAKHNODRI_SHARED_VERTEX: return "the pair asked for shares a vertex";
     case MAKHNODRI_NO_ROOM: return "more listed pairs than room";
@@ -201,25 +218,88 @@ static inline const char *makhnodri_refusal_words(uint32_t refusal) {
     case MAKHNODRI_LATE_RECORD: return "a record after one of a later kind";
     case MAKHNODRI_TOO_MANY: return "one record more than its size";
     case MAKHNODRI_SHORT_BUFFER: return "a lent scene buffer that is too short";
+    case MAKHNODRI_BROKEN_SEAM: return "a seam that breaks the rules of seams, or whose two positions differ";
+    case MAKHNODRI_BEYOND_OLD_RANGE: return "a contact asked for in a scene with a coordinate beyond 262,143";
     default: return "no refusal";
     }
 }
 
-/* ---- Scenes: each of these checks the whole scene, and may refuse with 1, 2, 3, 4 ---- */
-
-/* May this scene be used? 0, or a refusal. */
-makhnodri_answer makhnodri_check_scene(const int32_t *positions, size_t positions_length, const uint16_t *edges,
-                                       size_t edges_length, const uint16_t *triangles, size_t triangles_length);
+/* ---- A scene as a struct ---- */
 
 /*
- * Turns a scene round where it stands, so that a clip is played backwards: start and end are swapped, the vertices numbered from
- * last to first, edges and triangles stay in their places. 0, or a refusal, after which nothing has changed. Turned twice it is
- * the scene. It has the same contacts: pt v t of the one is pt (vertices - 1 - v) t of the other, and ee i j is ee i j; piece k of
- * the one is piece 2 - k of a pt pair, and piece 3 - k of an ee pair, of the other. Vertices must be numbered anew because a face
- * is cut by the order of its corners' numbers: with start and end swapped and nothing else, a verdict may change.
+ * The four lists of a scene, each with its length in numbers. What is not set is to be 0: `makhnodri_scene scene = {0};` in C,
+ * `makhnodri_scene scene = {};` in C++, and then the lists that there are. A list that is not there stays null, with length 0.
  */
-makhnodri_answer makhnodri_turn_scene(int32_t *positions, size_t positions_length, uint16_t *edges, size_t edges_length,
-                                      uint16_t *triangles, size_t triangles_length);
+typedef struct makhnodri_scene {
+    const int32_t *positions;
+    size_t positions_length;
+    const uint16_t *edges;
+    size_t edges_length;
+    const uint16_t *triangles;
+    size_t triangles_length;
+    const uint16_t *seams;
+    size_t seams_length;
+} makhnodri_scene;
+
+/* Room for any scene that is read from a text, in 21,504 bytes. A static one, or one that malloc gave, spares the stack. */
+typedef struct makhnodri_buffers {
+    int32_t positions[MAKHNODRI_POSITIONS_LENGTH];
+    uint16_t edges[MAKHNODRI_EDGES_LENGTH];
+    uint16_t triangles[MAKHNODRI_TRIANGLES_LENGTH];
+    uint16_t seams[MAKHNODRI_SEAMS_LENGTH];
+} makhnodri_buffers;
+
+/*
+ * ---- The plain functions ----
+ *
+ * Those of the library itself, which other languages call: each takes the four lists of a scene one by one, as a pointer and a
+ * length each. From C and C++ the calls below, which take the struct, are shorter; they have the same names without `_slices`, and
+ * what each answers is told there.
+ */
+#define MAKHNODRI_LISTS                                                                                                           \
+    const int32_t *positions, size_t positions_length, const uint16_t *edges, size_t edges_length, const uint16_t *triangles,     \
+        size_t triangles_length, const uint16_t *seams, size_t seams_length
+
+makhnodri_answer makhnodri_check_scene_slices(MAKHNODRI_LISTS);
+makhnodri_answer makhnodri_count_pairs_slices(MAKHNODRI_LISTS, size_t tests[MAKHNODRI_AT_LEAST(1)]);
+makhnodri_answer makhnodri_list_pairs_slices(MAKHNODRI_LISTS, uint32_t *list, size_t list_length, size_t tests[MAKHNODRI_AT_LEAST(1)]);
+makhnodri_answer makhnodri_settle_scene_slices(MAKHNODRI_LISTS, uint32_t *list, size_t list_length, uint8_t *words, size_t words_length);
+makhnodri_answer makhnodri_judge_pt_slices(MAKHNODRI_LISTS, size_t vertex, size_t triangle);
+makhnodri_answer makhnodri_judge_ee_slices(MAKHNODRI_LISTS, size_t first, size_t second);
+makhnodri_answer makhnodri_judge_pt_piece_slices(MAKHNODRI_LISTS, size_t vertex, size_t triangle, size_t piece);
+makhnodri_answer makhnodri_judge_ee_piece_slices(MAKHNODRI_LISTS, size_t first, size_t second, size_t piece);
+makhnodri_answer makhnodri_settle_pt_slices(MAKHNODRI_LISTS, size_t vertex, size_t triangle);
+makhnodri_answer makhnodri_settle_ee_slices(MAKHNODRI_LISTS, size_t first, size_t second);
+makhnodri_answer makhnodri_settle_pt_piece_slices(MAKHNODRI_LISTS, size_t vertex, size_t triangle, size_t piece);
+makhnodri_answer makhnodri_settle_ee_piece_slices(MAKHNODRI_LISTS, size_t first, size_t second, size_t piece);
+makhnodri_answer makhnodri_contact_pt_slices(MAKHNODRI_LISTS, size_t vertex, size_t triangle, uint32_t contact[MAKHNODRI_AT_LEAST(5)]);
+makhnodri_answer makhnodri_contact_ee_slices(MAKHNODRI_LISTS, size_t first, size_t second, uint32_t contact[MAKHNODRI_AT_LEAST(5)]);
+makhnodri_answer makhnodri_contact_scene_slices(MAKHNODRI_LISTS, uint32_t *list, size_t list_length, uint8_t *words, size_t words_length,
+                                                uint32_t *contacts, size_t contacts_length);
+makhnodri_answer makhnodri_check_claims_slices(MAKHNODRI_LISTS, const uint8_t *claims, size_t claims_length, uint8_t *answers,
+                                               size_t answers_length);
+makhnodri_answer makhnodri_read_scene_slices(const uint8_t *text, size_t text_length, int32_t *positions, size_t positions_length,
+                                             uint16_t *edges, size_t edges_length, uint16_t *triangles, size_t triangles_length,
+                                             uint16_t *seams, size_t seams_length, size_t counts[MAKHNODRI_AT_LEAST(4)]);
+
+/* the lists of a struct, as the plain functions take them */
+#define MAKHNODRI_LISTS_OF(scene)                                                                                                 \
+    (scene)->positions, (scene)->positions_length, (scene)->edges, (scene)->edges_length, (scene)->triangles,                     \
+        (scene)->triangles_length, (scene)->seams, (scene)->seams_length
+
+/* The vertex that a vertex stands for, by the seams of an accepted scene: another, or itself. Lower and higher go by this number. */
+static inline size_t makhnodri_stands_for(const makhnodri_scene *scene, size_t vertex) {
+    for (size_t i = 0; i + 1 < scene->seams_length; i += 2)
+        if (scene->seams[i] == vertex) return scene->seams[i + 1];
+    return vertex;
+}
+
+/* ---- Scenes: each of these checks the whole scene, and may refuse with 1, 2, 3, 15, 4 ---- */
+
+/* May this scene be used? 0, or a refusal. */
+static inline makhnodri_answer makhnodri_check_scene(const makhnodri_scene *scene) {
+    return makhnodri_check_scene_slices(MAKHNODRI_LISTS_OF(scene));
+}
 
 /*
  * How many pairs are listed: those whose swept boxes meet, equal ends included, and that share no vertex.
@@ -227,9 +307,9 @@ makhnodri_answer makhnodri_turn_scene(int32_t *positions, size_t positions_lengt
  * tests the joint box of every run, and in a run that it meets the box of every triangle, sharing a vertex or not. It is never
  * more than vertices x (triangles + runs). A refusal leaves it as it was.
  */
-makhnodri_answer makhnodri_count_pairs(const int32_t *positions, size_t positions_length, const uint16_t *edges,
-                                       size_t edges_length, const uint16_t *triangles, size_t triangles_length,
-                                       size_t tests[MAKHNODRI_AT_LEAST(1)]);
+static inline makhnodri_answer makhnodri_count_pairs(const makhnodri_scene *scene, size_t tests[MAKHNODRI_AT_LEAST(1)]) {
+    return makhnodri_count_pairs_slices(MAKHNODRI_LISTS_OF(scene), tests);
+}
 
 /*
  * Makes the list, one number an entry (makhnodri_entry_kind and its neighbours take it apart). Room is list_length.
@@ -237,75 +317,161 @@ makhnodri_answer makhnodri_count_pairs(const int32_t *positions, size_t position
  * The answer is the count of entries, which stand in front of the list; the rest of it is unchanged. Or 7, with the count needed.
  * Into tests[0] go the box tests, the same number that makhnodri_count_pairs gives; a refusal leaves it as it was.
  */
-makhnodri_answer makhnodri_list_pairs(const int32_t *positions, size_t positions_length, const uint16_t *edges,
-                                      size_t edges_length, const uint16_t *triangles, size_t triangles_length,
-                                      uint32_t *list, size_t list_length, size_t tests[MAKHNODRI_AT_LEAST(1)]);
+static inline makhnodri_answer makhnodri_list_pairs(const makhnodri_scene *scene, uint32_t *list, size_t list_length,
+                                                    size_t tests[MAKHNODRI_AT_LEAST(1)]) {
+    return makhnodri_list_pairs_slices(MAKHNODRI_LISTS_OF(scene), list, list_length, tests);
+}
 
 /*
  * Makes the list and settles each pair of it, in four words: words[i] is the word of entry i. Room is the smaller of
  * list_length and words_length. The answer is the count, and the rest of both buffers is unchanged; or 7, with the count
  * needed.
  */
-makhnodri_answer makhnodri_settle_scene(const int32_t *positions, size_t positions_length, const uint16_t *edges,
-                                        size_t edges_length, const uint16_t *triangles, size_t triangles_length,
-                                        uint32_t *list, size_t list_length, uint8_t *words, size_t words_length);
+static inline makhnodri_answer makhnodri_settle_scene(const makhnodri_scene *scene, uint32_t *list, size_t list_length, uint8_t *words,
+                                                      size_t words_length) {
+    return makhnodri_settle_scene_slices(MAKHNODRI_LISTS_OF(scene), list, list_length, words, words_length);
+}
+
+/*
+ * Turns a scene without seams round where it stands, so that a clip is played backwards: start and end are swapped, the vertices
+ * numbered from last to first, edges and triangles stay in their places. 0, or a refusal (1, 2, 3, 4), after which nothing has
+ * changed. Turned twice it is the scene. It has the same contacts: pt v t of the one is pt (vertices - 1 - v) t of the other, and
+ * ee i j is ee i j; piece k of the one is piece 2 - k of a pt pair, and piece 3 - k of an ee pair, of the other. Vertices must be
+ * numbered anew because a face is cut by the order of its corners' numbers: with start and end swapped and nothing else, a verdict
+ * may change. It takes the three lists to be written; seams would name other vertices afterwards, and it has none.
+ */
+makhnodri_answer makhnodri_turn_scene(int32_t *positions, size_t positions_length, uint16_t *edges, size_t edges_length,
+                                      uint16_t *triangles, size_t triangles_length);
 
 /*
  * ---- Pairs and pieces, listed or not: these may also refuse with 5 and 6; else the answer is one of three words ----
  *
- * Each call checks the whole scene first, 1, 2, 3, 4, however often it is called with the same one. Where many pairs are wanted,
+ * Each call checks the whole scene first, 1, 2, 3, 15, 4, however often it is called with the same one. Where many pairs are wanted,
  * makhnodri_settle_scene checks once.
  */
 
-makhnodri_answer makhnodri_judge_pt(const int32_t *positions, size_t positions_length, const uint16_t *edges,
-                                    size_t edges_length, const uint16_t *triangles, size_t triangles_length,
-                                    size_t vertex, size_t triangle);
+static inline makhnodri_answer makhnodri_judge_pt(const makhnodri_scene *scene, size_t vertex, size_t triangle) {
+    return makhnodri_judge_pt_slices(MAKHNODRI_LISTS_OF(scene), vertex, triangle);
+}
 
 /* The two edges may be asked for in either order, with the same answer. */
-makhnodri_answer makhnodri_judge_ee(const int32_t *positions, size_t positions_length, const uint16_t *edges,
-                                    size_t edges_length, const uint16_t *triangles, size_t triangles_length, size_t first,
-                                    size_t second);
+static inline makhnodri_answer makhnodri_judge_ee(const makhnodri_scene *scene, size_t first, size_t second) {
+    return makhnodri_judge_ee_slices(MAKHNODRI_LISTS_OF(scene), first, second);
+}
 
 /* Pieces 0, 1, 2: the moving point against each of the moving triangle's three tetrahedra. */
-makhnodri_answer makhnodri_judge_pt_piece(const int32_t *positions, size_t positions_length, const uint16_t *edges,
-                                          size_t edges_length, const uint16_t *triangles, size_t triangles_length,
-                                          size_t vertex, size_t triangle, size_t piece);
+static inline makhnodri_answer makhnodri_judge_pt_piece(const makhnodri_scene *scene, size_t vertex, size_t triangle, size_t piece) {
+    return makhnodri_judge_pt_piece_slices(MAKHNODRI_LISTS_OF(scene), vertex, triangle, piece);
+}
 
 /* Pieces 0 to 3: AA, AB, BA, BB, the edge with the lower place first, in whichever order the two are asked for. */
-makhnodri_answer makhnodri_judge_ee_piece(const int32_t *positions, size_t positions_length, const uint16_t *edges,
-                                          size_t edges_length, const uint16_t *triangles, size_t triangles_length,
-                                          size_t first, size_t second, size_t piece);
+static inline makhnodri_answer makhnodri_judge_ee_piece(const makhnodri_scene *scene, size_t first, size_t second, size_t piece) {
+    return makhnodri_judge_ee_piece_slices(MAKHNODRI_LISTS_OF(scene), first, second, piece);
+}
 
 /* ---- The same in four words: the same refusals; what is degenerate is decided too ---- */
 
-makhnodri_answer makhnodri_settle_pt(const int32_t *positions, size_t positions_length, const uint16_t *edges,
-                                     size_t edges_length, const uint16_t *triangles, size_t triangles_length,
-                                     size_t vertex, size_t triangle);
+static inline makhnodri_answer makhnodri_settle_pt(const makhnodri_scene *scene, size_t vertex, size_t triangle) {
+    return makhnodri_settle_pt_slices(MAKHNODRI_LISTS_OF(scene), vertex, triangle);
+}
 
-makhnodri_answer makhnodri_settle_ee(const int32_t *positions, size_t positions_length, const uint16_t *edges,
-                                     size_t edges_length, const uint16_t *triangles, size_t triangles_length, size_t first,
-                                     size_t second);
+static inline makhnodri_answer makhnodri_settle_ee(const makhnodri_scene *scene, size_t first, size_t second) {
+    return makhnodri_settle_ee_slices(MAKHNODRI_LISTS_OF(scene), first, second);
+}
 
-makhnodri_answer makhnodri_settle_pt_piece(const int32_t *positions, size_t positions_length, const uint16_t *edges,
-                                           size_t edges_length, const uint16_t *triangles, size_t triangles_length,
-                                           size_t vertex, size_t triangle, size_t piece);
+static inline makhnodri_answer makhnodri_settle_pt_piece(const makhnodri_scene *scene, size_t vertex, size_t triangle, size_t piece) {
+    return makhnodri_settle_pt_piece_slices(MAKHNODRI_LISTS_OF(scene), vertex, triangle, piece);
+}
 
-makhnodri_answer makhnodri_settle_ee_piece(const int32_t *positions, size_t positions_length, const uint16_t *edges,
-                                           size_t edges_length, const uint16_t *triangles, size_t triangles_length,
-                                           size_t first, size_t second, size_t piece);
+static inline makhnodri_answer makhnodri_settle_ee_piece(const makhnodri_scene *scene, size_t first, size_t second, size_t piece) {
+    return makhnodri_settle_ee_piece_slices(MAKHNODRI_LISTS_OF(scene), first, second, piece);
+}
+
+/*
+ * ---- Contacts: when and where a hit pair touched, for a viewer that freezes the picture there ----
+ *
+ * A contact is MAKHNODRI_CONTACT_LENGTH numbers: the piece, the time, and three shares. Time and shares are whole 2^20ths, from 0 to
+ * MAKHNODRI_CONTACT_UNIT, which is 1; each is cut and not rounded: at most the exact value, and short of it by less than one 2^20th.
+ * The piece is the hit piece whose time is the smallest such number, on a tie that of the lowest piece number. Only hit pieces take
+ * part; one that touches carries nothing, even if it touches earlier.
+ *
+ *     contact   [0]     [1]    [2]                    [3]                     [4]
+ *     pt        piece   time   lowest corner's share  middle corner's share   highest corner's share
+ *     ee        piece   time   lower edge's share     higher edge's share     0
+ *
+ * Corners go by the rising number of their vertices, in whatever order the scene writes them. An edge's share is that of its
+ * higher-numbered end; the lower edge is the one with the lower place, in whichever order the two are asked for. Each number is cut
+ * alone, so that three shares may sum to a little less than 1.
+ *
+ * Contacts are given in scenes of which no coordinate is beyond MAKHNODRI_CONTACT_LIMIT in size. Any other is refused with 16, after
+ * 5 and 6 and before 7, whichever pair is asked for.
+ */
+
+/* A number of 2^20ths as a double, which loses nothing: no two numbers give the same one. */
+static inline double makhnodri_part(uint32_t number) { return number / 1048576.0; }
+
+/* When it touched: 0 is the start, 1 the end. */
+static inline double makhnodri_contact_time(const uint32_t contact[MAKHNODRI_AT_LEAST(5)]) { return makhnodri_part(contact[1]); }
+
+/* Where: the share at this place, 0, 1 or 2 of a point and a triangle, 0 or 1 of two edges. */
+static inline double makhnodri_contact_share(const uint32_t contact[MAKHNODRI_AT_LEAST(5)], size_t place) {
+    return makhnodri_part(contact[2 + place]);
+}
+
+/*
+ * The answer is the word of the pair in four words, or a refusal: 1, 2, 3, 15, 4, 5, 6, then 16. Where it is MAKHNODRI_HIT, all five numbers of
+ * contact are written; nothing else changes them. Two edges may be asked for in either order, with the same answer and contact.
+ */
+static inline makhnodri_answer makhnodri_contact_pt(const makhnodri_scene *scene, size_t vertex, size_t triangle,
+                                                    uint32_t contact[MAKHNODRI_AT_LEAST(5)]) {
+    return makhnodri_contact_pt_slices(MAKHNODRI_LISTS_OF(scene), vertex, triangle, contact);
+}
+
+static inline makhnodri_answer makhnodri_contact_ee(const makhnodri_scene *scene, size_t first, size_t second,
+                                                    uint32_t contact[MAKHNODRI_AT_LEAST(5)]) {
+    return makhnodri_contact_ee_slices(MAKHNODRI_LISTS_OF(scene), first, second, contact);
+}
+
+/*
+ * As makhnodri_settle_scene, and beside list and words the contact of each hit pair: that of entry i begins at contacts[5 * i]. The
+ * numbers of a pair that is not hit stay as they were. Room is the smallest of list_length, words_length and contacts_length / 5,
+ * rounded down. The answer is the count, and the rest of the three buffers is unchanged; or 1, 2, 3, 15, 4, 16, or last 7, with
+ * the count needed.
+ */
+static inline makhnodri_answer makhnodri_contact_scene(const makhnodri_scene *scene, uint32_t *list, size_t list_length, uint8_t *words,
+                                                       size_t words_length, uint32_t *contacts, size_t contacts_length) {
+    return makhnodri_contact_scene_slices(MAKHNODRI_LISTS_OF(scene), list, list_length, words, words_length, contacts, contacts_length);
+}
 
 /* ---- Texts ---- */
 
 /*
- * Reads a scene text (docs/FORMAT.md) into the three buffers, which are at least MAKHNODRI_POSITIONS_LENGTH,
- * MAKHNODRI_EDGES_LENGTH and MAKHNODRI_TRIANGLES_LENGTH long, and the counts of vertices, edges and triangles into the three
- * numbers of counts. The answer is 0, and the scene stands in front of the buffers: 6 x counts[0] positions, 2 x counts[1]
- * edge numbers, 3 x counts[2] triangle numbers; what lies behind is unchanged. Or a refusal, 12, 8, 9, 10, 11, 2, 3 or 4.
- * A scene that was read is accepted by the functions above.
+ * Reads a scene text (docs/FORMAT.md) into the buffers, and has the scene point to what was read there. The answer is 0; or a
+ * refusal, 12, 8, 9, 10, 11, 2, 3, 15 or 4, after which neither buffers nor scene have changed. A scene that was read is accepted by
+ * the functions above, as long as its buffers are left as they are.
+ *
+ * makhnodri_read_scene_slices reads into four buffers of the caller's, at least MAKHNODRI_POSITIONS_LENGTH, MAKHNODRI_EDGES_LENGTH,
+ * MAKHNODRI_TRIANGLES_LENGTH and MAKHNODRI_SEAMS_LENGTH long, else 12; and the counts of vertices, edges, triangles and seams into
+ * the four numbers of counts. The scene stands in front of the buffers: 6 x counts[0] positions, 2 x counts[1] edge numbers,
+ * 3 x counts[2] triangle numbers, 2 x counts[3] seam numbers; what lies behind is unchanged.
  */
-makhnodri_answer makhnodri_read_scene(const uint8_t *text, size_t text_length, int32_t *positions, size_t positions_length,
-                                      uint16_t *edges, size_t edges_length, uint16_t *triangles, size_t triangles_length,
-                                      size_t counts[MAKHNODRI_AT_LEAST(3)]);
+static inline makhnodri_answer makhnodri_read_scene(const uint8_t *text, size_t text_length, makhnodri_buffers *buffers,
+                                                    makhnodri_scene *scene) {
+    size_t counts[4];
+    makhnodri_answer answer = makhnodri_read_scene_slices(
+        text, text_length, buffers->positions, MAKHNODRI_POSITIONS_LENGTH, buffers->edges, MAKHNODRI_EDGES_LENGTH, buffers->triangles,
+        MAKHNODRI_TRIANGLES_LENGTH, buffers->seams, MAKHNODRI_SEAMS_LENGTH, counts);
+    if (makhnodri_refusal(answer)) return answer;
+    scene->positions = buffers->positions;
+    scene->positions_length = 6 * counts[0];
+    scene->edges = buffers->edges;
+    scene->edges_length = 2 * counts[1];
+    scene->triangles = buffers->triangles;
+    scene->triangles_length = 3 * counts[2];
+    scene->seams = buffers->seams;
+    scene->seams_length = 2 * counts[3];
+    return answer;
+}
 
 /*
  * Writes the whole report of a text, as the program prints it, into the MAKHNODRI_REPORT_LENGTH bytes of out: the lines of the
@@ -319,11 +485,12 @@ size_t makhnodri_write_report(const uint8_t *text, size_t text_length, uint8_t o
  * is at most MAKHNODRI_WEIGHT_LIMIT, both simplices have the same sum above 0, and the weighted x, y, z and time agree. A yes means
  * that the piece meets: it is hit or touch. A no says nothing of the piece.
  * The answer is the count of claims, and answers[i] is that of line i + 1; the rest of answers is unchanged. Or a refusal, and no claim
- * is answered: 1, 2, 3, 4 for the scene, 8, then 9, 5 or 6 with the line, last 7 with the count needed where answers has no room.
+ * is answered: 1, 2, 3, 15, 4 for the scene, 8, then 9, 5 or 6 with the line, last 7 with the count needed where answers has no room.
  */
-makhnodri_answer makhnodri_check_claims(const int32_t *positions, size_t positions_length, const uint16_t *edges,
-                                        size_t edges_length, const uint16_t *triangles, size_t triangles_length,
-                                        const uint8_t *claims, size_t claims_length, uint8_t *answers, size_t answers_length);
+static inline makhnodri_answer makhnodri_check_claims(const makhnodri_scene *scene, const uint8_t *claims, size_t claims_length,
+                                                      uint8_t *answers, size_t answers_length) {
+    return makhnodri_check_claims_slices(MAKHNODRI_LISTS_OF(scene), claims, claims_length, answers, answers_length);
+}
 
 #ifdef __cplusplus
 }

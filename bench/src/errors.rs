@@ -94,7 +94,7 @@ fn slices_of(four: Four, kind: Kind) -> Slices {
         Kind::PointTriangle => (vec![], vec![[1, 2, 3]]),
         Kind::EdgeEdge => (vec![[0, 1], [2, 3]], vec![]),
     };
-    Slices::of(&Scene { vertices: four.to_vec(), edges, triangles })
+    Slices::of(&Scene { vertices: four.to_vec(), edges, triangles, ..Scene::default() })
 }
 
 /// Whether it is a hit; nothing where a piece is degenerate.

@@ -4,11 +4,13 @@
 
 #[cfg(feature = "earlier")]
 mod against;
+mod contacts;
 #[cfg(feature = "earlier")]
 mod earlier;
 mod errors;
 mod floor;
 mod plain;
+mod plain_contacts;
 mod plain_report;
 mod plain_rest;
 mod product;
@@ -24,7 +26,8 @@ mod wide;
 use compare::box_tests;
 use compare::cubic;
 use compare::random::Random;
-use compare::scene::{Scene, EDGE_LIMIT, REPORT_ROOM, TRIANGLE_LIMIT, VERTEX_LIMIT};
+use compare::scene::{Scene, REPORT_ROOM};
+use compare::sewing::split;
 use compare::text::write;
 use product::Product;
 use slices::{parts, Slices};
@@ -33,6 +36,32 @@ use timing::{shortest, Timed, Way};
 /// The tolerance of the cubic that is timed.
 const TOLERANCE: f64 = 1e-6;
 const OURS: &str = "the library";
+
+/// Seams of the scenes that are sewn.
+const SEAMS: usize = 255;
+
+/// A scene with room for its list, its words, and the list once more.
+struct Sewn {
+    slices: Slices,
+    list: Vec<u32>,
+    words: Vec<u8>,
+    alone: Vec<u32>,
+    tests: [usize; 1],
+}
+
+impl Sewn {
+    fn new(slices: &Slices) -> Sewn {
+        let count = plain::list(slices, &mut []);
+        Sewn { slices: slices.clone(), list: vec![0; count], words: vec![0; count], alone: vec![0; count], tests: [0] }
+    }
+
+    fn hold(&self) {
+        let mut list = vec![0; self.list.len()];
+        plain::list(&self.slices, &mut list);
+        let right = list.iter().map(|&entry| plain_rest::settle(&self.slices, entry).byte());
+        assert!(list == self.list && right.eq(self.words.iter().copied()), "the library's words are those of plain Rust");
+    }
+}
 
 struct Bench {
     rounds: usize,
@@ -51,9 +80,11 @@ fn main() {
         return bench.against(scenes.expect("how many scenes"));
     }
     bench.all_verdicts();
+    bench.sewn_verdicts();
     bench.lists();
     bench.resting();
     bench.sliding();
+    bench.contacts();
     bench.reports();
     bench.wrong_answers();
 }
@@ -105,6 +136,38 @@ impl Bench {
         table(&title, ("ns", 1e9 / count as f64), &times);
     }
 
+    /// The same cloth in one piece and in many, sewn together by 255 seams. Every part has the corners that it had, by the vertices stood for; a
+    /// vertex that is a copy has the pairs of the one that it stands for.
+    fn sewn_verdicts(&self) {
+        let Some(product) = &self.product else { return };
+        let mut random = Random::new(6);
+        let kinds: [(&str, Scene); 4] = [
+            ("pt, cloth in layers", scenes::layers(&mut random, 7, 7, 1_000, false)),
+            ("pt, anywhere", scenes::scattered(&mut random, 70, 200_000, false)),
+            ("ee, cloth in layers", scenes::layers(&mut random, 5, 5, 1_000, true)),
+            ("ee, anywhere", scenes::scattered(&mut random, 90, 200_000, true)),
+        ];
+        println!("\na pair decided in a scene with 255 seams over one without, listing left out");
+        for (name, scene) in kinds {
+            let sewn = split(&mut random, scene.clone(), SEAMS);
+            let mut lent = [&scene, &sewn].map(|scene| Sewn::new(&Slices::of(scene)));
+            let counts = [0, 1].map(|place| lent[place].list.len());
+            let mut ways = Vec::new();
+            for lent in &mut lent {
+                let Sewn { slices, list, words, alone, tests } = lent;
+                ways.push(Way::new("settled", || product.settle_scene(slices, list, words).expect("there is room") as u64));
+                ways.push(Way::new("listed", || product.list(slices, alone, tests).expect("there is room") as u64));
+            }
+            let times = shortest(ways, self.rounds);
+            lent.iter().for_each(Sewn::hold);
+            let [without, with] = [0, 1].map(|place| 1e9 * (times[2 * place].1 - times[2 * place + 1].1) / counts[place] as f64);
+            println!(
+                "  {name:<24} without {without:>8.2} ns      with {with:>8.2} ns      with over without {:>5.2}",
+                with / without
+            );
+        }
+    }
+
     fn lists(&self) {
         for fold in [32, 8, 2] {
             let scene = scenes::full_size(&mut Random::new(fold as u64), fold);
@@ -140,8 +203,9 @@ impl Bench {
 
     fn reports(&self) {
         let mut random = Random::new(3);
-        let scenes: [(&str, Scene); 3] = [
+        let scenes: [(&str, Scene); 4] = [
             ("a full-size sheet", scenes::full_size(&mut random, 32)),
+            ("a full-size sheet with 255 seams", scenes::sewn_sheet(&mut Random::new(4))),
             ("points and triangles in layers", scenes::layers(&mut random, 4, 4, 1_000, false)),
             ("edges in layers", scenes::layers(&mut random, 3, 3, 1_000, true)),
         ];
@@ -154,8 +218,8 @@ impl Bench {
     }
 
     fn read(&self, name: &str, text: &[u8]) {
-        let mut ours = Slices::with_room(6 * VERTEX_LIMIT, 2 * EDGE_LIMIT, 3 * TRIANGLE_LIMIT);
-        let (mut plain, mut counts) = (Slices::default(), [0; 3]);
+        let mut ours = Slices::with_room();
+        let (mut plain, mut counts) = (Slices::default(), [0; 4]);
         let mut ways = vec![Way::new("plain Rust, one pass", || {
             plain = plain_report::read(text).unwrap_or_default();
             plain.positions.len() as u64
@@ -164,10 +228,11 @@ impl Bench {
             ways.push(Way::new(OURS, || product.read(text, &mut ours, &mut counts).expect("a scene") as u64));
         }
         let times = shortest(ways, self.rounds);
-        let [vertices, edges, triangles] = counts;
+        let [vertices, edges, triangles, seams] = counts;
         let same = plain.positions == ours.positions[..6 * vertices]
             && plain.edges == ours.edges[..2 * edges]
-            && plain.triangles == ours.triangles[..3 * triangles];
+            && plain.triangles == ours.triangles[..3 * triangles]
+            && plain.seams == ours.seams[..2 * seams];
         assert!(self.product.is_none() || same, "the library reads what plain Rust reads");
         table(&format!("reading alone, {name} ({} bytes)", text.len()), ("us", 1e6), &times);
     }

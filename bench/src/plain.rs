@@ -6,7 +6,7 @@ use compare::verdict::Verdict;
 pub type Vector = [i64; 3];
 
 /// 0 at the start, 3 at the end.
-type When = usize;
+pub type When = usize;
 pub const START: When = 0;
 pub const END: When = 3;
 
@@ -14,19 +14,19 @@ pub const END: When = 3;
 pub type Corner = (usize, When);
 
 #[inline]
-fn seen(positions: &[i32], vertex: usize, base: usize, when: When) -> Vector {
+pub fn seen(positions: &[i32], vertex: usize, base: usize, when: When) -> Vector {
     [0, 1, 2].map(|axis| positions[6 * vertex + when + axis] as i64 - positions[6 * base + when + axis] as i64)
 }
 
 /// The three minors of two vectors.
 #[inline]
-fn minors(a: Vector, b: Vector) -> Vector {
+pub fn minors(a: Vector, b: Vector) -> Vector {
     [a[1] * b[2] - a[2] * b[1], a[0] * b[2] - a[2] * b[0], a[0] * b[1] - a[1] * b[0]]
 }
 
 /// The determinant of a vector and the two that the minors are of.
 #[inline]
-fn with(a: Vector, minors: Vector) -> i64 {
+pub fn with(a: Vector, minors: Vector) -> i64 {
     a[0] * minors[0] - a[1] * minors[1] + a[2] * minors[2]
 }
 
@@ -63,10 +63,9 @@ pub fn joined(verdicts: impl Iterator<Item = Verdict>) -> Verdict {
     out
 }
 
-/// The verdicts of the three pieces; 10 determinants, each worked out once.
+/// The verdicts of the three pieces, corners in rising order; 10 determinants, each worked out once.
 #[inline]
-pub fn point_verdicts(positions: &[i32], point: usize, mut corners: [usize; 3]) -> [Verdict; 3] {
-    corners.sort_unstable();
+pub fn point_verdicts(positions: &[i32], point: usize, corners: [usize; 3]) -> [Verdict; 3] {
     let [a, b, c] = corners.map(|vertex| seen(positions, vertex, point, START));
     let [d, e, f] = corners.map(|vertex| seen(positions, vertex, point, END));
     let (ab, ad, cf, ef) = (minors(a, b), minors(a, d), minors(c, f), minors(e, f));
@@ -82,9 +81,7 @@ pub fn point_verdicts(positions: &[i32], point: usize, mut corners: [usize; 3]) 
 /// The verdicts of the four pieces; 12 determinants, each worked out once. Starts are seen from the first edge's lower end, ends from its
 /// higher end.
 #[inline]
-pub fn edge_verdicts(positions: &[i32], mut first: [usize; 2], mut second: [usize; 2]) -> [Verdict; 4] {
-    first.sort_unstable();
-    second.sort_unstable();
+pub fn edge_verdicts(positions: &[i32], first: [usize; 2], second: [usize; 2]) -> [Verdict; 4] {
     let [low, high] = first;
     let [r, g, h] = [high, second[0], second[1]].map(|vertex| seen(positions, vertex, low, START));
     let [s, k, l] = [low, second[0], second[1]].map(|vertex| seen(positions, vertex, high, END));
@@ -147,16 +144,16 @@ impl Boxes {
 fn each_listed(slices: &Slices, boxes: &Boxes, mut take: impl FnMut(u32, usize, usize)) {
     for (vertex, one) in boxes.vertices.iter().enumerate() {
         for (triangle, other) in boxes.triangles.iter().enumerate() {
-            if meet(one, other) && !slices.corners(triangle).contains(&vertex) {
+            if meet(one, other) && !slices.corners_stand(triangle).contains(&slices.stands_for(vertex)) {
                 take(0, vertex, triangle);
             }
         }
     }
     for (first, one) in boxes.edges.iter().enumerate() {
-        let [a, b] = slices.ends(first);
+        let [a, b] = slices.ends_stand(first);
         for (second, other) in boxes.edges.iter().enumerate().skip(first + 1) {
             if meet(one, other) {
-                let [c, d] = slices.ends(second);
+                let [c, d] = slices.ends_stand(second);
                 if a != c && a != d && b != c && b != d {
                     take(1, first, second);
                 }

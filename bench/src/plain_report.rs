@@ -4,7 +4,7 @@ use crate::plain;
 use crate::plain_rest::settle;
 use crate::slices::{parts, Slices};
 use compare::refusal::*;
-use compare::scene::{COORDINATE_LIMIT, EDGE_LIMIT, REPORT_ROOM, TEXT_LIMIT, TRIANGLE_LIMIT, VERTEX_LIMIT};
+use compare::scene::{COORDINATE_LIMIT, EDGE_LIMIT, REPORT_ROOM, SEAM_LIMIT, TEXT_LIMIT, TRIANGLE_LIMIT, VERTEX_LIMIT};
 use compare::settled::Settled;
 
 /// The report, behind what `out` holds; `list` is the room that is lent for pairs.
@@ -82,14 +82,14 @@ fn take(line: &[u8], slices: &mut Slices) -> Result<(), u64> {
     match line.first() {
         Some(b'v') => {
             let vertex: [i32; 6] = numbers(&line[1..], true).ok_or(BAD_LINE)?;
-            unless(!slices.edges.is_empty() || !slices.triangles.is_empty(), OUT_OF_ORDER)?;
+            unless(!slices.edges.is_empty() || !slices.triangles.is_empty() || !slices.seams.is_empty(), OUT_OF_ORDER)?;
             unless(slices.positions.len() == 6 * VERTEX_LIMIT, ONE_TOO_MANY)?;
             unless(vertex.iter().any(|n| n.unsigned_abs() as i64 > COORDINATE_LIMIT), OUT_OF_RANGE)?;
             slices.positions.extend_from_slice(&vertex);
         }
         Some(b'e') => {
             let [a, b]: [i32; 2] = numbers(&line[1..], false).ok_or(BAD_LINE)?;
-            unless(!slices.triangles.is_empty(), OUT_OF_ORDER)?;
+            unless(!slices.triangles.is_empty() || !slices.seams.is_empty(), OUT_OF_ORDER)?;
             unless(slices.edges.len() == 2 * EDGE_LIMIT, ONE_TOO_MANY)?;
             let vertices = slices.positions.len() as i32 / 6;
             unless(a >= vertices || b >= vertices, NO_SUCH_VERTEX)?;
@@ -98,15 +98,39 @@ fn take(line: &[u8], slices: &mut Slices) -> Result<(), u64> {
         }
         Some(b't') => {
             let [a, b, c]: [i32; 3] = numbers(&line[1..], false).ok_or(BAD_LINE)?;
+            unless(!slices.seams.is_empty(), OUT_OF_ORDER)?;
             unless(slices.triangles.len() == 3 * TRIANGLE_LIMIT, ONE_TOO_MANY)?;
             let vertices = slices.positions.len() as i32 / 6;
             unless(a >= vertices || b >= vertices || c >= vertices, NO_SUCH_VERTEX)?;
             unless(a == b || b == c || a == c, VERTEX_TWICE)?;
             slices.triangles.extend_from_slice(&[a as u16, b as u16, c as u16]);
         }
+        Some(b'w') => {
+            let [i, j]: [i32; 2] = numbers(&line[1..], false).ok_or(BAD_LINE)?;
+            unless(slices.seams.len() == 2 * SEAM_LIMIT, ONE_TOO_MANY)?;
+            let vertices = slices.positions.len() as i32 / 6;
+            unless(i >= vertices || j >= vertices, NO_SUCH_VERTEX)?;
+            sew(slices, i as u16, j as u16)?;
+        }
         _ => return Err(BAD_LINE),
     }
     Ok(())
+}
+
+/// A seam more: the table of vertices stood for, and only the parts of the vertex that is replaced, are looked at.
+fn sew(slices: &mut Slices, i: u16, j: u16) -> Result<(), u64> {
+    let rises = slices.seams.len() < 2 || slices.seams[slices.seams.len() - 2] < i;
+    let place = |v: u16| &slices.positions[6 * v as usize..6 * v as usize + 6];
+    unless(!rises || j >= i || slices.stands[j as usize] != j || place(i) != place(j), BROKEN_SEAM)?;
+    slices.stands[i as usize] = j;
+    slices.seams.extend_from_slice(&[i, j]);
+    let stands = |v: u16| slices.stands[v as usize];
+    let edge = slices.edges.chunks_exact(2).any(|e| (e[0] == i || e[1] == i) && stands(e[0]) == stands(e[1]));
+    let triangle = slices.triangles.chunks_exact(3).any(|t| {
+        let [a, b, c] = [stands(t[0]), stands(t[1]), stands(t[2])];
+        (t[0] == i || t[1] == i || t[2] == i) && (a == b || b == c || a == c)
+    });
+    unless(edge || triangle, VERTEX_TWICE)
 }
 
 fn unless(wrong: bool, number: u64) -> Result<(), u64> {

@@ -49,16 +49,14 @@ fn touches(slices: &Slices, entry: u32) -> bool {
     }
 }
 
-fn point_pieces(point: usize, mut corners: [usize; 3]) -> [[Corner; 6]; 3] {
-    corners.sort_unstable();
+fn point_pieces(point: usize, corners: [usize; 3]) -> [[Corner; 6]; 3] {
     let [a, b, c] = corners.map(|vertex| (vertex, START));
     let [a1, b1, c1] = corners.map(|vertex| (vertex, END));
     [[a, b, c, c1], [a, b, b1, c1], [a, a1, b1, c1]].map(|[q, r, s, t]| [(point, START), (point, END), q, r, s, t])
 }
 
 fn edge_pieces(first: [usize; 2], second: [usize; 2]) -> [[Corner; 6]; 4] {
-    let halves = |mut ends: [usize; 2]| {
-        ends.sort_unstable();
+    let halves = |ends: [usize; 2]| {
         let [[a, b], [a1, b1]] = [START, END].map(|when| ends.map(|vertex| (vertex, when)));
         [[a, b, b1], [a, a1, b1]]
     };

@@ -5,13 +5,16 @@
 //!
 //! | function | takes | gives |
 //! |---|---|---|
-//! | makhnodri_settle_scene | positions i32, edges u16, triangles u16, list u32, words u8 | an answer; the list's entries, and for each its word: 0 hit, 1 miss, 3 touch, 4 apart |
-//! | makhnodri_list_pairs | positions i32, edges u16, triangles u16, list u32, one number | an answer; the list's entries, the box tests of its pt part |
-//! | makhnodri_settle_pt, makhnodri_settle_ee | positions i32, edges u16, triangles u16, two places | an answer: the pair's word |
-//! | makhnodri_settle_pt_piece, makhnodri_settle_ee_piece | positions i32, edges u16, triangles u16, two places, a piece | an answer: the piece's word |
-//! | makhnodri_read_scene | text u8, positions i32, edges u16, triangles u16 of full size, three counts | an answer; the scene and its counts |
+//! | makhnodri_settle_scene_slices | a scene, list u32, words u8 | an answer; the list's entries, and for each its word: 0 hit, 1 miss, 3 touch, 4 apart |
+//! | makhnodri_list_pairs_slices | a scene, list u32, one number | an answer; the list's entries, the box tests of its pt part |
+//! | makhnodri_settle_pt_slices, makhnodri_settle_ee_slices | a scene, two places | an answer: the pair's word |
+//! | makhnodri_settle_pt_piece_slices, makhnodri_settle_ee_piece_slices | a scene, two places, a piece | an answer: the piece's word |
+//! | makhnodri_contact_scene_slices | a scene, list u32, words u8, contacts u32 | as makhnodri_settle_scene_slices, and five numbers for each hit |
+//! | makhnodri_contact_pt_slices, makhnodri_contact_ee_slices | a scene, two places, five numbers | an answer: the pair's word; the numbers of a hit |
+//! | makhnodri_read_scene_slices | text u8, a scene's four lists of full size, four counts | an answer; the scene and its counts |
 //! | makhnodri_write_report | text u8, 65,536 bytes for the report | the length of the report |
 //!
+//! A scene is positions i32, edges u16, triangles u16, seams u16.
 //! An answer is the count or the word in the lower 32 bits, or a refusal: its number above them and what it carries in them.
 
 /// The count or the word, or the refusal's number.
@@ -34,72 +37,84 @@ mod linked {
     use crate::slices::{parts, Slices};
 
     extern "C" {
-        fn makhnodri_settle_scene(
+        fn makhnodri_settle_scene_slices(
             positions: *const i32,
             positions_len: usize,
             edges: *const u16,
             edges_len: usize,
             triangles: *const u16,
             triangles_len: usize,
+            seams: *const u16,
+            seams_len: usize,
             list: *mut u32,
             list_len: usize,
             words: *mut u8,
             words_len: usize,
         ) -> u64;
-        fn makhnodri_settle_pt(
+        fn makhnodri_settle_pt_slices(
             positions: *const i32,
             positions_len: usize,
             edges: *const u16,
             edges_len: usize,
             triangles: *const u16,
             triangles_len: usize,
+            seams: *const u16,
+            seams_len: usize,
             vertex: usize,
             triangle: usize,
         ) -> u64;
-        fn makhnodri_settle_ee(
+        fn makhnodri_settle_ee_slices(
             positions: *const i32,
             positions_len: usize,
             edges: *const u16,
             edges_len: usize,
             triangles: *const u16,
             triangles_len: usize,
+            seams: *const u16,
+            seams_len: usize,
             first: usize,
             second: usize,
         ) -> u64;
-        fn makhnodri_settle_pt_piece(
+        fn makhnodri_settle_pt_piece_slices(
             positions: *const i32,
             positions_len: usize,
             edges: *const u16,
             edges_len: usize,
             triangles: *const u16,
             triangles_len: usize,
+            seams: *const u16,
+            seams_len: usize,
             vertex: usize,
             triangle: usize,
             piece: usize,
         ) -> u64;
-        fn makhnodri_settle_ee_piece(
+        fn makhnodri_settle_ee_piece_slices(
             positions: *const i32,
             positions_len: usize,
             edges: *const u16,
             edges_len: usize,
             triangles: *const u16,
             triangles_len: usize,
+            seams: *const u16,
+            seams_len: usize,
             first: usize,
             second: usize,
             piece: usize,
         ) -> u64;
-        fn makhnodri_list_pairs(
+        fn makhnodri_list_pairs_slices(
             positions: *const i32,
             positions_len: usize,
             edges: *const u16,
             edges_len: usize,
             triangles: *const u16,
             triangles_len: usize,
+            seams: *const u16,
+            seams_len: usize,
             list: *mut u32,
             list_len: usize,
             tests: *mut usize,
         ) -> u64;
-        fn makhnodri_read_scene(
+        fn makhnodri_read_scene_slices(
             text: *const u8,
             text_len: usize,
             positions: *mut i32,
@@ -108,9 +123,44 @@ mod linked {
             edges_len: usize,
             triangles: *mut u16,
             triangles_len: usize,
+            seams: *mut u16,
+            seams_len: usize,
             counts: *mut usize,
         ) -> u64;
         fn makhnodri_write_report(text: *const u8, text_len: usize, report: *mut u8) -> usize;
+    }
+
+    /// A scene as eight arguments, and the functions for contacts, which take it first.
+    macro_rules! scene {
+        ($function:ident, $s:expr $(, $more:expr)*) => {
+            $function($s.positions.as_ptr(), $s.positions.len(), $s.edges.as_ptr(), $s.edges.len(), $s.triangles.as_ptr(), $s.triangles.len(), $s.seams.as_ptr(), $s.seams.len() $(, $more)*)
+        };
+    }
+
+    #[rustfmt::skip]
+    extern "C" {
+        fn makhnodri_contact_scene_slices(positions: *const i32, positions_len: usize, edges: *const u16, edges_len: usize, triangles: *const u16, triangles_len: usize, seams: *const u16, seams_len: usize, list: *mut u32, list_len: usize, words: *mut u8, words_len: usize, contacts: *mut u32, contacts_len: usize) -> u64;
+        fn makhnodri_contact_pt_slices(positions: *const i32, positions_len: usize, edges: *const u16, edges_len: usize, triangles: *const u16, triangles_len: usize, seams: *const u16, seams_len: usize, vertex: usize, triangle: usize, contact: *mut u32) -> u64;
+        fn makhnodri_contact_ee_slices(positions: *const i32, positions_len: usize, edges: *const u16, edges_len: usize, triangles: *const u16, triangles_len: usize, seams: *const u16, seams_len: usize, first: usize, second: usize, contact: *mut u32) -> u64;
+    }
+
+    /// Contacts.
+    impl Product {
+        pub fn contact_scene(&self, s: &Slices, list: &mut [u32], words: &mut [u8], contacts: &mut [u32]) -> Answer {
+            let (l, w, c) = (list.len(), words.len(), contacts.len());
+            // SAFETY: each pointer comes with the length of its own slice, and no two overlap
+            answer(unsafe {
+                scene!(makhnodri_contact_scene_slices, s, list.as_mut_ptr(), l, words.as_mut_ptr(), w, contacts.as_mut_ptr(), c)
+            })
+        }
+
+        /// The word of an entry of the list, asked for by itself, and its five numbers where it is hit.
+        pub fn contact(&self, s: &Slices, entry: u32, contact: &mut [u32; 5]) -> Answer {
+            let (kind, first, second) = parts(entry);
+            let ask = if kind == 0 { makhnodri_contact_pt_slices } else { makhnodri_contact_ee_slices };
+            // SAFETY: as above, and a contact has five numbers
+            answer(unsafe { scene!(ask, s, first, second, contact.as_mut_ptr()) })
+        }
     }
 
     fn answer(said: u64) -> Answer {
@@ -130,13 +180,15 @@ mod linked {
         pub fn settle_scene(&self, s: &Slices, list: &mut [u32], words: &mut [u8]) -> Answer {
             // SAFETY: each pointer comes with the length of its own slice, and no two overlap
             answer(unsafe {
-                makhnodri_settle_scene(
+                makhnodri_settle_scene_slices(
                     s.positions.as_ptr(),
                     s.positions.len(),
                     s.edges.as_ptr(),
                     s.edges.len(),
                     s.triangles.as_ptr(),
                     s.triangles.len(),
+                    s.seams.as_ptr(),
+                    s.seams.len(),
                     list.as_mut_ptr(),
                     list.len(),
                     words.as_mut_ptr(),
@@ -148,7 +200,7 @@ mod linked {
         /// The word of an entry of the list, asked for by itself.
         pub fn settle(&self, s: &Slices, entry: u32) -> Answer {
             let (kind, first, second) = parts(entry);
-            let ask = if kind == 0 { makhnodri_settle_pt } else { makhnodri_settle_ee };
+            let ask = if kind == 0 { makhnodri_settle_pt_slices } else { makhnodri_settle_ee_slices };
             // SAFETY: as above
             answer(unsafe {
                 ask(
@@ -158,6 +210,8 @@ mod linked {
                     s.edges.len(),
                     s.triangles.as_ptr(),
                     s.triangles.len(),
+                    s.seams.as_ptr(),
+                    s.seams.len(),
                     first,
                     second,
                 )
@@ -167,7 +221,7 @@ mod linked {
         /// The word of a piece of an entry.
         pub fn settle_piece(&self, s: &Slices, entry: u32, piece: usize) -> Answer {
             let (kind, first, second) = parts(entry);
-            let ask = if kind == 0 { makhnodri_settle_pt_piece } else { makhnodri_settle_ee_piece };
+            let ask = if kind == 0 { makhnodri_settle_pt_piece_slices } else { makhnodri_settle_ee_piece_slices };
             // SAFETY: as above
             answer(unsafe {
                 ask(
@@ -177,6 +231,8 @@ mod linked {
                     s.edges.len(),
                     s.triangles.as_ptr(),
                     s.triangles.len(),
+                    s.seams.as_ptr(),
+                    s.seams.len(),
                     first,
                     second,
                     piece,
@@ -188,13 +244,15 @@ mod linked {
         pub fn list(&self, s: &Slices, list: &mut [u32], tests: &mut [usize; 1]) -> Answer {
             // SAFETY: as above, and there is one number
             answer(unsafe {
-                makhnodri_list_pairs(
+                makhnodri_list_pairs_slices(
                     s.positions.as_ptr(),
                     s.positions.len(),
                     s.edges.as_ptr(),
                     s.edges.len(),
                     s.triangles.as_ptr(),
                     s.triangles.len(),
+                    s.seams.as_ptr(),
+                    s.seams.len(),
                     list.as_mut_ptr(),
                     list.len(),
                     tests.as_mut_ptr(),
@@ -203,10 +261,10 @@ mod linked {
         }
 
         /// The scene of a text stands in front of the buffers, which are of full size.
-        pub fn read(&self, text: &[u8], s: &mut Slices, counts: &mut [usize; 3]) -> Answer {
-            // SAFETY: as above, and there are three counts
+        pub fn read(&self, text: &[u8], s: &mut Slices, counts: &mut [usize; 4]) -> Answer {
+            // SAFETY: as above, and there are four counts
             answer(unsafe {
-                makhnodri_read_scene(
+                makhnodri_read_scene_slices(
                     text.as_ptr(),
                     text.len(),
                     s.positions.as_mut_ptr(),
@@ -215,6 +273,8 @@ mod linked {
                     s.edges.len(),
                     s.triangles.as_mut_ptr(),
                     s.triangles.len(),
+                    s.seams.as_mut_ptr(),
+                    s.seams.len(),
                     counts.as_mut_ptr(),
                 )
             })
@@ -252,11 +312,19 @@ mod missing {
             match *self {}
         }
 
+        pub fn contact_scene(&self, _: &Slices, _: &mut [u32], _: &mut [u8], _: &mut [u32]) -> Answer {
+            match *self {}
+        }
+
+        pub fn contact(&self, _: &Slices, _: u32, _: &mut [u32; 5]) -> Answer {
+            match *self {}
+        }
+
         pub fn list(&self, _: &Slices, _: &mut [u32], _: &mut [usize; 1]) -> Answer {
             match *self {}
         }
 
-        pub fn read(&self, _: &[u8], _: &mut Slices, _: &mut [usize; 3]) -> Answer {
+        pub fn read(&self, _: &[u8], _: &mut Slices, _: &mut [usize; 4]) -> Answer {
             match *self {}
         }
 

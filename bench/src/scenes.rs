@@ -52,6 +52,17 @@ pub fn full_size(random: &mut Random, fold: usize) -> Scene {
     folds(random, fold, 60, 20)
 }
 
+/// The same sheet with 255 of its vertices brought to the place of others, no two in one part, and sewn to them.
+pub fn sewn_sheet(random: &mut Random) -> Scene {
+    let mut scene = full_size(random, 32);
+    for vertex in (VERTEX_LIMIT - 255)..VERTEX_LIMIT {
+        let other = vertex - 255;
+        scene.vertices[vertex] = scene.vertices[other];
+        scene.seams.push([vertex, other]);
+    }
+    scene
+}
+
 /// Every fold goes back over the one before, `thick` higher; no place is off by more than `creased`.
 fn folds(random: &mut Random, fold: usize, thick: i64, creased: i64) -> Scene {
     let (columns, rows) = (32, VERTEX_LIMIT / 32);
@@ -88,6 +99,7 @@ pub fn in_random_order(random: &mut Random, scene: Scene) -> Scene {
         vertices: vertices.iter().map(|&from| scene.vertices[from]).collect(),
         edges: edges.iter().map(|&from| scene.edges[from].map(|v| number[v])).collect(),
         triangles: triangles.iter().map(|&from| scene.triangles[from].map(|v| number[v])).collect(),
+        seams: vec![],
     }
 }
 

@@ -19,7 +19,9 @@ fn up_to<'a>(order: &'a [u16], boxes: &'a [Box], x: i32) -> impl Iterator<Item =
 fn points(slices: &Slices, boxes: &Boxes, mut take: impl FnMut(usize, usize)) {
     let (vertices, triangles) = (by_low(&boxes.vertices), by_low(&boxes.triangles));
     let mut try_pair = |vertex: usize, triangle: usize| {
-        if meet(&boxes.vertices[vertex], &boxes.triangles[triangle]) && !slices.corners(triangle).contains(&vertex) {
+        if meet(&boxes.vertices[vertex], &boxes.triangles[triangle])
+            && !slices.corners_stand(triangle).contains(&slices.stands_for(vertex))
+        {
             take(vertex, triangle);
         }
     };
@@ -40,10 +42,10 @@ fn edges(slices: &Slices, boxes: &Boxes, mut take: impl FnMut(usize, usize)) {
     let order = by_low(&boxes.edges);
     for (place, &one) in order.iter().enumerate() {
         let one = one as usize;
-        let [a, b] = slices.ends(one);
+        let [a, b] = slices.ends_stand(one);
         for other in up_to(&order[place + 1..], &boxes.edges, boxes.edges[one][3]) {
             if meet(&boxes.edges[one], &boxes.edges[other]) {
-                let [c, d] = slices.ends(other);
+                let [c, d] = slices.ends_stand(other);
                 if a != c && a != d && b != c && b != d {
                     take(one.min(other), one.max(other));
                 }

@@ -3,8 +3,9 @@
 use crate::errors::{self, Kind, Set, Source};
 use crate::scenes;
 use crate::slices::Slices;
-use crate::{plain, plain_report, plain_rest, sweep, wide};
+use crate::{plain, plain_contacts, plain_report, plain_rest, sweep, wide};
 use compare::box_tests;
+use compare::contacts::{self, making};
 use compare::generate;
 use compare::listing::listed;
 use compare::random::Random;
@@ -43,6 +44,26 @@ fn a_scene_in_random_order_has_the_same_parts() {
     assert!(box_tests::of(&mixed) > 2 * box_tests::of(&scene));
     let many = listed(&scenes::in_one_place(&mut Random::new(1))).len();
     assert!(many > 650_000, "{many}");
+}
+
+/// The contacts of plain Rust, cut in either way, are the exact ones.
+#[test]
+fn plain_contacts_are_the_exact_ones() {
+    let mut hits = 0;
+    let scenes = (0..60).map(|seed| making::within(&generate::scene(seed))).chain((0..210).map(making::scene));
+    for scene in scenes {
+        let (slices, right) = (Slices::of(&scene), listed(&scene));
+        let mut list = vec![0; right.len()];
+        plain::list(&slices, &mut list);
+        for (&entry, pair) in list.iter().zip(right).take(100) {
+            let wanted = contacts::of_pair(&scene, pair).map(|contact| contact.row());
+            assert_eq!(plain_contacts::contact(&slices, entry, plain_contacts::by_steps), wanted, "{scene:?} {pair:?}");
+            assert_eq!(plain_contacts::contact(&slices, entry, plain_contacts::by_size), wanted);
+            assert_eq!(plain_contacts::contact(&slices, entry, plain_contacts::at_once), wanted);
+            hits += wanted.is_some() as usize;
+        }
+    }
+    assert!(hits > 200, "{hits}");
 }
 
 /// Nothing moves: every listed pair is singular, and the words are the exact ones.

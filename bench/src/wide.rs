@@ -55,8 +55,7 @@ fn piece(points: [Point; 6], first: usize) -> Verdict {
     }
 }
 
-pub fn point_pieces(positions: &[i32], p: usize, mut corners: [usize; 3]) -> [Verdict; 3] {
-    corners.sort_unstable();
+pub fn point_pieces(positions: &[i32], p: usize, corners: [usize; 3]) -> [Verdict; 3] {
     let [a, b, c] = corners.map(|v| point(positions, v, false));
     let [a1, b1, c1] = corners.map(|v| point(positions, v, true));
     let (start, end) = (point(positions, p, false), point(positions, p, true));
@@ -64,8 +63,7 @@ pub fn point_pieces(positions: &[i32], p: usize, mut corners: [usize; 3]) -> [Ve
 }
 
 pub fn edge_pieces(positions: &[i32], first: [usize; 2], second: [usize; 2]) -> [Verdict; 4] {
-    let halves = |mut ends: [usize; 2]| {
-        ends.sort_unstable();
+    let halves = |ends: [usize; 2]| {
         let [a, b] = ends.map(|v| point(positions, v, false));
         let [a1, b1] = ends.map(|v| point(positions, v, true));
         [[a, b, b1], [a, a1, b1]]

@@ -1,14 +1,16 @@
-//! A scene played backwards, by §10 of document 02: start and end swapped, the vertices numbered from last to first, edges and
+//! A scene without seams played backwards, by §10 of document 02: start and end swapped, the vertices numbered from last to first, edges and
 //! triangles in their places; and which pair and which piece corresponds to which.
 
 use crate::scene::{Kind, Pair, Scene};
 
 pub fn turned(scene: &Scene) -> Scene {
+    assert!(scene.seams.is_empty(), "only a scene without seams is played backwards");
     let number = |vertex: usize| scene.vertices.len() - 1 - vertex;
     Scene {
         vertices: swapped(scene).vertices.into_iter().rev().collect(),
         edges: scene.edges.iter().map(|ends| ends.map(number)).collect(),
         triangles: scene.triangles.iter().map(|corners| corners.map(number)).collect(),
+        seams: vec![],
     }
 }
 

@@ -5,7 +5,7 @@ use crate::refusal::*;
 use crate::scene::*;
 use crate::text;
 
-const KINDS: [(&str, usize); 3] = [("v", 6), ("e", 2), ("t", 3)];
+const KINDS: [(&str, usize); 4] = [("v", 6), ("e", 2), ("t", 3), ("w", 2)];
 /// The longest part of a line that is shown, in characters.
 const SHOWN: usize = 100;
 
@@ -43,13 +43,13 @@ fn reasons(line: &[u8], above: &[&[u8]], number: u64) -> Vec<String> {
             let later = |(_, line): &(usize, &&[u8])| place_of(line[0]) > Some(kind);
             let (at, line) = above.iter().enumerate().find(later).expect("a line of a later kind");
             vec![format!(
-                "a {name} line below line {}, which is {}: all v come first, then all e, then all t",
+                "a {name} line below line {}, which is {}: all v come first, then all e, then all t, then all w",
                 at + 1,
                 line[0] as char
             )]
         }
         ONE_TOO_MANY => {
-            let limit = [VERTEX_LIMIT, EDGE_LIMIT, TRIANGLE_LIMIT][kind];
+            let limit = [VERTEX_LIMIT, EDGE_LIMIT, TRIANGLE_LIMIT, SEAM_LIMIT][kind];
             vec![format!("{limit} {name} lines stand above, and there may be {limit}")]
         }
         OUT_OF_RANGE => {
@@ -61,11 +61,53 @@ fn reasons(line: &[u8], above: &[&[u8]], number: u64) -> Vec<String> {
             let unknown = fields.iter().filter(|&&n| n >= vertices as i64);
             unknown.map(|n| format!("there is no vertex {n}: the v lines above are vertices 0 to {}", vertices - 1)).collect()
         }
+        BROKEN_SEAM => of_seam(&taken(above), seam(&fields)),
+        _ if kind == 3 => {
+            let (mut scene, [i, j]) = (taken(above), seam(&fields));
+            scene.seams.push([i, j]);
+            let part = scene.parts().find(|part| scene.any_twice(part)).expect("a part with a vertex twice");
+            let part: Vec<String> = part.iter().map(|v| v.to_string()).collect();
+            vec![format!("vertex {i} then stands for {j}, and the edge or triangle {} has one vertex twice", part.join(" "))]
+        }
         _ => {
             let twice = (1..fields.len()).find(|&i| fields[..i].contains(&fields[i])).expect("a vertex that stands twice");
             vec![format!("vertex {} stands twice", fields[twice])]
         }
     }
+}
+
+fn seam(fields: &[i64]) -> [usize; 2] {
+    [0, 1].map(|place| fields[place] as usize)
+}
+
+/// The scene of lines that have no fault.
+fn taken(lines: &[&[u8]]) -> Scene {
+    let mut scene = Scene::default();
+    for line in lines {
+        text::take(&mut scene, &line[..line.len() - 1]).expect("a line without a fault");
+    }
+    scene
+}
+
+/// Every rule that a seam breaks.
+fn of_seam(scene: &Scene, [i, j]: [usize; 2]) -> Vec<String> {
+    let mut out = Vec::new();
+    if let Some([above, _]) = scene.seams.last().filter(|above| above[0] >= i) {
+        out.push(format!("a seam of vertex {above} stands above: they stand in rising order of their first number, each once"));
+    }
+    if j >= i {
+        out.push(format!("vertex {i} cannot stand for {j}: it stands for one of a lower number"));
+    }
+    if scene.stands_for(j) != j {
+        out.push(format!("vertex {j} is replaced itself, and stands for {}", scene.stands_for(j)));
+    }
+    for (when, from) in [("start", 0), ("end", 3)] {
+        let place = |v: usize| &scene.vertices[v][from..from + 3];
+        if place(i) != place(j) {
+            out.push(format!("at the {when} vertex {i} is at {:?} and vertex {j} at {:?}", place(i), place(j)));
+        }
+    }
+    out
 }
 
 fn fields(line: &[u8]) -> Vec<&[u8]> {
@@ -107,7 +149,7 @@ fn of_body(body: &[u8]) -> Vec<String> {
     let name = body.split(|&byte| byte == b'\t').next().unwrap();
     let Some(&(name, wanted)) = KINDS.iter().find(|(kind, _)| kind.as_bytes() == name) else {
         return vec![format!(
-            "it begins with {:?}, where a record begins with v, e or t and a tab",
+            "it begins with {:?}, where a record begins with v, e, t or w and a tab",
             String::from_utf8_lossy(name)
         )];
     };

@@ -104,6 +104,7 @@ pub fn strip(triangles: usize) -> Scene {
         vertices: (0..vertices).map(place).collect(),
         edges: (1..vertices).map(|v| [v - 1, v]).collect(),
         triangles: (0..triangles).map(|t| [t, t + 1, t + 2].map(|v| v % vertices)).collect(),
+        seams: vec![],
     }
 }
 

@@ -33,13 +33,13 @@ pub fn shown() -> Vec<Shown> {
         let rest = |x: i64, y: i64| [x, y, 0, x, y, 0];
         let moving = [start[0], start[1], start[2], end[0], end[1], end[2]];
         let scene =
-            Scene { vertices: vec![rest(0, 0), rest(4, 0), rest(0, 4), moving], edges: vec![], triangles: vec![[0, 1, 2]] };
+            Scene { vertices: vec![rest(0, 0), rest(4, 0), rest(0, 4), moving], triangles: vec![[0, 1, 2]], ..Scene::default() };
         Shown::new(scene, Pair::pt(3, 0), settled, listed)
     };
     let edge = |c: [i64; 2], d: [i64; 2], settled: &'static [Settled], listed: bool| {
         let (rest, falling) = (|x: i64| [x, 0, 0, x, 0, 0], |at: [i64; 2]| [at[0], at[1], 1, at[0], at[1], -1]);
         let scene =
-            Scene { vertices: vec![rest(-2), rest(2), falling(c), falling(d)], edges: vec![[0, 1], [2, 3]], triangles: vec![] };
+            Scene { vertices: vec![rest(-2), rest(2), falling(c), falling(d)], edges: vec![[0, 1], [2, 3]], ..Scene::default() };
         Shown::new(scene, Pair::ee(0, 1), settled, listed)
     };
     vec![
@@ -91,18 +91,21 @@ fn bad_lines() -> Vec<TextCase> {
         "-0 00 01 -01 +1 --1 - 1- 1.0 1e1 0x1 1_0 a / : \u{661} 0000000000 1234567890 -1234567890 18446744073709551616";
     let numbers = "-1 -0 -999999999 00 01 +1 1. a 1234567890 18446744073709551617";
     let lines = [
-        "", "v", "e", "t", "n", "\t", " ", "-", "0", "#", "w\t0\t1", "vv\t0\t0\t0\t0\t0\t0", "V\t0\t0\t0\t0\t0\t0",
-        "0\t0\t0\t0\t0\t0\t0", "v\t", "v\t0\t0\t0\t0\t0", "v\t0\t0\t0\t0\t0\t0\t0", "v\t0\t0\t0\t0\t0\t0\t",
-        "v\t0\t0\t0\t0\t0\t", "\tv\t0\t0\t0\t0\t0\t0", "v\t\t0\t0\t0\t0\t0\t0", "v\t0\t0\t\t0\t0\t0", "v 0 0 0 0 0 0",
-        "v\t0\t0\t0\t0\t0\t0 ", "v\t 0\t0\t0\t0\t0\t0", " v\t0\t0\t0\t0\t0\t0", "v\t0\t0\t0\t0\t0\t0\r", "v\t0\t0\t0\0\t0\t0\t0",
+        "", "v", "e", "t", "n", "\t", " ", "-", "0", "#", "vv\t0\t0\t0\t0\t0\t0", "V\t0\t0\t0\t0\t0\t0", "0\t0\t0\t0\t0\t0\t0",
+        "v\t", "v\t0\t0\t0\t0\t0", "v\t0\t0\t0\t0\t0\t0\t0", "v\t0\t0\t0\t0\t0\t0\t", "v\t0\t0\t0\t0\t0\t",
+        "\tv\t0\t0\t0\t0\t0\t0", "v\t\t0\t0\t0\t0\t0\t0", "v\t0\t0\t\t0\t0\t0", "v 0 0 0 0 0 0", "v\t0\t0\t0\t0\t0\t0 ",
+        "v\t 0\t0\t0\t0\t0\t0", " v\t0\t0\t0\t0\t0\t0", "v\t0\t0\t0\t0\t0\t0\r", "v\t0\t0\t0\0\t0\t0\t0",
         "\u{feff}v\t0\t0\t0\t0\t0\t0", "e\t0", "e\t0\t", "e\t0\t1\t2", "e\t0\t1\t", "e\t0\t1\u{b}", "e\t0\t1\u{c}", "E\t0\t1",
-        "ee\t0\t1", "t\t0\t1", "t\t0\t1\t", "t\t0\t1\t2\t3", "T\t0\t1\t2",
+        "ee\t0\t1", "t\t0\t1", "t\t0\t1\t", "t\t0\t1\t2\t3", "T\t0\t1\t2", "w", "w\t", "w\t1", "w\t1\t", "w\t1\t0\t",
+        "w\t1\t0\t0", "w 1 0", "W\t1\t0", "ww\t1\t0", "\tw\t1\t0", "w\t1\t0\r",
     ];
     let mut bad: Vec<Vec<u8>> = lines.iter().map(|line| line.as_bytes().to_vec()).collect();
     bad.extend(coordinates.split(' ').map(|field| format!("v\t0\t0\t0\t0\t0\t{field}").into_bytes()));
     bad.extend(coordinates.split(' ').map(|field| format!("v\t{field}\t0\t0\t0\t0\t0").into_bytes()));
     bad.extend(numbers.split(' ').map(|field| format!("e\t0\t{field}").into_bytes()));
     bad.extend(numbers.split(' ').map(|field| format!("t\t{field}\t0\t1").into_bytes()));
+    bad.extend(numbers.split(' ').map(|field| format!("w\t1\t{field}").into_bytes()));
+    bad.extend(numbers.split(' ').map(|field| format!("w\t{field}\t0").into_bytes()));
     bad.push(b"v\t0\t0\t0\t0\t0\t\xff".to_vec());
     bad.iter().map(|line| case([V.as_bytes(), V.as_bytes(), line, b"\n"].concat(), "refused 9 3")).collect()
 }
@@ -126,6 +129,13 @@ fn faulty_lines() -> Vec<TextCase> {
         ("t\t0\t1\t0", "refused 4 3"),
         ("t\t1\t1\t0", "refused 4 3"),
         ("t\t0\t1\t1", "refused 4 3"),
+        ("w\t1\t0", "total 0 0 0 0 0"),
+        ("w\t0\t1", "refused 15 3"),
+        ("w\t1\t1", "refused 15 3"),
+        ("w\t2\t0", "refused 3 3"),
+        ("w\t1\t2", "refused 3 3"),
+        ("w\t65537\t0", "refused 3 3"),
+        ("w\t1\t999999999", "refused 3 3"),
     ];
     lines.iter().map(|(line, last)| case(format!("{V}{V}{line}\n"), last)).collect()
 }
@@ -158,6 +168,31 @@ fn ties() -> Vec<TextCase> {
         case(format!("{three}e\t0\t1"), "refused 9 4"),
         case(format!("{three}\ne\t0\t1"), "refused 9 4"),
         case(format!("{three}e"), "refused 9 4"),
+        case("w\t1\t0\n", "refused 3 1"),
+        case(format!("{three}w\t1\t0\nw\t2\t0\n"), "total 0 0 0 0 0"),
+        case(format!("{three}w\t1\t0\nw\t2\t1\n"), "refused 15 5"),
+        case(format!("{three}w\t2\t0\nw\t1\t0\n"), "refused 15 5"),
+        case(format!("{three}w\t2\t1\nw\t1\t0\n"), "refused 15 5"),
+        case(format!("{three}w\t2\t0\nw\t2\t0\n"), "refused 15 5"),
+        case(format!("{three}w\t2\t2\nw\t3\t0\n"), "refused 15 4"),
+        case(format!("{three}w\t3\t3\n"), "refused 3 4"),
+        case(format!("{three}w\t1\t0\nt\t0\t1\t2\n"), "refused 10 5"),
+        case(format!("{three}w\t1\t0\ne\t0\t1\n"), "refused 10 5"),
+        case(format!("{three}w\t1\t0\n{V}"), "refused 10 5"),
+        case(format!("{three}w\t1\t0\nt\t0\t1\n"), "refused 9 5"),
+        case(format!("{three}e\t0\t1\nw\t1\t0\n"), "refused 4 5"),
+        case(format!("{three}e\t0\t1\nw\t2\t0\n"), "total 0 0 0 0 0"),
+        case(format!("{three}e\t0\t1\nw\t2\t0\nw\t1\t0\n"), "refused 15 6"),
+        case(format!("{three}e\t1\t2\nw\t1\t0\nw\t2\t0\n"), "refused 4 6"),
+        case(format!("{three}t\t2\t0\t1\nw\t2\t0\n"), "refused 4 5"),
+        case(format!("{three}t\t2\t0\t1\nw\t2\t2\n"), "refused 15 5"),
+        case(format!("{three}e\t0\t1\nw\t2\t0\nw\t1\t1\nx\n"), "refused 15 6"),
+        case(format!("{three}e\t0\t1\nw\t1\t0\nw\t3\t0\n"), "refused 4 5"),
+        case(format!("{three}w\t1\t0"), "refused 9 4"),
+        case(format!("{three}w\t1\t1"), "refused 9 4"),
+        case("v\t0\t0\t0\t0\t0\t1\nv\t0\t0\t0\t0\t0\t0\nw\t1\t0\n", "refused 15 3"),
+        case("v\t0\t0\t1\t0\t0\t0\nv\t0\t0\t0\t0\t0\t0\nw\t1\t0\n", "refused 15 3"),
+        case("v\t0\t0\t1\t0\t0\t0\nv\t0\t0\t0\t0\t0\t0\ne\t1\t0\nw\t1\t0\n", "refused 15 4"),
     ]
 }
 
@@ -166,6 +201,7 @@ fn sizes() -> Vec<TextCase> {
     let full = V.repeat(VERTEX_LIMIT);
     let edges = format!("{V}{V}{V}{}", "e\t0\t1\n".repeat(EDGE_LIMIT));
     let triangles = format!("{V}{V}{V}{}", "t\t0\t1\t2\n".repeat(TRIANGLE_LIMIT));
+    let seams = full.clone() + &(1..VERTEX_LIMIT).map(|i| format!("w\t{i}\t0\n")).collect::<String>();
     vec![
         case(full.clone(), "total 0 0 0 0 0"),
         case(format!("{full}{V}"), "refused 11 513"),
@@ -185,6 +221,10 @@ fn sizes() -> Vec<TextCase> {
         case(format!("{triangles}t\t0\t1\t3\n"), "refused 11 516"),
         case(format!("{triangles}t\t0\t1\t1\n"), "refused 11 516"),
         case(format!("{triangles}t\t0\t1\n"), "refused 9 516"),
+        case(seams.clone(), "total 0 0 0 0 0"),
+        case(format!("{seams}w\t512\t0\n"), "refused 3 1024"),
+        case(format!("{seams}w\t511\t0\n"), "refused 15 1024"),
+        case(format!("{seams}{V}"), "refused 10 1024"),
     ]
 }
 

@@ -62,8 +62,8 @@ fn misshape(random: &mut Random, fields: &mut Vec<Vec<u8>>) {
         5 => *field = Vec::new(),
         6 => *field = b"1234567890".to_vec(),
         7 => *field = b"-000000001".to_vec(),
-        8 => *field = random.pick(&[b"v", b"e", b"t", b"V", b"n", b"0", b"-"]).to_vec(),
-        9 => fields[0] = random.pick(&[b"v", b"e", b"t"]).to_vec(),
+        8 => *field = random.pick(&[b"v", b"e", b"t", b"w", b"V", b"W", b"n", b"0", b"-"]).to_vec(),
+        9 => fields[0] = random.pick(&[b"v", b"e", b"t", b"w"]).to_vec(),
         10 => fields.push(b"0".to_vec()),
         11 => drop(fields.pop()),
         12 => fields.insert(at, b"1".to_vec()),
@@ -105,12 +105,18 @@ fn damage_bytes(random: &mut Random, line: &mut Vec<u8>) {
 /// Lines swapped, doubled, dropped, empty, or so many that a size is passed.
 fn damage_lines(random: &mut Random, lines: &mut Vec<Vec<u8>>, at: usize) {
     let other = random.below(lines.len());
-    match random.below(8) {
+    match random.below(10) {
         0 | 1 => lines.swap(at, other),
         2 => lines.insert(other, lines[at].clone()),
         3 => drop(lines.remove(at)),
         4 => lines.insert(at, b"\n".to_vec()),
         5 => lines[at].extend_from_within(..),
+        // a seam more, of vertices near the last, or near the first
+        6 | 7 => {
+            let vertices = lines.iter().filter(|line| line.first() == Some(&b'v')).count();
+            let base = random.pick(&[0, vertices.saturating_sub(6)]);
+            lines.push(format!("w\t{}\t{}\n", base + random.below(7), random.below(6)).into_bytes());
+        }
         _ => {
             let line = lines[at].clone();
             let copies = random.pick(&[511, 512, 513, 1_023, 1_024, 1_025]);

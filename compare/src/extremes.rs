@@ -3,6 +3,7 @@
 
 use crate::random::Random;
 use crate::scene::*;
+use crate::sewing::gathered;
 use crate::text::write;
 
 /// Everything in one plane, or on one line, at each of the two times; often the same one.
@@ -85,7 +86,7 @@ const EDGE_PLACES: [[(usize, usize); 6]; 4] = [
 /// triangle, or of two edges. At times one number is a step less.
 pub fn largest_sums(random: &mut Random) -> Scene {
     let far = COORDINATE_LIMIT;
-    let mut scene = Scene { vertices: vec![], edges: vec![[0, 1], [2, 3]], triangles: vec![[0, 1, 2]] };
+    let mut scene = Scene { edges: vec![[0, 1], [2, 3]], triangles: vec![[0, 1, 2]], ..Scene::default() };
     scene.vertices = (0..4).map(|_| [0; 6].map(|_| random.pick(&[far, -far]))).collect();
     let (corners, places) = match random.below(7) {
         piece @ 0..3 => (POINT_CORNERS[piece], POINT_PLACES[piece]),
@@ -119,7 +120,13 @@ pub fn just_the_room(random: &mut Random) -> Scene {
         v
     };
     let vertices = (0..points + 3).map(|_| through(random)).collect();
-    Scene { vertices, edges: edges.to_vec(), triangles: vec![[1, 2, 0]; triangles] }
+    let scene = Scene { vertices, edges: edges.to_vec(), triangles: vec![[1, 2, 0]; triangles], ..Scene::default() };
+    // a vertex that is replaced keeps its own pairs, so that the count stays
+    if random.chance(2) {
+        gathered(random, scene, 8, 4)
+    } else {
+        scene
+    }
 }
 
 /// A text of just the length that is taken, one byte less, or one more: a wide sheet, whose heights stand at 9999 or
@@ -134,6 +141,9 @@ pub fn just_the_length(random: &mut Random) -> Scene {
         let above = if i / columns + 1 < rows { i + columns } else { i - columns };
         scene.edges.extend([[i, beside], [above, i]]);
         scene.triangles.push([beside, above, i]);
+    }
+    if random.chance(2) {
+        scene = gathered(random, scene, 300, 64);
     }
     let wanted = TEXT_LIMIT + random.pick(&[0, 0, 1]) - random.below(2);
     let mut length = write(&scene).len();
@@ -165,7 +175,12 @@ mod tests {
     #[test]
     fn no_sum_is_larger() {
         let far = COORDINATE_LIMIT;
-        let of = |vertices: Vec<[i64; 6]>| Scene { vertices, edges: vec![[0, 1], [2, 3]], triangles: vec![[0, 1, 2]] };
+        let of = |vertices: Vec<[i64; 6]>| Scene {
+            vertices,
+            edges: vec![[0, 1], [2, 3]],
+            triangles: vec![[0, 1, 2]],
+            ..Scene::default()
+        };
         let shapes = POINT_CORNERS.into_iter().zip(POINT_PLACES).map(|shape| (shape, Pair::pt(3, 0)));
         let shapes = shapes.chain(EDGE_CORNERS.into_iter().zip(EDGE_PLACES).map(|shape| (shape, Pair::ee(0, 1))));
         for ((corners, places), pair) in shapes {

@@ -3,11 +3,12 @@
 use crate::extremes::{flat, just_the_length, just_the_room, largest_sums, touching_boxes};
 use crate::random::Random;
 use crate::scene::*;
+use crate::sewing::{gathered, perhaps};
 use crate::still::{at_rest, coinciding, in_one_place, on_a_line, out_of_turn, sliding};
 
 type Maker = fn(&mut Random) -> Scene;
 
-pub const KINDS: [(&str, Maker); 20] = [
+pub const KINDS: [(&str, Maker); 21] = [
     ("tiny", tiny),
     ("limit", limit),
     ("touching", touching),
@@ -27,6 +28,7 @@ pub const KINDS: [(&str, Maker); 20] = [
     ("coinciding", coinciding),
     ("out of turn", out_of_turn),
     ("largest sums", largest_sums),
+    ("sewn sheets", sewn_sheets),
     // last: tests that look at every pair leave the last kind out, since a crowd has hundreds of thousands
     ("crowd or sizes", crowd_or_sizes),
 ];
@@ -35,10 +37,15 @@ pub fn kind_name(seed: u64) -> &'static str {
     KINDS[(seed % KINDS.len() as u64) as usize].0
 }
 
-/// The kinds take turns, so that any run of seeds has them all.
+/// The kinds take turns, so that any run of seeds has them all. Two scenes in three of each kind have seams; the last kind has its own.
 pub fn scene(seed: u64) -> Scene {
     let mut random = Random::new(seed);
-    KINDS[(seed % KINDS.len() as u64) as usize].1(&mut random)
+    let kind = (seed % KINDS.len() as u64) as usize;
+    let made = KINDS[kind].1(&mut random);
+    if kind + 1 == KINDS.len() {
+        return made;
+    }
+    perhaps(&mut Random::new(seed ^ 0x5ea4), made)
 }
 
 fn vertex(random: &mut Random, reach: i64) -> [i64; 6] {
@@ -58,6 +65,7 @@ pub(crate) fn with_parts(random: &mut Random, vertices: Vec<[i64; 6]>, edges: us
         vertices,
         edges: (0..edges).map(|_| some(random, count)).collect(),
         triangles: (0..triangles).map(|_| some(random, count)).collect(),
+        seams: vec![],
     }
 }
 
@@ -189,6 +197,31 @@ fn sheets(random: &mut Random) -> Scene {
     scene
 }
 
+/// A sheet falls through two others that have a border in common: sewn there from end to end, in places, or not at all.
+fn sewn_sheets(random: &mut Random) -> Scene {
+    let mut scene = Scene::default();
+    let step = random.pick(&[2, 10, 1000, 50_000]);
+    let wobble = random.next();
+    let place = |height: i64, depth: i64, aside: i64| {
+        move |column: i64, row: i64| {
+            let column = column + aside;
+            let mut own = Random::new(wobble ^ (column * 64 + row + height) as u64);
+            let mut around = |n: i64| n + own.between(-step / 2, step / 2);
+            [around(column * step), around(row * step), around(height), around(column * step), around(row * step), around(depth)]
+        }
+    };
+    let (columns, beside, rows) = (1 + random.below(2), 1 + random.below(2), 1 + random.below(3));
+    add_sheet(random, &mut scene, columns, rows, &place(0, 0, 0));
+    let base = scene.vertices.len();
+    add_sheet(random, &mut scene, beside, rows, &place(0, 0, columns as i64));
+    let border = (0..=rows).map(|row| [base + row * (beside + 1), row * (columns + 1) + columns]);
+    let seldom = random.pick(&[1, 1, 2, 1_000]);
+    scene.seams = border.filter(|_| random.chance(seldom)).collect();
+    let falling = random.below(3);
+    add_sheet(random, &mut scene, falling.max(1), 1, &place(step, -step, columns as i64 - 1));
+    scene
+}
+
 /// Edges and triangles that stand in the scene more than once, ends and corners in another order.
 fn repeated(random: &mut Random) -> Scene {
     let mut scene = tiny(random);
@@ -223,11 +256,17 @@ fn fan(random: &mut Random) -> Scene {
 /// The scenes that take long to compare take their turn seldom.
 fn crowd_or_sizes(random: &mut Random) -> Scene {
     match random.below(8) {
-        0 => sizes(random),
+        0 => {
+            let full = sizes(random);
+            gathered(random, full, 64 + 8 * 32, 2 * 32)
+        }
         1 => crowd(random),
         2 => just_the_room(random),
         3 => just_the_length(random),
-        _ => sheets(random),
+        _ => {
+            let sheets = sheets(random);
+            perhaps(random, sheets)
+        }
     }
 }
 
@@ -247,7 +286,7 @@ fn crowd(random: &mut Random) -> Scene {
     let mut scene = Scene { vertices: (0..points + 3).map(|_| through(random)).collect(), ..Scene::default() };
     scene.triangles = vec![[2, 0, 1]; REPORT_ROOM / points];
     scene.edges = (0..random.below(12)).map(|_| some(random, points + 3)).collect();
-    scene
+    gathered(random, scene, 20, 15)
 }
 
 /// As many records as there may be, most of them far from each other: one wide sheet, creased a little.

@@ -6,6 +6,7 @@ mod judging;
 mod listing;
 mod reading;
 mod settling;
+mod sewing;
 
 use crate::refusal::{Refusal, NO_ROOM};
 use crate::report::written;
@@ -114,6 +115,7 @@ pub fn all() -> Vec<Mistake> {
     out.extend(settling::mistakes());
     out.extend(listing::mistakes());
     out.extend(reading::mistakes());
+    out.extend(sewing::mistakes());
     out
 }
 

@@ -1,4 +1,4 @@
-//! The space-time pieces of a pair, as document 01 writes them.
+//! The space-time pieces of a pair, as document 01 writes them; corners in the order of the vertices that they stand for (document 02, §6).
 
 use crate::equations::Point;
 use crate::scene::{Kind, Pair, Scene};
@@ -46,15 +46,15 @@ fn moving_point(p: usize) -> Vec<Vec<Corner>> {
 }
 
 /// 1 2 2' and 1 1' 2'.
-fn moving_edge(mut ends: [usize; 2]) -> Vec<Vec<Corner>> {
-    ends.sort();
+fn moving_edge(scene: &Scene, mut ends: [usize; 2]) -> Vec<Vec<Corner>> {
+    ends.sort_by_key(|&vertex| scene.stands_for(vertex));
     let ([a, b], [a1, b1]) = (ends.map(start), ends.map(end));
     vec![vec![a, b, b1], vec![a, a1, b1]]
 }
 
 /// 1 2 3 3', then 1 2 2' 3', then 1 1' 2' 3'.
-fn moving_triangle(mut corners: [usize; 3]) -> Vec<Vec<Corner>> {
-    corners.sort();
+fn moving_triangle(scene: &Scene, mut corners: [usize; 3]) -> Vec<Vec<Corner>> {
+    corners.sort_by_key(|&vertex| scene.stands_for(vertex));
     let ([a, b, c], [a1, b1, c1]) = (corners.map(start), corners.map(end));
     vec![vec![a, b, c, c1], vec![a, b, b1, c1], vec![a, a1, b1, c1]]
 }
@@ -62,10 +62,10 @@ fn moving_triangle(mut corners: [usize; 3]) -> Vec<Vec<Corner>> {
 /// The corners of each piece, in the order in which its weights stand.
 pub fn corners(scene: &Scene, pair: Pair) -> Vec<[Vec<Corner>; 2]> {
     let (first, second) = match pair.kind {
-        Kind::PointTriangle => (moving_point(pair.first), moving_triangle(scene.triangles[pair.second])),
+        Kind::PointTriangle => (moving_point(pair.first), moving_triangle(scene, scene.triangles[pair.second])),
         Kind::EdgeEdge => {
             let (low, high) = (pair.first.min(pair.second), pair.first.max(pair.second));
-            (moving_edge(scene.edges[low]), moving_edge(scene.edges[high]))
+            (moving_edge(scene, scene.edges[low]), moving_edge(scene, scene.edges[high]))
         }
     };
     let mut out = Vec::new();

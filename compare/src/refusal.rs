@@ -1,4 +1,4 @@
-//! The refusal numbers of document 01's table, under names.
+//! The refusal numbers of document 01's table and of document 02, under names.
 
 pub const BAD_SHAPE: u64 = 1;
 pub const OUT_OF_RANGE: u64 = 2;
@@ -12,6 +12,9 @@ pub const BAD_LINE: u64 = 9;
 pub const OUT_OF_ORDER: u64 = 10;
 pub const ONE_TOO_MANY: u64 = 11;
 pub const LENT_TOO_SHORT: u64 = 12;
+pub const BROKEN_SEAM: u64 = 15;
+/// Document 02, §13: a contact asked for in a scene beyond the old range.
+pub const BEYOND_OLD_RANGE: u64 = 16;
 
 /// `third` is the third field of a refused report: the line, the needed count, or 0 where there is neither.
 #[derive(Clone, Copy, Debug, PartialEq, Eq)]

@@ -6,6 +6,7 @@ pub const FIRST_COORDINATE_LIMIT: i64 = 262_143;
 pub const VERTEX_LIMIT: usize = 512;
 pub const EDGE_LIMIT: usize = 1_024;
 pub const TRIANGLE_LIMIT: usize = 512;
+pub const SEAM_LIMIT: usize = 512;
 pub const TEXT_LIMIT: usize = 32_768;
 pub const REPORT_ROOM: usize = 3_072;
 
@@ -15,6 +16,31 @@ pub struct Scene {
     pub vertices: Vec<[i64; 6]>,
     pub edges: Vec<[usize; 2]>,
     pub triangles: Vec<[usize; 3]>,
+    /// the vertex that is replaced, and the one that it stands for
+    pub seams: Vec<[usize; 2]>,
+}
+
+impl Scene {
+    /// The vertex that a vertex stands for: another where a seam says so, else itself.
+    pub fn stands_for(&self, vertex: usize) -> usize {
+        self.seams.iter().find(|seam| seam[0] == vertex).map_or(vertex, |seam| seam[1])
+    }
+
+    /// Whether two of these vertices stand for one.
+    pub fn any_twice(&self, part: &[usize]) -> bool {
+        let stand: Vec<usize> = part.iter().map(|&vertex| self.stands_for(vertex)).collect();
+        (1..stand.len()).any(|i| stand[..i].contains(&stand[i]))
+    }
+
+    /// The vertex numbers of every edge and triangle.
+    pub fn parts(&self) -> impl Iterator<Item = &[usize]> {
+        self.edges.iter().map(|edge| &edge[..]).chain(self.triangles.iter().map(|triangle| &triangle[..]))
+    }
+
+    /// The same without its seams.
+    pub fn unsewn(&self) -> Scene {
+        Scene { seams: vec![], ..self.clone() }
+    }
 }
 
 pub fn in_range(coordinate: i64) -> bool {
@@ -53,7 +79,8 @@ impl Pair {
 
     pub fn shares_a_vertex(&self, scene: &Scene) -> bool {
         let (first, second) = self.parts(scene);
-        first.iter().any(|v| second.contains(v))
+        let stand: Vec<usize> = second.iter().map(|&vertex| scene.stands_for(vertex)).collect();
+        first.iter().any(|&vertex| stand.contains(&scene.stands_for(vertex)))
     }
 }
 

@@ -5,7 +5,6 @@ use crate::listing;
 use crate::refusal::*;
 use crate::scene::*;
 use crate::settled::{self, Settled};
-use crate::text::any_twice;
 use crate::verdict::{self, Verdict};
 
 #[derive(Clone, Copy)]
@@ -13,15 +12,17 @@ pub struct Slices<'a> {
     pub positions: &'a [i64],
     pub edges: &'a [u64],
     pub triangles: &'a [u64],
+    pub seams: &'a [u64],
 }
 
-/// Refusals 1, 2, 3, 4, each over the whole scene before the next.
+/// Refusals 1, 2, 3, 15, 4, each over the whole scene before the next.
 pub fn scene(slices: Slices) -> Result<Scene, Refusal> {
-    let Slices { positions, edges, triangles } = slices;
+    let Slices { positions, edges, triangles, seams } = slices;
     let shaped = |length: usize, step: usize, limit: usize| length.is_multiple_of(step) && length / step <= limit;
     if !shaped(positions.len(), 6, VERTEX_LIMIT)
         || !shaped(edges.len(), 2, EDGE_LIMIT)
         || !shaped(triangles.len(), 3, TRIANGLE_LIMIT)
+        || !shaped(seams.len(), 2, SEAM_LIMIT)
     {
         return Err(Refusal::bare(BAD_SHAPE));
     }
@@ -29,7 +30,7 @@ pub fn scene(slices: Slices) -> Result<Scene, Refusal> {
         return Err(Refusal::bare(OUT_OF_RANGE));
     }
     let vertices = positions.len() as u64 / 6;
-    if edges.iter().chain(triangles).any(|&vertex| vertex >= vertices) {
+    if edges.iter().chain(triangles).chain(seams).any(|&vertex| vertex >= vertices) {
         return Err(Refusal::bare(NO_SUCH_VERTEX));
     }
     let place = |vertex: &u64| *vertex as usize;
@@ -37,11 +38,25 @@ pub fn scene(slices: Slices) -> Result<Scene, Refusal> {
         vertices: positions.chunks(6).map(|chunk| chunk.try_into().unwrap()).collect(),
         edges: edges.chunks(2).map(|chunk| [0, 1].map(|i| place(&chunk[i]))).collect(),
         triangles: triangles.chunks(3).map(|chunk| [0, 1, 2].map(|i| place(&chunk[i]))).collect(),
+        seams: seams.chunks(2).map(|chunk| [0, 1].map(|i| place(&chunk[i]))).collect(),
     };
-    if scene.edges.iter().any(|edge| any_twice(edge)) || scene.triangles.iter().any(|triangle| any_twice(triangle)) {
+    if any_broken(&scene) {
+        return Err(Refusal::bare(BROKEN_SEAM));
+    }
+    if scene.parts().any(|part| scene.any_twice(part)) {
         return Err(Refusal::bare(VERTEX_TWICE));
     }
     Ok(scene)
+}
+
+/// 15, said of the whole list: i rises, and each j is below its i, is not itself replaced, and stands in the same places.
+fn any_broken(scene: &Scene) -> bool {
+    let rising = scene.seams.windows(2).all(|two| two[0][0] < two[1][0]);
+    let sewn = |&[i, j]: &[usize; 2]| {
+        let replaced = scene.seams.iter().any(|other| other[0] == j);
+        j < i && !replaced && scene.vertices[i] == scene.vertices[j]
+    };
+    !rising || !scene.seams.iter().all(sewn)
 }
 
 fn asked(scene: &Scene, kind: Kind, first: u64, second: u64) -> Result<Pair, Refusal> {
@@ -117,7 +132,26 @@ pub fn list(slices: Slices, room: usize) -> Result<Vec<u32>, Refusal> {
 }
 
 /// A scene as the numbers that a caller lends.
-pub fn flat(scene: &Scene) -> (Vec<i64>, Vec<u64>, Vec<u64>) {
+pub fn flat(scene: &Scene) -> Flat {
     let numbers = |places: &[usize]| places.iter().map(|&v| v as u64).collect::<Vec<u64>>();
-    (scene.vertices.concat(), numbers(&scene.edges.concat()), numbers(&scene.triangles.concat()))
+    Flat {
+        positions: scene.vertices.concat(),
+        edges: numbers(&scene.edges.concat()),
+        triangles: numbers(&scene.triangles.concat()),
+        seams: numbers(&scene.seams.concat()),
+    }
+}
+
+#[derive(Clone, Debug, Default, PartialEq, Eq)]
+pub struct Flat {
+    pub positions: Vec<i64>,
+    pub edges: Vec<u64>,
+    pub triangles: Vec<u64>,
+    pub seams: Vec<u64>,
+}
+
+impl Flat {
+    pub fn slices(&self) -> Slices<'_> {
+        Slices { positions: &self.positions, edges: &self.edges, triangles: &self.triangles, seams: &self.seams }
+    }
 }

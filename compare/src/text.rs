@@ -1,4 +1,4 @@
-//! Scene text, read by document 01's rules, and written.
+//! Scene text, read by document 01's rules and those of document 02, §6, and written.
 
 use crate::refusal::*;
 use crate::scene::*;
@@ -7,6 +7,7 @@ pub enum Record {
     Vertex([i64; 6]),
     Edge([usize; 2]),
     Triangle([usize; 3]),
+    Seam([usize; 2]),
 }
 
 pub fn read(text: &[u8]) -> Result<Scene, Refusal> {
@@ -27,9 +28,12 @@ pub fn read(text: &[u8]) -> Result<Scene, Refusal> {
     }
 }
 
+/// The least lengths of the buffers that a scene is read into: positions, edges, triangles, seams.
+pub const LENT_LENGTHS: [usize; 4] = [6 * VERTEX_LIMIT, 2 * EDGE_LIMIT, 3 * TRIANGLE_LIMIT, 2 * SEAM_LIMIT];
+
 /// The same where the scene goes to lent buffers of these lengths.
-pub fn read_lent(text: &[u8], positions: usize, edges: usize, triangles: usize) -> Result<Scene, Refusal> {
-    if positions < 6 * VERTEX_LIMIT || edges < 2 * EDGE_LIMIT || triangles < 3 * TRIANGLE_LIMIT {
+pub fn read_lent(text: &[u8], lengths: [usize; 4]) -> Result<Scene, Refusal> {
+    if lengths.into_iter().zip(LENT_LENGTHS).any(|(length, least)| length < least) {
         return Err(Refusal::bare(LENT_TOO_SHORT));
     }
     read(text)
@@ -38,11 +42,12 @@ pub fn read_lent(text: &[u8], positions: usize, edges: usize, triangles: usize) 
 /// The scene with one record more, or the number that the line is refused with.
 pub fn take(scene: &mut Scene, line: &[u8]) -> Result<(), u64> {
     let record = record(line).ok_or(BAD_LINE)?;
-    let no_triangle_above = scene.triangles.is_empty();
-    let no_edge_above = scene.edges.is_empty();
+    let no_seam_above = scene.seams.is_empty();
+    let no_triangle_above = scene.triangles.is_empty() && no_seam_above;
+    let no_edge_above = scene.edges.is_empty() && no_triangle_above;
     match record {
         Record::Vertex(vertex) => {
-            refuse_unless(no_edge_above && no_triangle_above, OUT_OF_ORDER)?;
+            refuse_unless(no_edge_above, OUT_OF_ORDER)?;
             refuse_unless(scene.vertices.len() < VERTEX_LIMIT, ONE_TOO_MANY)?;
             refuse_unless(vertex.into_iter().all(in_range), OUT_OF_RANGE)?;
             scene.vertices.push(vertex);
@@ -54,9 +59,17 @@ pub fn take(scene: &mut Scene, line: &[u8]) -> Result<(), u64> {
             scene.edges.push(edge);
         }
         Record::Triangle(triangle) => {
+            refuse_unless(no_seam_above, OUT_OF_ORDER)?;
             refuse_unless(scene.triangles.len() < TRIANGLE_LIMIT, ONE_TOO_MANY)?;
             corners(&triangle, scene.vertices.len())?;
             scene.triangles.push(triangle);
+        }
+        Record::Seam(seam) => {
+            refuse_unless(scene.seams.len() < SEAM_LIMIT, ONE_TOO_MANY)?;
+            refuse_unless(seam.iter().all(|&v| v < scene.vertices.len()), NO_SUCH_VERTEX)?;
+            refuse_unless(!breaks(scene, seam), BROKEN_SEAM)?;
+            refuse_unless(!makes_twice(scene, seam), VERTEX_TWICE)?;
+            scene.seams.push(seam);
         }
     }
     Ok(())
@@ -68,6 +81,27 @@ fn refuse_unless(fine: bool, number: u64) -> Result<(), u64> {
     } else {
         Err(number)
     }
+}
+
+/// Whether a seam below those of the scene breaks a rule: rising i, each i once, j below i, j not itself replaced; or its two positions
+/// differ at either time.
+pub fn breaks(scene: &Scene, [i, j]: [usize; 2]) -> bool {
+    let rises = scene.seams.iter().all(|above| above[0] < i);
+    let replaced = scene.seams.iter().any(|above| above[0] == j);
+    let apart = match (scene.vertices.get(i), scene.vertices.get(j)) {
+        (Some(here), Some(there)) => here != there,
+        // what is not there is another matter
+        _ => false,
+    };
+    !rises || j >= i || replaced || apart
+}
+
+/// Whether two corners of some part stand for one vertex with this seam, and did not without it.
+pub fn makes_twice(scene: &Scene, seam: [usize; 2]) -> bool {
+    let changed: Vec<&[usize]> = scene.parts().filter(|part| part.contains(&seam[0]) && !scene.any_twice(part)).collect();
+    let mut sewn = Scene { seams: scene.seams.clone(), ..Scene::default() };
+    sewn.seams.push(seam);
+    changed.into_iter().any(|part| sewn.any_twice(part))
 }
 
 fn corners(numbers: &[usize], vertices: usize) -> Result<(), u64> {
@@ -88,6 +122,7 @@ pub fn record(line: &[u8]) -> Option<Record> {
         b"v" => Some(Record::Vertex(all(&fields, coordinate)?)),
         b"e" => Some(Record::Edge(all(&fields, number)?)),
         b"t" => Some(Record::Triangle(all(&fields, number)?)),
+        b"w" => Some(Record::Seam(all(&fields, number)?)),
         _ => None,
     }
 }
@@ -122,5 +157,6 @@ pub fn write(scene: &Scene) -> String {
     scene.vertices.iter().for_each(|v| line("v", v.map(|n| n.to_string()).to_vec()));
     scene.edges.iter().for_each(|e| line("e", e.map(|n| n.to_string()).to_vec()));
     scene.triangles.iter().for_each(|t| line("t", t.map(|n| n.to_string()).to_vec()));
+    scene.seams.iter().for_each(|w| line("w", w.map(|n| n.to_string()).to_vec()));
     out
 }

@@ -27,7 +27,7 @@ pub fn fixed() -> Vec<Trial> {
     shown.chain(kept).chain(edges).collect()
 }
 
-/// A scene, its image under an affine map and the scene played backwards, one of the first two damaged, and a text for a cell of the table of faults.
+/// A scene, its image under an affine map and the scene without its seams played backwards, one of the first two damaged, and a text for a cell of the table of faults.
 pub fn seeded(seed: u64) -> Vec<Trial> {
     let mut random = Random::new(!seed);
     let scene = generate::scene(seed);
@@ -42,7 +42,7 @@ pub fn seeded(seed: u64) -> Vec<Trial> {
     vec![
         trial(name("as made"), made),
         trial(name("sent on"), sent),
-        trial(name("played backwards"), write(&turned(&scene))),
+        trial(name("played backwards"), write(&turned(&scene.unsewn()))),
         trial(name("damaged"), harmed),
         trial(format!("seed {seed}, {cell:?}"), crossed),
     ]

@@ -20,7 +20,7 @@ fn what_other_programs_write_is_named() {
         ("v\t0\t0\t0\t0\t0\t0", "the last line has no LF behind it: every line ends with one"),
         ("\n", "the line is empty"),
         ("# cloth\n", "there are no comments"),
-        ("V\t0\t0\t0\t0\t0\t0\n", "it begins with \"V\", where a record begins with v, e or t and a tab"),
+        ("V\t0\t0\t0\t0\t0\t0\n", "it begins with \"V\", where a record begins with v, e, t or w and a tab"),
         ("v\t0\t0\t0\t0\t0\n", "v takes 6 numbers, and here are 5"),
         (
             "v\t0\t0\t0\t0\t0\t0\t\n",
@@ -52,7 +52,10 @@ fn the_other_faults_name_what_stands_there() {
         (format!("{v}{v}e\t0\t2\n"), "there is no vertex 2: the v lines above are vertices 0 to 1"),
         ("e\t0\t1\n".to_string(), "no v line stands above, so there is no vertex yet"),
         (format!("{v}{v}e\t1\t1\n"), "vertex 1 stands twice"),
-        (format!("{v}{v}e\t0\t1\n{v}"), "a v line below line 3, which is e: all v come first, then all e, then all t"),
+        (
+            format!("{v}{v}e\t0\t1\n{v}"),
+            "a v line below line 3, which is e: all v come first, then all e, then all t, then all w",
+        ),
         (v.repeat(513), "512 v lines stand above, and there may be 512"),
     ] {
         assert_eq!(blamed(text.as_bytes()), wanted);

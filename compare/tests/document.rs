@@ -110,11 +110,14 @@ fn texts_at_the_edges_of_the_rules() {
 #[test]
 fn lent_buffers_come_before_the_text() {
     let bad = vec![b'x'; TEXT_LIMIT + 1];
-    for (positions, edges, triangles) in [(3_071, 2_048, 1_536), (3_072, 2_047, 1_536), (3_072, 2_048, 1_535)] {
-        assert_eq!(read_lent(&bad, positions, edges, triangles), Err(Refusal::bare(LENT_TOO_SHORT)));
+    let enough = [3_072, 2_048, 1_536, 1_024];
+    for short in 0..4 {
+        let mut lengths = enough;
+        lengths[short] -= 1;
+        assert_eq!(read_lent(&bad, lengths), Err(Refusal::bare(LENT_TOO_SHORT)));
     }
-    assert_eq!(read_lent(&bad, 3_072, 2_048, 1_536), Err(Refusal::bare(TEXT_TOO_LONG)));
-    assert_eq!(read_lent(b"", 3_072, 2_048, 1_536), Ok(Scene::default()));
+    assert_eq!(read_lent(&bad, enough), Err(Refusal::bare(TEXT_TOO_LONG)));
+    assert_eq!(read_lent(b"", enough), Ok(Scene::default()));
 }
 
 #[test]
@@ -124,7 +127,7 @@ fn written_and_read_again() {
 }
 
 fn refused(positions: &[i64], edges: &[u64], triangles: &[u64]) -> u64 {
-    compare::slices::scene(Slices { positions, edges, triangles }).unwrap_err().number
+    compare::slices::scene(Slices { positions, edges, triangles, seams: &[] }).unwrap_err().number
 }
 
 #[test]
@@ -150,14 +153,15 @@ fn slices_are_checked_whole_before_the_next_check() {
         positions: &[524_287; 3_072],
         edges: &[0, 511].repeat(1_024),
         triangles: &[0, 1, 511].repeat(512),
+        seams: &[],
     });
     assert!(full.is_ok());
 }
 
 #[test]
 fn a_pair_or_a_piece_asked_for() {
-    let (positions, edges, triangles) = flat(&read(PRINTED_SCENE.as_bytes()).unwrap());
-    let slices = Slices { positions: &positions, edges: &edges, triangles: &triangles };
+    let flat = flat(&read(PRINTED_SCENE.as_bytes()).unwrap());
+    let slices = flat.slices();
     let (pt, ee) = (Kind::PointTriangle, Kind::EdgeEdge);
     let pair = |kind, first, second| pair_verdict(slices, kind, first, second).map_err(|refusal| refusal.number);
     let piece = |kind, first, second, piece| piece_verdict(slices, kind, first, second, piece).map_err(|refusal| refusal.number);
@@ -190,7 +194,7 @@ fn a_pair_or_a_piece_asked_for() {
     for number in 0..4 {
         assert_eq!(piece(ee, 0, 1, number), piece(ee, 1, 0, number));
     }
-    let bad = Slices { positions: &positions[1..], edges: &edges, triangles: &triangles };
+    let bad = Slices { positions: &slices.positions[1..], ..slices };
     assert_eq!(pair_verdict(bad, pt, 9, 9), Err(Refusal::bare(BAD_SHAPE)));
     assert_eq!(list(slices, 2), Ok(vec![3_072, 1_048_577]));
     assert_eq!(list(slices, 1), Err(Refusal::new(NO_ROOM, 2)));

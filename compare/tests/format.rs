@@ -103,7 +103,7 @@ fn the_scene_of_the_page() {
 #[test]
 fn the_table_of_limits() {
     let limits: Vec<Vec<i64>> = rows("| limit | value |").iter().map(|row| numbers(&row[1])).collect();
-    let sizes = [VERTEX_LIMIT, EDGE_LIMIT, TRIANGLE_LIMIT].map(|size| size as i64);
+    let sizes = [VERTEX_LIMIT, EDGE_LIMIT, TRIANGLE_LIMIT, SEAM_LIMIT].map(|size| size as i64);
     assert_eq!(limits, [vec![-COORDINATE_LIMIT, COORDINATE_LIMIT], sizes.to_vec(), vec![TEXT_LIMIT as i64]]);
 }
 
@@ -117,11 +117,12 @@ fn the_longest_lines() {
         vertices: vec![[-COORDINATE_LIMIT; 6]; VERTEX_LIMIT],
         edges: vec![[last(1), last(2)]; EDGE_LIMIT],
         triangles: vec![[last(1), last(2), last(3)]; TRIANGLE_LIMIT],
+        seams: vec![[last(112), last(113)]],
     };
     let text = write(&largest);
-    let (mut scene, mut longest) = (Scene::default(), vec![0; 3]);
+    let (mut scene, mut longest) = (Scene::default(), vec![0; 4]);
     for line in text.lines() {
-        let kind = ["v", "e", "t"].iter().position(|kind| line.starts_with(kind)).unwrap();
+        let kind = ["v", "e", "t", "w"].iter().position(|kind| line.starts_with(kind)).unwrap();
         let fields: Vec<&str> = line.split('\t').collect();
         for i in 1..fields.len() {
             let mut more: Vec<String> = fields.iter().map(|field| field.to_string()).collect();

@@ -217,6 +217,7 @@ fn demand_3_every_unshared_pair_and_piece_keeps_its_verdict() {
 fn played_backwards_every_corresponding_pair_and_piece_keeps_its_word() {
     let (mut pairs, mut listed, mut changed) = (0, 0, 0);
     for (seed, scene) in small_scenes(12) {
+        let scene = scene.unsewn();
         let back = backwards::turned(&scene);
         assert_eq!(backwards::turned(&back), scene);
         assert_eq!(read(write(&scene).as_bytes()).err().map(|r| r.number), read(write(&back).as_bytes()).err().map(|r| r.number));
@@ -242,7 +243,7 @@ fn played_backwards_every_corresponding_pair_and_piece_keeps_its_word() {
 #[test]
 fn played_backwards_the_totals_are_the_same() {
     for seed in 0..6 * KINDS.len() as u64 {
-        let scene = generate::scene(seed);
+        let scene = generate::scene(seed).unsewn();
         let report = |scene: &Scene| written(&judged_scene(scene, REPORT_ROOM));
         let (one, other) = (report(&scene), report(&backwards::turned(&scene)));
         assert_eq!(one.lines().last(), other.lines().last(), "seed {seed}");

@@ -1,5 +1,6 @@
 //! What docs/TRAINING.md shows is what the programs print, and what it says of its scenes is so.
 
+use compare::contacts;
 use compare::equations::{meet, Point};
 use compare::explain::explained;
 use compare::kept;
@@ -37,6 +38,11 @@ fn printed(command: &str) -> String {
         ["./makhnodri", "report"] => report(&text, REPORT_ROOM),
         ["compare/show", "exact", ..] => report(&text, room(words.get(2))),
         ["compare/show", "wrong", key, ..] => wrong(key, room(words.get(3)), &text),
+        ["./makhnodri", "contacts"] | ["compare/contacts", "--exact"] => contacts::printed(&text, REPORT_ROOM),
+        ["compare/contacts", "--wrong", key] => {
+            let mistake = contacts::mistakes::find(key).unwrap_or_else(|| panic!("no mistake is called {key}"));
+            contacts::mistakes::printed(mistake, &text, REPORT_ROOM)
+        }
         ["compare/show", "why"] => explained(&read(&text).unwrap()),
         _ => panic!("no such command: {command}"),
     };
@@ -101,6 +107,10 @@ fn the_pieces_that_are_told() {
     assert_eq!(of_pieces(&scene("hair-short"), Pair::pt(3, 0)), [M, M, M]);
     assert_eq!(of_pieces(&scene("crack"), Pair::pt(4, 0)), [M, M, M]);
     assert_eq!(of_pieces(&scene("crack"), Pair::pt(4, 1)), [M, M, H]);
+    for (name, second) in [("seam-open", [M, M, M]), ("seam-closed", [M, M, H])] {
+        assert_eq!(of_pieces(&scene(name), Pair::pt(3, 0)), [M, M, M]);
+        assert_eq!(of_pieces(&scene(name), Pair::pt(3, 1)), second);
+    }
     let flat = scene("flat");
     let pairs = [Pair::pt(3, 0), Pair::pt(4, 0), Pair::pt(5, 0), Pair::ee(0, 1)];
     assert!(pairs.iter().all(|&pair| of_pieces(&flat, pair).iter().all(|&verdict| verdict == D)));

@@ -9,9 +9,7 @@
 #include <stdio.h>
 
 static uint8_t scene_text[MAKHNODRI_TEXT_LIMIT + 1], claims[MAKHNODRI_TEXT_LIMIT + 1]; /* one byte more, so that a text that is too long is seen */
-static int32_t positions[MAKHNODRI_POSITIONS_LENGTH];
-static uint16_t edges[MAKHNODRI_EDGES_LENGTH];
-static uint16_t triangles[MAKHNODRI_TRIANGLES_LENGTH];
+static makhnodri_buffers buffers;
 static uint8_t answers[MAKHNODRI_TEXT_LIMIT]; /* a claim has one byte at least */
 
 static size_t read_file(const char *name, uint8_t *text, size_t most) {
@@ -33,13 +31,11 @@ static int refused(makhnodri_answer answer) {
 
 int main(int argc, char **argv) {
     if (argc != 3) return 2;
-    size_t counts[3], length = read_file(argv[1], scene_text, sizeof scene_text);
-    if (refused(makhnodri_read_scene(scene_text, length, positions, MAKHNODRI_POSITIONS_LENGTH, edges, MAKHNODRI_EDGES_LENGTH, triangles,
-                                     MAKHNODRI_TRIANGLES_LENGTH, counts)))
-        return 1;
+    makhnodri_scene scene = {0};
+    size_t length = read_file(argv[1], scene_text, sizeof scene_text);
+    if (refused(makhnodri_read_scene(scene_text, length, &buffers, &scene))) return 1;
     length = read_file(argv[2], claims, sizeof claims);
-    makhnodri_answer count = makhnodri_check_claims(positions, 6 * counts[0], edges, 2 * counts[1], triangles, 3 * counts[2], claims, length,
-                                                    answers, sizeof answers);
+    makhnodri_answer count = makhnodri_check_claims(&scene, claims, length, answers, sizeof answers);
     if (refused(count)) return 1;
     for (uint32_t i = 0; i < makhnodri_value(count); i++) puts(answers[i] == MAKHNODRI_YES ? "yes" : "no");
     return 0;

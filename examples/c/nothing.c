@@ -9,7 +9,7 @@
 #include <stdio.h>
 #include <string.h>
 
-#define NO_SCENE NULL, 0, NULL, 0, NULL, 0
+#define NO_SCENE NULL, 0, NULL, 0, NULL, 0, NULL, 0
 
 static int wrong;
 
@@ -19,46 +19,90 @@ static void hold(const char *asked, makhnodri_answer answer, uint32_t refusal, u
     wrong = 1;
 }
 
-int main(void) {
-    static int32_t positions[MAKHNODRI_POSITIONS_LENGTH];
-    static uint16_t edges[MAKHNODRI_EDGES_LENGTH], triangles[MAKHNODRI_TRIANGLES_LENGTH];
-    static uint8_t out[MAKHNODRI_REPORT_LENGTH];
-    size_t counts[3] = {7, 7, 7}, tests[1] = {7};
-
-    hold("check_scene", makhnodri_check_scene(NO_SCENE), 0, 0);
-    hold("turn_scene", makhnodri_turn_scene(NO_SCENE), 0, 0);
-    hold("count_pairs", makhnodri_count_pairs(NO_SCENE, tests), 0, 0);
+/* by the plain functions */
+static void hold_slices(void) {
+    size_t counts[4] = {7, 7, 7, 7}, tests[1] = {7};
+    static makhnodri_buffers room;
+    hold("check_scene", makhnodri_check_scene_slices(NO_SCENE), 0, 0);
+    hold("count_pairs", makhnodri_count_pairs_slices(NO_SCENE, tests), 0, 0);
     if (tests[0]) wrong = 1, puts("box tests of no scene");
     tests[0] = 7;
-    hold("list_pairs", makhnodri_list_pairs(NO_SCENE, NULL, 0, tests), 0, 0);
+    hold("list_pairs", makhnodri_list_pairs_slices(NO_SCENE, NULL, 0, tests), 0, 0);
     if (tests[0]) wrong = 1, puts("box tests of no list");
-    hold("settle_scene", makhnodri_settle_scene(NO_SCENE, NULL, 0, NULL, 0), 0, 0);
-    hold("judge_pt", makhnodri_judge_pt(NO_SCENE, 0, 0), MAKHNODRI_NOT_THERE, 0);
-    hold("judge_ee", makhnodri_judge_ee(NO_SCENE, 0, 0), MAKHNODRI_NOT_THERE, 0);
-    hold("judge_pt_piece", makhnodri_judge_pt_piece(NO_SCENE, 0, 0, 0), MAKHNODRI_NOT_THERE, 0);
-    hold("judge_ee_piece", makhnodri_judge_ee_piece(NO_SCENE, 0, 0, 0), MAKHNODRI_NOT_THERE, 0);
-    hold("settle_pt", makhnodri_settle_pt(NO_SCENE, 0, 0), MAKHNODRI_NOT_THERE, 0);
-    hold("settle_ee", makhnodri_settle_ee(NO_SCENE, 0, 0), MAKHNODRI_NOT_THERE, 0);
-    hold("settle_pt_piece", makhnodri_settle_pt_piece(NO_SCENE, 0, 0, 0), MAKHNODRI_NOT_THERE, 0);
-    hold("settle_ee_piece", makhnodri_settle_ee_piece(NO_SCENE, 0, 0, 0), MAKHNODRI_NOT_THERE, 0);
-    hold("check_claims", makhnodri_check_claims(NO_SCENE, NULL, 0, NULL, 0), 0, 0);
-    hold("read_scene, no buffers", makhnodri_read_scene(NULL, 0, NO_SCENE, counts), MAKHNODRI_SHORT_BUFFER, 0);
-    hold("read_scene, no text",
-         makhnodri_read_scene(NULL, 0, positions, MAKHNODRI_POSITIONS_LENGTH, edges, MAKHNODRI_EDGES_LENGTH, triangles,
-                              MAKHNODRI_TRIANGLES_LENGTH, counts),
-         0, 0);
-    if (counts[0] || counts[1] || counts[2]) wrong = 1, puts("counts of no text");
+    hold("settle_scene", makhnodri_settle_scene_slices(NO_SCENE, NULL, 0, NULL, 0), 0, 0);
+    hold("judge_pt", makhnodri_judge_pt_slices(NO_SCENE, 0, 0), MAKHNODRI_NOT_THERE, 0);
+    hold("judge_ee", makhnodri_judge_ee_slices(NO_SCENE, 0, 0), MAKHNODRI_NOT_THERE, 0);
+    hold("judge_pt_piece", makhnodri_judge_pt_piece_slices(NO_SCENE, 0, 0, 0), MAKHNODRI_NOT_THERE, 0);
+    hold("judge_ee_piece", makhnodri_judge_ee_piece_slices(NO_SCENE, 0, 0, 0), MAKHNODRI_NOT_THERE, 0);
+    hold("settle_pt", makhnodri_settle_pt_slices(NO_SCENE, 0, 0), MAKHNODRI_NOT_THERE, 0);
+    hold("settle_ee", makhnodri_settle_ee_slices(NO_SCENE, 0, 0), MAKHNODRI_NOT_THERE, 0);
+    hold("settle_pt_piece", makhnodri_settle_pt_piece_slices(NO_SCENE, 0, 0, 0), MAKHNODRI_NOT_THERE, 0);
+    hold("settle_ee_piece", makhnodri_settle_ee_piece_slices(NO_SCENE, 0, 0, 0), MAKHNODRI_NOT_THERE, 0);
+    hold("check_claims", makhnodri_check_claims_slices(NO_SCENE, NULL, 0, NULL, 0), 0, 0);
+    uint32_t contact[MAKHNODRI_CONTACT_LENGTH] = {7, 7, 7, 7, 7};
+    hold("contact_pt", makhnodri_contact_pt_slices(NO_SCENE, 0, 0, contact), MAKHNODRI_NOT_THERE, 0);
+    hold("contact_ee", makhnodri_contact_ee_slices(NO_SCENE, 0, 0, contact), MAKHNODRI_NOT_THERE, 0);
+    for (size_t i = 0; i < MAKHNODRI_CONTACT_LENGTH; i++)
+        if (contact[i] != 7) wrong = 1, puts("a contact of no pair");
+    hold("contact_scene", makhnodri_contact_scene_slices(NO_SCENE, NULL, 0, NULL, 0, NULL, 0), 0, 0);
+    hold("read_scene, no buffers", makhnodri_read_scene_slices(NULL, 0, NO_SCENE, counts), MAKHNODRI_SHORT_BUFFER, 0);
+    hold("read_scene, no seams' buffer",
+         makhnodri_read_scene_slices(NULL, 0, room.positions, MAKHNODRI_POSITIONS_LENGTH, room.edges, MAKHNODRI_EDGES_LENGTH,
+                                     room.triangles, MAKHNODRI_TRIANGLES_LENGTH, NULL, 0, counts),
+         MAKHNODRI_SHORT_BUFFER, 0);
+    if (counts[0] != 7 || counts[3] != 7) wrong = 1, puts("counts of a refused text");
+    hold("turn_scene", makhnodri_turn_scene(NULL, 0, NULL, 0, NULL, 0), 0, 0);
+}
+
+/* by the calls that take a struct */
+static void hold_scene(const makhnodri_scene *scene) {
+    hold("check_scene of a struct", makhnodri_check_scene(scene), 0, 0);
+    size_t tests[1] = {7};
+    hold("count_pairs of a struct", makhnodri_count_pairs(scene, tests), 0, 0);
+    if (tests[0]) wrong = 1, puts("box tests of an empty struct");
+    tests[0] = 7;
+    hold("list_pairs of a struct", makhnodri_list_pairs(scene, NULL, 0, tests), 0, 0);
+    if (tests[0]) wrong = 1, puts("box tests of an empty struct's list");
+    hold("settle_scene of a struct", makhnodri_settle_scene(scene, NULL, 0, NULL, 0), 0, 0);
+    hold("judge_pt of a struct", makhnodri_judge_pt(scene, 0, 0), MAKHNODRI_NOT_THERE, 0);
+    hold("judge_ee of a struct", makhnodri_judge_ee(scene, 0, 0), MAKHNODRI_NOT_THERE, 0);
+    hold("judge_pt_piece of a struct", makhnodri_judge_pt_piece(scene, 0, 0, 0), MAKHNODRI_NOT_THERE, 0);
+    hold("judge_ee_piece of a struct", makhnodri_judge_ee_piece(scene, 0, 0, 0), MAKHNODRI_NOT_THERE, 0);
+    hold("settle_pt of a struct", makhnodri_settle_pt(scene, 0, 0), MAKHNODRI_NOT_THERE, 0);
+    hold("settle_ee of a struct", makhnodri_settle_ee(scene, 0, 0), MAKHNODRI_NOT_THERE, 0);
+    hold("settle_pt_piece of a struct", makhnodri_settle_pt_piece(scene, 0, 0, 0), MAKHNODRI_NOT_THERE, 0);
+    hold("settle_ee_piece of a struct", makhnodri_settle_ee_piece(scene, 0, 0, 0), MAKHNODRI_NOT_THERE, 0);
+    hold("check_claims of a struct", makhnodri_check_claims(scene, NULL, 0, NULL, 0), 0, 0);
+    uint32_t contact[MAKHNODRI_CONTACT_LENGTH] = {7, 7, 7, 7, 7};
+    hold("contact_pt of a struct", makhnodri_contact_pt(scene, 0, 0, contact), MAKHNODRI_NOT_THERE, 0);
+    hold("contact_ee of a struct", makhnodri_contact_ee(scene, 0, 0, contact), MAKHNODRI_NOT_THERE, 0);
+    hold("contact_scene of a struct", makhnodri_contact_scene(scene, NULL, 0, NULL, 0, NULL, 0), 0, 0);
+    for (size_t i = 0; i < MAKHNODRI_CONTACT_LENGTH; i++)
+        if (contact[i] != 7) wrong = 1, puts("a contact of no pair of a struct");
+}
+
+int main(void) {
+    static uint8_t out[MAKHNODRI_REPORT_LENGTH];
+    static makhnodri_buffers buffers;
+    makhnodri_scene scene = {0};
+    hold_slices();
+    hold_scene(&scene);
+    hold("read_scene, no text", makhnodri_read_scene(NULL, 0, &buffers, &scene), 0, 0);
+    if (scene.positions != buffers.positions || scene.positions_length || scene.edges_length || scene.triangles_length || scene.seams_length)
+        wrong = 1, puts("the scene of no text");
+    hold_scene(&scene);
 
     static const char nothing[] = "total\t0\t0\t0\t0\t0\n";
     size_t length = makhnodri_write_report(NULL, 0, out);
     if (length != sizeof nothing - 1 || memcmp(out, nothing, length)) wrong = 1, puts("the report of no text");
 
-    /* one part lent, the others null: a vertex that is alone, and an edge without room for a list */
+    /* one part lent, the others null: a vertex that is alone, an edge without room for a list, a seam without vertices */
     static const int32_t two[] = {0, 0, 0, 0, 0, 0, 1, 1, 1, 1, 1, 1};
     static const uint16_t edge[] = {0, 1};
-    hold("a vertex alone", makhnodri_settle_scene(two, 6, NULL, 0, NULL, 0, NULL, 0, NULL, 0), 0, 0);
-    hold("an edge alone", makhnodri_settle_scene(two, 12, edge, 2, NULL, 0, NULL, 0, NULL, 0), 0, 0);
-    hold("edges without vertices", makhnodri_check_scene(NULL, 0, edge, 2, NULL, 0), MAKHNODRI_UNKNOWN_VERTEX, 0);
+    hold("a vertex alone", makhnodri_settle_scene(&(makhnodri_scene){.positions = two, .positions_length = 6}, NULL, 0, NULL, 0), 0, 0);
+    hold("an edge alone", makhnodri_settle_scene(&(makhnodri_scene){two, 12, edge, 2, NULL, 0, NULL, 0}, NULL, 0, NULL, 0), 0, 0);
+    hold("edges without vertices", makhnodri_check_scene(&(makhnodri_scene){.edges = edge, .edges_length = 2}), MAKHNODRI_UNKNOWN_VERTEX, 0);
+    hold("seams without vertices", makhnodri_check_scene(&(makhnodri_scene){.seams = edge, .seams_length = 2}), MAKHNODRI_UNKNOWN_VERTEX, 0);
     puts(wrong ? "null pointers: WRONG" : "null pointers with length 0 are empty slices to every function");
     return wrong;
 }

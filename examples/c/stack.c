@@ -19,40 +19,48 @@ enum { STACK = 2 * MAKHNODRI_STACK, PAINT = 0xa5 };
 static int32_t positions[MAKHNODRI_POSITIONS_LENGTH];
 static uint16_t edges[MAKHNODRI_EDGES_LENGTH];
 static uint16_t triangles[MAKHNODRI_TRIANGLES_LENGTH];
+static uint16_t seams[MAKHNODRI_SEAMS_LENGTH], stands[512];
+static size_t seams_length;
 static uint32_t list[MAKHNODRI_PAIR_LIMIT];
 static uint8_t words[MAKHNODRI_PAIR_LIMIT];
+static uint32_t contacts[MAKHNODRI_CONTACT_LENGTH * MAKHNODRI_PAIR_LIMIT];
 static char text[MAKHNODRI_TEXT_LIMIT + 1];
 static uint8_t report[MAKHNODRI_REPORT_LENGTH];
-static size_t text_length, counts[3], tests[1], place;
+static size_t text_length, counts[4], tests[1], place;
 
-static int32_t read_positions[MAKHNODRI_POSITIONS_LENGTH];
-static uint16_t read_edges[MAKHNODRI_EDGES_LENGTH], read_triangles[MAKHNODRI_TRIANGLES_LENGTH];
+static makhnodri_buffers own;
 
-#define SCENE positions, MAKHNODRI_POSITIONS_LENGTH, edges, MAKHNODRI_EDGES_LENGTH, triangles, MAKHNODRI_TRIANGLES_LENGTH
+#define THREE positions, MAKHNODRI_POSITIONS_LENGTH, edges, MAKHNODRI_EDGES_LENGTH, triangles, MAKHNODRI_TRIANGLES_LENGTH
+#define SCENE THREE, seams, seams_length
 
-static void check(void) { makhnodri_check_scene(SCENE); }
+static void check(void) { makhnodri_check_scene_slices(SCENE); }
 /* it stands there turned round then, as good a scene */
-static void turn(void) { makhnodri_turn_scene(SCENE); }
-static void count(void) { makhnodri_count_pairs(SCENE, tests); }
-static void make_list(void) { makhnodri_list_pairs(SCENE, list, sizeof list / sizeof list[0], tests); }
-static void settle_scene(void) { makhnodri_settle_scene(SCENE, list, sizeof list / sizeof list[0], words, sizeof words); }
-static void judge_pt(void) { makhnodri_judge_pt(SCENE, place, place / 3); }
-static void judge_ee(void) { makhnodri_judge_ee(SCENE, place, place / 3); }
-static void judge_pt_piece(void) { makhnodri_judge_pt_piece(SCENE, place, place / 3, place % 3); }
-static void judge_ee_piece(void) { makhnodri_judge_ee_piece(SCENE, place, place / 3, place % 4); }
-static void settle_pt(void) { makhnodri_settle_pt(SCENE, place, place / 3); }
-static void settle_ee(void) { makhnodri_settle_ee(SCENE, place, place / 3); }
-static void settle_pt_piece(void) { makhnodri_settle_pt_piece(SCENE, place, place / 3, place % 3); }
-static void settle_ee_piece(void) { makhnodri_settle_ee_piece(SCENE, place, place / 3, place % 4); }
+static void turn(void) { makhnodri_turn_scene(THREE); }
+static void count(void) { makhnodri_count_pairs_slices(SCENE, tests); }
+static void make_list(void) { makhnodri_list_pairs_slices(SCENE, list, sizeof list / sizeof list[0], tests); }
+static void settle_scene(void) { makhnodri_settle_scene_slices(SCENE, list, sizeof list / sizeof list[0], words, sizeof words); }
+static void judge_pt(void) { makhnodri_judge_pt_slices(SCENE, place, place / 3); }
+static void judge_ee(void) { makhnodri_judge_ee_slices(SCENE, place, place / 3); }
+static void judge_pt_piece(void) { makhnodri_judge_pt_piece_slices(SCENE, place, place / 3, place % 3); }
+static void judge_ee_piece(void) { makhnodri_judge_ee_piece_slices(SCENE, place, place / 3, place % 4); }
+static void settle_pt(void) { makhnodri_settle_pt_slices(SCENE, place, place / 3); }
+static void settle_ee(void) { makhnodri_settle_ee_slices(SCENE, place, place / 3); }
+static void settle_pt_piece(void) { makhnodri_settle_pt_piece_slices(SCENE, place, place / 3, place % 3); }
+static void settle_ee_piece(void) { makhnodri_settle_ee_piece_slices(SCENE, place, place / 3, place % 4); }
+static void contact_pt(void) { makhnodri_contact_pt_slices(SCENE, place, place / 3, contacts); }
+static void contact_ee(void) { makhnodri_contact_ee_slices(SCENE, place, place / 3, contacts); }
+static void contact_scene(void) {
+    makhnodri_contact_scene_slices(SCENE, list, sizeof list / sizeof list[0], words, sizeof words, contacts, sizeof contacts / sizeof contacts[0]);
+}
 static void read_text(void) {
-    makhnodri_read_scene((const uint8_t *)text, text_length, read_positions, MAKHNODRI_POSITIONS_LENGTH, read_edges,
-                         MAKHNODRI_EDGES_LENGTH, read_triangles, MAKHNODRI_TRIANGLES_LENGTH, counts);
+    makhnodri_read_scene_slices((const uint8_t *)text, text_length, own.positions, MAKHNODRI_POSITIONS_LENGTH, own.edges,
+                                MAKHNODRI_EDGES_LENGTH, own.triangles, MAKHNODRI_TRIANGLES_LENGTH, own.seams, MAKHNODRI_SEAMS_LENGTH, counts);
 }
 static void write_report(void) { makhnodri_write_report((const uint8_t *)text, text_length, report); }
 
 static char claims[MAKHNODRI_TEXT_LIMIT];
 static size_t claims_length;
-static void check_claims(void) { makhnodri_check_claims(SCENE, (const uint8_t *)claims, claims_length, words, sizeof words); }
+static void check_claims(void) { makhnodri_check_claims_slices(SCENE, (const uint8_t *)claims, claims_length, words, sizeof words); }
 
 static uint8_t stack[STACK];
 
@@ -80,6 +88,27 @@ static int32_t coordinate(unsigned still, size_t i) {
     return rand() % 7 - 3;
 }
 
+/* the last vertices brought to the places of others, and sewn to those with which they have no part in common; in every other scene */
+static void sew(unsigned seed) {
+    seams_length = 0;
+    for (uint16_t i = 0; i < 512; i++) stands[i] = i;
+    for (uint16_t i = 300; seed % 2 && i < 511; i++) {
+        uint16_t j = (uint16_t)(i - 257);
+        int apart = 1;
+        for (size_t k = 0; k < MAKHNODRI_EDGES_LENGTH; k += 2) apart &= edges[k] + edges[k + 1] != i + j || (edges[k] != i && edges[k] != j);
+        for (size_t k = 0; k < MAKHNODRI_TRIANGLES_LENGTH; k += 3) {
+            int has = 0;
+            for (size_t c = 0; c < 3; c++) has += triangles[k + c] == i || triangles[k + c] == j;
+            apart &= has < 2;
+        }
+        if (!apart) continue;
+        memcpy(positions + 6 * i, positions + 6 * j, 6 * sizeof positions[0]);
+        seams[seams_length++] = i;
+        seams[seams_length++] = j;
+        stands[i] = j;
+    }
+}
+
 /* a scene whose triangles and edges are packed so close that everything is near everything */
 static void fill(unsigned seed) {
     srand(seed);
@@ -93,21 +122,23 @@ static void fill(unsigned seed) {
         triangles[i + 1] = (uint16_t)((triangles[i] + 1 + rand() % 255) % 512);
         triangles[i + 2] = (uint16_t)((triangles[i] + 256 + rand() % 256) % 512);
     }
+    sew(seed);
 }
 
-/* a text of the first vertices, which lists 478 to 1,980 pairs for the 32 of the 40 seeds below that are no 4 over a multiple of 5;
-   those 8 have a fault in their last line, and are refused with 4 */
+/* a text of the first vertices, and in every third a copy of twenty of them that is sewn to them; every fifth text has a fault in its last `t` line */
 static void write_text(unsigned seed) {
     srand(seed);
     int at = 0;
-    for (size_t i = 0; i < 45; i++) {
+    for (size_t i = 0; i < (seed % 3 == 1 ? 65 : 45); i++) {
         at += sprintf(text + at, "v");
-        for (size_t k = 0; k < 6; k++) at += sprintf(text + at, "\t%d", (int)positions[6 * i + k]);
+        for (size_t k = 0; k < 6; k++) at += sprintf(text + at, "\t%d", (int)positions[6 * (i % 45) + k]);
         at += sprintf(text + at, "\n");
     }
     for (int i = 0; i < 40; i++) at += sprintf(text + at, "e\t%d\t%d\n", rand() % 22, 22 + rand() % 22);
     for (int i = 0; i < 30; i++) at += sprintf(text + at, "t\t%d\t%d\t%d\n", rand() % 15, 15 + rand() % 15, 30 + rand() % 15);
     if (seed % 5 == 4) at += sprintf(text + at, "t\t%d\t%d\t%d\n", 1, 1, 2);
+    if (seed % 3 == 1)
+        for (int i = 0; i < 20; i++) at += sprintf(text + at, "w\t%d\t%d\n", 45 + i, i);
     text_length = (size_t)at;
 }
 
@@ -116,8 +147,10 @@ static void write_claims(unsigned seed) {
     int at = 0;
     for (size_t i = 0; i < 250; i++) {
         size_t v = (i + seed) % 512;
-        const uint16_t *t = triangles + 3 * i, *e = edges + 2 * v, *f = edges + 2 * (512 + i);
-        if (t[0] != v && t[1] != v && t[2] != v) at += sprintf(claims + at, "pt\t%zu\t%zu\t%zu\t%u\t1\t0\t2\t1\t1\n", v, i, i % 3, seed);
+        uint16_t t[3], e[2], f[2];
+        for (size_t k = 0; k < 3; k++) t[k] = stands[triangles[3 * i + k]];
+        for (size_t k = 0; k < 2; k++) e[k] = stands[edges[2 * v + k]], f[k] = stands[edges[2 * (512 + i) + k]];
+        if (t[0] != stands[v] && t[1] != stands[v] && t[2] != stands[v]) at += sprintf(claims + at, "pt\t%zu\t%zu\t%zu\t%u\t1\t0\t2\t1\t1\n", v, i, i % 3, seed);
         if (e[0] != f[0] && e[0] != f[1] && e[1] != f[0] && e[1] != f[1])
             at += sprintf(claims + at, "ee\t%zu\t%zu\t%zu\t1\t1\t0\t2\t1099511627776\t%u\n", 512 + i, v, i % 4, seed);
     }
@@ -146,6 +179,9 @@ static const struct {
     {"write_report", write_report, 40},
     {"turn_scene", turn, 4},
     {"check_claims", check_claims, 40},
+    {"contact_pt", contact_pt, 400},
+    {"contact_ee", contact_ee, 400},
+    {"contact_scene", contact_scene, 4},
 };
 
 enum { SCENES = 20 };

@@ -62,10 +62,8 @@ impl Alone {
         let positions = &self.positions;
         let [first, corners @ ..] = &self.places;
         match self.kind {
-            Kind::PointTriangle => {
-                (makhnodri::Kind::PointTriangle, Scene { positions, edges: &[], triangles: corners }, [*first as usize, 0])
-            }
-            Kind::EdgeEdge => (makhnodri::Kind::EdgeEdge, Scene { positions, edges: &self.places, triangles: &[] }, [0, 1]),
+            Kind::PointTriangle => (makhnodri::Kind::PointTriangle, Scene::new(positions, &[], corners), [*first as usize, 0]),
+            Kind::EdgeEdge => (makhnodri::Kind::EdgeEdge, Scene::new(positions, &self.places, &[]), [0, 1]),
         }
     }
 }

@@ -10,7 +10,7 @@ use crate::pairs::Pair;
 use crate::progress::Bar;
 use crate::report::About;
 use crate::whole::listed;
-use makhnodri::OwnedScene;
+use makhnodri::Scene;
 use std::collections::HashSet;
 use std::fmt::Display;
 use std::fs;
@@ -53,8 +53,8 @@ fn make_folder(folder: &Path) -> Result<(), Fault> {
 /// The library takes the scene, lists as many pairs as the index says that its report has, and all that the index has of it.
 fn held(entry: &Entry, text: &str) -> Result<(), Fault> {
     let fault = |words: &dyn Display| Fault::new(format!("{}: {words}: this is a fault of the program", entry.name));
-    let scene = OwnedScene::read(text.as_bytes()).map_err(|refusal| fault(&refusal))?;
-    let listed = scene.as_scene().listed().map_err(|refusal| fault(&refusal))?;
+    let scene = Scene::read(text.as_bytes()).map_err(|refusal| fault(&refusal))?;
+    let listed = scene.listed().map_err(|refusal| fault(&refusal))?;
     if listed.len() as u64 != entry.listed {
         return Err(fault(&format!("the library lists {} pairs, and {} were found", listed.len(), entry.listed)));
     }

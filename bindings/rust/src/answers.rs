@@ -74,7 +74,7 @@ pub struct Listed {
     pub box_tests: usize,
 }
 
-/// Why a call was refused, in the order of the numbers 1 to 12.
+/// Why a call was refused, in the order of the numbers: 1 to 12, 15 and 16.
 #[derive(Clone, Copy, Debug, PartialEq, Eq, Hash)]
 pub enum Refusal {
     Shape = 1,
@@ -89,12 +89,14 @@ pub enum Refusal {
     LateRecord,
     TooMany,
     ShortBuffer,
+    BrokenSeam = 15,
+    BeyondOldRange = 16,
 }
 
 /// Why no list was made.
 #[derive(Clone, Copy, Debug, PartialEq, Eq, Hash)]
 pub enum ListRefusal {
-    /// 1, 2, 3 or 4.
+    /// 1, 2, 3, 15 or 4; for contacts 16 too.
     Scene(Refusal),
     /// 7, with the count of pairs that need room.
     NoRoom { needed: usize },
@@ -107,14 +109,23 @@ pub enum TextRefusal {
     ShortBuffer,
     /// 8: the text is too long.
     LongText,
-    /// 9, 10, 11, 2, 3 or 4 in a line, counted from 1.
+    /// 9, 10, 11, 2, 3, 15 or 4 in a line, counted from 1.
     Line { refusal: Refusal, line: usize },
+}
+
+/// Why a scene was not turned round.
+#[derive(Clone, Copy, Debug, PartialEq, Eq, Hash)]
+pub enum TurnRefusal {
+    /// 1, 2, 3 or 4.
+    Scene(Refusal),
+    /// It has seams, and only a scene without them is played backwards.
+    Seams,
 }
 
 /// Why no claim was answered.
 #[derive(Clone, Copy, Debug, PartialEq, Eq, Hash)]
 pub enum ClaimsRefusal {
-    /// 1, 2, 3 or 4, of the scene.
+    /// 1, 2, 3, 15 or 4, of the scene.
     Scene(Refusal),
     /// 8: the text of claims is too long.
     LongText,
@@ -124,11 +135,11 @@ pub enum ClaimsRefusal {
     NoRoom { needed: usize },
 }
 
-const REFUSALS: [(Refusal, &str); 12] = [
-    (Refusal::Shape, "positions not a multiple of 6 long, edges of 2, triangles of 3, or a count over its size"),
+const REFUSALS: [(Refusal, &str); 14] = [
+    (Refusal::Shape, "positions not a multiple of 6 long, edges of 2, triangles of 3, seams of 2, or a count over its size"),
     (Refusal::Coordinate, "a coordinate outside its range"),
     (Refusal::UnknownVertex, "a vertex number not below the vertex count"),
-    (Refusal::RepeatedVertex, "a vertex twice in one edge or triangle"),
+    (Refusal::RepeatedVertex, "a vertex twice in one edge or triangle, or two that stand for one"),
     (Refusal::NotThere, "a vertex, edge, triangle or piece asked for that isn't there"),
     (Refusal::SharedVertex, "the pair asked for shares a vertex"),
     (Refusal::NoRoom, "more listed pairs than room"),
@@ -137,6 +148,8 @@ const REFUSALS: [(Refusal, &str); 12] = [
     (Refusal::LateRecord, "a record after one of a later kind"),
     (Refusal::TooMany, "one record more than its size"),
     (Refusal::ShortBuffer, "a lent scene buffer that is too short"),
+    (Refusal::BrokenSeam, "a seam that breaks the rules of seams, or whose two positions differ"),
+    (Refusal::BeyondOldRange, "a contact asked for in a scene with a coordinate beyond 262,143"),
 ];
 
 impl Refusal {
@@ -145,11 +158,13 @@ impl Refusal {
     }
 
     pub fn words(self) -> &'static str {
-        REFUSALS[self as usize - 1].1
+        let own = REFUSALS.iter().find(|(refusal, _)| *refusal == self);
+        own.expect("every refusal has its words").1
     }
 
     fn numbered(number: u64) -> Refusal {
-        REFUSALS[number as usize - 1].0
+        let own = REFUSALS.iter().find(|(refusal, _)| refusal.number() as u64 == number);
+        own.expect("the library gives no other number").0
     }
 }
 
@@ -225,6 +240,16 @@ impl Display for ClaimsRefusal {
     }
 }
 
+impl Display for TurnRefusal {
+    fn fmt(&self, f: &mut Formatter) -> fmt::Result {
+        match self {
+            TurnRefusal::Scene(refusal) => refusal.fmt(f),
+            TurnRefusal::Seams => f.write_str("a scene with seams is not turned round"),
+        }
+    }
+}
+
+impl Error for TurnRefusal {}
 impl Error for ClaimsRefusal {}
 impl Error for Refusal {}
 impl Error for ListRefusal {}

@@ -1,14 +1,11 @@
 //! Exact contact verdicts for a mesh that moves from a start to an end, over a library whose every answer is proved.
 //!
 //! ```
-//! use makhnodri::{Kind, Refusal, Scene, Settled, Verdict};
+//! use makhnodri::{Contact, Kind, Refusal, Scene, Settled, Verdict};
 //!
 //! // a resting triangle, and a point that goes through it
-//! let scene = Scene {
-//!     positions: &[0, 0, 0, 0, 0, 0, 4, 0, 0, 4, 0, 0, 0, 4, 0, 0, 4, 0, 1, 1, 1, 1, 1, -1],
-//!     edges: &[],
-//!     triangles: &[0, 1, 2],
-//! };
+//! let mut positions = vec![0, 0, 0, 0, 0, 0, 4, 0, 0, 4, 0, 0, 0, 4, 0, 0, 4, 0, 1, 1, 1, 1, 1, -1];
+//! let scene = Scene::new(&positions, &[], &[0, 1, 2]);
 //! assert_eq!(scene.judge_pair(Kind::PointTriangle, 3, 0), Ok(Verdict::Hit));
 //! assert_eq!(scene.judge_piece(Kind::PointTriangle, 3, 0, 0), Ok(Verdict::Miss));
 //! assert_eq!(scene.judge_pair(Kind::PointTriangle, 0, 0), Err(Refusal::SharedVertex));
@@ -16,25 +13,30 @@
 //!     println!("{pair:?}: {word:?}");
 //! }
 //!
+//! // a partner claims that the point meets piece 1, with weights; the answer goes by the weights alone
+//! assert_eq!(scene.claims_answered(b"pt\t3\t0\t1\t2\t2\t2\t0\t1\t1\n"), Ok(vec![true]));
+//!
 //! // the same point at rest above the triangle, and in it: both degenerate, and yet not alike
-//! let mut positions = scene.positions.to_vec();
 //! positions[18..].copy_from_slice(&[1, 1, 1, 1, 1, 1]);
-//! let above = Scene { positions: &positions, ..scene };
+//! let above = Scene::new(&positions, &[], &[0, 1, 2]);
 //! assert_eq!(above.judge_pair(Kind::PointTriangle, 3, 0), Ok(Verdict::Degenerate));
 //! assert_eq!(above.settle_pair(Kind::PointTriangle, 3, 0), Ok(Settled::Apart));
 //! positions[18..].copy_from_slice(&[1, 1, 0, 1, 1, 0]);
-//! let within = Scene { positions: &positions, ..scene };
+//! let within = Scene::new(&positions, &[], &[0, 1, 2]);
 //! assert_eq!(within.judge_pair(Kind::PointTriangle, 3, 0), Ok(Verdict::Degenerate));
 //! assert_eq!(within.settle_pair(Kind::PointTriangle, 3, 0), Ok(Settled::Touch));
 //!
-//! // a partner claims that the point meets piece 1, with weights; the answer goes by the weights alone
-//! assert_eq!(scene.claims_answered(b"pt\t3\t0\t1\t2\t2\t2\t0\t1\t1\n"), Ok(vec![true]));
+//! // when and where: at half the time, at the point that these shares of the corners 0, 1 and 2 make
+//! let contact = scene.contact_pt(3, 0).unwrap();
+//! let Contact::PointHit { time, low, middle, high, .. } = contact else { panic!("it is a hit") };
+//! assert_eq!([time, low, middle, high], [0.5, 0.5, 0.25, 0.25]);
 //! ```
 //!
 //! The names are those of the C functions, without `makhnodri_`; and a pair may also be asked for by its [`Kind`]. What begins with
 //! `judge` answers in three words, [`Verdict`]. What begins with `settle`, and the report, answers in four, [`Settled`]: what is
-//! degenerate is decided too. Either speaks for the space-time pieces of a pair. A miss, and apart too, says nothing of straight
-//! motion; only the list does: a pair that is not listed, and shares no vertex, meets neither in its pieces nor under straight motion.
+//! degenerate is decided too. What begins with `contact` answers in four words too, and a hit carries its time and its place,
+//! [`Contact`]. Each speaks for the space-time pieces of a pair. A miss, and apart too, says nothing of straight motion; only the list
+//! does: a pair that is not listed, and shares no vertex, meets neither in its pieces nor under straight motion.
 //!
 //! A pair's two places are a vertex and a triangle, or two edges, each counted from 0 in its own kind: pt 3 0 is vertex 3 and
 //! triangle 0.
@@ -43,13 +45,15 @@
 //! [`STACK`] bytes of stack.
 
 mod answers;
+mod contacts;
 mod raw;
 mod scenes;
 mod texts;
 
-pub use answers::{ClaimsRefusal, Kind, ListRefusal, Listed, Pair, Refusal, Settled, TextRefusal, Verdict};
+pub use answers::{ClaimsRefusal, Kind, ListRefusal, Listed, Pair, Refusal, Settled, TextRefusal, TurnRefusal, Verdict};
+pub use contacts::Contact;
 pub use scenes::{turn_scene, Scene};
-pub use texts::{read_scene, report, write_report, Counts, OwnedScene};
+pub use texts::{read_scene, report, write_report, Counts};
 
 /// The version of the wrapper, and of the header and library that it belongs to.
 pub const VERSION: &str = env!("CARGO_PKG_VERSION");
@@ -59,10 +63,17 @@ pub const COORDINATE_LIMIT: i32 = 524_287;
 pub const VERTEX_LIMIT: usize = 512;
 pub const EDGE_LIMIT: usize = 1_024;
 pub const TRIANGLE_LIMIT: usize = 512;
+pub const SEAM_LIMIT: usize = 512;
 /// Bytes of a scene text.
 pub const TEXT_LIMIT: usize = 32_768;
 /// Pairs that a report has room for.
 pub const REPORT_ROOM: usize = 3_072;
+/// Contacts are given in scenes whose coordinates are no larger in size.
+pub const CONTACT_LIMIT: i32 = 262_143;
+/// 2^20: so many parts of a contact's time or share are 1.
+pub const CONTACT_UNIT: u32 = 1 << 20;
+/// Numbers of a contact in `Scene::contact_scene`: piece, k and three shares.
+pub const CONTACT_LENGTH: usize = 5;
 /// A claim with a weight above this is answered no.
 pub const WEIGHT_LIMIT: u64 = 1 << 40;
 /// No scene lists more.
@@ -72,6 +83,7 @@ pub const PAIR_LIMIT: usize = 785_920;
 pub const POSITIONS_LENGTH: usize = 6 * VERTEX_LIMIT;
 pub const EDGES_LENGTH: usize = 2 * EDGE_LIMIT;
 pub const TRIANGLES_LENGTH: usize = 3 * TRIANGLE_LIMIT;
+pub const SEAMS_LENGTH: usize = 2 * SEAM_LIMIT;
 /// How long the array is that a report is written into, in bytes; every report fits.
 pub const REPORT_LENGTH: usize = 65_536;
 

@@ -15,25 +15,28 @@ pub struct Flat {
     pub positions: Vec<i32>,
     pub edges: Vec<u16>,
     pub triangles: Vec<u16>,
+    pub seams: Vec<u16>,
 }
 
 impl Flat {
     pub fn of(scene: &scene::Scene) -> Flat {
-        let (positions, edges, triangles) = slices::flat(scene);
+        let slices::Flat { positions, edges, triangles, seams } = slices::flat(scene);
         let narrow = |numbers: Vec<u64>| numbers.into_iter().map(|n| n as u16).collect();
-        Flat { positions: positions.into_iter().map(|n| n as i32).collect(), edges: narrow(edges), triangles: narrow(triangles) }
+        let positions = positions.into_iter().map(|n| n as i32).collect();
+        Flat { positions, edges: narrow(edges), triangles: narrow(triangles), seams: narrow(seams) }
     }
 
     pub fn scene(&self) -> Scene<'_> {
-        Scene { positions: &self.positions, edges: &self.edges, triangles: &self.triangles }
+        Scene::new(&self.positions, &self.edges, &self.triangles).sewn(&self.seams)
     }
 
     /// The same for the independent program.
     pub fn independent<T>(&self, ask: impl FnOnce(Slices) -> Result<T, compare::refusal::Refusal>) -> Answer<T> {
         let positions: Vec<i64> = self.positions.iter().map(|&n| n.into()).collect();
-        let edges: Vec<u64> = self.edges.iter().map(|&n| n.into()).collect();
-        let triangles: Vec<u64> = self.triangles.iter().map(|&n| n.into()).collect();
-        ask(Slices { positions: &positions, edges: &edges, triangles: &triangles }).map_err(|r| (r.number, r.third))
+        let wide = |numbers: &[u16]| numbers.iter().map(|&n| n.into()).collect::<Vec<u64>>();
+        let (edges, triangles, seams) = (wide(&self.edges), wide(&self.triangles), wide(&self.seams));
+        let slices = Slices { positions: &positions, edges: &edges, triangles: &triangles, seams: &seams };
+        ask(slices).map_err(|r| (r.number, r.third))
     }
 }
 
@@ -103,7 +106,7 @@ pub fn settled(flat: &Flat, room: usize, bytes: usize) -> Answer<(Vec<u32>, Vec<
     answer.map(|_| (list[..count].to_vec(), words[..count].to_vec()))
 }
 
-/// The scene turned round, or a refusal, after which it stands as it was.
+/// The three lists of the scene turned round, or a refusal, after which they stand as they were.
 pub fn turned(flat: &Flat) -> Answer<Flat> {
     let mut turned = flat.clone();
     let answer = turn_scene(&mut turned.positions, &mut turned.edges, &mut turned.triangles).map_err(bare);
@@ -116,17 +119,20 @@ pub fn every_answer(flat: &Flat) -> Vec<(&'static str, Answer<()>)> {
     let scene = flat.scene();
     let mut out = vec![
         ("check", scene.check_scene().map_err(bare)),
-        ("turn", turned(flat).map(drop)),
         ("count", scene.count_pairs().map(drop).map_err(bare)),
         ("list", listed(flat, 40).map(drop)),
         ("settle", settled(flat, 40, 50).map(drop)),
     ];
+    // a scene with seams is not played backwards
+    out.extend(flat.seams.is_empty().then(|| ("turn", turned(flat).map(drop))));
     for kind in KINDS {
         out.push(("pair", scene.judge_pair(kind, 0, 1).map(drop).map_err(bare)));
         out.push(("piece", scene.judge_piece(kind, 0, 1, 0).map(drop).map_err(bare)));
         out.push(("settled pair", scene.settle_pair(kind, 0, 1).map(drop).map_err(bare)));
         out.push(("settled piece", scene.settle_piece(kind, 0, 1, 0).map(drop).map_err(bare)));
+        out.push(("contact", scene.contact_pair(kind, 0, 1).map(drop).map_err(bare)));
     }
+    out.push(("contacts", scene.contact_scene(&mut painted(40), &mut painted(40), &mut painted(200)).map(drop).map_err(of_list)));
     out
 }
 

@@ -19,7 +19,7 @@ fn header() -> BTreeMap<String, i64> {
     text.lines().filter_map(numbered).collect()
 }
 
-const REFUSALS: [(&str, Refusal); 12] = [
+const REFUSALS: [(&str, Refusal); 14] = [
     ("SHAPE", Refusal::Shape),
     ("COORDINATE", Refusal::Coordinate),
     ("UNKNOWN_VERTEX", Refusal::UnknownVertex),
@@ -32,6 +32,8 @@ const REFUSALS: [(&str, Refusal); 12] = [
     ("LATE_RECORD", Refusal::LateRecord),
     ("TOO_MANY", Refusal::TooMany),
     ("SHORT_BUFFER", Refusal::ShortBuffer),
+    ("BROKEN_SEAM", Refusal::BrokenSeam),
+    ("BEYOND_OLD_RANGE", Refusal::BeyondOldRange),
 ];
 
 #[test]
@@ -45,15 +47,20 @@ fn the_header_has_the_same_numbers() {
         ("VERTEX_LIMIT", VERTEX_LIMIT),
         ("EDGE_LIMIT", EDGE_LIMIT),
         ("TRIANGLE_LIMIT", TRIANGLE_LIMIT),
+        ("SEAM_LIMIT", SEAM_LIMIT),
         ("TEXT_LIMIT", TEXT_LIMIT),
         ("REPORT_ROOM", REPORT_ROOM),
         ("PAIR_LIMIT", PAIR_LIMIT),
+        ("CONTACT_LIMIT", CONTACT_LIMIT as usize),
+        ("CONTACT_UNIT", CONTACT_UNIT as usize),
+        ("CONTACT_LENGTH", CONTACT_LENGTH),
         ("WEIGHT_LIMIT", WEIGHT_LIMIT as usize),
         ("NO", false as usize),
         ("YES", true as usize),
         ("POSITIONS_LENGTH", POSITIONS_LENGTH),
         ("EDGES_LENGTH", EDGES_LENGTH),
         ("TRIANGLES_LENGTH", TRIANGLES_LENGTH),
+        ("SEAMS_LENGTH", SEAMS_LENGTH),
         ("REPORT_LENGTH", REPORT_LENGTH),
         ("STACK", STACK),
         ("HIT", Verdict::Hit as usize),
@@ -77,6 +84,20 @@ fn returned(name: &str) -> String {
     let case = format!("case MAKHNODRI_{name}: return \"");
     let from = text.find(&case).unwrap_or_else(|| panic!("no words for {name}")) + case.len();
     text[from..].split('"').next().unwrap().to_string()
+}
+
+/// The independent program has each size once more.
+#[test]
+fn the_independent_program_has_the_same_sizes() {
+    use compare::scene as independent;
+    assert_eq!(COORDINATE_LIMIT as i64, independent::COORDINATE_LIMIT);
+    let sizes = [VERTEX_LIMIT, EDGE_LIMIT, TRIANGLE_LIMIT, SEAM_LIMIT, TEXT_LIMIT, REPORT_ROOM];
+    let wanted = [independent::VERTEX_LIMIT, independent::EDGE_LIMIT, independent::TRIANGLE_LIMIT, independent::SEAM_LIMIT];
+    assert_eq!(sizes[..4], wanted);
+    assert_eq!(sizes[4..], [independent::TEXT_LIMIT, independent::REPORT_ROOM]);
+    assert_eq!([POSITIONS_LENGTH, EDGES_LENGTH, TRIANGLES_LENGTH, SEAMS_LENGTH], compare::text::LENT_LENGTHS);
+    assert_eq!(WEIGHT_LIMIT, compare::claims::WEIGHT_LIMIT);
+    assert_eq!(Refusal::BrokenSeam.number() as u64, compare::refusal::BROKEN_SEAM);
 }
 
 #[test]

@@ -9,9 +9,9 @@ const TOP: &str = concat!(env!("CARGO_MANIFEST_DIR"), "/../..");
 /// The lines as they stand on the page.
 #[rustfmt::skip]
 fn as_shown() -> Result<(), Box<dyn Error>> {
-    let scene = makhnodri::OwnedScene::read(&std::fs::read("scenes/printed.scene")?)?;
-    for (pair, word) in scene.as_scene().settled()? { println!("{pair:?} {word:?}"); }
-    let words: Vec<_> = scene.as_scene().settled()?.into_iter().map(|(pair, word)| (pair.kind, pair.first, pair.second, word)).collect();
+    let scene = makhnodri::Scene::read(&std::fs::read("scenes/printed.scene")?)?;
+    for (pair, word) in scene.settled()? { println!("{pair:?} {word:?}"); }
+    let words: Vec<_> = scene.settled()?.into_iter().map(|(pair, word)| (pair.kind, pair.first, pair.second, word)).collect();
     assert_eq!(words, [(Kind::PointTriangle, 3, 0, Settled::Hit), (Kind::EdgeEdge, 0, 1, Settled::Hit)]);
     Ok(())
 }

@@ -44,6 +44,8 @@ fn wrong_shapes() -> Vec<Flat> {
     out.push(with(|flat| flat.positions.resize(6 * 513, 0)));
     out.push(with(|flat| flat.edges.extend([0, 1].repeat(1_022))));
     out.push(with(|flat| flat.triangles.extend([0, 1, 2].repeat(511))));
+    out.push(with(|flat| flat.seams.push(0)));
+    out.push(with(|flat| flat.seams.extend([1, 0].repeat(513))));
     out
 }
 
@@ -59,6 +61,7 @@ fn a_wrong_shape_is_refused_before_all_else() {
         worse(&|flat| flat.positions[0] = 524_288);
         worse(&|flat| flat.edges[0] = 60_000);
         worse(&|flat| flat.triangles[0] = flat.triangles[1]);
+        worse(&|flat| flat.seams.extend([1, 0]));
     }
 }
 
@@ -74,10 +77,10 @@ fn the_sizes_themselves_are_taken() {
     assert_eq!(Flat::default().scene().settled(), Ok(vec![]));
 }
 
-// ---- 2, 3, 4 of slices, each over the whole scene before the next
+// ---- 2, 3, 15, 4 of slices, each over the whole scene before the next
 
 #[test]
-fn the_four_checks_go_in_order_over_the_whole_scene() {
+fn the_checks_go_in_order_over_the_whole_scene() {
     let far: [fn(&mut Flat); 4] = [
         |flat| flat.positions[0] = 524_288,
         |flat| *flat.positions.last_mut().unwrap() = -524_288,
@@ -120,10 +123,11 @@ fn beyond(count: usize) -> Vec<usize> {
     out
 }
 
-/// The pair and these pieces, asked for in three words and in four.
+/// The pair and these pieces, asked for in three words and in four; and the pair's contact.
 fn asked(flat: &Flat, kind: Kind, first: usize, second: usize, pieces: &[usize]) -> Vec<Result<(), Refusal>> {
     let scene = flat.scene();
     let mut out = vec![scene.judge_pair(kind, first, second).map(drop), scene.settle_pair(kind, first, second).map(drop)];
+    out.push(scene.contact_pair(kind, first, second).map(drop));
     for &piece in pieces {
         out.push(scene.judge_piece(kind, first, second, piece).map(drop));
         out.push(scene.settle_piece(kind, first, second, piece).map(drop));
@@ -238,36 +242,40 @@ fn room_is_the_smaller_of_the_two_and_the_last_check() {
 // ---- 12
 
 /// Reads into buffers of these lengths, and holds every number behind the scene, or all of them after a refusal, to what it was.
-fn read_into(text: &[u8], lengths: [usize; 3]) -> Answer<Flat> {
+fn read_into(text: &[u8], lengths: [usize; 4]) -> Answer<Flat> {
     let mut positions: Vec<i32> = painted(lengths[0]);
-    let (mut edges, mut triangles): (Vec<u16>, Vec<u16>) = (painted(lengths[1]), painted(lengths[2]));
-    let before = (positions.clone(), edges.clone(), triangles.clone());
-    let answer = makhnodri::read_scene(text, &mut positions, &mut edges, &mut triangles);
+    let mut rest: [Vec<u16>; 3] = [1, 2, 3].map(|place| painted(lengths[place]));
+    let before = (positions.clone(), rest.clone());
+    let [edges, triangles, seams] = &mut rest;
+    let answer = makhnodri::read_scene(text, &mut positions, edges, triangles, seams);
     let counts = answer.unwrap_or_default();
-    let (p, e, t) = (6 * counts.vertices, 2 * counts.edges, 3 * counts.triangles);
+    let (p, ends) = (6 * counts.vertices, [2 * counts.edges, 3 * counts.triangles, 2 * counts.seams]);
     assert_eq!(positions[p..], before.0[p..]);
-    assert_eq!(edges[e..], before.1[e..]);
-    assert_eq!(triangles[t..], before.2[t..]);
-    let flat = Flat { positions: positions[..p].to_vec(), edges: edges[..e].to_vec(), triangles: triangles[..t].to_vec() };
-    answer.map(|_| flat).map_err(of_text)
+    for list in 0..3 {
+        assert_eq!(rest[list][ends[list]..], before.1[list][ends[list]..]);
+        rest[list].truncate(ends[list]);
+    }
+    positions.truncate(p);
+    let [edges, triangles, seams] = rest;
+    answer.map(|_| Flat { positions, edges, triangles, seams }).map_err(of_text)
 }
 
-const LENT: [usize; 3] = [3_072, 2_048, 1_536];
+const LENT: [usize; 4] = [3_072, 2_048, 1_536, 1_024];
 
 #[test]
 fn a_short_buffer_is_refused_before_the_text_is_looked_at() {
     let (long, bad) = ([b'\n'; 32_769], b"x");
     for text in [PRINTED_SCENE.as_bytes(), b"", &long, bad] {
-        for buffer in 0..3 {
+        for buffer in 0..4 {
             for short in [0, 1, LENT[buffer] - 6, LENT[buffer] - 1] {
                 let mut lengths = LENT;
                 lengths[buffer] = short;
                 assert_eq!(read_into(text, lengths), Err((12, 0)));
-                lengths[(buffer + 1) % 3] = 0;
+                lengths[(buffer + 1) % 4] = 0;
                 assert_eq!(read_into(text, lengths), Err((12, 0)));
             }
         }
-        assert_eq!(read_into(text, [0; 3]), Err((12, 0)));
+        assert_eq!(read_into(text, [0; 4]), Err((12, 0)));
     }
     assert_eq!(read_into(&long, LENT), Err((8, 0)));
     assert_eq!(read_into(bad, LENT), Err((9, 1)));
@@ -287,12 +295,12 @@ fn buffers_that_are_long_enough_hold_the_scene_in_front() {
 fn texts_at_the_edges_of_the_rules() {
     let mut numbers = std::collections::BTreeSet::new();
     for case in compare::cases::text_cases() {
-        let wanted = compare::text::read_lent(&case.text, LENT[0], LENT[1], LENT[2]);
+        let wanted = compare::text::read_lent(&case.text, LENT);
         let wanted = wanted.map(|scene| Flat::of(&scene)).map_err(|refusal| (refusal.number, refusal.third));
         assert_eq!(read_into(&case.text, LENT), wanted, "{}", case.name);
         numbers.extend(wanted.err().map(|(number, _)| number));
     }
-    assert_eq!(numbers.into_iter().collect::<Vec<u64>>(), [2, 3, 4, 8, 9, 10, 11]);
+    assert_eq!(numbers.into_iter().collect::<Vec<u64>>(), [2, 3, 4, 8, 9, 10, 11, 15]);
 }
 
 #[test]
@@ -327,6 +335,98 @@ fn claims_are_answered_or_refused() {
         assert_eq!(answers, [7; 4]);
         assert!(wanted.to_string().contains(&format!("refused {}", wanted.refusal().number())));
     }
-    let half = Scene { positions: &scene.positions[..3], ..scene };
+    let half = Scene { positions: (&scene.positions[..3]).into(), ..scene.borrowed() };
     assert_eq!(half.check_claims(&two, &mut answers), Err(ClaimsRefusal::Scene(Refusal::Shape)));
+}
+
+// ---- 15, and 4 by seams
+
+/// The good scene with vertices 5 and 6 where 0 is, 7 where 1 is, 8 where 0 is at the start alone and 9 where it is at the end alone.
+fn cloth() -> Flat {
+    with(|flat| {
+        for (of, changed) in [(0, None), (0, None), (1, None), (0, Some(5)), (0, Some(1))] {
+            let mut place = flat.positions[6 * of..6 * of + 6].to_vec();
+            changed.into_iter().for_each(|number: usize| place[number] += 1);
+            flat.positions.extend(place);
+        }
+        flat.seams = vec![5, 0];
+    })
+}
+
+fn sewn(seams: &[u16]) -> Flat {
+    Flat { seams: seams.to_vec(), ..cloth() }
+}
+
+#[test]
+fn each_broken_seam_is_refused() {
+    for fine in [&[][..], &[5, 0], &[6, 5], &[5, 0, 6, 0], &[5, 0, 6, 0, 7, 1]] {
+        assert_eq!(sewn(fine).scene().check_scene(), Ok(()), "{fine:?}");
+    }
+    let broken = [
+        &[5, 5][..],
+        &[0, 5],
+        &[6, 0, 5, 0],
+        &[5, 0, 5, 0],
+        &[5, 0, 6, 5],
+        &[6, 5, 7, 6],
+        &[1, 0],
+        &[8, 0],
+        &[9, 0],
+        &[5, 0, 9, 0],
+    ];
+    for seams in broken {
+        refused_by_all(&sewn(seams), 15);
+        // 2 and 3 come before it, wherever they are, and 4 behind it
+        refused_by_all(&Flat { positions: [&sewn(seams).positions[..59], &[524_288]].concat(), ..sewn(seams) }, 2);
+        refused_by_all(&Flat { triangles: vec![0, 1, 10], ..sewn(seams) }, 3);
+        refused_by_all(&sewn(&[seams, &[9, 10]].concat()), 3);
+        refused_by_all(&Flat { edges: vec![0, 0], ..sewn(seams) }, 15);
+        refused_by_all(&Flat { edges: vec![5, 0], ..sewn(seams) }, 15);
+    }
+}
+
+/// Two corners that stand for one vertex, where one or both are replaced.
+#[test]
+fn a_part_with_two_corners_sewn_together_is_refused() {
+    let three = sewn(&[5, 0, 6, 0, 7, 1]);
+    for edge in [[0, 5], [5, 0], [5, 6], [6, 0], [1, 7]] {
+        refused_by_all(&Flat { edges: edge.to_vec(), ..three.clone() }, 4);
+        refused_by_all(&Flat { triangles: vec![0, 1, 2, edge[0], 3, edge[1]], ..three.clone() }, 4);
+        assert_eq!(Flat { edges: edge.to_vec(), seams: vec![], ..three.clone() }.scene().check_scene(), Ok(()));
+    }
+}
+
+/// Sharing by the vertex stood for: 6, on every way to ask; and a replaced vertex keeps its own pairs.
+#[test]
+fn what_is_sewn_shares_a_vertex() {
+    let flat = Flat { edges: vec![5, 3, 0, 4, 7, 2], triangles: vec![7, 3, 4], ..sewn(&[5, 0, 7, 1]) };
+    for (kind, first, second) in [(Kind::EdgeEdge, 0, 1), (Kind::PointTriangle, 1, 0), (Kind::PointTriangle, 7, 0)] {
+        let pieces = if kind == Kind::EdgeEdge { &[0, 1, 2, 3][..] } else { &[0, 1, 2] };
+        for answer in asked(&flat, kind, first, second, pieces) {
+            assert_eq!(answer, Err(Refusal::SharedVertex));
+        }
+    }
+    assert!(asked(&flat, Kind::EdgeEdge, 0, 2, &[0, 1, 2, 3]).iter().all(Result::is_ok));
+    let same: Vec<_> = [0, 5].map(|vertex| asked(&flat, Kind::PointTriangle, vertex, 0, &[0, 1, 2])).into();
+    assert!(same[0].iter().all(Result::is_ok) && same[0] == same[1]);
+}
+
+/// A scene that borrows, one that owns, and one that was read are one scene to every call.
+#[test]
+fn a_scene_borrows_or_owns() {
+    let flat = sewn(&[5, 0, 6, 0]);
+    let borrowed = flat.scene();
+    let owned = borrowed.clone().into_owned();
+    assert!(matches!(borrowed.positions, std::borrow::Cow::Borrowed(_)) && matches!(owned.seams, std::borrow::Cow::Owned(_)));
+    assert_eq!((&borrowed, borrowed.settled()), (&owned.borrowed(), owned.settled()));
+    let text = compare::text::write(&flat.independent(compare::slices::scene).unwrap());
+    let read = Scene::read(text.as_bytes()).unwrap();
+    assert_eq!(read, owned);
+    assert_eq!(read.turned(), Err(makhnodri::TurnRefusal::Seams));
+    let unsewn = read.sewn(&[]);
+    let turned = unsewn.turned().unwrap();
+    assert_eq!(turned.turned().as_ref(), Ok(&unsewn));
+    assert_eq!(turned.settled().unwrap().len(), unsewn.settled().unwrap().len());
+    let half = Scene { positions: vec![0; 3].into(), ..unsewn };
+    assert_eq!(half.turned(), Err(makhnodri::TurnRefusal::Scene(Refusal::Shape)));
 }

@@ -3,7 +3,7 @@
 use compare::report::report;
 use compare::scene::REPORT_ROOM;
 use compare::trials::{fixed, seeded, Trial};
-use makhnodri::{OwnedScene, REPORT_LENGTH};
+use makhnodri::{Scene, REPORT_LENGTH};
 use makhnodri_tests::*;
 
 fn hold(Trial { name, text }: &Trial) {
@@ -17,13 +17,13 @@ fn hold(Trial { name, text }: &Trial) {
 
 /// The text read by the library is the scene that the independent reader reads, and is accepted.
 fn hold_reading(Trial { name, text }: &Trial) {
-    let got = OwnedScene::read(text).map_err(of_text);
+    let got = Scene::read(text).map_err(of_text);
     let wanted = compare::text::read(text).map_err(|refusal| (refusal.number, refusal.third));
     match (&got, &wanted) {
         (Ok(got), Ok(wanted)) => {
             let wanted = Flat::of(wanted);
-            assert_eq!(got.as_scene(), wanted.scene(), "{name}");
-            assert_eq!(got.as_scene().check_scene(), Ok(()), "{name}");
+            assert_eq!(*got, wanted.scene(), "{name}");
+            assert_eq!(got.check_scene(), Ok(()), "{name}");
         }
         _ => assert_eq!(got.map(drop), wanted.map(drop), "{name}"),
     }

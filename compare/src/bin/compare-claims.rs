@@ -66,9 +66,10 @@ fn compare(program: &str, seeds: u64, launcher: &[String]) {
             exit(1);
         }
     }
-    for word in
-        ["yes", "no", "refused 2", "refused 3", "refused 4", "refused 5", "refused 6", "refused 8", "refused 9", "refused 10"]
-    {
+    for word in [
+        "yes", "no", "refused 2", "refused 3", "refused 4", "refused 5", "refused 6", "refused 8", "refused 9", "refused 10",
+        "refused 15",
+    ] {
         if !wanted_words.contains_key(word) {
             println!("claims: never wanted: {word}");
             differences += 1;

@@ -174,6 +174,13 @@ pub fn seeded(seed: u64) -> Vec<Trial> {
     }
     let wrong_scene = crate::damage::damaged(&mut random, std::str::from_utf8(&plain.scene).unwrap());
     out.push(Trial { scene: wrong_scene, claims: damaged(&mut random, &text) });
+    // parts that share no number, and a vertex by a seam
+    let unsewn = scene.unsewn();
+    let sewn = all_pairs(&scene).into_iter().find(|pair| pair.shares_a_vertex(&scene) && !pair.shares_a_vertex(&unsewn));
+    out.extend(sewn.map(|pair| {
+        let last = line(&Claim { pair, piece: random.below(3), weights: [1; 6] });
+        Trial { scene: plain.scene.clone(), claims: format!("{text}{last}").into_bytes() }
+    }));
     out.push(plain);
     out
 }

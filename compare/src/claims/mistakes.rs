@@ -24,14 +24,17 @@ pub enum Mistake {
     EndWithoutLineFeed,
     PieceNotLookedAt,
     ClaimsBeforeTheScene,
+    CornersByOwnNumber,
+    SharedByOwnNumber,
 }
 
 use Mistake::*;
 
-pub const ALL: [Mistake; 19] = [
+pub const ALL: [Mistake; 21] = [
     HeightNotLookedAt, TimeNotLookedAt, SumsNotCompared, SumOfNothing, SecondSimplexBackwards, CornersAsWritten, EdgesAsWritten,
     LimitShort, NoLimit, FourteenDigitsAreNo, AnswersBeforeTheFault, SharedBeforeThere, LinesFromNought, OwnVerdictAsked,
-    SumsInDoubles, SumsIn32Bits, EndWithoutLineFeed, PieceNotLookedAt, ClaimsBeforeTheScene,
+    SumsInDoubles, SumsIn32Bits, EndWithoutLineFeed, PieceNotLookedAt, ClaimsBeforeTheScene, CornersByOwnNumber,
+    SharedByOwnNumber,
 ];
 
 fn wrong_sums(mistake: Mistake, piece: &Piece, weights: [u64; 6]) -> bool {
@@ -63,6 +66,7 @@ fn wrong_yes(mistake: Mistake, scene: &Scene, claim: &Claim) -> bool {
             Piece { first: right.second, second: right.first }
         }
         PieceNotLookedAt => pieces(scene, claim.pair)[0].clone(),
+        CornersByOwnNumber => pieces(&scene.unsewn(), claim.pair)[claim.piece].clone(),
         _ => pieces(scene, claim.pair)[claim.piece].clone(),
     };
     if mistake == SecondSimplexBackwards {
@@ -74,7 +78,7 @@ fn wrong_yes(mistake: Mistake, scene: &Scene, claim: &Claim) -> bool {
 
 /// The piece with the corners of both parts in the order in which the scene writes them.
 fn as_written(scene: &Scene, claim: &Claim) -> Piece {
-    let mut renamed = Scene { vertices: Vec::new(), edges: Vec::new(), triangles: Vec::new() };
+    let mut renamed = Scene::default();
     let mut pair = claim.pair;
     if pair.kind == Kind::EdgeEdge {
         pair = Pair { first: pair.first.min(pair.second), second: pair.first.max(pair.second), ..pair };
@@ -105,6 +109,9 @@ fn wrong_claim(mistake: Mistake, line: &[u8]) -> Option<Claim> {
 }
 
 fn wrong_fault(mistake: Mistake, scene: &Scene, claim: &Claim) -> Result<(), u64> {
+    if mistake == SharedByOwnNumber {
+        return fault(&scene.unsewn(), claim);
+    }
     let right = fault(scene, claim);
     if mistake == SharedBeforeThere && right == Err(NOT_THERE) {
         let piece_there = Claim { piece: 0, ..*claim };

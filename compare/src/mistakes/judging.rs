@@ -104,8 +104,8 @@ fn in_written_order(scene: &Scene, pair: Pair) -> Settled {
     let (first, second) = pair.parts(scene);
     let vertices = first.iter().chain(second).map(|&v| scene.vertices[v]).collect();
     match pair.kind {
-        Kind::PointTriangle => of_pair(&Scene { vertices, edges: vec![], triangles: vec![[1, 2, 3]] }, Pair::pt(0, 0)),
-        Kind::EdgeEdge => of_pair(&Scene { vertices, edges: vec![[0, 1], [2, 3]], triangles: vec![] }, Pair::ee(0, 1)),
+        Kind::PointTriangle => of_pair(&Scene { vertices, triangles: vec![[1, 2, 3]], ..Scene::default() }, Pair::pt(0, 0)),
+        Kind::EdgeEdge => of_pair(&Scene { vertices, edges: vec![[0, 1], [2, 3]], ..Scene::default() }, Pair::ee(0, 1)),
     }
 }
 

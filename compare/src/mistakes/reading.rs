@@ -5,7 +5,7 @@ use crate::faults::{self, Cell, Limits, LIMITS, LINE_CHECKS};
 use crate::listing;
 use crate::refusal::*;
 use crate::scene::*;
-use crate::text::{self, Record};
+use crate::text;
 
 pub fn mistakes() -> Vec<Mistake> {
     let mut out = vec![
@@ -61,15 +61,10 @@ fn read_by(text: &[u8], rules: &Rules) -> Result<Scene, Refusal> {
         let body = line.strip_suffix(b"\n");
         let ended = body.is_some() || rules.last_without_lf;
         let Some(body) = (rules.understood)(body.unwrap_or(line)) else { continue };
-        let counts = [scene.vertices.len(), scene.edges.len(), scene.triangles.len()];
-        if let Some(&number) = faults::of_line(&body, ended, counts, rules.limits).first() {
+        if let Some(&number) = faults::of_line(&body, ended, &scene, rules.limits).first() {
             return Err(Refusal::new(number, above as u64 + 1));
         }
-        match text::record(&body).expect("a line without a fault") {
-            Record::Vertex(vertex) => scene.vertices.push(vertex),
-            Record::Edge(edge) => scene.edges.push(edge),
-            Record::Triangle(triangle) => scene.triangles.push(triangle),
-        }
+        faults::add(&mut scene, text::record(&body).expect("a line without a fault"));
     }
     Ok(scene)
 }

@@ -2,7 +2,9 @@
 
 use super::harm::{harm, SCENE_CHECKS};
 use super::question::*;
+use crate::affine::Affine;
 use crate::claims::{self, making};
+use crate::contacts::making as contact_scenes;
 use crate::damage::damaged;
 use crate::faults::cells;
 use crate::random::Random;
@@ -57,7 +59,56 @@ pub fn seeded(seed: u64) -> Vec<Question> {
         out.extend(whole(&mut random, &full));
         out.extend(pairs(&mut random, &full));
     }
+    out.extend(scenes_for_contacts(seed));
     out
+}
+
+/// Scenes that are hard to cut: each pair of them, and all in one call; one in the old range and its image under a map.
+fn scenes_for_contacts(seed: u64) -> Vec<Question> {
+    let mut random = Random::new(seed ^ 0xc0171);
+    let inside = contact_scenes::within(&generate::scene(seed));
+    let sent = contact_scenes::within(&Affine::draw(&mut random, &inside).send(&inside));
+    let mut scenes = (7 * seed..7 * seed + 7).map(contact_scenes::scene).collect::<Vec<Scene>>();
+    scenes.extend([inside, sent]);
+    let mut out = Vec::new();
+    for scene in scenes {
+        out.extend(about_contacts(&mut random, &scene));
+        let mut pairs: Vec<Pair> = all_pairs(&scene).into_iter().filter(|pair| !pair.shares_a_vertex(&scene)).collect();
+        (0..pairs.len().saturating_sub(MOST_PAIRS)).for_each(|_| {
+            pairs.swap_remove(random.below(pairs.len()));
+        });
+        out.extend(pairs.into_iter().flat_map(|pair| contact_of(&scene, pair)));
+    }
+    out
+}
+
+/// The contact of a pair; of two edges in either order.
+fn contact_of(scene: &Scene, pair: Pair) -> Vec<Question> {
+    let ask = |first: usize, second: usize| {
+        let lent = Lent { contacts: marks_of_32(ROW), ..Lent::of_scene(scene) };
+        Question { call: Call::Contact(Asked::of(pair.kind, false)), asked: [first as u64, second as u64, 0], lent }
+    };
+    let mut out = vec![ask(pair.first, pair.second)];
+    out.extend((pair.kind == Kind::EdgeEdge).then(|| ask(pair.second, pair.first)));
+    out
+}
+
+/// All contacts of a scene in one call: rooms that are just enough, each of the three too short by one number, more than enough, none.
+fn about_contacts(random: &mut Random, scene: &Scene) -> Vec<Question> {
+    let count = listing::listed(scene).len();
+    let more = count + 1 + random.below(20);
+    let less = count.saturating_sub(1);
+    let mut rooms = vec![(0, 0, 0), (count, count, (ROW * count).saturating_sub(1)), (less, count, ROW * count)];
+    rooms.extend([(count, less, ROW * count), (more, more, ROW * less), (less, less, ROW * less)]);
+    if count <= LONGEST_JUDGED {
+        rooms.extend([(count, count, ROW * count), (more, count, ROW * count + 4), (more, more, ROW * more)]);
+    }
+    let ask = |(list, words, contacts): (usize, usize, usize)| {
+        let rooms =
+            Lent { list: marks_of_32(list), words: marks(words), contacts: marks_of_32(contacts), ..Lent::of_scene(scene) };
+        Question::new(Call::ContactScene, rooms)
+    };
+    rooms.into_iter().map(ask).collect()
 }
 
 fn fit_to_harm(scene: &Scene) -> bool {
@@ -83,8 +134,8 @@ fn with_room(call: Call, scene: &Scene, list: usize, words: usize) -> Question {
     Question::new(call, lent)
 }
 
-/// Questions about the scene as a whole: room that is just enough, one too little, none, more than enough; and, played backwards,
-/// room that is just enough again.
+/// Questions about the scene as a whole: room that is just enough, one too little, none, more than enough; and, without its seams played
+/// backwards, room that is just enough again.
 fn whole(random: &mut Random, scene: &Scene) -> Vec<Question> {
     let count = listing::listed(scene).len();
     let calls = [Call::CheckScene, Call::CountPairs, Call::TurnScene];
@@ -99,11 +150,14 @@ fn whole(random: &mut Random, scene: &Scene) -> Vec<Question> {
         rooms.extend([(count, count), (count + more, count), (count, count + more), (count + more, count + more)]);
     }
     out.extend(rooms.into_iter().map(|(list, words)| with_room(Call::SettleScene, scene, list, words)));
+    let unsewn = scene.unsewn();
+    let count = listing::listed(&unsewn).len();
     if count <= LONGEST_JUDGED {
-        out.push(with_room(Call::SettleScene, &backwards::turned(scene), count, count));
+        out.push(with_room(Call::SettleScene, &backwards::turned(&unsewn), count, count));
     }
-    // numbers of their own, so that the other questions are those that they would be without claims
+    // numbers of their own, so that the other questions are those that they would be without claims and contacts
     out.extend(about_claims(&mut random.clone(), scene));
+    out.extend(about_contacts(&mut random.clone(), scene));
     out
 }
 
@@ -144,6 +198,7 @@ fn about(scene: &Scene, pair: Pair) -> Vec<Question> {
         [Call::Judge(whole), Call::Settle(whole)].iter().for_each(|&call| ask(call, 0));
         (0..pieces).for_each(|place| [Call::Judge(piece), Call::Settle(piece)].iter().for_each(|&call| ask(call, place)));
     }
+    out.extend(contact_of(scene, pair));
     out
 }
 
@@ -179,7 +234,9 @@ fn asked_for_wrongly(random: &mut Random, scene: &Scene) -> Vec<Question> {
             Kind::EdgeEdge => (scene.edges.len(), scene.edges.len(), 4),
         };
         let mut ask = |first: u64, second: u64, piece: u64| {
-            out.push(Question { call, asked: [first, second, piece], lent: Lent::of_scene(scene) });
+            let mut lent = Lent::of_scene(scene);
+            lend_a_row(call, &mut lent);
+            out.push(Question { call, asked: [first, second, piece], lent });
         };
         let inside = [firsts, seconds, pieces].map(|count| random.below(count) as u64);
         for place in 0..3 {
@@ -197,16 +254,24 @@ fn asked_for_wrongly(random: &mut Random, scene: &Scene) -> Vec<Question> {
     out
 }
 
-/// Pairs that share a vertex: a triangle with each of its corners, an edge with itself and with those that meet it.
+/// A pair's contact has one length.
+fn lend_a_row(call: Call, lent: &mut Lent) {
+    if matches!(call, Call::Contact(_)) {
+        lent.contacts = marks_of_32(ROW);
+    }
+}
+
+/// Pairs that share a vertex: a triangle with each of its corners and what stands for one, an edge with itself and with those that meet it.
 fn sharing(random: &mut Random, scene: &Scene, kind: Kind) -> Vec<(u64, u64)> {
     match kind {
         Kind::PointTriangle => {
             let triangle = random.below(scene.triangles.len());
-            scene.triangles[triangle].map(|corner| (corner as u64, triangle as u64)).to_vec()
+            let shares = |&vertex: &usize| Pair::pt(vertex, triangle).shares_a_vertex(scene);
+            (0..scene.vertices.len()).filter(shares).map(|vertex| (vertex as u64, triangle as u64)).collect()
         }
         Kind::EdgeEdge => {
             let edge = random.below(scene.edges.len());
-            let meets = |&other: &usize| scene.edges[other].iter().any(|end| scene.edges[edge].contains(end));
+            let meets = |&other: &usize| Pair::ee(edge, other).shares_a_vertex(scene);
             let met = (0..scene.edges.len()).filter(meets).take(6);
             met.flat_map(|other| [(edge as u64, other as u64), (other as u64, edge as u64)]).collect()
         }
@@ -237,12 +302,16 @@ fn on_harmed(random: &mut Random, call: Call, harmed: &Lent) -> Vec<Question> {
     if call.lists() {
         lent.list = marks_of_32(random.pick(&[0, 1_000]));
     }
-    if call == Call::SettleScene {
+    if call.settles_a_scene() {
         lent.words = marks(random.pick(&[0, 1_000]));
     }
     if call.tells_tests() {
         lent.counts = vec![NO_TESTS];
     }
+    if call == Call::ContactScene {
+        lent.contacts = marks_of_32(ROW * lent.words.len());
+    }
+    lend_a_row(call, &mut lent);
     if call == Call::CheckClaims {
         let mut own = random.clone();
         lent.text = own.pick(&[b"x\n".repeat(20_000).as_slice(), b"x\n", b""]).to_vec();
@@ -270,18 +339,19 @@ fn texts(random: &mut Random, scene: &Scene, seed: u64) -> Vec<Question> {
 
 /// Read into buffers of just the length, longer ones, and each too short by one, or empty; and reported.
 fn about_text(random: &mut Random, text: Vec<u8>) -> Vec<Question> {
-    let lengths = [6 * VERTEX_LIMIT, 2 * EDGE_LIMIT, 3 * TRIANGLE_LIMIT];
-    let short = random.below(3);
+    let lengths = text::LENT_LENGTHS;
+    let short = random.below(4);
     let mut short_of = lengths.map(|length| length + random.below(9));
     short_of[short] = random.pick(&[lengths[short] - 1, lengths[short] - 1, 0]);
     let longer = lengths.map(|length| length + random.below(100));
-    let read = |[positions, edges, triangles]: [usize; 3]| {
+    let read = |[positions, edges, triangles, seams]: [usize; 4]| {
         let lent = Lent {
             positions: marks_of_16(positions).into_iter().map(|n| n as i32 * 30_011).collect(),
             edges: marks_of_16(edges),
             triangles: marks_of_16(triangles),
+            seams: marks_of_16(seams),
             text: text.clone(),
-            counts: vec![u64::MAX - 1, 77, 1 << 40],
+            counts: vec![u64::MAX - 1, 77, 1 << 40, 5],
             ..Lent::default()
         };
         Question::new(Call::ReadScene, lent)

@@ -1,13 +1,15 @@
 //! Answers that are wrong in one respect each, so that the comparison can be seen to fail.
 
 use super::expected::{self, Expecting};
-use super::harm::{of_asked, of_scene, SCENE_CHECKS};
+use super::harm::{of_asked, of_range, of_scene, SCENE_CHECKS, SCENE_FAULTS};
 use super::question::*;
+use super::sorts::row;
 use crate::backwards;
 use crate::box_tests;
+use crate::contacts::mistakes::{self, Mistake};
 use crate::listing;
 use crate::refusal::*;
-use crate::scene::{Pair, Scene, COORDINATE_LIMIT, FIRST_COORDINATE_LIMIT};
+use crate::scene::{Kind, Pair, Scene, COORDINATE_LIMIT, FIRST_COORDINATE_LIMIT};
 
 /// Changes a right answer, or leaves it.
 type Change = Box<dyn Fn(&Question, &mut Answer)>;
@@ -32,7 +34,11 @@ pub fn all() -> Vec<Damage> {
     out.extend(bytes());
     out.extend(turning());
     out.extend(claims());
+    out.extend(seams());
     out.extend(box_tests());
+    out.extend(contacts());
+    out.extend(contact_rows());
+    out.extend(wrong_contacts());
     out
 }
 
@@ -59,6 +65,56 @@ fn numbers() -> Vec<Damage> {
             }
         }),
     ]
+}
+
+/// Seams that are looked at in part.
+fn seams() -> Vec<Damage> {
+    let mut out = vec![
+        damage("seams are not looked at", |question, answer| {
+            if question.call.takes_seams() {
+                unsewn(question, answer);
+            }
+        }),
+        damage("corners by own number", |question, answer| {
+            if question.call.asked().is_some() && answer.refusal() == 0 {
+                unsewn(question, answer);
+            }
+        }),
+        damage("sharing by own number", |question, answer| {
+            if question.call.asked().is_some() && answer.refusal() == SHARES_A_VERTEX {
+                unsewn(question, answer);
+            }
+        }),
+        damage("the numbers of a seam change places", |question, answer| {
+            if question.call.takes_seams() && question.lent.seams.len() > 1 {
+                answer.buffers[SEAMS][MARGIN..MARGIN + 4].rotate_left(2);
+            }
+        }),
+        damage("a text's seams are not written", |question, answer| {
+            if question.call == Call::ReadScene && answer.number == 0 {
+                answer.buffers[SEAMS] = question.lent.bytes()[SEAMS].clone();
+            }
+        }),
+        damage("15 in a text without its line", |question, answer| {
+            if question.call == Call::ReadScene && answer.refusal() == BROKEN_SEAM {
+                answer.number = BROKEN_SEAM << 32;
+            }
+        }),
+    ];
+    let faults = SCENE_FAULTS.into_iter().filter(|fault| fault.0 == BROKEN_SEAM || fault.1.ends_with("sewn together"));
+    out.extend(faults.map(|(_, fault)| {
+        answered(format!("answers where refused for: {fault}"), move |question| sole(question) == Some(fault))
+    }));
+    out
+}
+
+/// The answer without seams, in buffers that have them.
+fn unsewn(question: &Question, answer: &mut Answer) {
+    let lent = Lent { seams: vec![], ..question.lent.clone() };
+    let other = Expecting::default().answer(&Question { lent, ..question.clone() });
+    let seams = answer.buffers[SEAMS].clone();
+    *answer = other;
+    answer.buffers[SEAMS] = seams;
 }
 
 fn leave_tests(answer: &mut Answer, tests: usize) {
@@ -133,6 +189,180 @@ fn claims() -> Vec<Damage> {
     ]
 }
 
+/// The row at a place gets other numbers.
+fn put(answer: &mut Answer, place: usize, row: [u32; ROW]) {
+    for (i, number) in row.into_iter().enumerate() {
+        answer.buffers[CONTACTS][MARGIN + 4 * (ROW * place + i)..][..4].copy_from_slice(&number.to_le_bytes());
+    }
+}
+
+/// The rows that an answer has written: a place in the buffer, and the pair.
+fn written_rows(question: &Question, answer: &Answer) -> Vec<(usize, Pair)> {
+    if answer.refusal() > 0 {
+        return Vec::new();
+    }
+    match question.call {
+        Call::Contact(asked) if answer.number == 0 => {
+            let [first, second, _] = question.asked.map(|place| place as usize);
+            vec![(0, Pair { kind: asked.kind(), first, second })]
+        }
+        Call::ContactScene => {
+            let pairs = listing::listed(&expected::scene(&question.lent).unwrap()).into_iter().enumerate();
+            pairs.filter(|(place, _)| answer.buffers[WORDS][MARGIN + place] == 0).collect()
+        }
+        _ => Vec::new(),
+    }
+}
+
+/// What a contact is refused for, and what is left where there is none.
+fn contacts() -> Vec<Damage> {
+    let blank = |name: &str, which: fn(&Question, &Answer) -> bool| {
+        damage(name, move |question: &Question, answer: &mut Answer| {
+            if matches!(question.call, Call::Contact(_)) && which(question, answer) {
+                put(answer, 0, [0; ROW]);
+            }
+        })
+    };
+    vec![
+        blank("a miss clears the contact", |_, answer| answer.number == 1),
+        blank("a touch clears the contact", |_, answer| answer.number == 3),
+        blank("a pair that is apart clears the contact", |_, answer| answer.number == 4),
+        blank("5 clears the contact", |_, answer| answer.refusal() == NOT_THERE),
+        blank("16 clears the contact", |_, answer| answer.refusal() == BEYOND_OLD_RANGE),
+        damage("contacts beyond the old range are given", |question, answer| {
+            if question.call.finds_contacts() && answer.refusal() == BEYOND_OLD_RANGE {
+                answer.number = 1;
+            }
+        }),
+        damage("16 goes by the pair and not by the scene", |question, answer| {
+            let Some(asked) = question.call.asked().filter(|_| answer.refusal() == BEYOND_OLD_RANGE) else { return };
+            let scene = expected::scene(&question.lent).unwrap();
+            let pair = Pair { kind: asked.kind(), first: question.asked[0] as usize, second: question.asked[1] as usize };
+            let (first, second) = pair.parts(&scene);
+            let near = |&vertex: &usize| scene.vertices[vertex].iter().all(|n| n.abs() <= FIRST_COORDINATE_LIMIT);
+            if first.iter().chain(second).all(near) {
+                answer.number = 1;
+            }
+        }),
+        damage("262143 is beyond the old range", |question, answer| {
+            let largest = question.lent.positions.iter().map(|n| n.unsigned_abs() as i64).max();
+            if question.call.finds_contacts() && answer.refusal() == 0 && largest == Some(FIRST_COORDINATE_LIMIT) {
+                *answer = Answer { number: BEYOND_OLD_RANGE << 32, buffers: question.lent.bytes() };
+            }
+        }),
+        damage("7 before 16", |question, answer| {
+            if question.call == Call::ContactScene && answer.refusal() == BEYOND_OLD_RANGE && question.lent.list.is_empty() {
+                answer.number = NO_ROOM << 32;
+            }
+        }),
+        damage("16 with the count", |question, answer| {
+            if question.call == Call::ContactScene && answer.refusal() == BEYOND_OLD_RANGE {
+                answer.number += listing::listed(&expected::scene(&question.lent).unwrap()).len() as u64;
+            }
+        }),
+    ]
+}
+
+/// Which rows of a scene are written, and the room for them.
+fn contact_rows() -> Vec<Damage> {
+    let scene_call = |question: &Question, answer: &Answer| question.call == Call::ContactScene && answer.refusal() == 0;
+    vec![
+        damage("the fifth number of two edges stays", |question, answer| {
+            for (place, _) in written_rows(question, answer).into_iter().filter(|(_, pair)| pair.kind == Kind::EdgeEdge) {
+                let [piece, k, first, second, _] = row(answer, place);
+                put(answer, place, [piece, k, first, second, question.lent.contacts[ROW * place + 4]]);
+            }
+        }),
+        damage("the row of a pair that is not hit is 0", move |question, answer| {
+            if scene_call(question, answer) {
+                let hit: Vec<usize> = written_rows(question, answer).into_iter().map(|(place, _)| place).collect();
+                (0..answer.number as usize).filter(|place| !hit.contains(place)).for_each(|place| put(answer, place, [0; ROW]));
+            }
+        }),
+        damage("the rows of hits one behind the other", move |question, answer| {
+            if scene_call(question, answer) {
+                let rows: Vec<[u32; ROW]> = written_rows(question, answer).iter().map(|&(place, _)| row(answer, place)).collect();
+                answer.buffers[CONTACTS] = question.lent.bytes()[CONTACTS].clone();
+                rows.into_iter().enumerate().for_each(|(place, row)| put(answer, place, row));
+            }
+        }),
+        damage("what is behind the last row is 0", move |question, answer| {
+            if scene_call(question, answer) {
+                let behind = MARGIN + 4 * ROW * answer.number as usize;
+                let end = answer.buffers[CONTACTS].len() - MARGIN;
+                answer.buffers[CONTACTS][behind..end].fill(0);
+            }
+        }),
+        damage("the rows' room does not count", |question, answer| {
+            let (count, lent) = (answer.number as u32 as usize, &question.lent);
+            if question.call == Call::ContactScene
+                && answer.refusal() == NO_ROOM
+                && lent.list.len().min(lent.words.len()) >= count
+            {
+                answer.number = count as u64;
+            }
+        }),
+        damage("a part of a row is room for one", |question, answer| {
+            let (count, lent) = (answer.number as u32 as usize, &question.lent);
+            let others = lent.list.len().min(lent.words.len()) >= count;
+            let refused = question.call == Call::ContactScene && answer.refusal() == NO_ROOM;
+            if refused && others && lent.contacts.len().div_ceil(ROW) >= count {
+                answer.number = count as u64;
+            }
+        }),
+        damage("a row written where there is no room", |question, answer| {
+            let refused = question.call == Call::ContactScene && answer.refusal() == NO_ROOM;
+            if refused && question.lent.contacts.len() >= ROW {
+                put(answer, 0, [0; ROW]);
+            }
+        }),
+        damage("edges as they are asked for", |question, answer| {
+            for (place, pair) in written_rows(question, answer).into_iter().filter(|(_, pair)| pair.first > pair.second) {
+                if pair.kind == Kind::EdgeEdge {
+                    let [piece, k, first, second, last] = row(answer, place);
+                    put(answer, place, [[0, 2, 1, 3][piece as usize], k, second, first, last]);
+                }
+            }
+        }),
+    ]
+}
+
+/// The rows of a program that finds contacts in a wrong way.
+fn wrong_contacts() -> Vec<Damage> {
+    let of_rows = [
+        Mistake::NearestInPlaceOfCut,
+        Mistake::SmallestExactTime,
+        Mistake::TieToTheLaterPiece,
+        Mistake::LowestPieceWhateverItsTime,
+        Mistake::StartWeightsOnly,
+        Mistake::EndWeightsOnly,
+        Mistake::ShareOfTheLowerEnd,
+        Mistake::EndsAsWritten,
+        Mistake::CornersAsWritten,
+        Mistake::HigherEdgeFirst,
+        Mistake::TouchingPiecesTakePart,
+        Mistake::FloatsThroughout,
+        Mistake::WeightWrapsAt64Bits,
+        Mistake::LastShareIsTheRest,
+        Mistake::OneIsOneLess,
+        Mistake::TimeFromTheEnd,
+        Mistake::PiecesFromOne,
+    ];
+    let wrong = |mistake: Mistake| {
+        damage(format!("contacts: {mistake:?}"), move |question: &Question, answer: &mut Answer| {
+            let rows = written_rows(question, answer);
+            let Ok(scene) = expected::scene(&question.lent) else { return };
+            // a long list has nothing to show that a short one has not
+            for (place, pair) in rows.into_iter().take(20) {
+                if let Some(contact) = mistakes::of_pair(mistake, &scene, pair) {
+                    put(answer, place, contact.row());
+                }
+            }
+        })
+    };
+    of_rows.map(wrong).into()
+}
+
 fn renamed(name: &str, from: u64, to: u64, which: fn(Call) -> bool) -> Damage {
     damage(name, move |question: &Question, answer: &mut Answer| {
         if which(question.call) && answer.number == from {
@@ -190,6 +420,7 @@ fn another(name: &str, asked: impl Fn(&Question) -> Option<[u64; 3]> + 'static) 
 fn faults(question: &Question) -> Vec<(u64, &'static str)> {
     let mut faults = of_scene(&question.lent);
     faults.extend(question.call.asked().map(|asked| of_asked(question, asked)).unwrap_or_default());
+    faults.extend(question.call.finds_contacts().then(|| of_range(&question.lent)).flatten());
     faults
 }
 
@@ -213,7 +444,7 @@ fn answered(name: String, which: impl Fn(&Question) -> bool + 'static) -> Damage
 /// Which refusal is given where there are two; and one that is never given.
 fn orders() -> Vec<Damage> {
     let mut out = Vec::new();
-    let numbers = [&SCENE_CHECKS[..], &[NOT_THERE, SHARES_A_VERTEX]].concat();
+    let numbers = [&SCENE_CHECKS[..], &[NOT_THERE, SHARES_A_VERTEX, BEYOND_OLD_RANGE]].concat();
     for (i, &lower) in numbers.iter().enumerate() {
         for &higher in &numbers[i + 1..] {
             out.push(damage(format!("{higher} before {lower}"), move |question: &Question, answer: &mut Answer| {
@@ -243,7 +474,12 @@ fn orders() -> Vec<Damage> {
     }
     out.push(damage("a coordinate beyond the first range is refused in slices", |question, answer| {
         let far = |&n: &i32| n.unsigned_abs() as i64 > FIRST_COORDINATE_LIMIT;
-        if question.call.takes_a_scene() && faults(question).is_empty() && question.lent.positions.iter().any(far) {
+        let for_contacts = question.call.finds_contacts();
+        if question.call.takes_a_scene()
+            && !for_contacts
+            && faults(question).is_empty()
+            && question.lent.positions.iter().any(far)
+        {
             answer.number = OUT_OF_RANGE << 32;
         }
     }));
@@ -371,12 +607,12 @@ fn texts() -> Vec<Damage> {
         }),
         damage("counts are 0 after a refusal", |question, answer| {
             if question.call == Call::ReadScene && answer.refusal() > 0 {
-                answer.buffers[COUNTS][MARGIN..MARGIN + 24].fill(0);
+                answer.buffers[COUNTS][MARGIN..MARGIN + 32].fill(0);
             }
         }),
-        damage("the third count stays", move |question, answer| {
+        damage("the last count stays", move |question, answer| {
             if read(question, answer) {
-                answer.buffers[COUNTS][MARGIN + 16..MARGIN + 24].copy_from_slice(&question.lent.counts[2].to_le_bytes());
+                answer.buffers[COUNTS][MARGIN + 24..MARGIN + 32].copy_from_slice(&question.lent.counts[3].to_le_bytes());
             }
         }),
         damage("what lies behind the positions is 0", move |question, answer| {
@@ -403,6 +639,11 @@ fn buffers() -> Vec<Damage> {
         }),
         damage("triangle buffers may be short", |question, answer| {
             if answer.refusal() == LENT_TOO_SHORT && question.lent.triangles.len() < 1_536 {
+                answer.number = 0;
+            }
+        }),
+        damage("seam buffers may be short", |question, answer| {
+            if answer.refusal() == LENT_TOO_SHORT && question.lent.seams.len() < 1_024 {
                 answer.number = 0;
             }
         }),

@@ -2,6 +2,7 @@
 //! docs/DECISIONS.md, D13, D15, D25 and D68.
 
 use super::question::*;
+use crate::contacts::{self, Contact};
 use crate::refusal::{Refusal, NO_ROOM};
 use crate::scene::*;
 use crate::settled::{self, Settled};
@@ -15,6 +16,7 @@ use std::collections::HashMap;
 pub struct Expecting {
     scene: Scene,
     words: HashMap<Pair, Vec<Settled>>,
+    contacts: HashMap<Pair, Option<Contact>>,
 }
 
 fn number_of(verdict: Verdict) -> u64 {
@@ -67,7 +69,34 @@ impl Expecting {
             Call::WriteReport => Ok(write(lent)),
             Call::TurnScene => turn(lent),
             Call::CheckClaims => check_claims(lent),
+            Call::Contact(asked) => self.contact(question, asked, lent),
+            Call::ContactScene => self.contact_scene(lent),
         }
+    }
+
+    /// The word, and on a hit the row in what is lent for it.
+    fn contact(&mut self, question: &Question, asked: Asked, lent: &mut Lent) -> Result<u64, Refusal> {
+        let [first, second, _] = question.asked;
+        let (scene, pair) = with_slices(lent, |slices| slices::a_pair(slices, asked.kind(), first, second))?;
+        contacts::refuse_beyond(&scene)?;
+        if let Some(contact) = self.contact_of(&scene, pair) {
+            lent.contacts.copy_from_slice(&contact.row());
+        }
+        Ok(settled::joined(self.words(&scene, pair)).byte() as u64)
+    }
+
+    /// List and words, and a row for each pair of the list that is hit.
+    fn contact_scene(&mut self, lent: &mut Lent) -> Result<u64, Refusal> {
+        contacts::refuse_beyond(&scene(lent)?)?;
+        let room = lent.list.len().min(lent.words.len()).min(lent.contacts.len() / ROW);
+        let (scene, pairs) = listed(lent, room)?;
+        for (place, &pair) in pairs.iter().enumerate() {
+            lent.words[place] = settled::joined(self.words(&scene, pair)).byte();
+            if let Some(contact) = self.contact_of(&scene, pair) {
+                lent.contacts[ROW * place..][..ROW].copy_from_slice(&contact.row());
+            }
+        }
+        Ok(pairs.len() as u64)
     }
 
     /// The words of the pieces that are asked about: all of a pair, or one.
@@ -84,18 +113,27 @@ impl Expecting {
     }
 
     fn words(&mut self, scene: &Scene, pair: Pair) -> &[Settled] {
-        if self.scene != *scene {
-            *self = Expecting { scene: scene.clone(), words: HashMap::new() };
-        }
+        self.forget_another(scene);
         self.words.entry(pair).or_insert_with(|| settled::of_pieces(scene, pair))
+    }
+
+    fn contact_of(&mut self, scene: &Scene, pair: Pair) -> Option<Contact> {
+        self.forget_another(scene);
+        self.contacts.entry(pair).or_insert_with(|| contacts::of_pair(scene, pair)).clone()
+    }
+
+    fn forget_another(&mut self, scene: &Scene) {
+        if self.scene != *scene {
+            *self = Expecting { scene: scene.clone(), ..Expecting::default() };
+        }
     }
 }
 
 fn with_slices<T>(lent: &Lent, then: impl FnOnce(Slices) -> T) -> T {
     let wide = |numbers: &[u16]| numbers.iter().map(|&n| n as u64).collect::<Vec<u64>>();
     let positions: Vec<i64> = lent.positions.iter().map(|&n| n as i64).collect();
-    let (edges, triangles) = (wide(&lent.edges), wide(&lent.triangles));
-    then(Slices { positions: &positions, edges: &edges, triangles: &triangles })
+    let [edges, triangles, seams] = [&lent.edges, &lent.triangles, &lent.seams].map(|numbers| wide(numbers));
+    then(Slices { positions: &positions, edges: &edges, triangles: &triangles, seams: &seams })
 }
 
 pub fn scene(lent: &Lent) -> Result<Scene, Refusal> {
@@ -116,12 +154,15 @@ fn listed(lent: &mut Lent, room: usize) -> Result<(Scene, Vec<Pair>), Refusal> {
 }
 
 fn read(lent: &mut Lent) -> Result<u64, Refusal> {
-    let scene = text::read_lent(&lent.text, lent.positions.len(), lent.edges.len(), lent.triangles.len())?;
+    let lengths = [lent.positions.len(), lent.edges.len(), lent.triangles.len(), lent.seams.len()];
+    let scene = text::read_lent(&lent.text, lengths)?;
     let read = Lent::of_scene(&scene);
     lent.positions[..read.positions.len()].copy_from_slice(&read.positions);
     lent.edges[..read.edges.len()].copy_from_slice(&read.edges);
     lent.triangles[..read.triangles.len()].copy_from_slice(&read.triangles);
-    lent.counts = [scene.vertices.len(), scene.edges.len(), scene.triangles.len()].map(|count| count as u64).to_vec();
+    lent.seams[..read.seams.len()].copy_from_slice(&read.seams);
+    let counts = [scene.vertices.len(), scene.edges.len(), scene.triangles.len(), scene.seams.len()];
+    lent.counts = counts.map(|count| count as u64).to_vec();
     Ok(0)
 }
 

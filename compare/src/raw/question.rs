@@ -18,6 +18,9 @@ pub enum Call {
     WriteReport,
     TurnScene,
     CheckClaims,
+    /// Of a pair, never of a piece.
+    Contact(Asked),
+    ContactScene,
 }
 
 /// Of a pair, or of a piece of one.
@@ -58,13 +61,14 @@ pub fn calls() -> Vec<Call> {
     out.extend(ASKED.map(Call::Judge));
     out.extend(ASKED.map(Call::Settle));
     out.extend([Call::ReadScene, Call::WriteReport, Call::TurnScene, Call::CheckClaims]);
+    out.extend([Call::Contact(Asked::Pt), Call::Contact(Asked::Ee), Call::ContactScene]);
     out
 }
 
 impl Call {
     pub fn asked(self) -> Option<Asked> {
         match self {
-            Call::Judge(asked) | Call::Settle(asked) => Some(asked),
+            Call::Judge(asked) | Call::Settle(asked) | Call::Contact(asked) => Some(asked),
             _ => None,
         }
     }
@@ -74,8 +78,23 @@ impl Call {
         !matches!(self, Call::ReadScene | Call::WriteReport)
     }
 
+    /// Whether its scene may have seams.
+    pub fn takes_seams(self) -> bool {
+        self.takes_a_scene() && self != Call::TurnScene
+    }
+
     pub fn lists(self) -> bool {
-        matches!(self, Call::ListPairs | Call::SettleScene)
+        matches!(self, Call::ListPairs | Call::SettleScene | Call::ContactScene)
+    }
+
+    /// Whether it gives words beside the list.
+    pub fn settles_a_scene(self) -> bool {
+        matches!(self, Call::SettleScene | Call::ContactScene)
+    }
+
+    /// Whether it is asked for contacts, so that the old range counts.
+    pub fn finds_contacts(self) -> bool {
+        matches!(self, Call::Contact(_) | Call::ContactScene)
     }
 
     /// Whether it tells its box tests, in a lent number.
@@ -96,6 +115,8 @@ impl Call {
             Call::WriteReport => "write_report".into(),
             Call::TurnScene => "turn_scene".into(),
             Call::CheckClaims => "check_claims".into(),
+            Call::Contact(asked) => format!("contact_{}", of(asked)),
+            Call::ContactScene => "contact_scene".into(),
         }
     }
 }
@@ -106,63 +127,76 @@ pub struct Lent {
     pub positions: Vec<i32>,
     pub edges: Vec<u16>,
     pub triangles: Vec<u16>,
+    pub seams: Vec<u16>,
     pub list: Vec<u32>,
     pub words: Vec<u8>,
     pub text: Vec<u8>,
     /// The three counts of a text, or the box tests of a list.
     pub counts: Vec<u64>,
     pub report: Vec<u8>,
+    pub contacts: Vec<u32>,
 }
 
-pub const BUFFERS: [&str; 8] = ["positions", "edges", "triangles", "list", "words", "text", "counts", "report"];
+pub const BUFFERS: [&str; 10] =
+    ["positions", "edges", "triangles", "seams", "list", "words", "text", "counts", "report", "contacts"];
 
 /// The places of some buffers.
 pub const POSITIONS: usize = 0;
 pub const EDGES: usize = 1;
-pub const LIST: usize = 3;
-pub const WORDS: usize = 4;
-pub const COUNTS: usize = 6;
-pub const REPORT: usize = 7;
+pub const SEAMS: usize = 3;
+pub const LIST: usize = 4;
+pub const WORDS: usize = 5;
+pub const COUNTS: usize = 7;
+pub const REPORT: usize = 8;
+pub const CONTACTS: usize = 9;
+/// Numbers of a contact.
+pub const ROW: usize = 5;
 
 /// Bytes in front of what is lent, and behind it.
 pub const MARGIN: usize = 24;
 
 impl Lent {
     pub fn of_scene(scene: &Scene) -> Lent {
-        let (positions, edges, triangles) = slices::flat(scene);
+        let flat = slices::flat(scene);
+        let narrow = |numbers: Vec<u64>| numbers.into_iter().map(|n| n as u16).collect();
         Lent {
-            positions: positions.into_iter().map(|n| n as i32).collect(),
-            edges: edges.into_iter().map(|n| n as u16).collect(),
-            triangles: triangles.into_iter().map(|n| n as u16).collect(),
+            positions: flat.positions.into_iter().map(|n| n as i32).collect(),
+            edges: narrow(flat.edges),
+            triangles: narrow(flat.triangles),
+            seams: narrow(flat.seams),
             ..Lent::default()
         }
     }
 
-    fn lengths(&self) -> [usize; 8] {
+    fn lengths(&self) -> [usize; BUFFERS.len()] {
         [
             self.positions.len(),
             self.edges.len(),
             self.triangles.len(),
+            self.seams.len(),
             self.list.len(),
             self.words.len(),
             self.text.len(),
             self.counts.len(),
             self.report.len(),
+            self.contacts.len(),
         ]
     }
 
     /// Each buffer between its margins.
-    pub fn bytes(&self) -> [Vec<u8>; 8] {
+    pub fn bytes(&self) -> [Vec<u8>; BUFFERS.len()] {
         let short = |numbers: &[u16]| numbers.iter().flat_map(|n| n.to_le_bytes()).collect::<Vec<u8>>();
         let inside = [
             self.positions.iter().flat_map(|n| n.to_le_bytes()).collect(),
             short(&self.edges),
             short(&self.triangles),
+            short(&self.seams),
             self.list.iter().flat_map(|n| n.to_le_bytes()).collect(),
             self.words.clone(),
             self.text.clone(),
             self.counts.iter().flat_map(|n| n.to_le_bytes()).collect(),
             self.report.clone(),
+            self.contacts.iter().flat_map(|n| n.to_le_bytes()).collect(),
         ];
         inside.map(|inside| [marks(MARGIN), inside, marks(MARGIN)].concat())
     }
@@ -177,7 +211,7 @@ pub fn marks_of_16(length: usize) -> Vec<u16> {
     (0..length).map(|i| (i * 4_099 + 50_001) as u16).collect()
 }
 
-/// Numbers that no list has: an entry has 21 bits.
+/// Numbers that no list has, and no contact: an entry has 21 bits, and so has 2^20.
 pub fn marks_of_32(length: usize) -> Vec<u32> {
     (0..length).map(|i| (i * 268_603_651 + 3_276_865_537) as u32 | 1 << 31).collect()
 }
@@ -191,7 +225,10 @@ pub struct Question {
 }
 
 impl Question {
-    pub fn new(call: Call, lent: Lent) -> Question {
+    pub fn new(call: Call, mut lent: Lent) -> Question {
+        if call == Call::TurnScene {
+            lent.seams.clear();
+        }
         Question { call, asked: [0; 3], lent }
     }
 
@@ -215,7 +252,7 @@ impl Question {
 pub struct Answer {
     pub number: u64,
     /// Each buffer between its margins.
-    pub buffers: [Vec<u8>; 8],
+    pub buffers: [Vec<u8>; BUFFERS.len()],
 }
 
 impl Answer {

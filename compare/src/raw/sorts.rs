@@ -20,6 +20,7 @@ pub fn none_yet() -> Sorts {
         let name = call.name();
         if call.takes_a_scene() && call != Call::CheckClaims {
             out.extend([format!("{name}: answered"), format!("{name}: a scene of full size")]);
+            out.extend(call.takes_seams().then(|| format!("{name}: answered with seams")));
             out.extend(of_scenes(call));
         }
         if call.tells_tests() {
@@ -36,6 +37,7 @@ pub fn none_yet() -> Sorts {
     }
     out.push(LONG_LIST.into());
     out.extend(["the list too short", "the words too short", "both too short"].map(|which| format!("settle_scene: {which}")));
+    out.extend(of_contact_scenes());
     out.extend(SCENE_FAULTS.map(|(number, fault)| alone(number, fault)));
     out.extend(of_texts());
     out.into_iter().map(|sort| (sort, 0)).collect()
@@ -45,14 +47,17 @@ pub fn none_yet() -> Sorts {
 fn of_scenes(call: Call) -> Vec<String> {
     let name = call.name();
     let later: &[u64] = match call {
+        Call::ContactScene => &[BEYOND_OLD_RANGE, NO_ROOM],
+        Call::Contact(_) => &[NOT_THERE, SHARES_A_VERTEX, BEYOND_OLD_RANGE],
         _ if call.lists() => &[NO_ROOM],
         _ if call.asked().is_some() => &[NOT_THERE, SHARES_A_VERTEX],
         _ => &[],
     };
     let mut out = Vec::new();
-    for (i, number) in SCENE_CHECKS.iter().enumerate() {
+    let checks: Vec<u64> = SCENE_CHECKS.into_iter().filter(|&check| check != BROKEN_SEAM || call.takes_seams()).collect();
+    for (i, number) in checks.iter().enumerate() {
         out.push(format!("{name}: refused {number}"));
-        let others = SCENE_CHECKS[i + 1..].iter().chain(later);
+        let others = checks[i + 1..].iter().chain(later);
         out.extend(others.map(|other| format!("{name}: {number} before {other}")));
     }
     out
@@ -71,8 +76,15 @@ fn of_pairs(call: Call, asked: Asked) -> Vec<String> {
         let of_word = |piece: u64| told(call, piece, *word);
         out.extend((0..if asked.piece() { pieces } else { 1 }).map(of_word));
     }
+    out.push(format!("{name}: 6 by a seam"));
     if edges {
         out.extend(["lower edge first", "higher edge first"].map(|order| format!("{name}: {order}")));
+    }
+    if call.finds_contacts() {
+        out.push(asked_for(call, BEYOND.0, BEYOND.1));
+        out.extend([NOT_THERE, SHARES_A_VERTEX].map(|number| format!("{name}: {number} before {BEYOND_OLD_RANGE}")));
+        out.extend((0..pieces).map(|piece| format!("{name}: a hit in piece {piece}")));
+        out.extend(["time 0", "time 1", "share 0", "share 1"].map(|number| format!("{name}: {number}")));
     }
     let faults: &[(u64, &str)] = if edges { &EE_FAULTS } else { &PT_FAULTS };
     let faults = faults.iter().filter(|(_, fault)| *fault != "piece" || asked.piece());
@@ -80,10 +92,26 @@ fn of_pairs(call: Call, asked: Asked) -> Vec<String> {
     out
 }
 
+/// All contacts of a scene: which of the three buffers is too short, 16 alone and before 7, rows that stay and rows that are written.
+fn of_contact_scenes() -> Vec<String> {
+    let mut out =
+        vec![asked_for(Call::ContactScene, BEYOND.0, BEYOND.1), format!("contact_scene: {BEYOND_OLD_RANGE} before {NO_ROOM}")];
+    let sorts =
+        ["the list too short", "the words too short", "the contacts too short", "all too short", "a part of a row left over"];
+    out.extend(
+        sorts
+            .into_iter()
+            .chain(["a hit behind another pair", "a pair that is not hit behind a hit"])
+            .map(|sort| format!("contact_scene: {sort}")),
+    );
+    out
+}
+
 /// Each cell of the table of faults in texts, and short buffers.
 fn of_texts() -> Vec<String> {
     let mut out = vec!["read_scene: answered".into(), "write_report: pairs listed".into(), "read_scene: 12 before 8".into()];
-    out.extend(["positions", "edges", "triangles"].map(|buffer| format!("read_scene: 12, {buffer}")));
+    out.push("read_scene: answered with seams".into());
+    out.extend(["positions", "edges", "triangles", "seams"].map(|buffer| format!("read_scene: 12, {buffer}")));
     out.push("read_scene: 12 before a line".into());
     for call in [Call::ReadScene, Call::WriteReport] {
         out.extend(faults::cells().into_iter().filter(|&cell| can_be_given(call, cell)).map(|cell| in_cell(call, cell)));
@@ -141,11 +169,13 @@ pub fn of(question: &Question, answer: &Answer) -> Vec<String> {
 
 /// Claims: each refusal, each of the scene's before the text's length, yes and no, each room.
 fn of_claim_calls() -> Vec<String> {
-    let mut out: Vec<String> =
-        ["answered", "a scene of full size", "yes", "no", "just the room", "room left over", "one too few", "no room at all"]
-            .map(|sort| format!("check_claims: {sort}"))
-            .into();
-    out.extend([1, 2, 3, 4, 5, 6, 7, 8, 9].map(|number| format!("check_claims: refused {number}")));
+    let mut out: Vec<String> = [
+        "answered", "answered with seams", "a scene of full size", "yes", "no", "just the room", "room left over", "one too few",
+        "no room at all",
+    ]
+    .map(|sort| format!("check_claims: {sort}"))
+    .into();
+    out.extend([1, 2, 3, 15, 4, 5, 6, 7, 8, 9].map(|number| format!("check_claims: refused {number}")));
     for (i, number) in SCENE_CHECKS.iter().enumerate() {
         let others = SCENE_CHECKS[i + 1..].iter().chain(&[TEXT_TOO_LONG]);
         out.extend(others.map(|other| format!("check_claims: {number} before {other}")));
@@ -161,12 +191,13 @@ fn of_claims(question: &Question, answer: &Answer) -> Vec<String> {
     let mut faults: Vec<u64> = of_scene(lent).iter().map(|fault| fault.0).collect();
     faults.extend((lent.text.len() > TEXT_LIMIT).then_some(TEXT_TOO_LONG));
     add(given > 0, format!("refused {given}"));
-    for &other in faults.iter().filter(|&&other| other > given) {
+    for &other in faults.iter().filter(|&&other| before(given, other)) {
         add(SCENE_CHECKS.contains(&given), format!("{given} before {other}"));
     }
     let sizes = [lent.positions.len(), lent.edges.len(), lent.triangles.len()];
     add(given == 0 && sizes == [6 * VERTEX_LIMIT, 2 * EDGE_LIMIT, 3 * TRIANGLE_LIMIT], "a scene of full size".into());
     add(given == 0, "answered".into());
+    add(given == 0 && !lent.seams.is_empty(), "answered with seams".into());
     let answers = &answer.buffers[WORDS][MARGIN..MARGIN + if given == 0 { count } else { 0 }];
     add(answers.contains(&1), "yes".into());
     add(answers.contains(&0), "no".into());
@@ -186,13 +217,18 @@ fn texts_cells(question: &Question) -> Vec<String> {
 fn of_reading(question: &Question, answer: &Answer) -> Vec<String> {
     let lent = &question.lent;
     if answer.number == 0 {
-        return vec!["read_scene: answered".into()];
+        let sewn = answer.buffers[COUNTS][MARGIN + 24] > 0;
+        return [Some("read_scene: answered"), sewn.then_some("read_scene: answered with seams")]
+            .into_iter()
+            .flatten()
+            .map(Into::into)
+            .collect();
     }
     if answer.refusal() != LENT_TOO_SHORT {
         return texts_cells(question);
     }
-    let short = [lent.positions.len() < 3_072, lent.edges.len() < 2_048, lent.triangles.len() < 1_536];
-    let short = ["positions", "edges", "triangles"].into_iter().zip(short).filter(|(_, short)| *short);
+    let short = [lent.positions.len() < 3_072, lent.edges.len() < 2_048, lent.triangles.len() < 1_536, lent.seams.len() < 1_024];
+    let short = ["positions", "edges", "triangles", "seams"].into_iter().zip(short).filter(|(_, short)| *short);
     let mut out: Vec<String> = short.map(|(buffer, _)| format!("read_scene: 12, {buffer}")).collect();
     match crate::text::read(&lent.text).map_err(|refusal| refusal.number) {
         Err(TEXT_TOO_LONG) => out.push("read_scene: 12 before 8".into()),
@@ -206,19 +242,31 @@ fn of_slices(question: &Question, answer: &Answer) -> Vec<String> {
     let call = question.call;
     let mut faults = of_scene(&question.lent);
     faults.extend(call.asked().map(|asked| of_asked(question, asked)).unwrap_or_default());
-    let no_room =
-        call.lists() && (question.lent.list.is_empty() || (call == Call::SettleScene && question.lent.words.is_empty()));
+    faults.extend(call.finds_contacts().then(|| of_range(&question.lent)).flatten());
+    let no_room = call.lists() && (question.lent.list.is_empty() || (call.settles_a_scene() && question.lent.words.is_empty()));
     let mut out = Vec::new();
     let given = answer.refusal();
     if SCENE_CHECKS.contains(&given) {
         out.push(format!("{}: refused {given}", call.name()));
+    }
+    // of so many seams some are at fault too
+    let alone_or_first = match &faults[..] {
+        [only] => Some(*only),
+        [(number, "a seam too many"), rest @ ..] if rest.iter().all(|fault| fault.0 != BAD_SHAPE) => {
+            Some((*number, "a seam too many"))
+        }
+        _ => None,
+    };
+    if SCENE_CHECKS.contains(&given) || given == BEYOND_OLD_RANGE {
         faults.extend(no_room.then_some((NO_ROOM, "no room")));
     }
-    let others = faults.iter().filter(|fault| given != 0 && given != NO_ROOM && fault.0 > given);
+    let others = faults.iter().filter(|fault| given != 0 && given != NO_ROOM && before(given, fault.0));
     out.extend(others.map(|(other, _)| format!("{}: {given} before {other}", call.name())));
-    if let [(number, fault)] = faults[..] {
-        out.push(if number < NOT_THERE { alone(number, fault) } else { asked_for(call, number, fault) });
-    } else if let Some((number, fault)) = faults.first().filter(|fault| fault.0 >= NOT_THERE && fault.0 < NO_ROOM) {
+    let by_a_seam = given == SHARES_A_VERTEX && of_scene(&question.lent).is_empty() && !shares_by_number(question);
+    out.extend(by_a_seam.then(|| format!("{}: 6 by a seam", call.name())));
+    if let Some((number, fault)) = alone_or_first {
+        out.push(if SCENE_CHECKS.contains(&number) { alone(number, fault) } else { asked_for(call, number, fault) });
+    } else if let Some((number, fault)) = faults.first().filter(|fault| [NOT_THERE, SHARES_A_VERTEX].contains(&fault.0)) {
         out.push(asked_for(call, *number, fault));
     }
     let sizes = [question.lent.positions.len(), question.lent.edges.len(), question.lent.triangles.len()];
@@ -235,7 +283,9 @@ fn of_slices(question: &Question, answer: &Answer) -> Vec<String> {
     }
     if given == 0 {
         out.push(format!("{}: answered", call.name()));
+        out.extend((!question.lent.seams.is_empty()).then(|| format!("{}: answered with seams", call.name())));
         out.extend(call.asked().map(|asked| of_told(question, asked, answer)).unwrap_or_default());
+        out.extend(of_rows(question, answer));
     }
     if call.lists() && (given == 0 || given == NO_ROOM) {
         out.extend(of_room(question, answer.number as u32 as usize));
@@ -243,6 +293,13 @@ fn of_slices(question: &Question, answer: &Answer) -> Vec<String> {
     out.sort();
     out.dedup();
     out
+}
+
+/// Whether the two parts that are asked for have a number in common.
+fn shares_by_number(question: &Question) -> bool {
+    let unsewn = Question { lent: Lent { seams: vec![], ..question.lent.clone() }, ..question.clone() };
+    let asked = question.call.asked().map(|asked| of_asked(&unsewn, asked)).unwrap_or_default();
+    asked.iter().any(|fault| fault.0 == SHARES_A_VERTEX)
 }
 
 fn of_told(question: &Question, asked: Asked, answer: &Answer) -> Vec<String> {
@@ -262,7 +319,12 @@ fn of_room(question: &Question, count: usize) -> Vec<String> {
     let name = question.call.name();
     let (list, words) = (question.lent.list.len(), question.lent.words.len());
     let judges = question.call == Call::SettleScene;
-    let room = if judges { list.min(words) } else { list };
+    let rows = question.lent.contacts.len() / ROW;
+    let room = match question.call {
+        Call::ContactScene => list.min(words).min(rows),
+        Call::SettleScene => list.min(words),
+        _ => list,
+    };
     let mut out = Vec::new();
     let mut add = |holds: bool, sort: &str| out.extend(holds.then(|| format!("{name}: {sort}")));
     add(room == count && count > 0, "just the room");
@@ -274,5 +336,46 @@ fn of_room(question: &Question, count: usize) -> Vec<String> {
         add(words < count && list >= count, "the words too short");
         add(words < count && list < count, "both too short");
     }
+    if question.call == Call::ContactScene {
+        let short = [list < count, words < count, rows < count];
+        add(short == [true, false, false], "the list too short");
+        add(short == [false, true, false], "the words too short");
+        add(short == [false, false, true], "the contacts too short");
+        add(short == [true, true, true], "all too short");
+        add(rows >= count && question.lent.contacts.len() % ROW > 0, "a part of a row left over");
+    }
     out
+}
+
+/// What a hit carries; and in a scene which rows are written.
+fn of_rows(question: &Question, answer: &Answer) -> Vec<String> {
+    let name = question.call.name();
+    let mut out = Vec::new();
+    let mut add = |holds: bool, sort: String| out.extend(holds.then(|| format!("{name}: {sort}")));
+    match question.call {
+        Call::Contact(asked) if answer.number == 0 => {
+            let row = row(answer, 0);
+            let shares = &row[2..if asked.kind() == Kind::EdgeEdge { 4 } else { 5 }];
+            add(true, format!("a hit in piece {}", row[0]));
+            add(row[1] == 0, "time 0".into());
+            add(row[1] == 1 << 20, "time 1".into());
+            add(shares.contains(&0), "share 0".into());
+            add(shares.contains(&(1 << 20)), "share 1".into());
+        }
+        Call::ContactScene => {
+            let words = &answer.buffers[WORDS][MARGIN..MARGIN + answer.number as usize];
+            let hit = |word: &u8| *word == 0;
+            let first_hit = words.iter().position(hit);
+            add(first_hit.is_some_and(|place| place > 0), "a hit behind another pair".into());
+            add(first_hit.is_some_and(|place| !words[place..].iter().all(hit)), "a pair that is not hit behind a hit".into());
+        }
+        _ => {}
+    }
+    out
+}
+
+/// The numbers of a row.
+pub fn row(answer: &Answer, place: usize) -> [u32; ROW] {
+    let bytes = &answer.buffers[CONTACTS][MARGIN + 4 * ROW * place..];
+    std::array::from_fn(|i| u32::from_le_bytes(bytes[4 * i..][..4].try_into().unwrap()))
 }

@@ -78,7 +78,7 @@ fn rows_of(positions: [i32; 24], order: [usize; 4]) -> [i32; 24] {
 }
 
 fn pieces_of(alone: &Alone, piece: usize) -> Settled {
-    let scene = makhnodri::Scene { positions: &alone.positions, edges: &alone.places, triangles: &[] };
+    let scene = makhnodri::Scene::new(&alone.positions, &alone.places, &[]);
     scene.settle_ee_piece(0, 1, piece).expect("a piece of two edges")
 }
 

@@ -1,0 +1,92 @@
+//! usage: compare-contacts CONTACTS_PROGRAM [SEEDS [LAUNCHER WORDS...]]
+//!        compare-contacts --exact < SCENE
+//!        compare-contacts --wrong [MISTAKE] < SCENE
+//! Runs the program of contacts on many scene texts, and holds what it prints, byte for byte, to the independent contacts. Ends with status 1 on
+//! a difference, and where some refusal, or some piece of a kind, was never wanted. LAUNCHER is a command to put before the program, as a loader.
+//! With `--exact`, the independent contacts of a scene; with `--wrong`, those of a program that makes this mistake, or the mistakes.
+
+use compare::contacts::making::{fixed, seeded};
+use compare::contacts::mistakes::{self, ALL};
+use compare::contacts::printed;
+use compare::looks::parting;
+use compare::running::Program;
+use compare::scene::REPORT_ROOM;
+use compare::streams::{input, print};
+use std::collections::BTreeMap;
+use std::process::exit;
+use std::time::Duration;
+
+const SEEDS: u64 = 400;
+const LIMIT: Duration = Duration::from_secs(20);
+const MOST_SHOWN: usize = 3;
+
+fn main() {
+    let words: Vec<String> = std::env::args().skip(1).collect();
+    match &words[..] {
+        [flag] if flag == "--exact" => print(&printed(&input(), REPORT_ROOM)),
+        [flag] if flag == "--wrong" => ALL.iter().for_each(|mistake| compare::say!("{}", mistake.key())),
+        [flag, key] if flag == "--wrong" => {
+            let mistake = mistakes::find(key).unwrap_or_else(|| give_up(&format!("no mistake is called {key}")));
+            print(&mistakes::printed(mistake, &input(), REPORT_ROOM));
+        }
+        [program] => compare(program, SEEDS, &[]),
+        [program, seeds, launcher @ ..] => {
+            compare(program, seeds.parse().unwrap_or_else(|_| give_up(&format!("{seeds} is no number"))), launcher)
+        }
+        [] => give_up("usage: compare-contacts CONTACTS_PROGRAM [SEEDS [LAUNCHER WORDS...]]"),
+    }
+}
+
+fn give_up(why: &str) -> ! {
+    eprintln!("compare-contacts: {why}");
+    exit(2);
+}
+
+/// What must have been wanted: each refusal of a text, and a contact of each piece.
+fn sorts() -> Vec<String> {
+    let refusals = [2, 3, 4, 7, 8, 9, 10, 11, 16].map(|number| format!("refused {number}"));
+    let points = (0..3).map(|piece| format!("pt piece {piece}"));
+    refusals.into_iter().chain(points).chain((0..4).map(|piece| format!("ee piece {piece}"))).collect()
+}
+
+fn sort(line: &str) -> String {
+    let fields: Vec<&str> = line.split('\t').collect();
+    match fields[0] {
+        "pt" | "ee" => format!("{} piece {}", fields[0], fields[3]),
+        _ => fields[..2].join(" "),
+    }
+}
+
+fn compare(program: &str, seeds: u64, launcher: &[String]) {
+    let command = [launcher, &[program.to_string()]].concat();
+    let program = Program { command, limit: LIMIT };
+    let (mut texts, mut differences, mut contacts) = (0usize, 0, 0);
+    let mut wanted_sorts: BTreeMap<String, usize> = BTreeMap::new();
+    for trial in fixed().into_iter().chain((0..seeds).flat_map(seeded)) {
+        let wanted = printed(&trial.text, REPORT_ROOM);
+        wanted.lines().for_each(|line| *wanted_sorts.entry(sort(line)).or_default() += 1);
+        contacts += wanted.lines().count() - 1;
+        texts += 1;
+        let given = match program.run(&trial.text, 1 + texts % 3) {
+            Ok(bytes) => String::from_utf8_lossy(&bytes).into_owned(),
+            Err(failed) => format!("{failed:?}\n"),
+        };
+        let Some(parting) = parting(&wanted, &given) else { continue };
+        differences += 1;
+        let kept = std::env::temp_dir().join(format!("contacts-difference-{differences}.scene"));
+        std::fs::write(&kept, &trial.text).unwrap_or_else(|error| give_up(&error.to_string()));
+        println!("contacts: {} (kept as {})", trial.name, kept.display());
+        println!("    at line {}: {:?} and should be {:?}", parting.line, parting.got, parting.wanted);
+        let like = |mistake: &&mistakes::Mistake| mistakes::printed(**mistake, &trial.text, REPORT_ROOM) == given;
+        println!("    it looks like {:?}", ALL.iter().filter(like).collect::<Vec<_>>());
+        if differences == MOST_SHOWN {
+            exit(1);
+        }
+    }
+    for sort in sorts().iter().filter(|sort| !wanted_sorts.contains_key(*sort)) {
+        println!("contacts: never wanted: {sort}");
+        differences += 1;
+    }
+    println!("contacts: {texts} texts, {contacts} contacts, each byte compared: {differences} differences");
+    exit((differences > 0) as i32);
+}
