@@ -126,7 +126,7 @@ list-heard a h = heard-number (λ n. n) count (listSays a) (clear a h)
 
 -- the counts stand in the lent array
 abbrev pub countsIn : List ℕ → ℕ → SceneCounts
-countsIn l k = record { vertices = getD l 0 0; edges = getD l 1 0; triangles = getD l 2 0 }
+countsIn l k = record { vertices = getD l 0 0; edges = getD l 1 0; triangles = getD l 2 0; seams = getD l 3 0 }
 
 pub text-heard : (a : TextAnswer) (l : List ℕ) → lineIn (textSays a) < upper → heard (countsIn (countsLeft a l)) (textNumber a) ≡ textSays a
 unfolding textNumber Clear textSays lineIn countsLeft

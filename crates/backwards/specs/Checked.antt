@@ -1,5 +1,5 @@
--- The scene turned round passes and fails each of the four checks where the scene does: it is accepted exactly when the scene is, and refused with the
--- same number.
+-- A scene without seams turned round passes and fails each of the five checks where the scene does: it is accepted exactly when the scene is, and
+-- refused with the same number.
 use Prim.Native.Nat.{ℕ, zero, suc, _+_, _*_, _/_, _%_, _≤_, _<_}
 use mathlib.Core.Bool.{Bool, true, false, not, _||_}
 use mathlib.Core.List.{List, [], _∷_, map}
@@ -10,13 +10,14 @@ use native.Mathlib.Omega.{arith}
 use lib.Dec.{leb, ltb, eqb}
 use lib.IntN.{ℤ, pos}
 use lib.ListN.{length, getD, length-map}
-use Rattle.meaning.specs.Limits.{vertexLimit, edgeLimit, triangleLimit}
-use Rattle.meaning.specs.Scene.{Scene, Accepted, vertexCount, edgeCount, triangleCount, edgeEnd, corner, same, someBelow, wrongShape, outside, outOfRange, unknownIn, unknownVertex, twiceInEdge, twiceInTriangle, repeatedVertex}
+use Rattle.meaning.specs.Limits.{vertexLimit, edgeLimit, triangleLimit, seamLimit}
+use Rattle.meaning.specs.Scene.{Scene, sceneOf, Accepted, vertexCount, edgeCount, triangleCount, edgeEnd, corner, same, someBelow, wrongShape, outside, outOfRange, unknownIn, unknownVertex, brokenSeam, twiceInEdge, twiceInTriangle, repeatedVertex}
 use Rattle.meaning.specs.Refusals.{Check, sceneChecks}
 use Rattle.meaning.specs.Backwards.{fromLast, turnedRound}
 use Rattle.scenes.specs.Below.{Found, found-below, none-passes, none-below, some-passes}
 use Rattle.backwards.specs.Numbers.{mapped-at, number-unknown, number-same}
 use Rattle.backwards.specs.Turned.{source, source-below, source-behind, source-twice, as-long, coordinate, turns-round}
+use Rattle.backwards.specs.Unsewn.{counts-itself}
 use Rattle.backwards.specs.Pieces.{edge-end-turned, corner-turned}
 
 -- ---- some number below n passes
@@ -37,6 +38,11 @@ some-onto n f below twice test = go (someBelow n test) refl
         some-passes (λ i. test (f i)) n (f (found .which)) (below (found .which) (found .there)) (ap test (twice (found .which)) ∙ found .passes)
     go false e = none-below (λ i. test (f i)) n (λ i h. none-passes test n e (f i) (below i h))
 
+-- no seam is broken where there is none
+pub none-broken : (s : Scene) → s .seams ≡ [] → brokenSeam s ≡ false
+unfolding someBelow
+none-broken s unsewn = ap (λ (w : List ℕ). brokenSeam (sceneOf (s .positions) [] [] w)) unsewn
+
 module _ (s : Scene) where
   abbrev t : Scene
   t = turnedRound s
@@ -53,20 +59,24 @@ module _ (s : Scene) where
   triangles-long : length (t .triangles) ≡ length (s .triangles)
   triangles-long = ap (length {A = ℕ}) (turns-round s .triangles) ∙ simp length-map
 
+  seams-long : length (t .seams) ≡ length (s .seams)
+  seams-long = ap (length {A = ℕ}) (turns-round s .seams)
+
   pub edges-turned : edgeCount t ≡ edgeCount s
   edges-turned = ap (λ k. k / 2) edges-long
 
   pub triangles-turned : triangleCount t ≡ triangleCount s
   triangles-turned = ap (λ k. k / 3) triangles-long
 
-  -- ---- the four checks
+  -- ---- the checks that go by lengths, coordinates and vertex numbers
 
   pub shape-turned : wrongShape t ≡ wrongShape s
-  shape-turned = λ i. of-lengths (as-long s i) (edges-long i) (triangles-long i)
+  shape-turned = λ i. of-lengths (as-long s i) (edges-long i) (triangles-long i) (seams-long i)
     where
-      of-lengths : ℕ → ℕ → ℕ → Bool
-      of-lengths p e k =
-          not (eqb (p % 6) 0) || not (eqb (e % 2) 0) || not (eqb (k % 3) 0) || ltb vertexLimit (p / 6) || ltb edgeLimit (e / 2) || ltb triangleLimit (k / 3)
+      of-lengths : ℕ → ℕ → ℕ → ℕ → Bool
+      of-lengths p e k w =
+          (not (eqb (p % 6) 0) || not (eqb (e % 2) 0) || not (eqb (k % 3) 0) || not (eqb (w % 2) 0))
+          || (ltb vertexLimit (p / 6) || ltb edgeLimit (e / 2) || ltb triangleLimit (k / 3) || ltb seamLimit (w / 2))
 
   pub range-turned : outOfRange t ≡ outOfRange s
   range-turned =
@@ -88,52 +98,66 @@ module _ (s : Scene) where
 
   pub unknown-turned : unknownVertex t ≡ unknownVertex s
   unknown-turned =
-      ap (λ k. unknownIn k (t .edges) || unknownIn k (t .triangles)) vertices-turned
-      ∙ ap₂ (λ (e k : List ℕ). unknownIn n e || unknownIn n k) (turns-round s .edges) (turns-round s .triangles)
-      ∙ ap₂ _||_ (unknown-in-turned (s .edges)) (unknown-in-turned (s .triangles))
+      ap (λ k. unknownIn k (t .edges) || unknownIn k (t .triangles) || unknownIn k (t .seams)) vertices-turned
+      ∙ (λ i. unknownIn n (turns-round s .edges i) || unknownIn n (turns-round s .triangles i) || unknownIn n (turns-round s .seams i))
+      ∙ (λ i. unknown-in-turned (s .edges) i || unknown-in-turned (s .triangles) i || unknownIn n (s .seams))
 
-  -- two vertices are the same where they were
-  pub same-turned : (a b c d : ℕ) → c ≡ fromLast n a → d ≡ fromLast n b → same t c d ≡ same s a b
-  same-turned a b c d e f = ap₂ eqb e f ∙ number-same n a b
+  -- ---- the checks that go by the vertex stood for
 
-  pub repeated-turned : repeatedVertex t ≡ repeatedVertex s
-  repeated-turned =
-      ap₂ _||_ (ap (λ k. someBelow k (twiceInEdge t)) edges-turned ∙ some-same (edgeCount s) (twiceInEdge t) (twiceInEdge s) twice-edge)
-      (ap (λ k. someBelow k (twiceInTriangle t)) triangles-turned ∙ some-same (triangleCount s) (twiceInTriangle t) (twiceInTriangle s) twice-triangle)
-    where
-      twice-edge : (j : ℕ) → j < edgeCount s → twiceInEdge t j ≡ twiceInEdge s j
-      twice-edge j h =
-          let at : (k : ℕ) → k < 2 → edgeEnd t j k ≡ fromLast n (edgeEnd s j k) = λ k l. edge-end-turned (turns-round s) j k h l in
-          same-turned _ _ _ _ (at 0 (omega arith)) (at 1 (omega arith))
+  module _ (unsewn : s .seams ≡ []) where
+    pub still-unsewn : t .seams ≡ []
+    still-unsewn = turns-round s .seams ∙ unsewn
 
-      twice-triangle : (j : ℕ) → j < triangleCount s → twiceInTriangle t j ≡ twiceInTriangle s j
-      twice-triangle j h =
-          let at : (k : ℕ) → k < 3 → corner t j k ≡ fromLast n (corner s j k) = λ k l. corner-turned (turns-round s) j k h l in
-          ap₂ _||_ (ap₂ _||_ (same-turned _ _ _ _ (at 0 (omega arith)) (at 1 (omega arith))) (same-turned _ _ _ _ (at 0 (omega arith)) (at 2 (omega arith))))
-          (same-turned _ _ _ _ (at 1 (omega arith)) (at 2 (omega arith)))
+    pub broken-turned : brokenSeam t ≡ brokenSeam s
+    broken-turned = none-broken t still-unsewn ∙ sym (none-broken s unsewn)
 
-  -- ---- together
+    -- two vertices are the same where they were
+    pub same-turned : (a b c d : ℕ) → c ≡ fromLast n a → d ≡ fromLast n b → same t c d ≡ same s a b
+    same-turned a b c d e f =
+        ap₂ eqb (counts-itself t still-unsewn c ∙ e) (counts-itself t still-unsewn d ∙ f) ∙ number-same n a b
+        ∙ ap₂ eqb (sym (counts-itself s unsewn a)) (sym (counts-itself s unsewn b))
 
-  pub checks-turned : sceneChecks t ≡ sceneChecks s
-  checks-turned =
-      λ i.
-      record { number = 1; holds = shape-turned i; carries = 0 } ∷ record { number = 2; holds = range-turned i; carries = 0 }
-      ∷ record { number = 3; holds = unknown-turned i; carries = 0 }
-      ∷ record { number = 4; holds = repeated-turned i; carries = 0 }
-      ∷ []
+    pub repeated-turned : repeatedVertex t ≡ repeatedVertex s
+    repeated-turned =
+        ap₂ _||_ (ap (λ k. someBelow k (twiceInEdge t)) edges-turned ∙ some-same (edgeCount s) (twiceInEdge t) (twiceInEdge s) twice-edge)
+        (ap (λ k. someBelow k (twiceInTriangle t)) triangles-turned ∙ some-same (triangleCount s) (twiceInTriangle t) (twiceInTriangle s) twice-triangle)
+      where
+        twice-edge : (j : ℕ) → j < edgeCount s → twiceInEdge t j ≡ twiceInEdge s j
+        twice-edge j h =
+            let at : (k : ℕ) → k < 2 → edgeEnd t j k ≡ fromLast n (edgeEnd s j k) = λ k l. edge-end-turned (turns-round s) j k h l in
+            same-turned _ _ _ _ (at 0 (omega arith)) (at 1 (omega arith))
 
-  pub accepted-turned : Accepted s ↔ Accepted t
-  accepted-turned = (
-    λ a. record {
-      shapely = shape-turned ∙ a .shapely;
-      inRange = range-turned ∙ a .inRange;
-      known = unknown-turned ∙ a .known;
-      distinct = repeated-turned ∙ a .distinct;
-    },
-    λ a. record {
-      shapely = sym shape-turned ∙ a .shapely;
-      inRange = sym range-turned ∙ a .inRange;
-      known = sym unknown-turned ∙ a .known;
-      distinct = sym repeated-turned ∙ a .distinct;
-    },
-  )
+        twice-triangle : (j : ℕ) → j < triangleCount s → twiceInTriangle t j ≡ twiceInTriangle s j
+        twice-triangle j h =
+            let at : (k : ℕ) → k < 3 → corner t j k ≡ fromLast n (corner s j k) = λ k l. corner-turned (turns-round s) j k h l in
+            ap₂ _||_ (ap₂ _||_ (same-turned _ _ _ _ (at 0 (omega arith)) (at 1 (omega arith))) (same-turned _ _ _ _ (at 0 (omega arith)) (at 2 (omega arith))))
+            (same-turned _ _ _ _ (at 1 (omega arith)) (at 2 (omega arith)))
+
+    -- ---- together
+
+    pub checks-turned : sceneChecks t ≡ sceneChecks s
+    checks-turned =
+        λ i.
+        record { number = 1; holds = shape-turned i; carries = 0 } ∷ record { number = 2; holds = range-turned i; carries = 0 }
+        ∷ record { number = 3; holds = unknown-turned i; carries = 0 }
+        ∷ record { number = 15; holds = broken-turned i; carries = 0 }
+        ∷ record { number = 4; holds = repeated-turned i; carries = 0 }
+        ∷ []
+
+    pub accepted-turned : Accepted s ↔ Accepted t
+    accepted-turned = (
+      λ a. record {
+        shapely = shape-turned ∙ a .shapely;
+        inRange = range-turned ∙ a .inRange;
+        known = unknown-turned ∙ a .known;
+        sewnWell = broken-turned ∙ a .sewnWell;
+        distinct = repeated-turned ∙ a .distinct;
+      },
+      λ a. record {
+        shapely = sym shape-turned ∙ a .shapely;
+        inRange = sym range-turned ∙ a .inRange;
+        known = sym unknown-turned ∙ a .known;
+        sewnWell = sym broken-turned ∙ a .sewnWell;
+        distinct = sym repeated-turned ∙ a .distinct;
+      },
+    )

@@ -1,5 +1,5 @@
--- Corresponding pairs of an accepted scene and of the scene turned round are listed in both or in neither, so that the one list is the other in another
--- order.
+-- Corresponding pairs of an accepted scene without seams and of the scene turned round are listed in both or in neither, so that the one list is the
+-- other in another order.
 use Prim.Native.Nat.{ℕ, zero, suc, _+_, _*_, _-_, _<_, _≤_}
 use mathlib.Core.Bool.{Bool, true, false, not, _||_, _&&_}
 use mathlib.Core.List.{List, [], _∷_, _++_, map, map-append}
@@ -116,58 +116,59 @@ module _ {s : Scene} (accepted : Accepted s) where
   meet-turned PointTriangle i j (h, k) a = ap₂ meet (vertex-box a i (fromLast n i) h refl) (triangle-box a j k)
   meet-turned EdgeEdge i j (h, k) a = ap₂ meet (edge-box a i h) (edge-box a j k)
 
-  pub shares-turned : (kind : Kind) (i j : ℕ) → Asked kind i j → shares t kind (firstTurned s kind i) j ≡ shares s kind i j
-  unfolding shares Asked firstTurned
-  shares-turned PointTriangle i j (h, k) =
-      ap₂ _||_ (ap₂ _||_ (at 0 (omega arith)) (at 1 (omega arith))) (at 2 (omega arith))
-    where
-      at : (l : ℕ) → l < 3 → same t (fromLast n i) (corner t j l) ≡ same s i (corner s j l)
-      at l b = same-turned s i (corner s j l) (fromLast n i) (corner t j l) refl (corner-turned (turns-round s) j l k b)
-  shares-turned EdgeEdge i j (h, k) =
-      ap₂ _||_ (ap₂ _||_ (ap₂ _||_ (at 0 0 (omega arith) (omega arith)) (at 0 1 (omega arith) (omega arith))) (at 1 0 (omega arith) (omega arith)))
-      (at 1 1 (omega arith) (omega arith))
-    where
-      at : (l m : ℕ) → l < 2 → m < 2 → same t (edgeEnd t i l) (edgeEnd t j m) ≡ same s (edgeEnd s i l) (edgeEnd s j m)
-      at l m b c = same-turned s _ _ _ _ (edge-end-turned (turns-round s) i l h b) (edge-end-turned (turns-round s) j m k c)
-
   pub boxes-turned : (kind : Kind) (i j : ℕ) → Asked kind i j → boxesMeet t kind (firstTurned s kind i) j ≡ boxesMeet s kind i j
   boxes-turned kind i j h = ap₂ _&&_ (ap₂ _&&_ (meet-turned kind i j h xAxis) (meet-turned kind i j h yAxis)) (meet-turned kind i j h zAxis)
 
-  pub listed-turned : (kind : Kind) (i j : ℕ) → Asked kind i j → listed t kind (firstTurned s kind i) j ≡ listed s kind i j
-  listed-turned kind i j h = ap₂ (λ b c. not b && c) (shares-turned kind i j h) (boxes-turned kind i j h)
+  module _ (unsewn : s .seams ≡ []) where
+    pub shares-turned : (kind : Kind) (i j : ℕ) → Asked kind i j → shares t kind (firstTurned s kind i) j ≡ shares s kind i j
+    unfolding shares Asked firstTurned
+    shares-turned PointTriangle i j (h, k) =
+        ap₂ _||_ (ap₂ _||_ (at 0 (omega arith)) (at 1 (omega arith))) (at 2 (omega arith))
+      where
+        at : (l : ℕ) → l < 3 → same t (fromLast n i) (corner t j l) ≡ same s i (corner s j l)
+        at l b = same-turned s unsewn i (corner s j l) (fromLast n i) (corner t j l) refl (corner-turned (turns-round s) j l k b)
+    shares-turned EdgeEdge i j (h, k) =
+        ap₂ _||_ (ap₂ _||_ (ap₂ _||_ (at 0 0 (omega arith) (omega arith)) (at 0 1 (omega arith) (omega arith))) (at 1 0 (omega arith) (omega arith)))
+        (at 1 1 (omega arith) (omega arith))
+      where
+        at : (l m : ℕ) → l < 2 → m < 2 → same t (edgeEnd t i l) (edgeEnd t j m) ≡ same s (edgeEnd s i l) (edgeEnd s j m)
+        at l m b c = same-turned s unsewn _ _ _ _ (edge-end-turned (turns-round s) i l h b) (edge-end-turned (turns-round s) j m k c)
 
-  -- ---- the list
+    pub listed-turned : (kind : Kind) (i j : ℕ) → Asked kind i j → listed t kind (firstTurned s kind i) j ≡ listed s kind i j
+    listed-turned kind i j h = ap₂ (λ b c. not b && c) (shares-turned kind i j h) (boxes-turned kind i j h)
 
-  vertex-pairs : (v : ℕ) → v < n → map (pairTurned s) (pairsOfVertex s v) ≡ pairsOfVertex t (n - 1 - v)
-  unfolding firstTurned Asked
-  vertex-pairs v h =
-      map-gather (pairTurned s) (λ j. one (listed s PointTriangle v j) (pair PointTriangle v j)) 0 (triangleCount s)
-      ∙ gather-same _ (λ j. one (listed t PointTriangle (fromLast n v) j) (pair PointTriangle (fromLast n v) j)) 0 (triangleCount s)
-      (λ j a b. map-one (pairTurned s) _ _ (pair PointTriangle v j) (listed-turned PointTriangle v j (h, b)))
-      ∙ ap₂ (λ w k. chosen (listed t PointTriangle w) (pair PointTriangle w) 0 k) (known-number n v h) (sym (triangles-turned s))
+    -- ---- the list
 
-  edge-pairs : (i : ℕ) → i < edgeCount s → map (pairTurned s) (pairsOfEdge s i) ≡ pairsOfEdge t i
-  unfolding firstTurned Asked
-  edge-pairs i h =
-      map-gather (pairTurned s) (λ j. one (listed s EdgeEdge i j) (pair EdgeEdge i j)) (i + 1) (edgeCount s)
-      ∙ gather-same _ (λ j. one (listed t EdgeEdge i j) (pair EdgeEdge i j)) (i + 1) (edgeCount s)
-      (λ j a b. map-one (pairTurned s) _ _ (pair EdgeEdge i j) (listed-turned EdgeEdge i j (h, b)))
-      ∙ ap (λ k. chosen (listed t EdgeEdge i) (pair EdgeEdge i) (i + 1) k) (sym (edges-turned s))
+    vertex-pairs : (v : ℕ) → v < n → map (pairTurned s) (pairsOfVertex s v) ≡ pairsOfVertex t (n - 1 - v)
+    unfolding firstTurned Asked
+    vertex-pairs v h =
+        map-gather (pairTurned s) (λ j. one (listed s PointTriangle v j) (pair PointTriangle v j)) 0 (triangleCount s)
+        ∙ gather-same _ (λ j. one (listed t PointTriangle (fromLast n v) j) (pair PointTriangle (fromLast n v) j)) 0 (triangleCount s)
+        (λ j a b. map-one (pairTurned s) _ _ (pair PointTriangle v j) (listed-turned PointTriangle v j (h, b)))
+        ∙ ap₂ (λ w k. chosen (listed t PointTriangle w) (pair PointTriangle w) 0 k) (known-number n v h) (sym (triangles-turned s))
 
-  -- the corresponding pairs, in another order, are the list of the scene turned round
-  pub pairs-turned : Rearranged (map (pairTurned s) (pairs s)) (pairs t)
-  unfolding pairs
-  pairs-turned =
-      subst₂ Rearranged (sym (map-append (pairTurned s) (gather (pairsOfVertex s) 0 n) (gather (pairsOfEdge s) 0 (edgeCount s)) ∙ ap₂ _++_ points edges))
-      (ap₂ _++_ (ap (gather (pairsOfVertex t) 0) (sym (vertices-turned s))) (ap (gather (pairsOfEdge t) 0) (sym (edges-turned s))))
-      (rearranged-before (gather (pairsOfEdge t) 0 (edgeCount s)) (gather-from-last (pairsOfVertex t) n))
-    where
-      points : map (pairTurned s) (gather (pairsOfVertex s) 0 n) ≡ gather (λ v. pairsOfVertex t (n - 1 - v)) 0 n
-      points =
-          map-gather (pairTurned s) (pairsOfVertex s) 0 n
-          ∙ gather-same (λ v. map (pairTurned s) (pairsOfVertex s v)) (λ v. pairsOfVertex t (n - 1 - v)) 0 n (λ v a b. vertex-pairs v b)
+    edge-pairs : (i : ℕ) → i < edgeCount s → map (pairTurned s) (pairsOfEdge s i) ≡ pairsOfEdge t i
+    unfolding firstTurned Asked
+    edge-pairs i h =
+        map-gather (pairTurned s) (λ j. one (listed s EdgeEdge i j) (pair EdgeEdge i j)) (i + 1) (edgeCount s)
+        ∙ gather-same _ (λ j. one (listed t EdgeEdge i j) (pair EdgeEdge i j)) (i + 1) (edgeCount s)
+        (λ j a b. map-one (pairTurned s) _ _ (pair EdgeEdge i j) (listed-turned EdgeEdge i j (h, b)))
+        ∙ ap (λ k. chosen (listed t EdgeEdge i) (pair EdgeEdge i) (i + 1) k) (sym (edges-turned s))
 
-      edges : map (pairTurned s) (gather (pairsOfEdge s) 0 (edgeCount s)) ≡ gather (pairsOfEdge t) 0 (edgeCount s)
-      edges =
-          map-gather (pairTurned s) (pairsOfEdge s) 0 (edgeCount s)
-          ∙ gather-same (λ i. map (pairTurned s) (pairsOfEdge s i)) (pairsOfEdge t) 0 (edgeCount s) (λ i a b. edge-pairs i b)
+    -- the corresponding pairs, in another order, are the list of the scene turned round
+    pub pairs-turned : Rearranged (map (pairTurned s) (pairs s)) (pairs t)
+    unfolding pairs
+    pairs-turned =
+        subst₂ Rearranged (sym (map-append (pairTurned s) (gather (pairsOfVertex s) 0 n) (gather (pairsOfEdge s) 0 (edgeCount s)) ∙ ap₂ _++_ points edges))
+        (ap₂ _++_ (ap (gather (pairsOfVertex t) 0) (sym (vertices-turned s))) (ap (gather (pairsOfEdge t) 0) (sym (edges-turned s))))
+        (rearranged-before (gather (pairsOfEdge t) 0 (edgeCount s)) (gather-from-last (pairsOfVertex t) n))
+      where
+        points : map (pairTurned s) (gather (pairsOfVertex s) 0 n) ≡ gather (λ v. pairsOfVertex t (n - 1 - v)) 0 n
+        points =
+            map-gather (pairTurned s) (pairsOfVertex s) 0 n
+            ∙ gather-same (λ v. map (pairTurned s) (pairsOfVertex s v)) (λ v. pairsOfVertex t (n - 1 - v)) 0 n (λ v a b. vertex-pairs v b)
+
+        edges : map (pairTurned s) (gather (pairsOfEdge s) 0 (edgeCount s)) ≡ gather (pairsOfEdge t) 0 (edgeCount s)
+        edges =
+            map-gather (pairTurned s) (pairsOfEdge s) 0 (edgeCount s)
+            ∙ gather-same (λ i. map (pairTurned s) (pairsOfEdge s i)) (pairsOfEdge t) 0 (edgeCount s) (λ i a b. edge-pairs i b)

@@ -30,6 +30,7 @@ use Rattle.scenes.specs.Facts.{edge-inside, triangle-inside}
 use Rattle.backwards.specs.Numbers.{mapped-at, number-falls}
 use Rattle.backwards.specs.TimeTurned.{piece-played-back}
 use Rattle.backwards.specs.Turned.{TurnsRound}
+use Rattle.backwards.specs.Unsewn.{as-numbered, numbered-so}
 
 -- what was low is high
 abbrev pub endsTurned : ℕ → Ends → Ends
@@ -52,13 +53,16 @@ piece-twice EdgeEdge k h = omega arith
 
 -- ---- vertices in rising number, under other numbers
 
-module _ (s t : Scene) (n : ℕ) where
+module _ (s t : Scene) (n : ℕ) (unsewn : s .seams ≡ []) (also : t .seams ≡ []) where
+  fall : (x y : ℕ) → Lower s x y → y < n → Lower t (fromLast n y) (fromLast n x)
+  fall x y l k = numbered-so t also (fromLast n y) (fromLast n x) (number-falls n x y (as-numbered s unsewn x y l) k)
+
   rising-turned : (a b : ℕ) → a < n → b < n → same s a b ≡ false → rising t (fromLast n a) (fromLast n b) ≡ endsTurned n (rising s a b)
   rising-turned a b h k d = go (lower-or-higher s a b d)
     where
       go : Lower s a b ⊎ Lower s b a → rising t (fromLast n a) (fromLast n b) ≡ endsTurned n (rising s a b)
-      go (inl l) = rising-higher t (fromLast n b) (fromLast n a) (number-falls n a b l k) ∙ ap (endsTurned n) (sym (rising-lower s a b l))
-      go (inr l) = rising-lower t (fromLast n a) (fromLast n b) (number-falls n b a l h) ∙ ap (endsTurned n) (sym (rising-higher s b a l))
+      go (inl l) = rising-higher t (fromLast n b) (fromLast n a) (fall a b l k) ∙ ap (endsTurned n) (sym (rising-lower s a b l))
+      go (inr l) = rising-lower t (fromLast n a) (fromLast n b) (fall b a l h) ∙ ap (endsTurned n) (sym (rising-higher s b a l))
 
   corners-turned : (a b c : ℕ) → a < n → b < n → c < n → same s a b ≡ false → same s b c ≡ false → same s a c ≡ false
       → corners t (fromLast n a) (fromLast n b) (fromLast n c) ≡ cornersTurned n (corners s a b c)
@@ -66,9 +70,6 @@ module _ (s t : Scene) (n : ℕ) where
     where
       Goal : Type 0
       Goal = corners t (fromLast n a) (fromLast n b) (fromLast n c) ≡ cornersTurned n (corners s a b c)
-
-      fall : (x y : ℕ) → Lower s x y → y < n → Lower t (fromLast n y) (fromLast n x)
-      fall x y l k = number-falls n x y l k
 
       go : Lower s a b ⊎ Lower s b a → Lower s b c ⊎ Lower s c b → Lower s a c ⊎ Lower s c a → Goal
       go (inl p) (inl q) r =
@@ -84,7 +85,18 @@ module _ (s t : Scene) (n : ℕ) where
       go (inr p) (inr q) r =
           six-orders t _ _ _ (fall b a p ha) (fall c b q hb) .xyz ∙ ap (cornersTurned n) (sym (six-orders s c b a q p .zyx))
 
+-- ---- the ends of an edge and the corners of a triangle, as written
+
 module _ {s t : Scene} (h : TurnsRound s t) where
+  pub edge-end-turned : (j k : ℕ) → j < edgeCount s → k < 2 → edgeEnd t j k ≡ fromLast (vertexCount s) (edgeEnd s j k)
+  edge-end-turned j k b l =
+      ap (λ (e : List ℕ). getD e (2 * j + k) 0) (h .edges) ∙ mapped-at (fromLast (vertexCount s)) (s .edges) (2 * j + k) 0 0 (edge-inside s j k b l)
+
+  pub corner-turned : (j k : ℕ) → j < triangleCount s → k < 3 → corner t j k ≡ fromLast (vertexCount s) (corner s j k)
+  corner-turned j k b l =
+      ap (λ (e : List ℕ). getD e (3 * j + k) 0) (h .triangles) ∙ mapped-at (fromLast (vertexCount s)) (s .triangles) (3 * j + k) 0 0 (triangle-inside s j k b l)
+
+module _ {s t : Scene} (h : TurnsRound s t) (unsewn : s .seams ≡ []) where
   abbrev n : ℕ
   n = vertexCount s
 
@@ -125,24 +137,16 @@ module _ {s t : Scene} (h : TurnsRound s t) where
 
   -- ---- the parts of the scene
 
-  pub edge-end-turned : (j k : ℕ) → j < edgeCount s → k < 2 → edgeEnd t j k ≡ fromLast n (edgeEnd s j k)
-  edge-end-turned j k b l =
-      ap (λ (e : List ℕ). getD e (2 * j + k) 0) (h .edges) ∙ mapped-at (fromLast n) (s .edges) (2 * j + k) 0 0 (edge-inside s j k b l)
-
-  pub corner-turned : (j k : ℕ) → j < triangleCount s → k < 3 → corner t j k ≡ fromLast n (corner s j k)
-  corner-turned j k b l =
-      ap (λ (e : List ℕ). getD e (3 * j + k) 0) (h .triangles) ∙ mapped-at (fromLast n) (s .triangles) (3 * j + k) 0 0 (triangle-inside s j k b l)
-
   ends-turned : (j : ℕ) → j < edgeCount s → Different s (endsWritten s j) → Every There (endsWritten s j) → endsOf t j ≡ endsTurned n (endsOf s j)
   ends-turned j b d e =
-      ap₂ (rising t) (edge-end-turned j 0 b (omega arith)) (edge-end-turned j 1 b (omega arith))
-      ∙ rising-turned s t n (edgeEnd s j 0) (edgeEnd s j 1) (e .0) (e .1 .0) (d .0 .0)
+      ap₂ (rising t) (edge-end-turned h j 0 b (omega arith)) (edge-end-turned h j 1 b (omega arith))
+      ∙ rising-turned s t n unsewn (h .seams ∙ unsewn) (edgeEnd s j 0) (edgeEnd s j 1) (e .0) (e .1 .0) (d .0 .0)
 
   corners-of-turned : (j : ℕ) → j < triangleCount s → Different s (cornersWritten s j) → Every There (cornersWritten s j)
       → cornersOf t j ≡ cornersTurned n (cornersOf s j)
   corners-of-turned j b d e =
-      ap₂ (among t) (ap₂ (rising t) (corner-turned j 0 b (omega arith)) (corner-turned j 1 b (omega arith))) (corner-turned j 2 b (omega arith))
-      ∙ corners-turned s t n (corner s j 0) (corner s j 1) (corner s j 2) (e .0) (e .1 .0) (e .1 .1 .0) (d .0 .0) (d .1 .0 .0) (d .0 .1 .0)
+      ap₂ (among t) (ap₂ (rising t) (corner-turned h j 0 b (omega arith)) (corner-turned h j 1 b (omega arith))) (corner-turned h j 2 b (omega arith))
+      ∙ corners-turned s t n unsewn (h .seams ∙ unsewn) (corner s j 0) (corner s j 1) (corner s j 2) (e .0) (e .1 .0) (e .1 .1 .0) (d .0 .0) (d .1 .0 .0) (d .0 .1 .0)
 
   -- both pieces of edge j
   abbrev EdgeTurned : ℕ → Type 0

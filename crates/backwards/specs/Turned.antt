@@ -115,6 +115,7 @@ pub record TurnsRound (s t : Scene) : Type 0 where
   pub ends : (v : ℕ) → v < vertexCount s → endOf t (fromLast (vertexCount s) v) ≡ startOf s v
   pub edges : t .edges ≡ map (fromLast (vertexCount s)) (s .edges)
   pub triangles : t .triangles ≡ map (fromLast (vertexCount s)) (s .triangles)
+  pub seams : t .seams ≡ s .seams
 
 module _ (s : Scene) (v : ℕ) (h : v < vertexCount s) where
   abbrev n : ℕ
@@ -149,13 +150,14 @@ turns-round s = record {
   ends = turned-end s;
   edges = unfold turnedRound in refl;
   triangles = unfold turnedRound in refl;
+  seams = unfold turnedRound in refl;
 }
 
 -- ---- turned twice
 
 pub turned-twice : (s : Scene) → turnedRound (turnedRound s) ≡ s
 unfolding turnedRound
-turned-twice s = λ i. record { positions = places i; edges = numbers (s .edges) i; triangles = numbers (s .triangles) i }
+turned-twice s = λ i. record { positions = places i; edges = numbers (s .edges) i; triangles = numbers (s .triangles) i; seams = s .seams }
   where
     t : Scene
     t = turnedRound s

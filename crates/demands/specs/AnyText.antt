@@ -289,8 +289,8 @@ as-line l t r e =
 still-good : {s s′ : Scene} {r r′ : Entry} → Reordered s s′ → SameRecord r r′ → EntryJudged s r (given tt) → EntryJudged s′ r′ (given tt)
 still-good h e = subst (λ (ks : List Check). Answers ks (λ u. Unit {0}) (given tt)) (same-checks h e)
 
-still-bad : {s s′ : Scene} {r r′ : Entry} {n : ℕ} → Reordered s s′ → SameRecord r r′ → EntryJudged s r (refused n 0) → EntryJudged s′ r′ (refused n 0)
-still-bad {n = n} h e = subst (λ (ks : List Check). Answers {A = Unit {0}} ks (λ u. Unit {0}) (refused n 0)) (same-checks h e)
+still-bad : (n : ℕ) {s s′ : Scene} {r r′ : Entry} → Reordered s s′ → SameRecord r r′ → EntryJudged s r (refused n 0) → EntryJudged s′ r′ (refused n 0)
+still-bad n h e = subst (λ (ks : List Check). Answers {A = Unit {0}} ks (λ u. Unit {0}) (refused n 0)) (same-checks h e)
 
 module _ (E : Scene → List ℕ → Type 0) (ends-alike : (s s′ : Scene) (t t′ : List ℕ) → Reordered s s′ → DifferInOrder t t′ → E s t → E s′ t′) where
   goes-alike : (s s′ : Scene) → Reordered s s′ → {t t′ : List ℕ} (above : List Entry) → DifferInOrder t t′ → Goes E s t above → GoesAlike E s s′ t′ above
@@ -326,24 +326,24 @@ end-alike (entry {r} s {t} d) e = absurd (nil≢cons (sym e ∙ line-is r t))
 -- a fault at the front of the one is the other's
 fault-alike : {n : ℕ} {s s′ : Scene} {t t′ : List ℕ} → Reordered s s′ → DifferInOrder t t′ → Fault s t n → Fault s′ t′ n
 fault-alike h (rest l n) (unformed e some never) = unformed e some never
-fault-alike h (rest l n) (misplaced r left short is j) = misplaced r left short is (still-bad h (itself r) j)
+fault-alike {n = m} h (rest l n) (misplaced r left short is j) = misplaced r left short is (still-bad m h (itself r) j)
 fault-alike {s = s} h (line l n {t} {t′} d) (unformed e some never) =
     unformed e (λ z. some (end-alike (differ-back (line l n d)) z))
     (λ r left short is.
     let (same, w) = first-line scene-bodies {s = s} l t′ left r short n is in
     never r t short (as-line l t r same))
-fault-alike {s = s} h (line l n {t} {t′} d) (misplaced r left short is j) =
+fault-alike {n = m} {s = s} h (line l n {t} {t′} d) (misplaced r left short is j) =
     let (same, w) = first-line scene-bodies {s = s} l t left r short n is in
-    misplaced r t′ short (as-line l t′ r same) (still-bad h (itself r) j)
+    misplaced r t′ short (as-line l t′ r same) (still-bad m h (itself r) j)
 fault-alike h (entry {r} {r′} e {t} {t′} d) (unformed q some never) =
     unformed q (λ z. some (end-alike (differ-back (entry e d)) z))
     (λ q left short is.
     let (same, w) = line-cancel r′ q t′ left is in
     never r t (same-short (same-back e) (subst (λ (k : Entry). Short digitLimit (numbersOf k)) (sym same) short)) refl)
-fault-alike h (entry {r} {r′} e {t} {t′} d) (misplaced q left short is j) =
+fault-alike {n = m} h (entry {r} {r′} e {t} {t′} d) (misplaced q left short is j) =
     let (same, w) = line-cancel r q t left is in
     let e′ : SameRecord q r′ = subst (λ (k : Entry). SameRecord k r′) same e in
-    misplaced r′ t′ (same-short e′ short) refl (still-bad h e′ j)
+    misplaced r′ t′ (same-short e′ short) refl (still-bad m h e′ j)
 
 -- ---- the same fault at the same line
 

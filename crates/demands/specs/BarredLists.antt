@@ -9,7 +9,7 @@ use lib.ListN.{length}
 use Rattle.sequences.specs.Range.{times, over}
 use Rattle.sequences.specs.Gather.{gather}
 use Rattle.whole.specs.Vector.{volume}
-use Rattle.meaning.specs.Scene.{Scene, sceneOf, Accepted, someBelow}
+use Rattle.meaning.specs.Scene.{Scene, sceneOf, Accepted, someBelow, stoodFor}
 use Rattle.meaning.specs.Pieces.{pieceCount}
 use Rattle.meaning.specs.Refusals.{given, numberOf, shares}
 use Rattle.meaning.specs.Boxes.{meetOn}
@@ -66,15 +66,15 @@ twoPoints =
     [] (0 ∷ 1 ∷ 2 ∷ []) []
 
 two-accepted : Accepted twoPoints
-unfolding someBelow
+unfolding someBelow stoodFor
 two-accepted = record { shapely = refl; inRange = refl; known = refl; sewnWell = refl; distinct = refl }
 
 two-pairs : pairs twoPoints ≡ pair PointTriangle 3 0 ∷ pair PointTriangle 4 0 ∷ []
-unfolding pairs gather over times shares meetOn
+unfolding pairs gather over times shares meetOn stoodFor
 two-pairs = refl
 
 hit-then-miss : AllSettled twoPoints (pairs twoPoints) (Hit ∷ Miss ∷ [])
-unfolding AllSettled pieceCount pieceVerdict joinedBelow joined pointDifferences volume verdictOf agreeing pairWord settledBy
+unfolding AllSettled stoodFor pieceCount pieceVerdict joinedBelow joined pointDifferences volume verdictOf agreeing pairWord settledBy
 hit-then-miss = rw two-pairs (pair-word-is twoPoints PointTriangle 3 0 Hit .1 refl, (pair-word-is twoPoints PointTriangle 4 0 Miss .1 refl, tt))
 
 -- the bytes of a hit and of a miss

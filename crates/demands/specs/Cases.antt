@@ -10,7 +10,7 @@ use lib.ListN.{length, getD}
 use lib.Signed.{_<ℤ_, ltZ-yes}
 use borrow.Author.Tests.{eqb-true, not-false}
 use Rattle.whole.specs.Vector.{volume, axis}
-use Rattle.meaning.specs.Scene.{Scene, wrongShape, outOfRange, unknownVertex, brokenSeam, repeatedVertex, someBelow}
+use Rattle.meaning.specs.Scene.{Scene, wrongShape, outOfRange, unknownVertex, brokenSeam, repeatedVertex, someBelow, stoodFor}
 use Rattle.meaning.specs.Pieces.{Piece, movingTriangle, pieceOf, pieceCount}
 use Rattle.meaning.specs.Equations.{one, total, Balanced}
 use Rattle.meaning.specs.Verdicts.{PairIs, SomePiece}
@@ -60,7 +60,7 @@ faults [] = false
 faults (c ∷ l) = fault c || faults l
 
 no-faults : faults cases ≡ false
-unfolding faults fault unlike someBelow notThere pieceCount byteOf pieceVerdict joinedBelow joined pointDifferences edgeDifferences startSum endSum volume verdictOf agreeing shares meetOn pairWord isTouch pieceWord settledBy touching byLeaf leafOf otherwise turnOf judgedBy baseOf firstOf skip slot next axis oneWay keep sixOf pointSix edgesSix
+unfolding faults fault unlike someBelow stoodFor notThere pieceCount byteOf pieceVerdict joinedBelow joined pointDifferences edgeDifferences startSum endSum volume verdictOf agreeing shares meetOn pairWord isTouch pieceWord settledBy touching byLeaf leafOf otherwise turnOf judgedBy baseOf firstOf skip slot next axis oneWay keep sixOf pointSix edgesSix
 no-faults = refl
 
 -- ---- the law
@@ -158,7 +158,7 @@ pub record AreWeights (u v : List ℕ) (p : Piece) : Type 0 where
   pub some : pos 0 <ℤ total one (weights u) (p .first)
 
 pub weights-shown : AreWeights (2 ∷ 2 ∷ []) (2 ∷ 0 ∷ 1 ∷ 1 ∷ []) (pieceOf (numbered 1 .scene) PointTriangle 3 0 1)
-unfolding total pieceOf movingTriangle
+unfolding total pieceOf movingTriangle stoodFor
 weights-shown = record {
   balanced = record { sums = refl; xs = refl; ys = refl; zs = refl; times = refl };
   some = ltZ-yes tt;

@@ -12,7 +12,7 @@ use borrow.Author.Tests.{lt-ltb, le-ltb}
 use Rattle.sequences.specs.Pick.{either}
 use Rattle.sequences.specs.Wrote.{Wrote, written, wrote-written}
 use Rattle.meaning.specs.Limits.{weightLimit}
-use Rattle.meaning.specs.Scene.{Scene}
+use Rattle.meaning.specs.Scene.{Scene, stoodFor}
 use Rattle.meaning.specs.Pieces.{Piece, movingTriangle, pieceOf, pieceCount}
 use Rattle.meaning.specs.Equations.{one, total, Touches}
 use Rattle.meaning.specs.Verdicts.{PieceIs, SomePiece}
@@ -94,7 +94,7 @@ demand2-yes s kind i j k ws h = touching-means s kind i j k (borne-touches (piec
 
 -- 'Case 1, piece 1: weights 2, 2 against 2, 0, 1, 1.'
 pub weights-claimed : BorneOut (pieceOf (numbered 1 .scene) PointTriangle 3 0 1) (2 ∷ 2 ∷ 2 ∷ 0 ∷ 1 ∷ 1 ∷ [])
-unfolding total pieceOf movingTriangle
+unfolding total pieceOf movingTriangle stoodFor
 weights-claimed = record {
   light = light;
   balanced = record { sums = refl; xs = refl; ys = refl; zs = refl; times = refl };

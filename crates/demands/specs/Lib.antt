@@ -31,4 +31,3 @@ pub mod BarredLists
 pub mod BoxTests
 pub mod Claims
 pub mod NoSeams
-pub mod SewnScenes

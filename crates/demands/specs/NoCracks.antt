@@ -4,7 +4,7 @@
 -- edge too: each has corners of its own, and they stand for the same two vertices.
 use Prim.Native.Nat.{ℕ, _<_}
 use mathlib.Core.List.{List}
-use mathlib.Core.Path.{_≡_, subst}
+use mathlib.Core.Path.{_≡_, refl, subst}
 use Rattle.meaning.specs.Scene.{Scene, Accepted, triangleCount, countsAs, rising, cornersOf}
 use Rattle.meaning.specs.Pieces.{Event, movingEdge, movingTriangle}
 use Rattle.meaning.specs.Equations.{Touch}
@@ -32,12 +32,32 @@ pub no-cracks : {s : Scene} → Accepted s → (a b t t′ : ℕ) → t < triang
 no-cracks accepted a b t t′ there there′ has has′ m points touch =
     (side-touched accepted a b t there has m points touch, side-touched accepted a b t′ there′ has′ m points touch)
 
--- And at a seam: the first triangle has the corners a and b, the second c and d; c stands for the vertex that a stands for, and d for the one
--- that b stands for. What touches a piece of the moving side a b touches both triangles: no corner slips through between two sewn pieces.
-pub no-cracks-at-seams : {s : Scene} → Accepted s → (a b c d t t′ : ℕ) → t < triangleCount s → t′ < triangleCount s
-    → HasTwo s t a b → HasTwo s t′ c d → countsAs s a ≡ countsAs s c → countsAs s b ≡ countsAs s d
-    → (m : ℕ) (points : List Event) → Touch (movingEdge (s .positions) (rising s a b) m) points → TouchesTriangle s t points × TouchesTriangle s t′ points
-no-cracks-at-seams {s} accepted a b c d t t′ there there′ has has′ ac bd m points touch = (
-  side-touched accepted a b t there has m points touch,
-  side-touched accepted c d t′ there′ has′ m points (subst (λ (f : List Event). Touch f points) (cut-alike (accepted-sewn accepted) a b c d ac bd m) touch),
-)
+-- ---- at a seam
+
+-- Two faces share an edge: each has two corners of its own, and these stand for the same two vertices. Faces that have two corners in common do,
+-- and so do the faces either side of a seam.
+pub record ShareAnEdge (s : Scene) (t t′ : ℕ) : Type 0 where
+  pub a : ℕ
+  pub b : ℕ
+  pub c : ℕ
+  pub d : ℕ
+  pub first : HasTwo s t a b
+  pub second : HasTwo s t′ c d
+  pub one : countsAs s a ≡ countsAs s c
+  pub other : countsAs s b ≡ countsAs s d
+
+pub corners-in-common : {s : Scene} {t t′ : ℕ} (a b : ℕ) → HasTwo s t a b → HasTwo s t′ a b → ShareAnEdge s t t′
+corners-in-common a b has has′ = record { a = a; b = b; c = a; d = b; first = has; second = has′; one = refl; other = refl }
+
+module _ {s : Scene} (accepted : Accepted s) (t t′ : ℕ) (there : t < triangleCount s) (there′ : t′ < triangleCount s) (e : ShareAnEdge s t t′) where
+  -- both faces cut the moving edge between them into the same two pieces
+  pub cut-once : (m : ℕ) → movingEdge (s .positions) (rising s (e .a) (e .b)) m ≡ movingEdge (s .positions) (rising s (e .c) (e .d)) m
+  cut-once = cut-alike (accepted-sewn accepted) (e .a) (e .b) (e .c) (e .d) (e .one) (e .other)
+
+  -- so what touches a piece of that edge touches both faces: no corner slips through between two faces, nor between two sewn pieces of cloth
+  pub no-cracks-at-seams : (m : ℕ) (points : List Event) → Touch (movingEdge (s .positions) (rising s (e .a) (e .b)) m) points
+      → TouchesTriangle s t points × TouchesTriangle s t′ points
+  no-cracks-at-seams m points touch = (
+    side-touched accepted (e .a) (e .b) t there (e .first) m points touch,
+    side-touched accepted (e .c) (e .d) t′ there′ (e .second) m points (subst (λ (f : List Event). Touch f points) (cut-once m) touch),
+  )

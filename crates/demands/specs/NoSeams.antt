@@ -8,7 +8,7 @@ use lib.Dec.{ltb, eqb}
 use lib.IntN.{ℤ}
 use lib.ListN.{length}
 use Rattle.meaning.specs.Limits.{vertexLimit, edgeLimit, triangleLimit}
-use Rattle.meaning.specs.Scene.{Scene, sceneOf, vertexCount, edgeCount, triangleCount, edgeEnd, corner, countsAs, stoodFor, endsOf, cornersOf, someBelow, wrongShape, unknownIn, unknownVertex, brokenSeam, twiceInEdge, twiceInTriangle}
+use Rattle.meaning.specs.Scene.{Scene, sceneOf, vertexCount, edgeCount, triangleCount, edgeEnd, corner, countsAs, stoodFor, endsOf, cornersOf, someBelow, wrongShape, unknownIn, unknownVertex, brokenSeam, repeatedVertex}
 use Rattle.meaning.specs.Refusals.{shares}
 use Rattle.meaning.specs.declared.Ends.{Ends}
 use Rattle.meaning.specs.declared.Corners.{Corners}
@@ -16,20 +16,26 @@ use Rattle.meaning.specs.declared.Kind.the-variants.{PointTriangle, EdgeEdge}
 
 -- ---- as document 01 has it, by vertex number
 
-abbrev endsByNumber : ℕ → ℕ → Ends
+abbrev pub endsByNumber : ℕ → ℕ → Ends
 endsByNumber a b = cond (ltb b a) (record { low = b; high = a }) (record { low = a; high = b })
 
-abbrev cornersByNumber : Ends → ℕ → Corners
+abbrev pub cornersByNumber : Ends → ℕ → Corners
 cornersByNumber e c =
     cond (ltb c (e .low)) (record { low = c; middle = e .low; high = e .high })
     (cond (ltb c (e .high)) (record { low = e .low; middle = c; high = e .high }) (record { low = e .low; middle = e .high; high = c }))
 
-abbrev oldShape : Scene → Bool
+-- 1, and 4
+abbrev pub oldShape : Scene → Bool
 oldShape s =
     not (eqb (length (s .positions) % 6) 0) || not (eqb (length (s .edges) % 2) 0) || not (eqb (length (s .triangles) % 3) 0)
     || ltb vertexLimit (vertexCount s)
     || ltb edgeLimit (edgeCount s)
     || ltb triangleLimit (triangleCount s)
+
+abbrev pub oldRepeated : Scene → Bool
+oldRepeated s =
+    someBelow (edgeCount s) (λ j. eqb (edgeEnd s j 0) (edgeEnd s j 1))
+    || someBelow (triangleCount s) (λ j. eqb (corner s j 0) (corner s j 1) || eqb (corner s j 0) (corner s j 2) || eqb (corner s j 1) (corner s j 2))
 
 -- ---- the same of a scene without seams
 
@@ -43,8 +49,7 @@ pub record AsBefore (s : Scene) : Type 0 where
   pub no1 : wrongShape s ≡ oldShape s
   pub no3 : unknownVertex s ≡ unknownIn (vertexCount s) (s .edges) || unknownIn (vertexCount s) (s .triangles)
   pub no15 : brokenSeam s ≡ false
-  pub twoEnds : (j : ℕ) → twiceInEdge s j ≡ eqb (edgeEnd s j 0) (edgeEnd s j 1)
-  pub threeCorners : (j : ℕ) → twiceInTriangle s j ≡ eqb (corner s j 0) (corner s j 1) || eqb (corner s j 0) (corner s j 2) || eqb (corner s j 1) (corner s j 2)
+  pub no4 : repeatedVertex s ≡ oldRepeated s
 
 six : (a b c d e f : Bool) → (a || b || c || false) || (d || e || f || false) ≡ a || b || c || d || e || f
 six true b c d e f = refl
@@ -67,6 +72,5 @@ without-seams p e t = record {
       six (not (eqb (length p % 6) 0)) (not (eqb (length e % 2) 0)) (not (eqb (length t % 3) 0)) (ltb vertexLimit (length p / 6)) (ltb edgeLimit (length e / 2)) (ltb triangleLimit (length t / 3));
   no3 = or-false (unknownIn (length p / 6) e || unknownIn (length p / 6) t);
   no15 = refl;
-  twoEnds = λ j. refl;
-  threeCorners = λ j. refl;
+  no4 = refl;
 }

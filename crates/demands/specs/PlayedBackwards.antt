@@ -34,7 +34,7 @@ use Rattle.theory.specs.Rearranged.{Rearranged, unmoved, moved, also, rearrange
 use Rattle.backwards.specs.Numbers.{known-number, number-unknown}
 use Rattle.backwards.specs.Turned.{turns-round, turned-twice}
 use Rattle.backwards.specs.Pieces.{piece-there, piece-turned, turned-keeps-pieces, turned-keeps-words, turned-keeps-pairs, turned-keeps-pair-words}
-use Rattle.backwards.specs.Checked.{vertices-turned, edges-turned, triangles-turned, shape-turned, range-turned, unknown-turned, repeated-turned, checks-turned, accepted-turned}
+use Rattle.backwards.specs.Checked.{vertices-turned, edges-turned, triangles-turned, shape-turned, range-turned, unknown-turned, broken-turned, repeated-turned, checks-turned, accepted-turned}
 use Rattle.backwards.specs.Listed.{Asked, shares-turned, boxes-turned, listed-turned, pairs-turned}
 use Rattle.scenes.specs.Below.{or-left}
 use Rattle.scenes.specs.Speaking.{pair-says-one}
@@ -78,20 +78,20 @@ unfolding notThere Asked
 asked {s} a PointTriangle i j h = are-there (vertexCount s) (triangleCount s) i j h
 asked {s} a EdgeEdge i j h = are-there (edgeCount s) (edgeCount s) i j h
 
-pub same-contacts : {s : Scene} → Accepted s → (kind : Kind) (i j : ℕ) → notThere s kind i j ≡ false → SameContacts s kind i j
-same-contacts {s} a kind i j h =
+pub same-contacts : {s : Scene} → Accepted s → s .seams ≡ [] → (kind : Kind) (i j : ℕ) → notThere s kind i j ≡ false → SameContacts s kind i j
+same-contacts {s} a unsewn kind i j h =
     let known = vertices-there a kind i j h in
     let made = well-made a kind i j h in
     let turns = turns-round s in
     record {
-      pieces = piece-turned turns kind i j known made;
-      pieceVerdicts = turned-keeps-pieces turns kind i j known made;
-      pieceWords = turned-keeps-words turns kind i j known made;
-      verdict = turned-keeps-pairs turns kind i j known made;
-      word = turned-keeps-pair-words turns kind i j known made;
+      pieces = piece-turned turns unsewn kind i j known made;
+      pieceVerdicts = turned-keeps-pieces turns unsewn kind i j known made;
+      pieceWords = turned-keeps-words turns unsewn kind i j known made;
+      verdict = turned-keeps-pairs turns unsewn kind i j known made;
+      word = turned-keeps-pair-words turns unsewn kind i j known made;
       there = there-turned s kind i j ∙ h;
-      sharing = shares-turned a kind i j (asked a kind i j h);
-      listing = listed-turned a kind i j (asked a kind i j h);
+      sharing = shares-turned a unsewn kind i j (asked a kind i j h);
+      listing = listed-turned a unsewn kind i j (asked a kind i j h);
     }
 
 -- ---- the list, as a set
@@ -101,12 +101,12 @@ unfolding FirstBelow firstTurned
 first-below s PointTriangle i j = (λ u. u, λ u. u)
 first-below s EdgeEdge i j = (λ u. u, λ u. u)
 
-to-list-turned : {s : Scene} → Accepted s → (p : Pair) → ToList s p ↔ ToList (turnedRound s) (pairTurned s p)
-to-list-turned {s} a p = (
+to-list-turned : {s : Scene} → Accepted s → s .seams ≡ [] → (p : Pair) → ToList s p ↔ ToList (turnedRound s) (pairTurned s p)
+to-list-turned {s} a unsewn p = (
   λ l. record {
     there = there-turned s (p .kind) (p .first) (p .second) ∙ l .there;
     ordered = first-below s (p .kind) (p .first) (p .second) .1 (l .ordered);
-    apart = shares-turned a (p .kind) (p .first) (p .second) (here (l .there)) ∙ l .apart;
+    apart = shares-turned a unsewn (p .kind) (p .first) (p .second) (here (l .there)) ∙ l .apart;
     meet = boxes-turned a (p .kind) (p .first) (p .second) (here (l .there)) ∙ l .meet;
   },
   λ l.
@@ -114,7 +114,7 @@ to-list-turned {s} a p = (
       record {
         there = h;
         ordered = first-below s (p .kind) (p .first) (p .second) .0 (l .ordered);
-        apart = sym (shares-turned a (p .kind) (p .first) (p .second) (here h)) ∙ l .apart;
+        apart = sym (shares-turned a unsewn (p .kind) (p .first) (p .second) (here h)) ∙ l .apart;
         meet = sym (boxes-turned a (p .kind) (p .first) (p .second) (here h)) ∙ l .meet;
       },
 )
@@ -122,9 +122,9 @@ to-list-turned {s} a p = (
     here : notThere s (p .kind) (p .first) (p .second) ≡ false → Asked a (p .kind) (p .first) (p .second)
     here = asked a (p .kind) (p .first) (p .second)
 
-pub same-list : {s : Scene} → Accepted s → (p : Pair) → List·Memᴰ p (pairs s) ↔ List·Memᴰ (pairTurned s p) (pairs (turnedRound s))
-same-list {s} a p =
-    Iff·trans (list-is s .stands p) (Iff·trans (to-list-turned a p) (Iff·symm (list-is (turnedRound s) .stands (pairTurned s p))))
+pub same-list : {s : Scene} → Accepted s → s .seams ≡ [] → (p : Pair) → List·Memᴰ p (pairs s) ↔ List·Memᴰ (pairTurned s p) (pairs (turnedRound s))
+same-list {s} a unsewn p =
+    Iff·trans (list-is s .stands p) (Iff·trans (to-list-turned a unsewn p) (Iff·symm (list-is (turnedRound s) .stands (pairTurned s p))))
 
 -- ---- the totals
 
@@ -153,15 +153,15 @@ rearranged-words s (moved e r) ws h =
     record { words = all .words; right = all .right; order = also (one .order) (all .order) }
 
 -- corresponding pairs have the same words
-words-turned : {s : Scene} → Accepted s → (ps : List Pair) → ((p : Pair) → List·Memᴰ p ps → notThere s (p .kind) (p .first) (p .second) ≡ false)
+words-turned : {s : Scene} → Accepted s → s .seams ≡ [] → (ps : List Pair) → ((p : Pair) → List·Memᴰ p ps → notThere s (p .kind) (p .first) (p .second) ≡ false)
     → (ws : List Settled) → AllSettled s ps ws → AllSettled (turnedRound s) (map (pairTurned s) ps) ws
 unfolding AllSettled
-words-turned a [] there [] h = h
-words-turned a [] there (w ∷ ws) h = h
-words-turned a (p ∷ ps) there [] h = h
-words-turned a (p ∷ ps) there (w ∷ ws) h = (
-  same-contacts a (p .kind) (p .first) (p .second) (there p (List·Memᴰ·head refl)) .word w .0 (h .0),
-  words-turned a ps (λ q m. there q (List·Memᴰ·tail m)) ws (h .1),
+words-turned a unsewn [] there [] h = h
+words-turned a unsewn [] there (w ∷ ws) h = h
+words-turned a unsewn (p ∷ ps) there [] h = h
+words-turned a unsewn (p ∷ ps) there (w ∷ ws) h = (
+  same-contacts a unsewn (p .kind) (p .first) (p .second) (there p (List·Memᴰ·head refl)) .word w .0 (h .0),
+  words-turned a unsewn ps (λ q m. there q (List·Memᴰ·tail m)) ws (h .1),
 )
 
 -- the totals of the report: listed, hits, misses, touch, apart
@@ -190,11 +190,11 @@ same-totals {ws} {ws′} r =
     let each : (w : Settled) → howMany w ws ≡ howMany w ws′ = λ w. how-many-rearranged w r in
     record { order = r; listed = n; each = each; line = rw (n, each Hit, each Miss, each Touch, each Apart) }
 
-pub totals-turned : {s : Scene} → Accepted s → (ws ws′ : List Settled) → AllSettled s (pairs s) ws
+pub totals-turned : {s : Scene} → Accepted s → s .seams ≡ [] → (ws ws′ : List Settled) → AllSettled s (pairs s) ws
     → AllSettled (turnedRound s) (pairs (turnedRound s)) ws′ → SameTotals ws ws′
-totals-turned {s} a ws ws′ h k =
+totals-turned {s} a unsewn ws ws′ h k =
     let there : (p : Pair) → List·Memᴰ p (pairs s) → notThere s (p .kind) (p .first) (p .second) ≡ false = λ p m. list-is s .stands p .0 m .there in
-    let moved = rearranged-words (turnedRound s) (pairs-turned a) ws (words-turned a (pairs s) there ws h) in
+    let moved = rearranged-words (turnedRound s) (pairs-turned a unsewn) ws (words-turned a unsewn (pairs s) there ws h) in
     same-totals (subst (Rearranged ws) (all-judged-one (turnedRound s) (pairs (turnedRound s)) (moved .words) ws′ (moved .right) k) (moved .order))
 
 -- ---- the theorem
@@ -214,45 +214,52 @@ pub record PlayedBackwards (s : Scene) : Type 0 where
   pub list : Accepted s → Rearranged (map (pairTurned s) (pairs s)) (pairs (turnedRound s))
   pub totals : Accepted s → (ws ws′ : List Settled) → AllSettled s (pairs s) ws → AllSettled (turnedRound s) (pairs (turnedRound s)) ws′ → SameTotals ws ws′
 
-pub played-backwards : (s : Scene) → PlayedBackwards s
-played-backwards s = record {
+pub played-backwards : (s : Scene) → s .seams ≡ [] → PlayedBackwards s
+played-backwards s unsewn = record {
   starts = λ v h. subst (λ w. startOf (turnedRound s) w ≡ endOf s v) (known-number (vertexCount s) v h) (turns-round s .starts v h);
   ends = λ v h. subst (λ w. endOf (turnedRound s) w ≡ startOf s v) (known-number (vertexCount s) v h) (turns-round s .ends v h);
   twice = turned-twice s;
-  checks = checks-turned s;
-  accepted = accepted-turned s;
-  contacts = same-contacts;
-  set = same-list;
-  list = pairs-turned;
-  totals = totals-turned;
+  checks = checks-turned s unsewn;
+  accepted = accepted-turned s unsewn;
+  contacts = λ a. same-contacts a unsewn;
+  set = λ a. same-list a unsewn;
+  list = λ a. pairs-turned a unsewn;
+  totals = λ a. totals-turned a unsewn;
 }
 
 -- ---- in answers, of calls that meet their promises
 
-same-checks-turned : (s : Scene) → SameChecks s (turnedRound s)
-same-checks-turned s = record { shape = shape-turned s; range = range-turned s; known = λ h. unknown-turned s; repeated = repeated-turned s }
+same-checks-turned : (s : Scene) → s .seams ≡ [] → SameChecks s (turnedRound s)
+same-checks-turned s unsewn = record {
+  shape = shape-turned s;
+  range = range-turned s;
+  known = λ h. unknown-turned s;
+  sewn = broken-turned s unsewn;
+  repeated = repeated-turned s unsewn;
+}
 
-pub scene-played-back : (s : Scene) (r r′ : SceneAnswer) → SceneChecked s r → SceneChecked (turnedRound s) r′ → r ≡ r′
-scene-played-back s r r′ p q = one-scene s r r′ p (subst (λ (ks : List Check). Answers ks (λ t. Unit {0}) (sceneSays r′)) (checks-turned s) q)
+pub scene-played-back : (s : Scene) → s .seams ≡ [] → (r r′ : SceneAnswer) → SceneChecked s r → SceneChecked (turnedRound s) r′ → r ≡ r′
+scene-played-back s unsewn r r′ p q = one-scene s r r′ p (subst (λ (ks : List Check). Answers ks (λ t. Unit {0}) (sceneSays r′)) (checks-turned s unsewn) q)
 
-pub count-played-back : (s : Scene) (r r′ : ListAnswer) → Counted s r → Counted (turnedRound s) r′ → r ≡ r′
-count-played-back s r r′ p q =
+pub count-played-back : (s : Scene) → s .seams ≡ [] → (r r′ : ListAnswer) → Counted s r → Counted (turnedRound s) r′ → r ≡ r′
+count-played-back s unsewn r r′ p q =
     let one = demand1-counted s r p in
     let other = demand1-counted (turnedRound s) r′ q in
     list-says-one r r′
-    (refused-as (same-checks-turned s) (one .rows) (other .rows) (λ a.
-    one .counted (length (pairs s)) .1 (a, refl) ∙ sym (other .counted (length (pairs s)) .1 (accepted-turned s .0 a, as-long a))))
+    (refused-as (same-checks-turned s unsewn) (one .rows) (other .rows) (λ a.
+    one .counted (length (pairs s)) .1 (a, refl) ∙ sym (other .counted (length (pairs s)) .1 (accepted-turned s unsewn .0 a, as-long a))))
   where
     as-long : Accepted s → length (pairs s) ≡ length (pairs (turnedRound s))
-    as-long a = sym (length-map (pairs s) (pairTurned s)) ∙ as-many (pairs-turned a)
+    as-long a = sym (length-map (pairs s) (pairTurned s)) ∙ as-many (pairs-turned a unsewn)
 
-module _ (s : Scene) (kind : Kind) (i j : ℕ) where
+module _ (s : Scene) (unsewn : s .seams ≡ []) (kind : Kind) (i j : ℕ) where
   asked-alike : {W : Type 0} {missing : Bool} {Is Be : W → Type 0} {o o′ : Outcome W} → (missing ≡ false → notThere s kind i j ≡ false)
       → AskedTable s missing (shares s kind i j) Is o → AskedTable (turnedRound s) missing (shares (turnedRound s) kind (firstTurned s kind i) j) Be o′
       → ExactlyOne Is → (SameContacts s kind i j → (v : W) → Is v ↔ Be v) → o ≡ o′
   asked-alike there p q one same =
-      refused-as (same-checks-turned s) (p .rows) (q .rows) (λ a.
-      answered-alike a (accepted-turned s .0 a) p q (λ n. same-contacts a kind i j (there n) .sharing) one (λ n f. same (same-contacts a kind i j (there n))))
+      refused-as (same-checks-turned s unsewn) (p .rows) (q .rows) (λ a.
+      answered-alike a (accepted-turned s unsewn .0 a) p q (λ n. same-contacts a unsewn kind i j (there n) .sharing) one
+      (λ n f. same (same-contacts a unsewn kind i j (there n))))
 
   pub pair-played-back : (r r′ : PairAnswer) → PairJudged s kind i j r → PairJudged (turnedRound s) kind (firstTurned s kind i) j r′ → r ≡ r′
   pair-played-back r r′ p q =

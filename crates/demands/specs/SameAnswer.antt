@@ -3,11 +3,12 @@
 use Prim.Native.Nat.{ℕ}
 use mathlib.Core.Bool.{Bool, false}
 use mathlib.Core.Logic.{_↔_}
-use mathlib.Core.Path.{_≡_, sym, _∙_}
+use mathlib.Core.List.{List, []}
+use mathlib.Core.Path.{_≡_, sym, _∙_, ap₂}
 use lib.Dec.{leb}
 use Rattle.whole.specs.Vector.{Vector}
 use Rattle.whole.specs.VectorLaws.{Matrix}
-use Rattle.meaning.specs.Scene.{Scene, Accepted}
+use Rattle.meaning.specs.Scene.{Scene, sceneOf, Accepted}
 use Rattle.meaning.specs.Pieces.{pieceCount}
 use Rattle.meaning.specs.Resting.{PairDecided, PieceDecided}
 use Rattle.meaning.specs.Refusals.{Outcome, notThere, shares, PairJudged, PieceJudged}
@@ -64,8 +65,8 @@ module _ {m : Matrix} {d e : Vector} {s t : Scene} (h : Moves m d e s t) where
 
   shares-alike : (kind : Kind) (i j : ℕ) → shares t kind i j ≡ shares s kind i j
   unfolding shares
-  shares-alike PointTriangle i j = rw (h .triangles)
-  shares-alike EdgeEdge i j = rw (h .edges)
+  shares-alike PointTriangle i j = ap₂ (λ (l w : List ℕ). shares (sceneOf [] [] l w) PointTriangle i j) (h .triangles) (h .seams)
+  shares-alike EdgeEdge i j = ap₂ (λ (l w : List ℕ). shares (sceneOf [] l [] w) EdgeEdge i j) (h .edges) (h .seams)
 
   module _ (a : Accepted s) (b : Accepted t) (kind : Kind) (i j : ℕ) where
     pub pair-answer-kept : (r r′ : PairAnswer) → PairJudged s kind i j r → PairJudged t kind i j r′ → r ≡ r′

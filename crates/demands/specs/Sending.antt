@@ -13,7 +13,7 @@ use lib.Seq.{getD-append-add, ext-getD}
 use Rattle.sequences.specs.Flat.{flat-length, flat-at}
 use Rattle.whole.specs.Vector.{Vector, plus, volume}
 use Rattle.whole.specs.VectorLaws.{Matrix, apply, det, vector-eq}
-use Rattle.meaning.specs.Scene.{Scene, sceneOf, Accepted, vertexCount, startOf, endOf, someBelow}
+use Rattle.meaning.specs.Scene.{Scene, sceneOf, Accepted, vertexCount, startOf, endOf, someBelow, stoodFor}
 use Rattle.meaning.specs.Text.{coordinates}
 use Rattle.theory.specs.Moved.{Moves}
 use Rattle.scenes.specs.Facts.{accepted-sized}
@@ -105,7 +105,7 @@ turning = record { a = at (pos 0) (pos 1) (pos 0); b = at (pos 2) (pos 1) (pos 0
 
 -- both scenes can be accepted: the scene of case 1, through a matrix of determinant -2, with two shifts
 pub both-accepted : Accepted (send turning (at (pos 5) (pos 0) (neg 7)) (at (neg 1) (pos 9) (pos 0)) (numbered 1 .scene))
-unfolding send upTo flatMap someBelow
+unfolding send upTo flatMap someBelow stoodFor
 both-accepted = record { shapely = refl; inRange = refl; known = refl; sewnWell = refl; distinct = refl }
 
 turning-nonzero : det turning ≡ neg 2

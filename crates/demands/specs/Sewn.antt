@@ -2,7 +2,7 @@
 use Prim.Native.Nat.{ℕ, zero, suc, _+_, _*_, _/_, _<_}
 use mathlib.Core.Bool.{Bool, true, false, true≢false, cond, _||_}
 use mathlib.Core.List.{List, [], _∷_}
-use mathlib.Core.Path.{_≡_, refl, sym, _∙_, ap, ap₂}
+use mathlib.Core.Path.{_≡_, refl, sym, _∙_, ap, ap₂, subst₂}
 use native.Mathlib.Omega.{arith}
 use lib.Dec.{eqb, ltb}
 use lib.IntN.{ℤ, pos, negsuc}
@@ -29,17 +29,17 @@ placed : (p : List ℤ) (w : List ℕ) → ((k : ℕ) → k < length w / 2 → O
 unfolding stoodFor
 placed p [] all v = λ i l. refl
 placed p (j ∷ []) all v = λ i l. refl
-placed p (i ∷ j ∷ w) all v = by-first (eqb i v) refl
+placed p (i ∷ j ∷ w) all v = by-first (eqb i v) refl (placed p w later v)
   where
     later : (k : ℕ) → k < length w / 2 → OnePlace p (getD w (2 * k) 0) (getD w (2 * k + 1) 0)
     later k h =
         let e : 2 * suc k ≡ suc (suc (2 * k)) = omega arith in
         let f : 2 * suc k + 1 ≡ suc (suc (2 * k + 1)) = omega arith in
-        rw (e, f) at (all (suc k) (omega arith))
+        subst₂ (λ a b. OnePlace p (getD (i ∷ j ∷ w) a 0) (getD (i ∷ j ∷ w) b 0)) e f (all (suc k) (omega arith))
 
-    by-first : (b : Bool) → eqb i v ≡ b → OnePlace p v (cond b j (stoodFor w v))
-    by-first true e = let is : i ≡ v = eqb-true i v e in rw is at (all 0 (omega arith))
-    by-first false e = placed p w later v
+    by-first : (b : Bool) → eqb i v ≡ b → OnePlace p v (stoodFor w v) → OnePlace p v (cond b j (stoodFor w v))
+    by-first true e rest = let is : i ≡ v = eqb-true i v e in rw is at (all 0 (omega arith))
+    by-first false e rest = rest
 
 module _ {s : Scene} (a : Accepted s) where
   together : (k : ℕ) → k < seamCount s → OnePlace (s .positions) (sewn s k) (onto s k)

@@ -7,7 +7,7 @@ use native.Mathlib.Omega.{arith}
 use lib.ListN.{length}
 use Rattle.sequences.specs.Range.{times, over}
 use Rattle.sequences.specs.Gather.{gather}
-use Rattle.meaning.specs.Scene.{sceneOf, Accepted, someBelow}
+use Rattle.meaning.specs.Scene.{sceneOf, Accepted, someBelow, stoodFor}
 use Rattle.meaning.specs.Refusals.{shares}
 use Rattle.meaning.specs.Boxes.{meetOn}
 use Rattle.meaning.specs.List.{pair, pairs}
@@ -30,7 +30,7 @@ unfolding pairs gather over times
 nothing-listed = refl
 
 pub empty-text : Holds [] (sceneOf [] [] [] [])
-unfolding Lines.Sound flatMap
+unfolding Lines.Sound Lines.afterAll flatMap
 empty-text = record { entries = []; records = record { sound = tt; lines = refl }; scene = refl }
 
 -- ---- an empty line
@@ -59,5 +59,5 @@ empty-line above rest sound = record {
 -- ---- the triangle of case 1 twice: two pairs
 
 pub repeated-triangle : pairs (sceneOf (numbered 1 .scene .positions) [] (0 ∷ 1 ∷ 2 ∷ 2 ∷ 0 ∷ 1 ∷ []) []) ≡ pair PointTriangle 3 0 ∷ pair PointTriangle 3 1 ∷ []
-unfolding pairs gather over times shares meetOn
+unfolding pairs gather over times shares meetOn stoodFor
 repeated-triangle = refl

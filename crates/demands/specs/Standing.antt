@@ -1,4 +1,4 @@
--- 'A pair is culled when it shares no vertex number and isn't listed': whether a pair that is asked for stands in the list. And 'an edge with
+-- 'A pair is culled when it shares no vertex number and isn't listed', by the vertex stood for: whether a pair that is asked for stands in the list. And 'an edge with
 -- itself too': it is refused 6.
 use Prim.Native.Nat.{ℕ, min, max, _<_}
 use mathlib.Core.Bool.{Bool, true, false, not, _||_, true≢false}
@@ -10,7 +10,7 @@ use native.Mathlib.Decide.{decLt}
 use lib.Dec.{leb}
 use borrow.Author.Tests.{eq-eqb, lt-leb, not-true}
 use Rattle.sequences.specs.Pick.{both}
-use Rattle.meaning.specs.Scene.{Scene, Accepted, edgeCount, edgeEnd}
+use Rattle.meaning.specs.Scene.{Scene, Accepted, edgeCount, edgeEnd, countsAs}
 use Rattle.meaning.specs.Pieces.{pieceCount}
 use Rattle.meaning.specs.Refusals.{Outcome, refused, pairSays, notThere, shares, PairJudged, PieceJudged}
 use Rattle.meaning.specs.Resting.{settledSays, PairDecided, PieceDecided}
@@ -42,7 +42,7 @@ module _ (s : Scene) where
   -- 'an edge with itself too': it shares its vertices
   pub edge-shares-itself : (i : ℕ) → shares s EdgeEdge i i ≡ true
   unfolding shares
-  edge-shares-itself i = rw (eq-eqb (edgeEnd s i 0) (edgeEnd s i 0) refl)
+  edge-shares-itself i = rw (eq-eqb (countsAs s (edgeEnd s i 0)) (countsAs s (edgeEnd s i 0)) refl)
 
   -- a pair that is there stands in the list exactly when it shares no vertex and its boxes meet, in whichever order it is asked for
   pub stands-is : (kind : Kind) (i j : ℕ) → notThere s kind i j ≡ false → Stands s kind i j ↔ (listed s kind i j ≡ true)

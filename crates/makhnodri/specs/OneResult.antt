@@ -128,16 +128,16 @@ counts-refused (Read c) l n line e = let z : _≡_ {A = ℕ} 0 1 = cc in absurd 
 counts-refused (Refused x k) l n line e = refl
 
 -- after success it holds them
-counts-given : (a : TextAnswer) (l : List ℕ) (c : SceneCounts) → textSays a ≡ given c → countsLeft a l ≡ c .vertices ∷ c .edges ∷ c .triangles ∷ []
+counts-given : (a : TextAnswer) (l : List ℕ) (c : SceneCounts) → textSays a ≡ given c → countsLeft a l ≡ c .vertices ∷ c .edges ∷ c .triangles ∷ c .seams ∷ []
 unfolding textSays countsLeft
-counts-given (Read d) l c e = let same : d ≡ c = cc in ap (λ (k : SceneCounts). k .vertices ∷ k .edges ∷ k .triangles ∷ []) same
+counts-given (Read d) l c e = let same : d ≡ c = cc in ap (λ (k : SceneCounts). k .vertices ∷ k .edges ∷ k .triangles ∷ k .seams ∷ []) same
 counts-given (Refused x k) l c e = let z : _≡_ {A = ℕ} 0 1 = cc in absurd (omega arith)
 
--- a refusal leaves all four buffers as they were; after success the scene stands in front in three of them, the counts in the fourth
+-- a refusal leaves all five buffers as they were; after success the scene stands in front in four of them, the counts in the fifth
 pub reading-told-heard : (text : List ℕ) (lent left : Scene) (l l′ : List ℕ) (r : ℕ) → Told textNumber (ReadInto text lent left l l′) r
     → TextRows text lent (heard (countsIn l′) r)
     × ((n line : ℕ) → heard (countsIn l′) r ≡ refused n line → (left ≡ lent) × (l′ ≡ l))
-    × ((c : SceneCounts) → heard (countsIn l′) r ≡ given c → SceneInFront text lent left c × (l′ ≡ c .vertices ∷ c .edges ∷ c .triangles ∷ []))
+    × ((c : SceneCounts) → heard (countsIn l′) r ≡ given c → SceneInFront text lent left c × (l′ ≡ c .vertices ∷ c .edges ∷ c .triangles ∷ c .seams ∷ []))
 reading-told-heard text lent left l l′ r p =
     let says : heard (countsIn l′) r ≡ textSays (p .answer) = rw (p .is, p .right .counts) (text-heard (p .answer) l (line-small (p .right .scene))) in (
       rw says (demand1-text text lent left (p .answer) (p .right .scene)),

@@ -5,6 +5,8 @@ ghost use mathlib.Core.Path.{_≡_};
 ghost use Rattle.meaning.specs.Scene.{sceneAtEntry, sceneAtExit};
 ghost use Rattle.meaning.specs.Refusals.{SceneChecked, PairJudged, PieceJudged};
 ghost use Rattle.meaning.specs.Backwards.{Turning};
+ghost use Rattle.scenes.specs.Alone.{unsewnAtEntry};
+ghost use Rattle.turning.specs.Scene.{unsewnAtExit};
 ghost use Rattle.meaning.specs.Resting.{PairDecided, PieceDecided};
 ghost use Rattle.meaning.specs.List.{Counted, Listing};
 ghost use Rattle.meaning.specs.Runs.{Tested};
@@ -48,7 +50,7 @@ pub extern "C" fn makhnodri_turn_scene(
     edges: &mut [u16],
     triangles: &mut [u16],
 ) -> u64
-    ensures { λ r. ⌜ Told sceneNumber (Turning (sceneAtEntry positions edges triangles) (sceneAtExit positions edges triangles)) r ⌝ }
+    ensures { λ r. ⌜ Told sceneNumber (Turning (unsewnAtEntry positions edges triangles) (unsewnAtExit positions edges triangles)) r ⌝ }
 {
     scene_number(turning::turn_scene(positions, edges, triangles))
 }
@@ -132,7 +134,8 @@ pub extern "C" fn makhnodri_judge_ee_slices(
 ) -> u64
     ensures { λ r. ⌜ Told pairNumber (PairJudged (sceneAtEntry positions edges triangles seams) EdgeEdge first second) r ⌝ }
 {
-    pair_number(three_words::judge_pair(positions, edges, triangles, seams, Kind::EdgeEdge, first, second))
+    let kind = Kind::EdgeEdge;
+    pair_number(three_words::judge_pair(positions, edges, triangles, seams, kind, first, second))
 }
 
 #[no_mangle]

@@ -127,7 +127,15 @@ fn show_in(
 ) {
     match read_scene(text, positions, edges, triangles, seams) {
         TextAnswer::Read(c) => print_read(
-            c, want, ends, corners, sewn, positions, edges, triangles, seams,
+            c,
+            want,
+            ends,
+            corners,
+            sewn,
+            positions,
+            edges,
+            triangles,
+            seams,
         ),
         TextAnswer::Refused(refusal, line) => print_refused(
             refusal,
@@ -175,7 +183,17 @@ pub fn show_cut(text: &[u8], p: usize, e: usize, t: usize, w: usize)
     let mut edges = [77u16; 2056];
     let mut triangles = [77u16; 1544];
     let mut seams = [77u16; 1032];
-    show_part(text, &mut positions, &mut edges, &mut triangles, &mut seams, p, e, t, w);
+    show_part(
+        text,
+        &mut positions,
+        &mut edges,
+        &mut triangles,
+        &mut seams,
+        p,
+        e,
+        t,
+        w,
+    );
 }
 
 fn show_part(

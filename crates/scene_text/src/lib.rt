@@ -4,13 +4,9 @@ ghost use mathlib.Core.Path.{_≡_};
 ghost use Rattle.meaning.specs.Scene.{sceneAtEntry, sceneAtExit};
 ghost use Rattle.meaning.specs.Text.{TextRead};
 
-mod place; // place.rt: a record goes to its place in the buffers
-mod sewing; // sewing.rt: a seam that was put there is held to 15 and 4
-mod draft; // draft.rt: the lines of a text, one by one
 mod copying; // copying.rt: from the draft to the lent buffers
 
 use copying::copy_scene;
-use draft::draft_text;
 use meaning::EDGE_NUMBERS;
 use meaning::POSITION_NUMBERS;
 use meaning::Refusal;
@@ -19,6 +15,7 @@ use meaning::TEXT_LIMIT;
 use meaning::TRIANGLE_NUMBERS;
 use meaning::TextAnswer;
 use meaning::VERTEX_LIMIT;
+use scene_draft::draft_text;
 
 // Reads a scene text into the lent buffers. The answer is the counts of the scene that then stands in front of them, or the refusal with
 // its line; a refusal changes none of them.

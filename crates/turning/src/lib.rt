@@ -1,17 +1,17 @@
-// A scene turned round where it stands, so that a clip can be played backwards: start and end swapped, the vertices numbered from last to
-// first, edges and triangles in their places.
+// A scene without seams turned round where it stands, so that a clip can be played backwards: start and end swapped, the vertices numbered
+// from last to first, edges and triangles in their places.
 
 ghost use Prim.Native.Nat.{_*_, _≤_, _<_};
 ghost use mathlib.Core.List.{map};
 ghost use mathlib.Core.Path.{_≡_};
 ghost use lib.ListN.{length};
 ghost use Rattle.meaning.specs.Limits.{vertexLimit};
-ghost use Rattle.meaning.specs.Scene.{sceneAtEntry, sceneAtExit};
 ghost use Rattle.meaning.specs.Backwards.{fromLast, Turning};
+ghost use Rattle.scenes.specs.Alone.{unsewnAtEntry};
 ghost use Rattle.backwards.specs.Turned.{source};
 ghost use Rattle.turning.specs.Exchanging.{exchanged};
 ghost use Rattle.turning.specs.Renumbering.{AllBelow};
-ghost use Rattle.turning.specs.Scene.{positionsTurned};
+ghost use Rattle.turning.specs.Scene.{positionsTurned, unsewnAtExit};
 use meaning::SceneAnswer;
 use scenes::check_scene;
 use scenes::written::wide;
@@ -65,11 +65,11 @@ fn renumber(numbers: &mut [u16], count: usize)
     }
 }
 
-// Turns the scene in the lent slices round. A refusal is the scene's own and changes nothing.
+// Turns the scene in the lent slices, which has no seams, round. A refusal is the scene's own and changes nothing.
 pub fn turn_scene(positions: &mut [i32], edges: &mut [u16], triangles: &mut [u16]) -> SceneAnswer
-    ensures { λ r. ⌜ Turning (sceneAtEntry positions edges triangles) (sceneAtExit positions edges triangles) r ⌝ }
+    ensures { λ r. ⌜ Turning (unsewnAtEntry positions edges triangles) (unsewnAtExit positions edges triangles) r ⌝ }
 {
-    if let SceneAnswer::Refused(refusal) = check_scene(positions, edges, triangles) {
+    if let SceneAnswer::Refused(refusal) = check_scene(positions, edges, triangles, &[]) {
         return SceneAnswer::Refused(refusal);
     }
     let count = positions.len() / 6;

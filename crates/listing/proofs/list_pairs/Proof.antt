@@ -1,11 +1,10 @@
 -- `list_pairs`: a refusal of the check is passed on, and an accepted scene's list is made, by the table of its seams.
 use borrow.Author.Needs.{needs}
 use native.Mathlib.Omega.{arith}
-use Rattle.meaning.specs.Scene.{Scene, sceneIn, Accepted}
-use Rattle.meaning.specs.Runs.{Tested}
-use Rattle.scenes.specs.Checking.{to-table, from-table}
+use Rattle.meaning.specs.Scene.{sceneIn, Accepted}
+use Rattle.scenes.specs.Checking.{one-scene, to-table}
 use Rattle.scenes.specs.Sewing.{blank-table}
-use Rattle.listing.specs.Answering.{ListedIn, accepted-from, listing-refused, listing-accepted, tested-refused, tested-as}
+use Rattle.listing.specs.Answering.{accepted-from, listing-refused, listing-accepted, tested-refused, tested-as}
 use Rattle.listing.proofs.list_pairs.Statement.{statement}
 use Rattle.listing.proofs.list_pairs.Tie as tie
 
@@ -31,7 +30,7 @@ returns-2 c =
     let room = c .before .before .before .before .before .before .room in
     let made = c .before .before .list-accepted in
     tested-as s (listing-accepted s (called .ensures .checked) _ told (room .ensures))
-    (from-table (λ (u : Scene). Tested u (ListedIn u (room .result) _ _) _ _ (made .result)) (called .ensures .into) accepted (made .ensures))
+    (rw (one-scene {s = s} (called .ensures .into) accepted) at (made .ensures))
 
 pub list-pairs-spec : {M : Type 1} → statement M
 list-pairs-spec =

@@ -3,7 +3,7 @@
 use mathlib.Core.List.{[]}
 use mathlib.Core.Path.{refl}
 use borrow.Author.Needs.{needs}
-use Rattle.scene_text.specs.Reading.{own-table, own-room, same-roomy}
+use Rattle.scene_draft.specs.Reading.{own-table, own-room, same-roomy}
 use Rattle.scene_text.specs.Answering.{roomy, draft-bounded, read-short, read-long, read-refused, read-given}
 use Rattle.scene_text.proofs.read_scene.Statement.{statement}
 use Rattle.scene_text.proofs.read_scene.Tie as tie

@@ -1,4 +1,5 @@
 -- `turn_scene`: the scene's own refusals, and only where none holds the three lists are turned round.
+use mathlib.Core.List.{[]}
 use borrow.Author.Needs.{needs}
 use Rattle.meaning.specs.Scene.{sceneOf}
 use Rattle.scenes.specs.Accepting.{accepted-by}
@@ -9,24 +10,24 @@ use Rattle.turning.proofs.turn_scene.Tie as tie
 returns : tie.Need-returns
 returns c =
     let checked = c .before .before .before in
-    let a = checked .before .before .before .before .before .before .args in
-    let s = sceneOf (a .positions .now) (a .edges .now) (a .triangles .now) in
+    let a = checked .before .before .before .before .before .before .before .args in
+    let s = sceneOf (a .positions .now) (a .edges .now) (a .triangles .now) [] in
     scene-refused s _ (c .before .refusal .given .1) (checked .check-scene .ensures)
 
 turn-positions-requires : tie.Need-turn-positions-requires
 turn-positions-requires c κs =
     let told = c .before in
     let checked = told .before .before in
-    let a = checked .before .before .before .before .before .before .args in
-    let s = sceneOf (a .positions .now) (a .edges .now) (a .triangles .now) in
+    let a = checked .before .before .before .before .before .before .before .args in
+    let s = sceneOf (a .positions .now) (a .edges .now) (a .triangles .now) [] in
     few-positions (accepted-by s (told .enum-told .given .1) (checked .check-scene .ensures))
 
 renumber-requires : tie.Need-renumber-requires
 renumber-requires c κs =
     let told = c .before .before .before .before in
     let checked = told .before .before in
-    let a = checked .before .before .before .before .before .before .args in
-    let s = sceneOf (a .positions .now) (a .edges .now) (a .triangles .now) in
+    let a = checked .before .before .before .before .before .before .before .args in
+    let s = sceneOf (a .positions .now) (a .edges .now) (a .triangles .now) [] in
     let accepted = accepted-by s (told .enum-told .given .1) (checked .check-scene .ensures) in
     (few-vertices accepted, ends-below accepted)
 
@@ -34,8 +35,8 @@ renumber-requires-2 : tie.Need-renumber-requires-2
 renumber-requires-2 c κs =
     let told = c .before .before .before .before .before .before .before .before in
     let checked = told .before .before in
-    let a = checked .before .before .before .before .before .before .args in
-    let s = sceneOf (a .positions .now) (a .edges .now) (a .triangles .now) in
+    let a = checked .before .before .before .before .before .before .before .args in
+    let s = sceneOf (a .positions .now) (a .edges .now) (a .triangles .now) [] in
     let accepted = accepted-by s (told .enum-told .given .1) (checked .check-scene .ensures) in
     (few-vertices accepted, corners-below accepted)
 
@@ -46,8 +47,8 @@ returns-2 c =
     let turned = ends .before .before .before in
     let told = turned .before .before in
     let checked = told .before .before in
-    let a = checked .before .before .before .before .before .before .args in
-    let s = sceneOf (a .positions .now) (a .edges .now) (a .triangles .now) in
+    let a = checked .before .before .before .before .before .before .before .args in
+    let s = sceneOf (a .positions .now) (a .edges .now) (a .triangles .now) [] in
     turned-scene s (accepted-by s (told .enum-told .given .1) (checked .check-scene .ensures))
     (turned .turn-positions .ensures) (ends .renumber .ensures) (corners .renumber2 .ensures)
 
@@ -55,6 +56,7 @@ pub turn-scene-spec : {M : Type 1} → statement M
 turn-scene-spec =
     tie.close
     (tie.spec
+    (λ c. search needs)
     (λ c κs. search needs)
     (λ c. search needs)
     (λ c. search needs)
