@@ -64,7 +64,8 @@ brief s text p =
     let (h3, p3) = is-given (λ t. Unit {0}) _ _ tt p2 in
     let (h4, p4) = is-given (λ t. Unit {0}) _ _ tt p3 in
     let (h5, p5) = is-given (λ t. Unit {0}) _ _ tt p4 in
-    ltb-false textLimit (length text) h5
+    let (h6, p6) = is-given (λ t. Unit {0}) _ _ tt p5 in
+    ltb-false textLimit (length text) h6
 
 module _ (s : Scene) (text : List ℕ) (room : ℕ) where
   last-small : (cs : List Claim) → length cs < upper → (o : Outcome (List Bool)) → Answers (claimsLast room cs) (AllAnswered s cs) o
@@ -85,7 +86,7 @@ module _ (s : Scene) (text : List ℕ) (room : ℕ) where
   outcome-small : (o : Outcome (List Bool)) → ClaimsOutcome s text room o → toldIn (howManyTold o) < upper
   unfolding toldIn howManyTold Bare
   outcome-small o (before n c e p) =
-      let none : c ≡ 0 = bare-carries (λ t. Unit {0}) (claimsFirst s text) n c (refl, (refl, (refl, (refl, (refl, tt))))) p in
+      let none : c ≡ 0 = bare-carries (λ t. Unit {0}) (claimsFirst s text) n c (refl, (refl, (refl, (refl, (refl, (refl, tt)))))) p in
       rw e (omega arith)
   outcome-small o (faulty n line e p f) =
       rw e

@@ -24,7 +24,13 @@ use meaning::TEXT_LIMIT;
 use meaning::VERTEX_LIMIT;
 
 // The first pass: how many claims there are, or the first faulty line with its fault.
-fn inspect(positions: &[i32], edges: &[u16], triangles: &[u16], stands: &[u16], text: &[u8]) -> ClaimsAnswer
+fn inspect(
+    positions: &[i32],
+    edges: &[u16],
+    triangles: &[u16],
+    stands: &[u16],
+    text: &[u8],
+) -> ClaimsAnswer
     ensures { λ r. ⌜ Inspected (tabledAtEntry positions edges triangles stands) (now (text .entry)) r ⌝ }
 {
     let mut sizes = [0u64; 9];
@@ -90,7 +96,14 @@ fn byte_of(yes: bool) -> u8
 }
 
 // The second pass, over claims none of which is at fault: the buffer then holds their answers in front.
-fn answer_all(positions: &[i32], edges: &[u16], triangles: &[u16], stands: &[u16], text: &[u8], answers: &mut [u8])
+fn answer_all(
+    positions: &[i32],
+    edges: &[u16],
+    triangles: &[u16],
+    stands: &[u16],
+    text: &[u8],
+    answers: &mut [u8],
+)
     requires { ⌜ Accepted (tabledIn positions edges triangles stands) ⌝ }
     requires { ⌜ Roomy (tabledIn positions edges triangles stands) (now text) (now answers) ⌝ }
     ensures { λ _. ⌜ Answered (tabledAtEntry positions edges triangles stands) (now (text .entry)) (now (answers .entry)) (now (answers .exit)) ⌝ }
@@ -136,7 +149,11 @@ pub fn check_claims(
 {
     let mut stands = [0u16; VERTEX_LIMIT];
     if let SceneAnswer::Refused(refusal) = scenes::check_into(
-        positions, edges, triangles, seams, &mut stands,
+        positions,
+        edges,
+        triangles,
+        seams,
+        &mut stands,
     ) {
         return ClaimsAnswer::Refused(refusal, 0);
     }

@@ -13,6 +13,7 @@ use meaning::CLAIM_ROOM;
 use meaning::ClaimsAnswer;
 use meaning::EDGE_NUMBERS;
 use meaning::POSITION_NUMBERS;
+use meaning::SEAM_NUMBERS;
 use meaning::TRIANGLE_NUMBERS;
 use meaning::TextAnswer;
 use wording::lines::answer_line;
@@ -41,14 +42,15 @@ fn scene_answers(
     positions: &[i32],
     edges: &[u16],
     triangles: &[u16],
+    seams: &[u16],
     claims: &[u8],
     out: &mut [u8],
 ) -> usize
     requires { ⌜ length (now out) ≡ answersLength ⌝ }
-    ensures { λ r. ⌜ SceneAnswered (sceneAtEntry positions edges triangles) (now (claims .entry)) (now (out .entry)) (now (out .exit)) r ⌝ }
+    ensures { λ r. ⌜ SceneAnswered (sceneAtEntry positions edges triangles seams) (now (claims .entry)) (now (out .entry)) (now (out .exit)) r ⌝ }
 {
     let mut answers = [0u8; CLAIM_ROOM];
-    match claim_answers::check_claims(positions, edges, triangles, claims, &mut answers) {
+    match claim_answers::check_claims(positions, edges, triangles, seams, claims, &mut answers) {
         ClaimsAnswer::Answered(count) => answer_lines(&answers, count, out),
         ClaimsAnswer::Refused(refusal, third) => {
             refused_line(out, 0, number_of(refusal), third as u64)
@@ -63,12 +65,27 @@ pub fn write_answers(scene: &[u8], claims: &[u8], out: &mut [u8; ANSWERS_BYTES])
     let mut positions = [0i32; POSITION_NUMBERS];
     let mut edges = [0u16; EDGE_NUMBERS];
     let mut triangles = [0u16; TRIANGLE_NUMBERS];
-    match scene_text::read_scene(scene, &mut positions, &mut edges, &mut triangles) {
+    let mut seams = [0u16; SEAM_NUMBERS];
+    match scene_text::read_scene(
+        scene,
+        &mut positions,
+        &mut edges,
+        &mut triangles,
+        &mut seams,
+    ) {
         TextAnswer::Read(counts) => {
             let p = 6 * counts.vertices;
             let e = 2 * counts.edges;
             let t = 3 * counts.triangles;
-            scene_answers(&positions[..p], &edges[..e], &triangles[..t], claims, out)
+            let w = 2 * counts.seams;
+            scene_answers(
+                &positions[..p],
+                &edges[..e],
+                &triangles[..t],
+                &seams[..w],
+                claims,
+                out,
+            )
         }
         TextAnswer::Refused(refusal, line) => refused_line(out, 0, number_of(refusal), line as u64),
     }

@@ -31,3 +31,4 @@ pub mod BarredLists
 pub mod BoxTests
 pub mod Claims
 pub mod NoSeams
+pub mod StoodFor

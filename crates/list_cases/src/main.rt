@@ -85,7 +85,7 @@ fn show_tests(tests: usize) {
 // The printed scene, listed into a buffer.
 fn try_room(list: &mut [u32]) {
     let mut tests = [7usize; 1];
-    show_answer(listing::list_pairs(&POSITIONS, &EDGES, &TRIANGLES, list, &mut tests));
+    show_answer(listing::list_pairs(&POSITIONS, &EDGES, &TRIANGLES, &[], list, &mut tests));
     show_tests(tests[0]);
     show_buffer(list);
 }
@@ -93,7 +93,7 @@ fn try_room(list: &mut [u32]) {
 // The printed scene, counted.
 fn try_count() {
     let mut tests = [7usize; 1];
-    show_answer(listing::count_pairs(&POSITIONS, &EDGES, &TRIANGLES, &mut tests));
+    show_answer(listing::count_pairs(&POSITIONS, &EDGES, &TRIANGLES, &[], &mut tests));
     show_tests(tests[0]);
     end_line();
 }
@@ -108,6 +108,7 @@ fn try_empty(list: &mut [u32]) {
         &positions[..0],
         &edges[..0],
         &triangles[..0],
+        &[],
         list,
         &mut tests,
     ));
@@ -118,7 +119,7 @@ fn try_empty(list: &mut [u32]) {
 // A scene that is refused: its positions are no multiple of 6.
 fn try_bad(list: &mut [u32]) {
     let mut tests = [7usize; 1];
-    show_answer(listing::list_pairs(&POSITIONS[..29], &EDGES, &TRIANGLES, list, &mut tests));
+    show_answer(listing::list_pairs(&POSITIONS[..29], &EDGES, &TRIANGLES, &[], list, &mut tests));
     show_tests(tests[0]);
     show_buffer(list);
 }

@@ -37,7 +37,12 @@ fn put_counts(counts: &mut [usize; 4], c: SceneCounts)
 
 // May this scene be used?
 #[no_mangle]
-pub extern "C" fn makhnodri_check_scene_slices(positions: &[i32], edges: &[u16], triangles: &[u16], seams: &[u16]) -> u64
+pub extern "C" fn makhnodri_check_scene_slices(
+    positions: &[i32],
+    edges: &[u16],
+    triangles: &[u16],
+    seams: &[u16],
+) -> u64
     ensures { λ r. ⌜ Told sceneNumber (SceneChecked (sceneAtEntry positions edges triangles seams)) r ⌝ }
 {
     scene_number(scenes::check_scene(positions, edges, triangles, seams))

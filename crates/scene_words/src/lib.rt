@@ -111,7 +111,15 @@ pub fn settle_accepted(
 {
     let room = smaller(entries::room(list), out.len());
     let mut tests = [0usize; 1];
-    match listing::accepted::list_accepted(positions, edges, triangles, stands, list, room, &mut tests) {
+    match listing::accepted::list_accepted(
+        positions,
+        edges,
+        triangles,
+        stands,
+        list,
+        room,
+        &mut tests,
+    ) {
         ListAnswer::Listed(made) => {
             settle_entries(positions, edges, triangles, stands, list, out, made.count);
             ListAnswer::Listed(made)
@@ -133,7 +141,11 @@ pub fn settle_scene(
 {
     let mut stands = [0u16; VERTEX_LIMIT];
     if let SceneAnswer::Refused(refusal) = scenes::check_into(
-        positions, edges, triangles, seams, &mut stands,
+        positions,
+        edges,
+        triangles,
+        seams,
+        &mut stands,
     ) {
         return ListAnswer::Refused(refusal, 0);
     }

@@ -2,7 +2,7 @@
 -- keeps its own pt pairs; and edges or faces that became one are kept, each with its own pairs.
 use Prim.Native.Nat.{ℕ}
 use mathlib.Core.Bool.{true, false}
-use mathlib.Core.List.{[], _∷_, _++_}
+use mathlib.Core.List.{[], _∷_, _++_, flatMap}
 use mathlib.Core.Logic.{_↔_}
 use mathlib.Core.Path.{_≡_, refl}
 use lib.IntN.{pos}
@@ -14,6 +14,7 @@ use Rattle.meaning.specs.Boxes.{meetOn, listed}
 use Rattle.meaning.specs.List.{pair, pairs}
 use Rattle.meaning.specs.Text.{coordinates}
 use Rattle.meaning.specs.declared.Kind.the-variants.{PointTriangle, EdgeEdge}
+use Rattle.demands.specs.Sending.{upTo, send, turning}
 use Rattle.demands.specs.Standing.{Stands, stands-is}
 use Rattle.demands.specs.Table.{at, neg, numbered}
 use Rattle.sewn_scenes.specs.Cloth.{resting, o, p, q, four, face}
@@ -26,6 +27,11 @@ together = sceneOf four [] face (3 ∷ 1 ∷ [])
 pub together-accepted : Accepted together
 unfolding someBelow stoodFor
 together-accepted = record { shapely = refl; inRange = refl; known = refl; sewnWell = refl; distinct = refl }
+
+-- and so is it sent through a matrix, with its seams, as demand 3 sends it
+pub sent-too : Accepted (send turning (at (pos 5) (pos 0) (neg 7)) (at (neg 1) (pos 9) (pos 0)) together)
+unfolding send upTo flatMap someBelow stoodFor
+sent-too = record { shapely = refl; inRange = refl; known = refl; sewnWell = refl; distinct = refl }
 
 -- the pair that the list has for nothing, and the list without it
 pub false-pair : pairs (sceneOf four [] face []) ≡ pair PointTriangle 3 0 ∷ []

@@ -11,8 +11,8 @@ use lib.ListN.{length, replicate, length-replicate, length-append}
 use borrow.Author.Tests.{ltb-true, ltb-false}
 use Rattle.sequences.specs.Pick.{either}
 use Rattle.sequences.specs.Wrote.{written}
-use Rattle.meaning.specs.Limits.{reportRoom, textLimit}
-use Rattle.meaning.specs.Scene.{Scene, sceneOf, Accepted}
+use Rattle.meaning.specs.Limits.{vertexLimit, reportRoom, textLimit}
+use Rattle.meaning.specs.Scene.{Scene, sceneOf, Accepted, vertexCount, unknownVertex}
 use Rattle.meaning.specs.Refusals.{Outcome, given, refused, numberOf, Answers}
 use Rattle.meaning.specs.List.{pairs, roomOf, listSays, leaves}
 use Rattle.meaning.specs.Text.{TextRead, TextIs, shortBuffer, longText}
@@ -24,11 +24,30 @@ use Rattle.meaning.specs.declared.ListAnswer as ListAnswers
 use Rattle.meaning.specs.declared.ListAnswer.{ListAnswer}
 use Rattle.meaning.specs.declared.TextAnswer as TextAnswers
 use Rattle.scenes.specs.Answering.{is-refused, is-past}
+use Rattle.scenes.specs.Below.{or-left, or-rest}
+use Rattle.scenes.specs.Facts.{Sized, accepted-sized, known-inside}
+use Rattle.scenes.specs.Table.{seamsOf}
+use Rattle.scenes.specs.Sewing.{Sewable, Sewn, blank-table}
 use Rattle.listing.specs.Answering.{roomChecks, IsCount, ListedIn}
 use Rattle.scene_words.specs.Listed.{ListStands, bytesOf, bytes-length, word-in-front}
 use Rattle.scene_words.specs.Answering.{SettledIn, MadeList, made-list, made-stands}
 use Rattle.scene_text.specs.Using.{Came, byBuffers, byLength, byLines, read-refusal-of}
 use Rattle.summary.specs.Sizes.{Held}
+
+-- the table that an accepted scene's seams are taken into has them
+pub accepted-sewable : {s : Scene} → Accepted s → Sewable (s .positions) (s .seams) (replicate vertexLimit 0)
+accepted-sewable {s} a =
+    let sized : Sized s = accepted-sized a in
+    let known : unknownVertex s ≡ false = a .known in
+    record {
+      blank = blank-table (s .seams);
+      even = sized .seamsLong;
+      few = sized .fewVertices;
+      inside = known-inside (vertexCount s) (s .seams) (search (or-left, or-rest));
+    }
+
+pub accepted-tabled : {s : Scene} {t₀ t : List ℕ} {found : Bool} → Accepted s → Sewn (s .positions) (s .seams) t₀ found t → seamsOf t ≡ s .seams
+accepted-tabled a w = w .tells (w .finds ∙ a .sewnWell)
 
 -- the program's own buffers have room for 3,072 pairs
 pub own-room : min (roomOf (replicate 3072 0)) (length (replicate {A = ℕ} 3072 0)) ≡ reportRoom

@@ -4,11 +4,12 @@ use mathlib.Core.List.{List, [], _∷_, _++_, map}
 use mathlib.Core.Path.{_≡_, refl, sym, ap, _∙_, subst}
 use native.Mathlib.Omega.{arith}
 use native.Mathlib.Nat.{not-suc-le-zero, le-of-suc-le-suc, zero-add}
+use lib.IntN.{ℤ}
 use lib.ListN.{length, getD, length-map}
 use Rattle.sequences.specs.Gather.{gather}
 use Rattle.sequences.specs.Wrote.{Wrote, written, wrote-front}
 use Rattle.meaning.specs.Limits.{reportRoom, textLimit}
-use Rattle.meaning.specs.Scene.{Scene}
+use Rattle.meaning.specs.Scene.{Scene, sceneOf}
 use Rattle.meaning.specs.List.{Pair, pairs}
 use Rattle.meaning.specs.Text.{Holds}
 use Rattle.meaning.specs.SceneWords.{AllSettled}
@@ -73,6 +74,11 @@ room-refused s {o} {o′} {n} {r} e h w =
       right = noRoom h;
       wrote = wrote-as (ap (refusedLine 7) e) w;
     }
+
+-- the report of a scene with seams that are said in another way
+pub reported-as : {p : List ℤ} {e t w w′ : List ℕ} {o o′ : List ℕ} {n : ℕ} → w ≡ w′ → SceneReported (sceneOf p e t w) o o′ n
+    → SceneReported (sceneOf p e t w′) o o′ n
+reported-as {p} {e} {t} {o} {o′} {n} same r = subst (λ (l : List ℕ). SceneReported (sceneOf p e t l) o o′ n) same r
 
 -- ---- from a scene's report to a text's
 

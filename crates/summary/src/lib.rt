@@ -8,6 +8,7 @@ ghost use lib.ListN.{length};
 ghost use Rattle.meaning.specs.Scene.{sceneIn, sceneAtEntry, Accepted};
 ghost use Rattle.meaning.specs.Limits.{textLimit};
 ghost use Rattle.meaning.specs.Report.{Reported, ReportedRead};
+ghost use Rattle.scenes.specs.Alone.{tabledIn, tabledAtEntry};
 ghost use Rattle.summary.specs.Sizes.{reportLength};
 ghost use Rattle.summary.specs.Whole.{SceneReported};
 use meaning::EDGE_NUMBERS;
@@ -15,27 +16,59 @@ use meaning::ListAnswer;
 use meaning::POSITION_NUMBERS;
 use meaning::REPORT_BYTES;
 use meaning::REPORT_ROOM;
+use meaning::SEAM_NUMBERS;
 use meaning::TEXT_LIMIT;
 use meaning::TRIANGLE_NUMBERS;
 use meaning::TextAnswer;
+use meaning::VERTEX_LIMIT;
 use pairs::pairs_report;
+use scenes::table::sew_all;
 use wording::lines::refused_line;
 use wording::number_of;
 
 // The bytes that a program reads into: one more than a text may have, so that a full buffer decides refusal 8.
 pub const READ_BYTES: usize = TEXT_LIMIT + 1;
 
-// The report of a scene that is accepted: 7 is found before anything is written.
-fn scene_report(positions: &[i32], edges: &[u16], triangles: &[u16], out: &mut [u8]) -> usize
-    requires { ⌜ Accepted (sceneIn positions edges triangles) × (length (now out) ≡ reportLength) ⌝ }
-    ensures { λ r. ⌜ SceneReported (sceneAtEntry positions edges triangles) (now (out .entry)) (now (out .exit)) r ⌝ }
+// The report of a scene that is accepted, its seams in the table: 7 is found before anything is written.
+fn tabled_report(
+    positions: &[i32],
+    edges: &[u16],
+    triangles: &[u16],
+    stands: &[u16],
+    out: &mut [u8],
+) -> usize
+    requires { ⌜ Accepted (tabledIn positions edges triangles stands) × (length (now out) ≡ reportLength) ⌝ }
+    ensures { λ r. ⌜ SceneReported (tabledAtEntry positions edges triangles stands) (now (out .entry)) (now (out .exit)) r ⌝ }
 {
     let mut list = [0u32; REPORT_ROOM];
     let mut verdicts = [0u8; REPORT_ROOM];
-    match scene_words::settle_accepted(positions, edges, triangles, &mut list, &mut verdicts) {
+    match scene_words::settle_accepted(
+        positions,
+        edges,
+        triangles,
+        stands,
+        &mut list,
+        &mut verdicts,
+    ) {
         ListAnswer::Listed(made) => pairs_report(&list, &verdicts, made.count, out),
         ListAnswer::Refused(_, needed) => refused_line(out, 0, 7, needed as u64),
     }
+}
+
+// The report of a scene that is accepted.
+fn scene_report(
+    positions: &[i32],
+    edges: &[u16],
+    triangles: &[u16],
+    seams: &[u16],
+    out: &mut [u8],
+) -> usize
+    requires { ⌜ Accepted (sceneIn positions edges triangles seams) × (length (now out) ≡ reportLength) ⌝ }
+    ensures { λ r. ⌜ SceneReported (sceneAtEntry positions edges triangles seams) (now (out .entry)) (now (out .exit)) r ⌝ }
+{
+    let mut stands = [0u16; VERTEX_LIMIT];
+    sew_all(positions, seams, &mut stands);
+    tabled_report(positions, edges, triangles, &stands, out)
 }
 
 // The whole report of a text.
@@ -45,12 +78,20 @@ pub fn write_report(text: &[u8], out: &mut [u8; REPORT_BYTES]) -> usize
     let mut positions = [0i32; POSITION_NUMBERS];
     let mut edges = [0u16; EDGE_NUMBERS];
     let mut triangles = [0u16; TRIANGLE_NUMBERS];
-    match scene_text::read_scene(text, &mut positions, &mut edges, &mut triangles) {
+    let mut seams = [0u16; SEAM_NUMBERS];
+    match scene_text::read_scene(text, &mut positions, &mut edges, &mut triangles, &mut seams) {
         TextAnswer::Read(counts) => {
             let p = 6 * counts.vertices;
             let e = 2 * counts.edges;
             let t = 3 * counts.triangles;
-            scene_report(&positions[..p], &edges[..e], &triangles[..t], out)
+            let w = 2 * counts.seams;
+            scene_report(
+                &positions[..p],
+                &edges[..e],
+                &triangles[..t],
+                &seams[..w],
+                out,
+            )
         }
         TextAnswer::Refused(refusal, line) => refused_line(out, 0, number_of(refusal), line as u64),
     }

@@ -98,7 +98,12 @@ pub fn piece(
 {
     match kind {
         Kind::PointTriangle => {
-            crate::pieces::point_piece(positions, i, scenes::parts::corners_of(triangles, stands, j), k)
+            crate::pieces::point_piece(
+                positions,
+                i,
+                scenes::parts::corners_of(triangles, stands, j),
+                k,
+            )
         }
         Kind::EdgeEdge => {
             let first = scenes::parts::ends_of(edges, stands, smaller(i, j));
@@ -168,7 +173,13 @@ pub fn pair(
     ensures { λ r. ⌜ PairIs (tabledAtEntry positions edges triangles stands) kind i j r ⌝ }
 {
     match kind {
-        Kind::PointTriangle => { point_pair(positions, i, scenes::parts::corners_of(triangles, stands, j)) }
+        Kind::PointTriangle => {
+            point_pair(
+                positions,
+                i,
+                scenes::parts::corners_of(triangles, stands, j),
+            )
+        }
         Kind::EdgeEdge => {
             let first = scenes::parts::ends_of(edges, stands, smaller(i, j));
             let second = scenes::parts::ends_of(edges, stands, larger(i, j));

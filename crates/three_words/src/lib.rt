@@ -44,7 +44,11 @@ fn asked(
     ensures { λ r. ⌜ PairAsked (sceneAtEntry positions edges triangles seams) kind first second missing r × Stitched (sceneAtEntry positions edges triangles seams) (now (stands .entry)) (now (stands .exit)) ⌝ }
 {
     if let SceneAnswer::Refused(refusal) = scenes::check_into(
-        positions, edges, triangles, seams, stands,
+        positions,
+        edges,
+        triangles,
+        seams,
+        stands,
     ) {
         return SceneAnswer::Refused(refusal);
     }
@@ -69,7 +73,17 @@ pub fn pair_into(
     requires { ⌜ Blank (now seams) (now stands) ⌝ }
     ensures { λ r. ⌜ PairJudged (sceneAtEntry positions edges triangles seams) kind first second r × Stitched (sceneAtEntry positions edges triangles seams) (now (stands .entry)) (now (stands .exit)) ⌝ }
 {
-    match asked(positions, edges, triangles, seams, stands, kind, first, second, false) {
+    match asked(
+        positions,
+        edges,
+        triangles,
+        seams,
+        stands,
+        kind,
+        first,
+        second,
+        false,
+    ) {
         SceneAnswer::Refused(refusal) => PairAnswer::Refused(refusal),
         SceneAnswer::Accepted => PairAnswer::Judged(accepted::pair(
             positions,
@@ -95,7 +109,16 @@ pub fn judge_pair(
     ensures { λ r. ⌜ PairJudged (sceneAtEntry positions edges triangles seams) kind first second r ⌝ }
 {
     let mut stands = [0u16; VERTEX_LIMIT];
-    pair_into(positions, edges, triangles, seams, &mut stands, kind, first, second)
+    pair_into(
+        positions,
+        edges,
+        triangles,
+        seams,
+        &mut stands,
+        kind,
+        first,
+        second,
+    )
 }
 
 // The verdict of one piece of a pair; and the table of the scene's seams.
@@ -114,7 +137,17 @@ pub fn piece_into(
     ensures { λ r. ⌜ PieceJudged (sceneAtEntry positions edges triangles seams) kind first second piece r × Stitched (sceneAtEntry positions edges triangles seams) (now (stands .entry)) (now (stands .exit)) ⌝ }
 {
     let missing = accepted::piece_count(kind) <= piece;
-    match asked(positions, edges, triangles, seams, stands, kind, first, second, missing) {
+    match asked(
+        positions,
+        edges,
+        triangles,
+        seams,
+        stands,
+        kind,
+        first,
+        second,
+        missing,
+    ) {
         SceneAnswer::Refused(refusal) => PairAnswer::Refused(refusal),
         SceneAnswer::Accepted => PairAnswer::Judged(accepted::piece(
             positions,

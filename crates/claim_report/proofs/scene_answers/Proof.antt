@@ -15,7 +15,7 @@ answer-lines-requires c κs =
     let count = c .before .before .before in
     let call = count .before .before .before in
     let few = few-given (call .check-claims .ensures) (count .count .given .1) in
-    (few .1, omega (arith, few .0, length-replicate {A = ℕ} 2048 0), call .before .before .before .before .before .before .pre)
+    (few .1, omega (arith, few .0, length-replicate {A = ℕ} 2048 0), call .before .before .before .before .before .before .before .pre)
 
 returns : tie.Need-returns
 returns c =

@@ -4,13 +4,13 @@ use Rattle.makhnodri.proofs.makhnodri_read_scene_slices.Statement.{stat
 use Rattle.makhnodri.proofs.makhnodri_read_scene_slices.Tie as tie
 
 refused-requires : tie.Need-refused-requires
-refused-requires c κs = text-line (c .before .before .before .before .before .before .before .before .read-scene .ensures) (c .before .why .given .1)
+refused-requires c κs = text-line (c .before .before .before .before .before .before .before .before .before .before .read-scene .ensures) (c .before .why .given .1)
 
 returns : tie.Need-returns
-returns c = text-read (c .before .before .before .before .before .before .before .before .before .before .read-scene .ensures) (c .before .before .before .c .given .1) (c .put-counts .ensures)
+returns c = text-read (c .before .before .before .before .before .before .before .before .before .before .before .before .read-scene .ensures) (c .before .before .before .c .given .1) (c .put-counts .ensures)
 
 returns-2 : tie.Need-returns-2
-returns-2 c = text-refused (c .before .before .before .before .before .before .before .before .before .read-scene .ensures) (c .before .before .why .given .1) (c .refused .ensures)
+returns-2 c = text-refused (c .before .before .before .before .before .before .before .before .before .before .before .read-scene .ensures) (c .before .before .why .given .1) (c .refused .ensures)
 
 pub makhnodri-read-scene-slices-spec : {M : Type 1} → statement M
 makhnodri-read-scene-slices-spec =
@@ -24,7 +24,9 @@ makhnodri-read-scene-slices-spec =
     (λ c. search needs)
     (λ c. search needs)
     (λ c. search needs)
+    (λ c. search needs)
     returns
+    (λ c. search needs)
     (λ c. search needs)
     (λ c. search needs)
     (λ c. search needs)

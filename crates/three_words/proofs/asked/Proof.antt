@@ -22,9 +22,11 @@ returns-2 : tie.Need-returns-2
 returns-2 c =
     let a = c .before .before .before .before .before .before .before .before .before .before .before .before .before .args in
     let s = sceneIn (a .positions) (a .edges) (a .triangles) (a .seams) in
-    let called = c .before .before .before .before .before .before .before .check-into in
-    (gone-asked s (a .kind) (a .first) (a .second) (a .missing) (accepted-by s (c .before .before .before .enum-told .given .1) (called .ensures .checked)) (c .first-of .result)
-    (sym (c .before .before .not-there .ensures _) ∙ c .before .if1 .taken) (c .first-of .ensures), called .ensures .into)
+    let called = c .before .before .before .before .before .before .before .check-into in (
+      gone-asked s (a .kind) (a .first) (a .second) (a .missing) (accepted-by s (c .before .before .before .enum-told .given .1) (called .ensures .checked)) (c .first-of .result)
+          (sym (c .before .before .not-there .ensures _) ∙ c .before .if1 .taken) (c .first-of .ensures),
+      called .ensures .into,
+    )
 
 shares-vertex-requires : tie.Need-shares-vertex-requires
 shares-vertex-requires c κs = sym (c .before .before .not-there .ensures _) ∙ c .before .if1 .left
@@ -34,11 +36,13 @@ returns-3 c =
     let a = c .before .before .before .before .before .before .before .before .before .before .before .before .before .before .before .args in
     let s = sceneIn (a .positions) (a .edges) (a .triangles) (a .seams) in
     let called = c .before .before .before .before .before .before .before .before .before .check-into in
-    let accepted = accepted-by s (c .before .before .before .before .before .enum-told .given .1) (called .ensures .checked) in
-    (there-asked s (a .kind) (a .first) (a .second) (a .missing) accepted (c .first-of2 .result)
-    (sym (c .before .before .before .before .not-there .ensures _) ∙ c .before .before .before .if1 .left)
-    (c .before .shares-vertex .ensures ∙ ap (λ (u : Scene). shares u (a .kind) (a .first) (a .second)) (one-scene (called .ensures .into) accepted))
-    (c .first-of2 .ensures), called .ensures .into)
+    let accepted = accepted-by s (c .before .before .before .before .before .enum-told .given .1) (called .ensures .checked) in (
+      there-asked s (a .kind) (a .first) (a .second) (a .missing) accepted (c .first-of2 .result)
+          (sym (c .before .before .before .before .not-there .ensures _) ∙ c .before .before .before .if1 .left)
+          (c .before .shares-vertex .ensures ∙ ap (λ (u : Scene). shares u (a .kind) (a .first) (a .second)) (one-scene (called .ensures .into) accepted))
+          (c .first-of2 .ensures),
+      called .ensures .into,
+    )
 
 pub asked-spec : {M : Type 1} → statement M
 asked-spec =

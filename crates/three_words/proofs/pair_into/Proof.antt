@@ -33,10 +33,12 @@ returns-2 c =
     let s = sceneIn (a .positions) (a .edges) (a .triangles) (a .seams) in
     let called = c .before .before .before .before .before .before .asked .ensures in
     let told = c .before .before .enum-told .given .1 in
-    let there = asked-there s (a .kind) (a .first) (a .second) false _ (called .0) told in
-    (of-pair s (a .kind) (a .first) (a .second) (PairIs s (a .kind) (a .first) (a .second)) _
-    (then-judged s (a .kind) (a .first) (a .second) false _ (called .0) told (PairIs s (a .kind) (a .first) (a .second)) (c .pair .result)
-    (from-table (λ (u : Scene). PairIs u (a .kind) (a .first) (a .second) (c .pair .result)) (called .1) (there .0) (c .pair .ensures))), called .1)
+    let there = asked-there s (a .kind) (a .first) (a .second) false _ (called .0) told in (
+      of-pair s (a .kind) (a .first) (a .second) (PairIs s (a .kind) (a .first) (a .second)) _
+          (then-judged s (a .kind) (a .first) (a .second) false _ (called .0) told (PairIs s (a .kind) (a .first) (a .second)) (c .pair .result)
+          (from-table (λ (u : Scene). PairIs u (a .kind) (a .first) (a .second) (c .pair .result)) (called .1) (there .0) (c .pair .ensures))),
+      called .1,
+    )
 
 pub pair-into-spec : {M : Type 1} → statement M
 pair-into-spec =

@@ -25,9 +25,11 @@ unfolding pairSays
 returns c =
     let a = c .before .before .before .before .before .before .before .before .before .before .before .before .args in
     let s = sceneIn (a .positions) (a .edges) (a .triangles) (a .seams) in
-    let called = c .before .before .before .before .before .asked .ensures in
-    (rw (← c .before .before .before .before .before .before .before .piece-count .ensures)
-    (then-refused s (a .kind) (a .first) (a .second) (leb (c .before .before .before .before .before .before .before .piece-count .result) (a .piece)) _ (called .0) (PieceIs (pieceOf s (a .kind) (a .first) (a .second) (a .piece))) (search)), called .1)
+    let called = c .before .before .before .before .before .asked .ensures in (
+      rw (← c .before .before .before .before .before .before .before .piece-count .ensures)
+          (then-refused s (a .kind) (a .first) (a .second) (leb (c .before .before .before .before .before .before .before .piece-count .result) (a .piece)) _ (called .0) (PieceIs (pieceOf s (a .kind) (a .first) (a .second) (a .piece))) (search)),
+      called .1,
+    )
 
 returns-2 : tie.Need-returns-2
 unfolding pairSays
@@ -37,10 +39,12 @@ returns-2 c =
     let called = c .before .before .before .before .before .before .asked .ensures in
     let told = c .before .before .enum-told .given .1 in
     let missing = leb (c .before .before .before .before .before .before .before .before .piece-count .result) (a .piece) in
-    let there = asked-there s (a .kind) (a .first) (a .second) missing _ (called .0) told in
-    (rw (← c .before .before .before .before .before .before .before .before .piece-count .ensures)
-    (then-judged s (a .kind) (a .first) (a .second) missing _ (called .0) told (PieceIs (pieceOf s (a .kind) (a .first) (a .second) (a .piece))) (c .piece .result)
-    (from-table (λ (u : Scene). PieceIs (pieceOf u (a .kind) (a .first) (a .second) (a .piece)) (c .piece .result)) (called .1) (there .0) (c .piece .ensures))), called .1)
+    let there = asked-there s (a .kind) (a .first) (a .second) missing _ (called .0) told in (
+      rw (← c .before .before .before .before .before .before .before .before .piece-count .ensures)
+          (then-judged s (a .kind) (a .first) (a .second) missing _ (called .0) told (PieceIs (pieceOf s (a .kind) (a .first) (a .second) (a .piece))) (c .piece .result)
+          (from-table (λ (u : Scene). PieceIs (pieceOf u (a .kind) (a .first) (a .second) (a .piece)) (c .piece .result)) (called .1) (there .0) (c .piece .ensures))),
+      called .1,
+    )
 
 pub piece-into-spec : {M : Type 1} → statement M
 piece-into-spec =
