@@ -91,13 +91,13 @@ extern "C" {
  * with the same corners left each step is asked once at most, so that the calls are never more than 14 deep.
  * MAKHNODRI_STACK bytes of stack are enough for any call. As measured by `examples/c/run stack`, in bytes:
  *
- *     check_scene         120      judge_pt, judge_pt_piece       480
- *     count_pairs      52,168      judge_ee, judge_ee_piece       480
- *     list_pairs       85,000      settle_pt, settle_pt_piece   1,632
- *     settle_scene     85,184      settle_ee, settle_ee_piece   1,632
- *     read_scene          680      write_report               120,048
- *     turn_scene          168      check_claims                   832
- *     contact_scene    84,944      contact_pt, contact_ee       2,544
+ *     check_scene       1,304      judge_pt, judge_pt_piece     1,760
+ *     count_pairs      53,304      judge_ee, judge_ee_piece     1,760
+ *     list_pairs       86,168      settle_pt, settle_pt_piece   3,600
+ *     settle_scene     86,488      settle_ee, settle_ee_piece   3,424
+ *     read_scene       26,184      write_report               123,368
+ *     turn_scene        1,304      check_claims                 1,904
+ *     contact_scene    88,000      contact_pt, contact_ee       4,000
  *
  * ---- An answer ----
  *
