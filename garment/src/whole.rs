@@ -54,6 +54,7 @@ pub fn report(mesh: &Mesh, about: &About, form: &Form, threads: usize, bar: &mut
             tally.listed()
         )));
     }
+    bar.make_room();
     writer.end(tally).map_err(unwritten)?;
     Ok(tally)
 }

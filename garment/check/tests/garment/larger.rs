@@ -38,7 +38,7 @@ fn rows_of_a_garment() {
     }
 }
 
-/// Cloth at rest in one plane, layer on layer: all four words but hit, singular everywhere.
+/// Cloth at rest in one plane, layer on layer, but for its last vertices, which rise: nearly all is singular, and all four words come up.
 #[test]
 fn cloth_at_rest() {
     let mut flat = cloth(KINDS[2], 200, 9);
