@@ -15,6 +15,7 @@ pub fn scene(mesh: &Mesh) -> ExactScene {
         vertices: mesh.positions.iter().map(|position| position.map(i64::from)).collect(),
         edges: mesh.edges.iter().map(|edge| edge.map(numbers)).collect(),
         triangles: mesh.triangles.iter().map(|triangle| triangle.map(numbers)).collect(),
+        seams: Vec::new(),
     }
 }
 
