@@ -7,7 +7,7 @@ use mathlib.Core.Path.{_≡_, refl}
 use lib.Dec.{ltb}
 use lib.ListN.{length}
 use Rattle.meaning.specs.Limits.{contactLimit}
-use Rattle.meaning.specs.Scene.{Scene, reachesBeyond, wrongShape, outOfRange, unknownVertex, repeatedVertex}
+use Rattle.meaning.specs.Scene.{Scene, reachesBeyond, wrongShape, outOfRange, unknownVertex, brokenSeam, repeatedVertex}
 use Rattle.meaning.specs.Refusals.{Outcome, given, refused, Answers, notThere, shares}
 use Rattle.meaning.specs.List.{pairs, listSays}
 use Rattle.meaning.specs.Meetings.{MeetingIs, contactChecks, meetingSays, MeetingFound, metRoom, metChecks, MetScene}
@@ -17,19 +17,21 @@ use Rattle.meaning.specs.declared.MeetingAnswer.{MeetingAnswer}
 use Rattle.meaning.specs.declared.ListAnswer.{ListAnswer}
 use Rattle.demands.specs.Deciding.{Refuses, carriedBy, NoneHolds, absent, distinct, refused-exactly, number-known}
 
-abbrev Four : Scene → Type 0 → Type 0
-Four s R = (wrongShape s ≡ false) × ((outOfRange s ≡ false) × ((unknownVertex s ≡ false) × ((repeatedVertex s ≡ false) × R)))
+-- none of the scene's five, and then
+abbrev ThenIs : Scene → Type 0 → Type 0
+ThenIs s R = (wrongShape s ≡ false) × ((outOfRange s ≡ false) × ((unknownVertex s ≡ false) × ((brokenSeam s ≡ false) × ((repeatedVertex s ≡ false) × R))))
 
 -- each number exactly when its condition holds and no check before it does
 pub record ContactTable (s : Scene) (missing shared : Bool) (o : Outcome Meeting) : Type 0 where
   pub no1 : (o ≡ refused 1 0) ↔ (wrongShape s ≡ true)
   pub no2 : (o ≡ refused 2 0) ↔ ((wrongShape s ≡ false) × (outOfRange s ≡ true))
   pub no3 : (o ≡ refused 3 0) ↔ ((wrongShape s ≡ false) × ((outOfRange s ≡ false) × (unknownVertex s ≡ true)))
-  pub no4 : (o ≡ refused 4 0) ↔ ((wrongShape s ≡ false) × ((outOfRange s ≡ false) × ((unknownVertex s ≡ false) × (repeatedVertex s ≡ true))))
-  pub no5 : (o ≡ refused 5 0) ↔ Four s (missing ≡ true)
-  pub no6 : (o ≡ refused 6 0) ↔ Four s ((missing ≡ false) × (shared ≡ true))
-  pub no16 : (o ≡ refused 16 0) ↔ Four s ((missing ≡ false) × ((shared ≡ false) × (reachesBeyond contactLimit s ≡ true)))
-  pub only : (n c : ℕ) → o ≡ refused n c → List·Memᴰ n (1 ∷ 2 ∷ 3 ∷ 4 ∷ 5 ∷ 6 ∷ 16 ∷ [])
+  pub no15 : (o ≡ refused 15 0) ↔ ((wrongShape s ≡ false) × ((outOfRange s ≡ false) × ((unknownVertex s ≡ false) × (brokenSeam s ≡ true))))
+  pub no4 : (o ≡ refused 4 0) ↔ ((wrongShape s ≡ false) × ((outOfRange s ≡ false) × ((unknownVertex s ≡ false) × ((brokenSeam s ≡ false) × (repeatedVertex s ≡ true)))))
+  pub no5 : (o ≡ refused 5 0) ↔ ThenIs s (missing ≡ true)
+  pub no6 : (o ≡ refused 6 0) ↔ ThenIs s ((missing ≡ false) × (shared ≡ true))
+  pub no16 : (o ≡ refused 16 0) ↔ ThenIs s ((missing ≡ false) × ((shared ≡ false) × (reachesBeyond contactLimit s ≡ true)))
+  pub only : (n c : ℕ) → o ≡ refused n c → List·Memᴰ n (1 ∷ 2 ∷ 3 ∷ 15 ∷ 4 ∷ 5 ∷ 6 ∷ 16 ∷ [])
 
 pub demand1-contact : (s : Scene) (kind : Kind) (i j : ℕ) (r : MeetingAnswer) → MeetingFound s kind i j r → ContactTable s (notThere s kind i j) (shares s kind i j) (meetingSays r)
 unfolding Refuses carriedBy absent distinct
@@ -39,6 +41,7 @@ demand1-contact s kind i j r p =
       no1 = row 1;
       no2 = row 2;
       no3 = row 3;
+      no15 = row 15;
       no4 = row 4;
       no5 = row 5;
       no6 = row 6;
@@ -50,10 +53,11 @@ pub record SceneContactTable (s : Scene) (room : ℕ) (o : Outcome ℕ) : Type 0
   pub no1 : (o ≡ refused 1 0) ↔ (wrongShape s ≡ true)
   pub no2 : (o ≡ refused 2 0) ↔ ((wrongShape s ≡ false) × (outOfRange s ≡ true))
   pub no3 : (o ≡ refused 3 0) ↔ ((wrongShape s ≡ false) × ((outOfRange s ≡ false) × (unknownVertex s ≡ true)))
-  pub no4 : (o ≡ refused 4 0) ↔ ((wrongShape s ≡ false) × ((outOfRange s ≡ false) × ((unknownVertex s ≡ false) × (repeatedVertex s ≡ true))))
-  pub no16 : (o ≡ refused 16 0) ↔ Four s (reachesBeyond contactLimit s ≡ true)
-  pub no7 : (o ≡ refused 7 (length (pairs s))) ↔ Four s ((reachesBeyond contactLimit s ≡ false) × (ltb room (length (pairs s)) ≡ true))
-  pub only : (n c : ℕ) → o ≡ refused n c → List·Memᴰ n (1 ∷ 2 ∷ 3 ∷ 4 ∷ 16 ∷ 7 ∷ [])
+  pub no15 : (o ≡ refused 15 0) ↔ ((wrongShape s ≡ false) × ((outOfRange s ≡ false) × ((unknownVertex s ≡ false) × (brokenSeam s ≡ true))))
+  pub no4 : (o ≡ refused 4 0) ↔ ((wrongShape s ≡ false) × ((outOfRange s ≡ false) × ((unknownVertex s ≡ false) × ((brokenSeam s ≡ false) × (repeatedVertex s ≡ true)))))
+  pub no16 : (o ≡ refused 16 0) ↔ ThenIs s (reachesBeyond contactLimit s ≡ true)
+  pub no7 : (o ≡ refused 7 (length (pairs s))) ↔ ThenIs s ((reachesBeyond contactLimit s ≡ false) × (ltb room (length (pairs s)) ≡ true))
+  pub only : (n c : ℕ) → o ≡ refused n c → List·Memᴰ n (1 ∷ 2 ∷ 3 ∷ 15 ∷ 4 ∷ 16 ∷ 7 ∷ [])
 
 pub demand1-met-scene : (s : Scene) (o o′ b b′ c c′ : List ℕ) (r : ListAnswer) → MetScene s o o′ b b′ c c′ r → SceneContactTable s (metRoom o b c) (listSays r)
 unfolding Refuses carriedBy absent distinct
@@ -63,6 +67,7 @@ demand1-met-scene s o o′ b b′ c c′ r p =
       no1 = row 1;
       no2 = row 2;
       no3 = row 3;
+      no15 = row 15;
       no4 = row 4;
       no16 = row 16;
       no7 = row 7;
