@@ -91,13 +91,13 @@ extern "C" {
  * with the same corners left each step is asked once at most, so that the calls are never more than 14 deep.
  * MAKHNODRI_STACK bytes of stack are enough for any call. As measured by `examples/c/run stack`, in bytes:
  *
- *     check_scene       1,304      judge_pt, judge_pt_piece     1,760
- *     count_pairs      53,304      judge_ee, judge_ee_piece     1,760
- *     list_pairs       86,168      settle_pt, settle_pt_piece   3,600
- *     settle_scene     86,488      settle_ee, settle_ee_piece   3,424
- *     read_scene       26,184      write_report               123,368
+ *     check_scene       1,304      judge_pt, judge_pt_piece     1,992
+ *     count_pairs      53,304      judge_ee, judge_ee_piece     2,024
+ *     list_pairs       86,168      settle_pt, settle_pt_piece   2,640
+ *     settle_scene     86,344      settle_ee, settle_ee_piece   2,640
+ *     read_scene       26,184      write_report               123,224
  *     turn_scene        1,304      check_claims                 1,904
- *     contact_scene    88,000      contact_pt, contact_ee       4,000
+ *     contact_scene    86,248      contact_pt, contact_ee       2,736
  *
  * ---- An answer ----
  *
@@ -414,9 +414,7 @@ static inline double makhnodri_part(uint32_t number) { return number / 1048576.0
 static inline double makhnodri_contact_time(const uint32_t contact[MAKHNODRI_AT_LEAST(5)]) { return makhnodri_part(contact[1]); }
 
 /* Where: the share at this place, 0, 1 or 2 of a point and a triangle, 0 or 1 of two edges. */
-static inline double makhnodri_contact_share(const uint32_t contact[MAKHNODRI_AT_LEAST(5)], size_t place) {
-    return makhnodri_part(contact[2 + place]);
-}
+static inline double makhnodri_contact_share(const uint32_t contact[MAKHNODRI_AT_LEAST(5)], size_t place) { return makhnodri_part(contact[2 + place]); }
 
 /*
  * The answer is the word of the pair in four words, or a refusal: 1, 2, 3, 15, 4, 5, 6, then 16. Where it is MAKHNODRI_HIT, all five numbers of

@@ -16,6 +16,11 @@
 //! // a partner claims that the point meets piece 1, with weights; the answer goes by the weights alone
 //! assert_eq!(scene.claims_answered(b"pt\t3\t0\t1\t2\t2\t2\t0\t1\t1\n"), Ok(vec![true]));
 //!
+//! // when and where: at half the time, at the point that these shares of the corners 0, 1 and 2 make
+//! let contact = scene.contact_pt(3, 0).unwrap();
+//! let Contact::PointHit { time, low, middle, high, .. } = contact else { panic!("it is a hit") };
+//! assert_eq!([time, low, middle, high], [0.5, 0.5, 0.25, 0.25]);
+//!
 //! // the same point at rest above the triangle, and in it: both degenerate, and yet not alike
 //! positions[18..].copy_from_slice(&[1, 1, 1, 1, 1, 1]);
 //! let above = Scene::new(&positions, &[], &[0, 1, 2]);
@@ -25,11 +30,6 @@
 //! let within = Scene::new(&positions, &[], &[0, 1, 2]);
 //! assert_eq!(within.judge_pair(Kind::PointTriangle, 3, 0), Ok(Verdict::Degenerate));
 //! assert_eq!(within.settle_pair(Kind::PointTriangle, 3, 0), Ok(Settled::Touch));
-//!
-//! // when and where: at half the time, at the point that these shares of the corners 0, 1 and 2 make
-//! let contact = scene.contact_pt(3, 0).unwrap();
-//! let Contact::PointHit { time, low, middle, high, .. } = contact else { panic!("it is a hit") };
-//! assert_eq!([time, low, middle, high], [0.5, 0.5, 0.25, 0.25]);
 //! ```
 //!
 //! The names are those of the C functions, without `makhnodri_`; and a pair may also be asked for by its [`Kind`]. What begins with
