@@ -1,5 +1,5 @@
-// What the signs of exact volumes, and of their sums, say of a piece. This is the one place that adds determinants, never more than two, and no
-// sum leaves it as a number.
+// What the signs of exact volumes, and of their sums, say of a piece. But for share_sums this is the one place that adds determinants, never more
+// than two, and no sum leaves it as a number.
 
 pub mod ways; // ways.rt: numbers of one sign, for cloth at rest
 
