@@ -3,7 +3,8 @@
 use std::path::PathBuf;
 
 fn main() {
-    let beside = || PathBuf::from(env!("CARGO_MANIFEST_DIR")).join("../target/staticlib");
+    let built_for = std::env::var("CARGO_CFG_TARGET_ARCH").unwrap();
+    let beside = || PathBuf::from(env!("CARGO_MANIFEST_DIR")).join("../target/library").join(&built_for);
     let folder = std::env::var_os("MAKHNODRI_LIBRARY").map_or_else(beside, PathBuf::from);
     println!("cargo:rerun-if-changed={}", folder.join("libmakhnodri.a").display());
     println!("cargo:rerun-if-env-changed=MAKHNODRI_LIBRARY");

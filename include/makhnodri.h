@@ -1,9 +1,13 @@
 /*
  * makhnodri.h: exact contact verdicts for a mesh that moves from a start to an end. C99, or C++11.
  *
- * Link libmakhnodri.a, for x86-64, which `./makhnodri install PREFIX` proves, builds and puts into PREFIX/lib, beside this header
- * and a file for pkg-config. What each function answers and leaves behind is proved; the promises stand beside the functions in
- * crates/makhnodri/src/lib.rt.
+ * Link libmakhnodri.so or libmakhnodri.a, which `./makhnodri install PREFIX` proves, builds for this processor, x86-64 or aarch64,
+ * and puts into PREFIX/lib, beside this header and a file for pkg-config.
+ *
+ * What each function answers and leaves behind is proved; the promises stand beside the functions in crates/makhnodri/src/lib.rt.
+ * The proof speaks of the code in Rattle. Its compiler makes one LLVM module of it, and LLVM's back end the library, on every
+ * processor from the same module: these two are trusted, not proved, on x86-64 as elsewhere. The gate compares the library that it
+ * made with an independent program, number for number.
  *
  * A verdict speaks for the space-time pieces of a pair. A miss, and apart too, says nothing of straight motion; only the list
  * does: a pair that is not listed, and shares no vertex, meets neither in its pieces nor under straight motion.
@@ -89,7 +93,8 @@ extern "C" {
  * None of these calls itself, and none calls back. Inside, one search does: where a piece is degenerate, two steps leave out a
  * corner, in turn of the one simplex and of the other, and call each other on the rest. A piece has six corners to leave out, and
  * with the same corners left each step is asked once at most, so that the calls are never more than 14 deep.
- * MAKHNODRI_STACK bytes of stack are enough for any call. As measured by `examples/c/run stack`, in bytes:
+ * MAKHNODRI_STACK bytes of stack are enough for any call. As measured by `examples/c/run stack` on x86-64, in bytes, and on aarch64 it
+ * was less for each:
  *
  *     check_scene       1,304      judge_pt, judge_pt_piece     1,992
  *     count_pairs      53,304      judge_ee, judge_ee_piece     2,024

@@ -1,4 +1,4 @@
-//! The library, linked from target/staticlib/libmakhnodri.a. The one place that knows its functions; without the
+//! The library, linked from target/library. The one place that knows its functions; without the
 //! feature `product` there is none, and the tables leave it out.
 //!
 //! What it needs of the library; include/makhnodri.h tells the same (a slice is a pointer, not null, and a length):

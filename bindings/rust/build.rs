@@ -1,17 +1,18 @@
-//! Links the proved static library, libmakhnodri.a: the one in the folder that MAKHNODRI_LIBRARY names, else the one that
-//! `rt staticlib makhnodri` writes beside this wrapper in the repository. Where there is none, or it is for another processor, it says so.
+//! Links the proved static library, libmakhnodri.a: the one in the folder that MAKHNODRI_LIBRARY names, else the one that `./makhnodri library`
+//! writes for this processor beside this wrapper in the repository. Where there is none, or it is for another processor, it says so.
 
 use std::env;
 use std::path::{Path, PathBuf};
 
 fn main() {
     println!("cargo:rerun-if-env-changed=MAKHNODRI_LIBRARY");
-    let beside = || PathBuf::from(env::var_os("CARGO_MANIFEST_DIR").unwrap()).join("../../target/staticlib");
+    let built_for = env::var("CARGO_CFG_TARGET_ARCH").unwrap();
+    let beside = || PathBuf::from(env::var_os("CARGO_MANIFEST_DIR").unwrap()).join("../../target/library").join(&built_for);
     let folder = env::var_os("MAKHNODRI_LIBRARY").map_or_else(beside, PathBuf::from);
     let library = folder.join("libmakhnodri.a");
     println!("cargo:rerun-if-changed={}", library.display());
     let bytes = std::fs::read(&library).unwrap_or_else(|error| give_up(&not_there(&library, &error)));
-    let (made_for, built_for) = (processor_of(&bytes), env::var("CARGO_CFG_TARGET_ARCH").unwrap());
+    let made_for = processor_of(&bytes);
     if made_for != built_for {
         give_up(&another_processor(&library, &made_for, &built_for));
     }
@@ -32,7 +33,7 @@ fn processor_of(archive: &[u8]) -> String {
 
 fn not_there(library: &Path, error: &std::io::Error) -> String {
     format!(
-        "{} cannot be read ({error}). Run `rt staticlib makhnodri` in the repository, which proves it and writes target/staticlib, or \
+        "{} cannot be read ({error}). Run `./makhnodri library` in the repository, which proves it and writes target/library, or \
          `./makhnodri install PREFIX`, which puts it into PREFIX/lib; then name its folder by MAKHNODRI_LIBRARY.",
         library.display()
     )
@@ -40,8 +41,8 @@ fn not_there(library: &Path, error: &std::io::Error) -> String {
 
 fn another_processor(library: &Path, made_for: &str, built_for: &str) -> String {
     format!(
-        "{} is for {made_for}, and this is built for {built_for}. Build for the library's processor, as with \
-         `cargo build --target {made_for}-unknown-linux-gnu` and a linker for it, and run the program there or under an emulator.",
+        "{} is for {made_for}, and this is built for {built_for}. In the repository \
+         `./makhnodri library {built_for}` makes the one for that; or build for {made_for}, with `cargo build --target {made_for}-unknown-linux-gnu`.",
         library.display()
     )
 }

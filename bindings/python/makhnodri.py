@@ -1,0 +1,545 @@
+"""Exact contact verdicts for a mesh that moves from a start to an end: include/makhnodri.h from Python, with the standard library alone.
+
+    import makhnodri
+    scene = makhnodri.Scene.read(open("scenes/printed.scene", "rb").read())
+    for pair, word in scene.settled():
+        print(pair, word)                      # pt 3 0 hit
+
+The functions of C are here under their names without `makhnodri_`, and answer and leave behind what include/makhnodri.h says. They take a
+`Scene` in the place of C's struct, and a buffer in the place of a pointer and its length: whatever has Python's buffer protocol, holds numbers of
+the right type one behind the other, and, where the call writes, may be written (array.array, memoryview, bytes, bytearray, ctypes and numpy
+arrays, of any number of dimensions). It is lent as it is and never copied. What is no such buffer is a TypeError, one that C would need longer a
+ValueError; a refusal of the library is `Refused`, and no lent number has changed then.
+
+The library is libmakhnodri.so, which `./makhnodri library` makes: in the folder that MAKHNODRI_LIBRARY names, else beside this file, else in this
+file's repository, else where the system looks for libraries. What is proved of it, and what is trusted, include/makhnodri.h tells; this module is
+not proved, and is tested. While the library works, other Python threads go on; none may write what is lent meanwhile.
+"""
+
+import array
+import collections
+import ctypes
+import enum
+import inspect
+import operator
+import os
+import pathlib
+import platform
+import sys
+
+VERSION_MAJOR, VERSION_MINOR, VERSION_PATCH = 0, 4, 0
+VERSION = f"{VERSION_MAJOR}.{VERSION_MINOR}.{VERSION_PATCH}"
+
+# ---- Sizes, as the header has them
+
+COORDINATE_LIMIT = 524287
+VERTEX_LIMIT = 512
+EDGE_LIMIT = 1024
+TRIANGLE_LIMIT = 512
+SEAM_LIMIT = 512
+TEXT_LIMIT = 32768
+REPORT_ROOM = 3072
+PAIR_LIMIT = 785920
+CONTACT_LIMIT = 262143
+CONTACT_UNIT = 1048576
+CONTACT_LENGTH = 5
+WEIGHT_LIMIT = 1099511627776
+POSITIONS_LENGTH = 3072
+EDGES_LENGTH = 2048
+TRIANGLES_LENGTH = 1536
+SEAMS_LENGTH = 1024
+STACK = 131072
+REPORT_LENGTH = 65536
+
+# ---- Words, kinds, answers to claims, refusals
+
+
+class Word(enum.IntEnum):
+    """The word of a pair or a piece."""
+
+    HIT = 0
+    MISS = 1
+    DEGENERATE = 2
+    TOUCH = 3
+    APART = 4
+
+    def __str__(self):
+        return self.name.lower()
+
+
+HIT, MISS, DEGENERATE, TOUCH, APART = Word
+
+
+class Kind(enum.IntEnum):
+    """The kind of a pair: a point and a triangle, or two edges."""
+
+    PT = 0
+    EE = 1
+
+    def __str__(self):
+        return self.name.lower()
+
+
+PT, EE = Kind
+
+NO, YES = 0, 1
+
+# the table of refusals: the header's name, the number, and the words
+_REFUSALS = (
+    ("SHAPE", 1, "positions not a multiple of 6 long, edges of 2, triangles of 3, seams of 2, or a count over its size"),
+    ("COORDINATE", 2, "a coordinate outside its range"),
+    ("UNKNOWN_VERTEX", 3, "a vertex number not below the vertex count"),
+    ("REPEATED_VERTEX", 4, "a vertex twice in one edge or triangle, or two that stand for one"),
+    ("NOT_THERE", 5, "a vertex, edge, triangle or piece asked for that isn't there"),
+    ("SHARED_VERTEX", 6, "the pair asked for shares a vertex"),
+    ("NO_ROOM", 7, "more listed pairs than room"),
+    ("LONG_TEXT", 8, "text over 32,768 bytes"),
+    ("BAD_LINE", 9, "a line not of the form, or a last line without LF"),
+    ("LATE_RECORD", 10, "a record after one of a later kind"),
+    ("TOO_MANY", 11, "one record more than its size"),
+    ("SHORT_BUFFER", 12, "a lent scene buffer that is too short"),
+    ("BROKEN_SEAM", 15, "a seam that breaks the rules of seams, or whose two positions differ"),
+    ("BEYOND_OLD_RANGE", 16, "a contact asked for in a scene with a coordinate beyond 262,143"),
+)
+globals().update({name: number for name, number, _ in _REFUSALS})
+_WORDS_OF = {number: words for _, number, words in _REFUSALS}
+
+
+class Refused(ValueError):
+    """A refusal of the library. `number` is that of the table and `words` what it says; `line` is the line of a text, counted from 1, and `count`
+    the room that was needed, each None where the refusal carries no such number; `carried` is the number itself, or 0."""
+
+    def __init__(self, number, carried=0):
+        self.number, self.carried = number, carried
+        self.count = carried if number == 7 else None
+        self.line = carried if number != 7 and carried else None
+        self.words = refusal_words(number)
+        where = f", line {carried}" if self.line else f", {carried} needed" if number == 7 else ""
+        super().__init__(f"refused {number}{where}: {self.words}")
+
+    def __reduce__(self):
+        return Refused, (self.number, self.carried)
+
+
+def refusal(answer):
+    """The number of a refusal in a 64-bit answer of the library, or 0."""
+    return answer >> 32
+
+
+def value(answer):
+    """The value of an answer; of a refusal, the line or count."""
+    return answer & 0xFFFFFFFF
+
+
+def refusal_words(number):
+    """What a refusal says; "not refused" for 0, "no refusal" for a number that is none."""
+    return _WORDS_OF.get(number, "no refusal" if number else "not refused")
+
+
+def word(number):
+    """"hit" to "apart"; "no word" for a number that stands for none."""
+    return str(Word(number)) if HIT <= number <= APART else "no word"
+
+
+# ---- Entries of a list
+
+
+def entry(kind, first, second):
+    """The number of a pair in a list."""
+    return (kind << 20) + (first << 10) + second
+
+
+def entry_kind(number):
+    return Kind(number >> 20)
+
+
+def entry_first(number):
+    return number >> 10 & 1023
+
+
+def entry_second(number):
+    return number & 1023
+
+
+class Pair(collections.namedtuple("Pair", "kind first second")):
+    """A pair: its kind and its two places."""
+
+    __slots__ = ()
+
+    @classmethod
+    def of_entry(cls, number):
+        return cls(entry_kind(number), entry_first(number), entry_second(number))
+
+    @property
+    def entry(self):
+        return entry(*self)
+
+    def __str__(self):
+        return f"{self.kind} {self.first} {self.second}"
+
+
+# ---- Contacts
+
+
+def part(number):
+    """A number of 2^20ths as a float, which loses nothing."""
+    return number / CONTACT_UNIT
+
+
+def contact_time(contact):
+    """When it touched: 0.0 is the start, 1.0 the end."""
+    return part(contact[1])
+
+
+def contact_share(contact, place):
+    """Where: the share at this place, 0, 1 or 2 of a point and a triangle, 0 or 1 of two edges."""
+    return part(contact[2 + place])
+
+
+class Contact(collections.namedtuple("Contact", "piece k shares")):
+    """The contact of a hit pair in whole 2^20ths: the piece, k, which is the time, and three shares of a point and a triangle or two of two
+    edges. `time` and `parts` are the same as floats, which lose nothing."""
+
+    __slots__ = ()
+
+    @classmethod
+    def of_numbers(cls, kind, numbers):
+        """From the five numbers that the library writes."""
+        return cls(numbers[0], numbers[1], tuple(numbers[2 : 5 if kind == PT else 4]))
+
+    @property
+    def time(self):
+        return part(self.k)
+
+    @property
+    def parts(self):
+        return tuple(part(share) for share in self.shares)
+
+
+# ---- Buffers, lent as they are
+
+
+class _Buffer(ctypes.Structure):
+    """Python's own Py_buffer."""
+
+    _fields_ = [
+        ("address", ctypes.c_void_p),
+        ("owner", ctypes.c_void_p),
+        ("bytes", ctypes.c_ssize_t),
+        ("item", ctypes.c_ssize_t),
+        ("readonly", ctypes.c_int),
+        ("dimensions", ctypes.c_int),
+        ("format", ctypes.c_char_p),
+        ("shape", ctypes.c_void_p),
+        ("strides", ctypes.c_void_p),
+        ("suboffsets", ctypes.c_void_p),
+        ("internal", ctypes.c_void_p),
+    ]
+
+
+_get_buffer = ctypes.pythonapi.PyObject_GetBuffer
+_get_buffer.argtypes, _get_buffer.restype = (ctypes.py_object, ctypes.POINTER(_Buffer), ctypes.c_int), ctypes.c_int
+_release = ctypes.pythonapi.PyBuffer_Release
+_release.argtypes, _release.restype = (ctypes.POINTER(_Buffer),), None
+_WRITTEN, _IN_A_ROW = 0x0001, 0x0004 | 0x0008 | 0x0010 | 0x0020  # PyBUF_WRITABLE; PyBUF_FORMAT, _ND, _STRIDES and _C_CONTIGUOUS
+
+# a type of number: its name, its bytes, the letters that stand for it in a buffer's format, the one for an array
+_Type = collections.namedtuple("_Type", "name bytes letters code")
+_INT32 = _Type("32-bit signed numbers", 4, b"il", "i")
+_UINT16 = _Type("16-bit unsigned numbers", 2, b"H", "H")
+_UINT32 = _Type("32-bit unsigned numbers", 4, b"IL", "I")
+_UINT8 = _Type("bytes", 1, b"B", "B")
+_SIZE = _Type("64-bit unsigned numbers", 8, b"LQN", "Q")
+_ORDERS, _OTHER_ORDER = b"@=<>!", b">!" if sys.byteorder == "little" else b"<"
+
+
+def _is_of(buffer, numbers):
+    """Whether a buffer holds numbers of this type, in this machine's order of bytes."""
+    letters = buffer.format or b"B"
+    order, letter = (letters[:1], letters[1:]) if letters[:1] in _ORDERS else (b"@", letters)
+    return buffer.item == numbers.bytes and len(letter) == 1 and letter in numbers.letters and (order not in _OTHER_ORDER or numbers.bytes == 1)
+
+
+class _Lent:
+    """The buffers of one call: each got from its object, and given back when the call has ended."""
+
+    def __init__(self):
+        self.held, self.ranges = [], []
+
+    def __enter__(self):
+        return self
+
+    def __exit__(self, *_):
+        for buffer in self.held:
+            _release(buffer)
+
+    def lend(self, name, given, numbers, written):
+        """The address and the length, in numbers, of what is lent under this name; nothing is lent where it is None."""
+        if given is None:
+            return None, 0
+        buffer = _Buffer()
+        try:
+            _get_buffer(given, buffer, _IN_A_ROW | (_WRITTEN if written else 0))
+        except (BufferError, TypeError, ValueError) as error:
+            wanted = f"a buffer of {numbers.name} that may be written" if written else f"a buffer of {numbers.name}"
+            raise TypeError(f"{name}: {wanted} is wanted, and {type(given).__name__} is none: {error}") from None
+        self.held.append(buffer)
+        if not _is_of(buffer, numbers):
+            here = f"{(buffer.format or b'B').decode()!r} of {buffer.item} bytes"
+            raise TypeError(f"{name}: {numbers.name} ({numbers.code!r}) are wanted, and here are {here}")
+        if buffer.bytes == 0:
+            return None, 0
+        if buffer.address % numbers.bytes:
+            raise ValueError(f"{name}: the numbers do not stand at a multiple of {numbers.bytes} bytes")
+        self.keep_apart(name, buffer.address, buffer.address + buffer.bytes, written)
+        return buffer.address, buffer.bytes // numbers.bytes
+
+    def keep_apart(self, name, begin, end, written):
+        """C leaves it to the caller that what is written overlaps nothing else; here it is looked at."""
+        for other_begin, other_end, other_written in self.ranges:
+            if (written or other_written) and begin < other_end and other_begin < end:
+                raise ValueError(f"{name}: what is written overlaps another buffer of the same call")
+        self.ranges.append((begin, end, written))
+
+
+# ---- The table of functions
+
+# A kind of argument is what it is in C, whether it may be left out, and how C's arguments are made of what was given.
+
+
+class _Read:
+    """A buffer that is only read: a pointer and a length."""
+
+    c, optional, written = (ctypes.c_void_p, ctypes.c_size_t), False, False
+
+    def __init__(self, name, numbers):
+        self.name, self.numbers = name, numbers
+
+    def words(self, given, lent):
+        return lent.lend(self.name, given, self.numbers, self.written)
+
+
+class _Write(_Read):
+    """A buffer that is written: a pointer and a length."""
+
+    written = True
+
+
+class _Fixed:
+    """A buffer that is written and has at least so many numbers: a pointer alone."""
+
+    c, written = (ctypes.c_void_p,), True
+
+    def __init__(self, name, numbers, length, optional=False):
+        self.name, self.numbers, self.length, self.optional = name, numbers, length, optional
+
+    def words(self, given, lent):
+        if given is None and self.optional:
+            given = _room(self.numbers, self.length)
+        address, length = lent.lend(self.name, given, self.numbers, True)
+        if length < self.length:
+            raise ValueError(f"{self.name}: {self.length} numbers are wanted, and here are {length}")
+        return (address,)
+
+
+class _Place:
+    """A place or a piece, a number from 0 on."""
+
+    c, optional = (ctypes.c_size_t,), False
+
+    def __init__(self, name):
+        self.name = name
+
+    def words(self, given, lent):
+        number = operator.index(given)
+        if not 0 <= number < 1 << 64:
+            raise OverflowError(f"{self.name}: {number} is below 0 or beyond 64 bits")
+        return (number,)
+
+
+class _Lists:
+    """A `Scene`: four buffers that are only read."""
+
+    name, optional = "scene", False
+    parts = (_Read("positions", _INT32), _Read("edges", _UINT16), _Read("triangles", _UINT16), _Read("seams", _UINT16))
+    c = _Read.c * len(parts)
+
+    def words(self, given, lent):
+        if not isinstance(given, Scene):
+            raise TypeError(f"scene: a Scene is wanted, and here is {type(given).__name__}")
+        return [word for part in self.parts for word in part.words(getattr(given, part.name), lent)]
+
+
+# what a call gives where it does not refuse
+def _NOTHING(_):
+    return None
+
+
+_COUNT, _WORD = int, Word
+
+_SCENE = _Lists()
+_TESTS = _Fixed("tests", _SIZE, 1, optional=True)
+_LIST, _WORDS = _Write("list", _UINT32), _Write("words", _UINT8)
+_CONTACT, _CONTACTS = _Fixed("contact", _UINT32, CONTACT_LENGTH), _Write("contacts", _UINT32)
+_POINT, _EDGES, _PIECE = (_Place("vertex"), _Place("triangle")), (_Place("first"), _Place("second")), _Place("piece")
+_THREE = (_Write("positions", _INT32), _Write("edges", _UINT16), _Write("triangles", _UINT16))
+
+# A row a function of the library: its name there without `makhnodri_`, what it gives, its arguments in the header's order. Here it is called without
+# `_slices`. A further function is a further row; a test holds the rows to the header.
+_FUNCTIONS = (
+    ("check_scene_slices", _NOTHING, _SCENE),
+    ("count_pairs_slices", _COUNT, _SCENE, _TESTS),
+    ("list_pairs_slices", _COUNT, _SCENE, _LIST, _TESTS),
+    ("settle_scene_slices", _COUNT, _SCENE, _LIST, _WORDS),
+    ("judge_pt_slices", _WORD, _SCENE, *_POINT),
+    ("judge_ee_slices", _WORD, _SCENE, *_EDGES),
+    ("judge_pt_piece_slices", _WORD, _SCENE, *_POINT, _PIECE),
+    ("judge_ee_piece_slices", _WORD, _SCENE, *_EDGES, _PIECE),
+    ("settle_pt_slices", _WORD, _SCENE, *_POINT),
+    ("settle_ee_slices", _WORD, _SCENE, *_EDGES),
+    ("settle_pt_piece_slices", _WORD, _SCENE, *_POINT, _PIECE),
+    ("settle_ee_piece_slices", _WORD, _SCENE, *_EDGES, _PIECE),
+    ("contact_pt_slices", _WORD, _SCENE, *_POINT, _CONTACT),
+    ("contact_ee_slices", _WORD, _SCENE, *_EDGES, _CONTACT),
+    ("contact_scene_slices", _COUNT, _SCENE, _LIST, _WORDS, _CONTACTS),
+    ("check_claims_slices", _COUNT, _SCENE, _Read("claims", _UINT8), _Write("answers", _UINT8)),
+    ("read_scene_slices", _NOTHING, _Read("text", _UINT8), *_THREE, _Write("seams", _UINT16), _Fixed("counts", _SIZE, 4)),
+    ("write_report", _COUNT, _Read("text", _UINT8), _Fixed("out", _UINT8, REPORT_LENGTH)),
+    ("turn_scene", _NOTHING, *_THREE),
+)
+
+
+def _open_library():
+    name, processor = f"libmakhnodri.so.{VERSION_MAJOR}.{VERSION_MINOR}", platform.machine()
+    here = pathlib.Path(__file__).resolve().parent
+    named = os.environ.get("MAKHNODRI_LIBRARY")
+    folders = [pathlib.Path(named)] if named else [here, here.parent.parent / "target" / "library" / processor]
+    for folder in folders:
+        if (folder / name).exists():
+            return ctypes.CDLL(str((folder / name).resolve()))
+    try:
+        return ctypes.CDLL(str(folders[0] / name) if named else name)
+    except OSError as error:
+        raise ImportError(
+            f"{error}. `./makhnodri library` in the repository proves and makes it, or `./makhnodri install PREFIX`, which puts it into PREFIX/lib; "
+            "MAKHNODRI_LIBRARY names its folder."
+        ) from None
+
+
+_library = _open_library()
+
+
+def _made(symbol, given, arguments):
+    """The function of one row of the table."""
+    function = getattr(_library, f"makhnodri_{symbol}")
+    function.argtypes, function.restype = [c for argument in arguments for c in argument.c], ctypes.c_uint64
+    name = symbol.removesuffix("_slices")
+    wanted = len(arguments) - sum(argument.optional for argument in arguments)
+
+    def call(*lent):
+        if not wanted <= len(lent) <= len(arguments):
+            raise TypeError(f"{name} takes {', '.join(argument.name for argument in arguments)}; {len(lent)} were given")
+        lent += (None,) * (len(arguments) - len(lent))
+        with _Lent() as held:
+            words = [word for argument, one in zip(arguments, lent) for word in argument.words(one, held)]
+            answer = _functions[symbol](*words)
+        if answer >> 32:
+            raise Refused(refusal(answer), value(answer))
+        return given(answer)
+
+    _functions[symbol] = function
+    call.__name__ = call.__qualname__ = name
+    call.__doc__ = f"As makhnodri_{name} of include/makhnodri.h."
+    defaults = (None if argument.optional else inspect.Parameter.empty for argument in arguments)
+    parameters = (inspect.Parameter(a.name, inspect.Parameter.POSITIONAL_ONLY, default=default) for a, default in zip(arguments, defaults))
+    call.__signature__ = inspect.Signature(list(parameters))
+    return call
+
+
+_functions = {}
+for _symbol, _given, *_arguments in _FUNCTIONS:
+    globals()[_symbol.removesuffix("_slices")] = _made(_symbol, _given, _arguments)
+
+
+# ---- A scene
+
+
+def _room(numbers, count):
+    return array.array(numbers.code, bytes(numbers.bytes)) * count
+
+
+def _in_a_row(given, numbers):
+    """A list or a tuple of Python's has no buffer, and is copied into one that has."""
+    return array.array(numbers.code, given) if isinstance(given, (list, tuple)) else given
+
+
+class Scene:
+    """The four lists of a scene, each a buffer that is lent as it is, or None where there is none of its kind: positions, six 32-bit signed numbers
+    a vertex ('i'); edges, two 16-bit unsigned numbers each ('H'); triangles, three; seams, two. A list or a tuple of Python's is copied into an
+    array of that type. Nothing is checked before a call, and every call checks all of it."""
+
+    __slots__ = ("positions", "edges", "triangles", "seams")
+
+    def __init__(self, positions=None, edges=None, triangles=None, seams=None):
+        for part, given in zip(_Lists.parts, (positions, edges, triangles, seams)):
+            setattr(self, part.name, _in_a_row(given, part.numbers))
+
+    @classmethod
+    def read(cls, text):
+        """The scene of a text (docs/FORMAT.md), a buffer of bytes."""
+        sizes, lengths = (6, 2, 3, 2), (POSITIONS_LENGTH, EDGES_LENGTH, TRIANGLES_LENGTH, SEAMS_LENGTH)
+        buffers = [_room(part.numbers, length) for part, length in zip(_Lists.parts, lengths)]
+        counts = _room(_SIZE, 4)
+        read_scene(text, *buffers, counts)
+        return cls(*(buffer[: size * count] for buffer, size, count in zip(buffers, sizes, counts)))
+
+    def listed(self):
+        """The listed pairs, in order."""
+        entries = _room(_UINT32, count_pairs(self))
+        list_pairs(self, entries)
+        return [Pair.of_entry(number) for number in entries]
+
+    def settled(self):
+        """The listed pairs, in order, each with its word of four."""
+        count = count_pairs(self)
+        entries, words = _room(_UINT32, count), _room(_UINT8, count)
+        settle_scene(self, entries, words)
+        return [(Pair.of_entry(number), Word(word)) for number, word in zip(entries, words)]
+
+    def contacts(self):
+        """The listed pairs, in order, each with its word and, where that is a hit, its contact, else None."""
+        count = count_pairs(self)
+        entries, words, numbers = _room(_UINT32, count), _room(_UINT8, count), _room(_UINT32, CONTACT_LENGTH * count)
+        contact_scene(self, entries, words, numbers)
+        rows = (numbers[at : at + CONTACT_LENGTH] for at in range(0, len(numbers), CONTACT_LENGTH))
+        pairs = (Pair.of_entry(number) for number in entries)
+        return [(pair, Word(word), Contact.of_numbers(pair.kind, row) if word == HIT else None) for pair, word, row in zip(pairs, words, rows)]
+
+    def contact(self, kind, first, second):
+        """The word of a pair, and its contact where that is a hit, else None."""
+        numbers = _room(_UINT32, CONTACT_LENGTH)
+        word = (contact_pt if kind == PT else contact_ee)(self, first, second, numbers)
+        return word, Contact.of_numbers(kind, numbers) if word == HIT else None
+
+    def claims(self, text):
+        """Whether the weights of each claim of a text (docs/FORMAT.md) bear it out, in order."""
+        answers = bytearray(memoryview(text).nbytes)
+        return [answer == YES for answer in answers[: check_claims(self, text, answers)]]
+
+    def __repr__(self):
+        sizes = ((part.name, getattr(self, part.name)) for part in _Lists.parts)
+        return f"<Scene {', '.join(f'{name}: {0 if given is None else memoryview(given).nbytes} bytes' for name, given in sizes)}>"
+
+
+def stands_for(scene, vertex):
+    """The vertex that a vertex stands for, by the seams of an accepted scene: another, or itself."""
+    with _Lent() as held:
+        address, length = held.lend("seams", scene.seams, _UINT16, False)
+        seams = (ctypes.c_uint16 * length).from_address(address) if length else ()
+        return next((seams[at + 1] for at in range(0, length - 1, 2) if seams[at] == vertex), vertex)
+
+
+def report(text):
+    """The report of a scene text as the program prints it, in bytes: the lines of the listed pairs and the totals, or the one line of a refusal."""
+    out = bytearray(REPORT_LENGTH)
+    return bytes(out[: write_report(text, out)])
