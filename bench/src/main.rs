@@ -1,5 +1,6 @@
-//! usage: bench [quick]
-//! Ratios side by side in one process, as tables. docs/BENCHMARK.md tells what is measured.
+//! usage: bench [quick | once]
+//! Ratios side by side in one process, as tables. docs/BENCHMARK.md tells what is measured. With `once` every way goes once, which says nothing of
+//! times, and holds the library's words to those of plain Rust.
 //! Built with an earlier library beside this one, `bench against SCENES` compares the two.
 
 #[cfg(feature = "earlier")]
@@ -72,7 +73,11 @@ struct Bench {
 
 fn main() {
     let word = std::env::args().nth(1).unwrap_or_default();
-    let (rounds, pairs) = if word.is_empty() { (300, 1_000_000) } else { (20, 20_000) };
+    let (rounds, pairs) = match word.as_str() {
+        "" => (300, 1_000_000),
+        "once" => (1, 500),
+        _ => (20, 20_000),
+    };
     let bench = Bench { rounds, pairs, product: Product::find() };
     #[cfg(feature = "earlier")]
     if word == "against" {
