@@ -121,11 +121,11 @@ class WrongBuffers(unittest.TestCase):
         self.assertNotIsInstance(told.exception, makhnodri.Refused)
 
     def test_numbers_of_another_type(self):
-        for place, code in ((0, "h"), (0, "I"), (0, "q"), (0, "f"), (0, "d"), (0, "B"), (1, "h"), (1, "I"), (2, "b"), (2, "i"), (3, "B")):
+        for place, code in ((0, "h"), (0, "I"), (0, "l"), (0, "q"), (0, "f"), (0, "d"), (0, "B"), (1, "h"), (1, "I"), (2, "b"), (2, "i"), (3, "B")):
             lists = list(self.lists)
             lists[place] = array.array(code, [0] * 6)
             self.refused(TypeError, "check_scene", makhnodri.Scene(*lists))
-        for given in (array.array("i", [0] * 9), array.array("Q", [0] * 9), bytearray(36)):
+        for given in (array.array("i", [0] * 9), array.array("L", [0] * 9), array.array("Q", [0] * 9), bytearray(36)):
             self.refused(TypeError, "list_pairs", self.scene, given)
         self.refused(TypeError, "settle_scene", self.scene, array.array("I", [0] * 9), array.array("b", [0] * 9))
         self.refused(TypeError, "write_report", array.array("b", [0] * 9), bytearray(65536))
@@ -164,9 +164,11 @@ class WrongBuffers(unittest.TestCase):
         scene = makhnodri.Scene(whole[:96].cast("i"), None, whole[96:102].cast("H"))
         self.refused(ValueError, "list_pairs", scene, whole[92:100].cast("I"))
         self.refused(ValueError, "settle_scene", scene, whole[104:112].cast("I"), whole[111:120])
-        with self.assertRaises(makhnodri.Refused):  # the positions are read twice, which is no fault; four vertices at rest have no vertex 9
-            makhnodri.check_scene(makhnodri.Scene(whole[:96].cast("i"), None, array.array("H", [0, 1, 9])))
         self.assertEqual(makhnodri.list_pairs(makhnodri.Scene(whole[:96].cast("i"), None, array.array("H", [0, 1, 2])), whole[96:104].cast("I")), 1)
+
+    def test_what_is_read_may_overlap(self):
+        corners = self.lists[2]
+        makhnodri.check_scene(makhnodri.Scene(self.lists[0], memoryview(corners)[:2], corners))
 
     def test_buffers_that_are_too_short(self):
         self.refused(ValueError, "contact_pt", self.scene, 3, 0, array.array("I", [0] * 4))

@@ -50,9 +50,9 @@ class Refusals(unittest.TestCase):
 
     def test_of_a_pair(self):
         scene = makhnodri.Scene(*triangle_and_point())
-        for call, *given in (("judge_pt", 4, 0), ("judge_pt", 3, 1), ("settle_ee", 0, 1), ("judge_pt_piece", 3, 0, 3), ("contact_pt", 4, 0, array.array("I", [7] * 5))):
-            self.refused(5, 0, getattr(makhnodri, call), scene, *given)
         contact = array.array("I", [7] * 5)
+        for call, *given in (("judge_pt", 4, 0), ("judge_pt", 3, 1), ("settle_ee", 0, 1), ("judge_pt_piece", 3, 0, 3), ("contact_pt", 4, 0, contact)):
+            self.refused(5, 0, getattr(makhnodri, call), scene, *given)
         for call, *given in (("judge_pt", 0, 0), ("settle_pt", 1, 0), ("contact_pt", 2, 0, contact)):
             self.refused(6, 0, getattr(makhnodri, call), scene, *given)
         self.assertEqual(contact, array.array("I", [7] * 5))
@@ -99,7 +99,8 @@ class Refusals(unittest.TestCase):
     def test_of_claims(self):
         scene = makhnodri.Scene.read((TOP / "scenes/printed.scene").read_bytes())
         good = (TOP / "scenes/printed.claims").read_bytes().splitlines(keepends=True)[0]
-        for number, line, claims in ((9, 2, good + b"pt\n"), (5, 1, b"pt\t9\t0\t0\t1\t1\t1\t1\t0\t0\n"), (6, 2, good + b"pt\t0\t0\t0\t1\t1\t1\t1\t0\t0\n"), (8, 0, b"p" * 32769)):
+        weights = b"\t1\t1\t1\t1\t0\t0\n"
+        for number, line, claims in ((9, 2, good + b"pt\n"), (5, 1, b"pt\t9\t0\t0" + weights), (6, 2, good + b"pt\t0\t0\t0" + weights), (8, 0, b"p" * 32769)):
             answers = bytearray(b"\x07" * 4)
             self.refused(number, line, makhnodri.check_claims, scene, claims, answers)
             self.assertEqual(answers, b"\x07" * 4)
