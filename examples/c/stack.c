@@ -64,9 +64,6 @@ static void check_claims(void) { makhnodri_check_claims_slices(SCENE, (const uin
 
 static uint8_t stack[STACK];
 
-/* as the C library for x86-64 has it, also where another processor's headers are taken, which may have more behind */
-_Static_assert(offsetof(ucontext_t, uc_link) == 8 && offsetof(ucontext_t, uc_stack) == 16 && sizeof(ucontext_t) >= 936, "ucontext_t");
-
 static size_t used_by(void (*call)(void)) {
     static ucontext_t here, there;
     memset(stack, PAINT, STACK);
