@@ -2,6 +2,7 @@
 
 import array
 import collections
+import concurrent.futures
 import pathlib
 import random
 import re
@@ -187,6 +188,15 @@ class Seeds(unittest.TestCase):
                 answers.update(wanted.split())
         self.assertGreater(answers[b"no"], 100)
         self.assertGreater(answers[b"yes"], 100)
+
+    def test_threads_at_once(self):
+        """Four threads over the same scene, each with buffers of its own, while the interpreter's lock is not held."""
+        scene = Scene.read((TOP / "scenes/patch-on-sleeve.scene").read_bytes())
+        wanted = scene.settled()
+        self.assertGreater(len(wanted), 100)
+        with concurrent.futures.ThreadPoolExecutor(4) as threads:
+            for found in threads.map(lambda _: scene.settled(), range(40)):
+                self.assertEqual(found, wanted)
 
     def test_contacts_as_floats(self):
         scene = Scene.read((TOP / "scenes/frozen.scene").read_bytes())
