@@ -133,6 +133,15 @@ module _ {s : Scene} (mesh : Mesh s) where
   all-among : (kind : Kind) (i j : ℕ) (l : List ℕ) → Every (OneOf (verticesOf s kind i j)) l → Every (OneOf (fourOf s kind i j)) l
   all-among kind i j = every-imp (OneOf (verticesOf s kind i j)) (OneOf (fourOf s kind i j)) (among-four kind i j)
 
+  -- of two edges the lower place stands first
+  edges-in-order : (kind : Kind) (i j : ℕ) → FirstBelow kind i j → Rising _<_ (edgesOf kind i j)
+  unfolding edgesOf Rising FirstBelow
+  edges-in-order PointTriangle i j l = tt
+  edges-in-order EdgeEdge i j l = (
+    λ b m. let below : i < j = l in rw (List·Memᴰ·eq-of-singleton m) (omega arith),
+    (λ b m. absurd (List·Memᴰ·not-nil m), tt),
+  )
+
   -- its triangle, or its two edges
   edges-fit : (kind : Kind) (i j : ℕ) → notThere s kind i j ≡ false → (e : ℕ) → OneOf (edgesOf kind i j) e
       → (e < edgeCount s) × Every (OneOf (fourOf s kind i j)) (endsWritten s e) × Different s (endsWritten s e)
@@ -153,11 +162,6 @@ module _ {s : Scene} (mesh : Mesh s) where
       let made = mesh-made mesh PointTriangle i j there in
       rw (List·Memᴰ·eq-of-singleton m)
       (made .0, all-among PointTriangle i j (cornersWritten s j) (second, (third, (fourth, tt))), made .1)
-
-  edges-in-order : (kind : Kind) (i j : ℕ) → FirstBelow kind i j → Rising _<_ (edgesOf kind i j)
-  unfolding edgesOf Rising FirstBelow
-  edges-in-order PointTriangle i j l = tt
-  edges-in-order EdgeEdge i j l = (λ b m. rw (List·Memᴰ·eq-of-singleton m) l, (λ b m. absurd (List·Memᴰ·not-nil m), tt))
 
   -- the pair's places stand at its places in the mesh, and are there
   pub first-back : (kind : Kind) (i j : ℕ) → firstPlace (cutAt (fourOf s kind i j) (edgesOf kind i j) (trianglesOf kind i j)) kind (aloneFirst s kind i j) ≡ i
