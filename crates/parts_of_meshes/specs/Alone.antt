@@ -1,22 +1,24 @@
 -- A pair alone: its four vertices in rising order of the vertex stood for, and its triangle or its two edges, as a scene without seams. The scene is accepted
 -- where these four are in range, and the library answers a word of it, or a contact, exactly when the pair has it in the mesh.
 use Prim.Native.Nat.{ℕ, _+_, _*_, _≤_, _<_}
-use mathlib.Core.Bool.{false}
+use mathlib.Core.Bool.{false, _||_}
 use mathlib.Core.List.{List, [], _∷_, _++_, List·Memᴰ, List·Memᴰ·head, List·Memᴰ·tail, List·Memᴰ·not-nil, List·Memᴰ·cases-cons, List·Memᴰ·eq-of-singleton}
 use mathlib.Core.Logic.{_↔_, ⊎-elim}
 use mathlib.Core.Path.{_≡_, refl, sym, _∙_, subst₂}
 use native.Mathlib.Omega.{arith}
+use lib.Dec.{leb}
 use lib.IntN.{pos, natAbs}
 use lib.ListN.{length, getD}
 use borrow.Author.Tests.{lt-leb, ltb-false}
 use Rattle.sequences.specs.Rising.{Rising}
 use Rattle.meaning.specs.Limits.{coordinateLimit, contactLimit}
 use Rattle.meaning.specs.Scene.{Scene, AcceptedWithin, vertexCount, edgeCount, triangleCount, beyond, reachesBeyond}
-use Rattle.meaning.specs.Verdicts.{PairIs}
-use Rattle.meaning.specs.Resting.{PairSettled, settledSays, PairDecided}
+use Rattle.meaning.specs.Pieces.{pieceCount, pieceOf}
+use Rattle.meaning.specs.Verdicts.{PieceIs, PairIs}
+use Rattle.meaning.specs.Resting.{PieceSettled, PairSettled, settledSays, PairDecided, PieceDecided}
 use Rattle.meaning.specs.Meetings.{MeetingIs, ContactIs, contactChecks, meetingSays, contactSays, MeetingFound, ContactGiven}
 use Rattle.meaning.specs.Motion.{firstPart, secondPart}
-use Rattle.meaning.specs.Refusals.{given, notThere, shares, pairSays, PairJudged}
+use Rattle.meaning.specs.Refusals.{given, notThere, shares, pairSays, PairJudged, PieceJudged}
 use Rattle.meaning.specs.declared.Kind.{Kind}
 use Rattle.meaning.specs.declared.Kind.the-variants.{PointTriangle, EdgeEdge}
 use Rattle.meaning.specs.declared.Verdict.{Verdict}
@@ -35,7 +37,7 @@ use Rattle.scenes.specs.Facts.{vertex-inside, accepted-wider}
 use Rattle.listing.specs.InOrder.{FirstBelow}
 use Rattle.scene_contacts.specs.OneMeeting.{one-meeting, one-contact}
 use Rattle.demands.specs.Deciding.{NoneHolds, gives-exactly}
-use Rattle.demands.specs.Demand1.{demand1-pair, demand1-settled-pair}
+use Rattle.demands.specs.Demand1.{demand1-pair, demand1-piece, demand1-settled-pair, demand1-settled-piece}
 use Rattle.parts_of_meshes.specs.Part.{PartOf, firstPlace, secondPlace}
 use Rattle.parts_of_meshes.specs.Meshes.{Mesh, mesh-known, mesh-made}
 use Rattle.parts_of_meshes.specs.Says.{SaysTheSame, a-part-says-the-same}
@@ -250,6 +252,26 @@ module _ {s : Scene} (mesh : Mesh s) where
           let table = demand1-settled-pair (alone s kind i j) kind (aloneFirst s kind i j) (aloneSecond kind) r answered in (
             λ e. alone-says-the-same .word w .0 (table .judged w .0 e .1 .2),
             λ h. table .judged w .1 (alone-is-accepted coordinateLimit range, (alone-there kind i j, unshared-there, alone-says-the-same .word w .1 h)),
+          )
+
+      -- so of each piece
+      piece-there : (k : ℕ) → k < pieceCount kind → notThere (alone s kind i j) kind (aloneFirst s kind i j) (aloneSecond kind) || leb (pieceCount kind) k ≡ false
+      piece-there k h = rw (alone-there kind i j, lt-leb (pieceCount kind) k h) refl
+
+      pub piece-judged-alone : (k : ℕ) → k < pieceCount kind → (r : PairAnswer) → PieceJudged (alone s kind i j) kind (aloneFirst s kind i j) (aloneSecond kind) k r
+          → (v : Verdict) → (pairSays r ≡ given v) ↔ PieceIs (pieceOf s kind i j k) v
+      piece-judged-alone k h r answered v =
+          let table = demand1-piece (alone s kind i j) kind (aloneFirst s kind i j) (aloneSecond kind) k r answered in (
+            λ e. alone-says-the-same .pieces k v .0 (table .judged v .0 e .1 .2),
+            λ is. table .judged v .1 (alone-is-accepted coordinateLimit range, (piece-there k h, unshared-there, alone-says-the-same .pieces k v .1 is)),
+          )
+
+      pub piece-settled-alone : (k : ℕ) → k < pieceCount kind → (r : SettledAnswer) → PieceDecided (alone s kind i j) kind (aloneFirst s kind i j) (aloneSecond kind) k r
+          → (w : Settled) → (settledSays r ≡ given w) ↔ PieceSettled (pieceOf s kind i j k) w
+      piece-settled-alone k h r answered w =
+          let table = demand1-settled-piece (alone s kind i j) kind (aloneFirst s kind i j) (aloneSecond kind) k r answered in (
+            λ e. alone-says-the-same .pieceWords k w .0 (table .judged w .0 e .1 .2),
+            λ is. table .judged w .1 (alone-is-accepted coordinateLimit range, (piece-there k h, unshared-there, alone-says-the-same .pieceWords k w .1 is)),
           )
 
     -- a contact, where the four are in the range that coordinates had at first
