@@ -60,8 +60,7 @@ fn report(files: &[String; 2], options: &Options) -> Result<Tally, Vec<Fault>> {
 
 fn scene(files: &[String; 2], options: &Options) -> Result<(), Vec<Fault>> {
     let (mesh, _) = read(files, options)?;
-    let text = scene_text::scene(mesh.positions.iter(), mesh.edges.iter().copied(), mesh.triangles.iter().copied());
-    print(text.as_bytes()).map_err(alone)
+    print(scene_text::of_mesh(&mesh).as_bytes()).map_err(alone)
 }
 
 fn split_into(folder: &str, files: &[String; 2], options: &Options) -> Result<(), Vec<Fault>> {
@@ -88,7 +87,8 @@ fn read(files: &[String; 2], options: &Options) -> Result<(Mesh, About), Vec<Fau
     let [start, end] = both_read(files)?;
     let [from, to] = files;
     mesh::same_faces([from, to], &start, &end).map_err(alone)?;
-    let rounded = onto_grid(&start.places, &end.places, options.step).map_err(alone)?;
+    let rounded =
+        onto_grid(&start.places, &end.places, options.step, options.limit()).map_err(|fault| alone(options.of_range(fault)))?;
     let notes = (note_of_file(from, &start), note_of_steps(&rounded, options.step.is_none()), rounded.step);
     let mesh = mesh::join(from, start, rounded, options.seams).map_err(alone)?;
     let count = |length: usize| length as u64;
@@ -144,6 +144,24 @@ fn note_of_steps(rounded: &Rounded, chosen: bool) -> String {
 }
 
 impl Options {
+    /// The largest coordinate. Contacts are given in the range that coordinates had at first, and refused with 16 in a mesh of which any
+    /// coordinate is beyond it: so the whole mesh is held to it, before a pair is asked for.
+    fn limit(&self) -> i32 {
+        if self.form.contacts {
+            makhnodri::CONTACT_LIMIT
+        } else {
+            makhnodri::COORDINATE_LIMIT
+        }
+    }
+
+    fn of_range(&self, fault: Fault) -> Fault {
+        if self.form.contacts {
+            Fault::new(format!("{}; contacts have less room than words, and are refused beyond it (16)", fault.words))
+        } else {
+            fault
+        }
+    }
+
     fn note(&self, words: impl FnOnce() -> String) {
         if !self.quiet {
             tell(&words());

@@ -1,16 +1,23 @@
-//! A pair alone, asked of the library: the one place that calls it for a word.
+//! A pair alone, asked of the library: the one place that calls it for a word or for a contact.
 //!
 //! A pair is judged by its own four vertices, so a scene of these is enough, as long as it keeps what the pieces of a pair go by: the order
 //! of its vertices, by the vertex that each stands for, and which of two edges is the lower. A pair that is listed shares no vertex, so its
-//! four stand for four, and the scene needs no seam. Whatever else is asked of a pair is asked of the same scene, `Alone::asked`.
+//! four stand for four, and the scene needs no seam. Words and contacts are asked of the same scene, `Alone::asked`. That it speaks for the
+//! mesh is proved: crates/parts_of_meshes/specs/Alone.antt, `settled-alone` and `contact-alone`.
 
 use crate::mesh::Mesh;
 use crate::pairs::{Kind, Pair};
-use makhnodri::{Refusal, Scene, Settled, Verdict};
+use makhnodri::{Contact, Refusal, Scene, Settled, Verdict};
 
 /// The word of a pair.
 pub fn settle(mesh: &Mesh, pair: Pair) -> Result<Settled, Refusal> {
     Alone::of(mesh, pair).settle()
+}
+
+/// When and where a pair is hit. Whether the whole mesh is in the range of contacts is for the caller to see to: the library is asked of four
+/// vertices, and 16 goes by all.
+pub fn contact(mesh: &Mesh, pair: Pair) -> Result<Contact, Refusal> {
+    Alone::of(mesh, pair).contact()
 }
 
 /// A scene of four vertices, and of one triangle or two edges.
@@ -54,6 +61,11 @@ impl Alone {
             Verdict::Miss => Ok(Settled::Miss),
             Verdict::Degenerate => scene.settle_pair(kind, first, second),
         }
+    }
+
+    pub fn contact(&self) -> Result<Contact, Refusal> {
+        let (kind, scene, [first, second]) = self.asked();
+        scene.contact_pair(kind, first, second)
     }
 
     /// The scene as the library takes it, and the pair in its numbers.

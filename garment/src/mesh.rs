@@ -41,9 +41,14 @@ impl Mesh {
         self.edges[edge as usize].map(|vertex| self.stood(vertex))
     }
 
+    /// Each vertex that stands for another, and that one, in rising order.
+    pub fn sewn(&self) -> impl Iterator<Item = [u32; 2]> + '_ {
+        self.stands.iter().zip(0..).filter(|&(&stood, vertex)| stood != vertex).map(|(&stood, vertex)| [vertex, stood])
+    }
+
     /// How many vertices stand for another.
     pub fn seams(&self) -> u64 {
-        self.stands.iter().zip(0..).filter(|&(&stood, vertex)| stood != vertex).count() as u64
+        self.sewn().count() as u64
     }
 
     /// Sews vertices in one place; or hands back a triangle that has two corners in one.

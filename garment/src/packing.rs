@@ -27,6 +27,7 @@ impl Part {
             self.vertices.iter().map(|&vertex| &mesh.positions[vertex as usize]),
             self.edges.iter().map(|&edge| mesh.ends(edge).map(own)),
             self.triangles.iter().map(|&triangle| mesh.corners(triangle).map(own)),
+            std::iter::empty(),
         )
     }
 

@@ -1,7 +1,7 @@
-//! Lines of a report and its totals, as docs/FORMAT.md has them, or the same as JSON.
+//! Lines of a report or of contacts and their totals, as docs/FORMAT.md has them, or the same as JSON.
 
 use crate::pairs::Pair;
-use makhnodri::Settled;
+use makhnodri::{Contact, Settled};
 use std::io::Write;
 
 /// The four words, in the order in which the totals name them.
@@ -63,16 +63,18 @@ pub struct About {
     pub step: f64,
 }
 
-/// How a report is written down: parted by tabs or as JSON, and the lines of which words. The totals are of all.
+/// How a report is written down: parted by tabs or as JSON; a word for each pair, and the lines of which words, or the contact of each hit. The
+/// totals are of all.
 #[derive(Clone, Debug, PartialEq, Eq)]
 pub struct Form {
     pub json: bool,
+    pub contacts: bool,
     pub shown: Vec<Settled>,
 }
 
 impl Default for Form {
     fn default() -> Form {
-        Form { json: false, shown: WORDS.to_vec() }
+        Form { json: false, contacts: false, shown: WORDS.to_vec() }
     }
 }
 
@@ -82,8 +84,9 @@ impl Form {
             return String::new();
         }
         let About { vertices, edges, triangles, seams, step } = about;
+        let lines = if self.contacts { "contacts" } else { "pairs" };
         format!(
-            "{{\"mesh\":{{\"vertices\":{vertices},\"edges\":{edges},\"triangles\":{triangles},\"seams\":{seams},\"step\":{step:e}}},\n\"pairs\":["
+            "{{\"mesh\":{{\"vertices\":{vertices},\"edges\":{edges},\"triangles\":{triangles},\"seams\":{seams},\"step\":{step:e}}},\n\"{lines}\":["
         )
     }
 
@@ -107,9 +110,39 @@ impl Form {
         out.push(b'\n');
     }
 
+    /// The line of a hit pair's contact, behind what is there; or nothing, where there is no contact.
+    pub fn contact(&self, pair: Pair, contact: Contact, out: &mut Vec<u8>) -> Option<()> {
+        let (piece, k, shares): (usize, u32, &[u32]) = match &contact {
+            Contact::PointHit { piece, k, shares, .. } => (*piece, *k, shares),
+            Contact::EdgeHit { piece, k, shares, .. } => (*piece, *k, shares),
+            Contact::Miss | Contact::Touch | Contact::Apart => return None,
+        };
+        let Pair { kind, first, second } = pair;
+        let kind = kind.letters();
+        if self.json {
+            let shares = shares.iter().map(u32::to_string).collect::<Vec<String>>().join(",");
+            let line = format!(
+                ",\n{{\"kind\":\"{kind}\",\"first\":{first},\"second\":{second},\"piece\":{piece},\"k\":{k},\"shares\":[{shares}]}}"
+            );
+            out.extend_from_slice(line.as_bytes());
+            return Some(());
+        }
+        out.extend_from_slice(kind.as_bytes());
+        [first, second, piece as u32, k].iter().chain(shares).for_each(|&number| tab_and_number(number, out));
+        out.push(b'\n');
+        Some(())
+    }
+
     pub fn foot(&self, tally: Tally) -> String {
         let [hit, miss, touch, apart] = tally.counts;
         let listed = tally.listed();
+        if self.contacts {
+            return if self.json {
+                format!("\n],\n\"total\":{{\"listed\":{listed},\"hit\":{hit}}}}}\n")
+            } else {
+                format!("total\t{listed}\t{hit}\n")
+            };
+        }
         if self.json {
             format!(
                 "\n],\n\"total\":{{\"listed\":{listed},\"hit\":{hit},\"miss\":{miss},\"touch\":{touch},\"apart\":{apart}}}}}\n"
@@ -149,7 +182,7 @@ impl<'a, W: Write> Writer<'a, W> {
         Ok(Writer { form, out, any: false })
     }
 
-    /// Lines that `Form::line` made.
+    /// Lines that `Form::line` or `Form::contact` made.
     pub fn lines(&mut self, lines: &[u8]) -> std::io::Result<()> {
         let comma = (self.form.json && !self.any && !lines.is_empty()) as usize;
         self.any |= !lines.is_empty();

@@ -2,7 +2,6 @@
 
 use crate::fault::Fault;
 use crate::seams;
-use makhnodri::COORDINATE_LIMIT;
 
 pub type Place = [f64; 3];
 
@@ -25,20 +24,21 @@ const ON_THE_GRID: f64 = 1e-6;
 const COUNTED: f64 = (1u64 << 53) as f64;
 
 /// Each coordinate becomes the whole number of steps nearest to it, less the middle's. The middle is a whole number of steps too, so what
-/// lies on the grid stays on it, and another middle shifts all places alike.
-pub fn onto_grid(start: &[Place], end: &[Place], wanted: Option<f64>) -> Result<Rounded, Fault> {
+/// lies on the grid stays on it, and another middle shifts all places alike. No coordinate may come out larger in size than `limit`.
+pub fn onto_grid(start: &[Place], end: &[Place], wanted: Option<f64>, limit: i32) -> Result<Rounded, Fault> {
     let bounds = bounds(start, end);
     let step = match wanted {
         Some(step) => step,
-        None => least_step(&bounds)?,
+        None => least_step(&bounds, limit)?,
     };
     let middle = middle(&bounds, step)?;
     let mut out = Rounded { positions: Vec::with_capacity(start.len()), step, moved: 0, farthest: 0.0, fallen: 0 };
+    let too_fine = |()| too_fine(step, &bounds, limit);
     for (from, to) in start.iter().zip(end) {
         let mut position = [0; 6];
         for axis in 0..3 {
-            position[axis] = out.coordinate(from[axis], middle[axis], &bounds)?;
-            position[axis + 3] = out.coordinate(to[axis], middle[axis], &bounds)?;
+            position[axis] = out.coordinate(from[axis], middle[axis], limit).map_err(too_fine)?;
+            position[axis + 3] = out.coordinate(to[axis], middle[axis], limit).map_err(too_fine)?;
         }
         out.positions.push(position);
     }
@@ -55,15 +55,15 @@ fn fallen(start: &[Place], end: &[Place], positions: &[[i32; 6]]) -> u64 {
 }
 
 impl Rounded {
-    fn coordinate(&mut self, value: f64, middle: i64, bounds: &Bounds) -> Result<i32, Fault> {
+    fn coordinate(&mut self, value: f64, middle: i64, limit: i32) -> Result<i32, ()> {
         let steps = value / self.step;
         let nearest = steps.round();
         let off = (steps - nearest).abs();
         self.moved += (off > ON_THE_GRID) as u64;
         self.farthest = self.farthest.max(off);
         let number = nearest as i64 - middle;
-        if number.abs() > COORDINATE_LIMIT as i64 {
-            return Err(too_fine(self.step, bounds));
+        if number.abs() > limit as i64 {
+            return Err(());
         }
         Ok(number as i32)
     }
@@ -89,8 +89,8 @@ fn widest(bounds: &Bounds) -> f64 {
 
 /// The smallest of 1, 2, 5, 10, 20 and so on, up and down the powers of ten, with which the mesh fits: decimals of an export then mostly lie
 /// on the grid. A step is kept free for the middle's own rounding. A mesh in one place takes 1.
-pub fn least_step_for(width: f64) -> Option<f64> {
-    let least = width / (2.0 * (COORDINATE_LIMIT - 1) as f64);
+pub fn least_step_for(width: f64, limit: i32) -> Option<f64> {
+    let least = width / (2.0 * (limit - 1) as f64);
     if least == 0.0 {
         return Some(1.0);
     }
@@ -99,8 +99,8 @@ pub fn least_step_for(width: f64) -> Option<f64> {
     steps.filter_map(|text| text.parse().ok()).find(|&step: &f64| step >= least && step.is_normal())
 }
 
-fn least_step(bounds: &Bounds) -> Result<f64, Fault> {
-    least_step_for(widest(bounds))
+fn least_step(bounds: &Bounds, limit: i32) -> Result<f64, Fault> {
+    least_step_for(widest(bounds), limit)
         .ok_or_else(|| Fault::new("the vertices are too far apart, or too near each other, for a step to be chosen"))
 }
 
@@ -119,9 +119,9 @@ fn middle(bounds: &Bounds, step: f64) -> Result<[i64; 3], Fault> {
     Ok(middle)
 }
 
-fn too_fine(step: f64, bounds: &Bounds) -> Fault {
+fn too_fine(step: f64, bounds: &Bounds, limit: i32) -> Fault {
     let width = widest(bounds);
-    let room = 2 * COORDINATE_LIMIT;
-    let fitting = least_step_for(width).map_or(String::new(), |least| format!("; {least} is enough"));
+    let room = 2 * limit;
+    let fitting = least_step_for(width, limit).map_or(String::new(), |least| format!("; {least} is enough"));
     Fault::new(format!("the mesh is {width} wide, and the room is {room} steps of {step}: take a larger --step{fitting}"))
 }

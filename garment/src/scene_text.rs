@@ -1,5 +1,6 @@
 //! A scene as text, as docs/FORMAT.md has it.
 
+use crate::mesh::Mesh;
 use std::fmt::Write;
 
 /// The `v` line of a vertex.
@@ -16,6 +17,7 @@ pub fn scene<'a>(
     positions: impl Iterator<Item = &'a [i32; 6]>,
     edges: impl Iterator<Item = [u32; 2]>,
     triangles: impl Iterator<Item = [u32; 3]>,
+    seams: impl Iterator<Item = [u32; 2]>,
 ) -> String {
     let mut text: String = positions.map(vertex_line).collect();
     for [a, b] in edges {
@@ -24,5 +26,13 @@ pub fn scene<'a>(
     for [a, b, c] in triangles {
         writeln!(text, "t\t{a}\t{b}\t{c}").expect("a string takes all");
     }
+    for [a, b] in seams {
+        writeln!(text, "w\t{a}\t{b}").expect("a string takes all");
+    }
     text
+}
+
+/// The whole mesh, of whatever length, with a line for each vertex that stands for another.
+pub fn of_mesh(mesh: &Mesh) -> String {
+    scene(mesh.positions.iter(), mesh.edges.iter().copied(), mesh.triangles.iter().copied(), mesh.sewn())
 }

@@ -8,6 +8,7 @@ use crate::pairs::Pair;
 use crate::progress::Bar;
 use crate::report::{About, Form, Tally, Writer};
 use crate::work::in_order;
+use makhnodri::Settled;
 use std::io::{self, Write};
 use std::ops::Range;
 
@@ -65,7 +66,12 @@ fn judged(mesh: &Mesh, finder: &Finder, rows: Range<usize>, form: &Form) -> Resu
     for &pair in &pairs {
         let word = judging::settle(mesh, pair).map_err(|refusal| refused(pair, &refusal))?;
         tally.add(word);
-        form.line(pair, word, &mut lines);
+        if !form.contacts {
+            form.line(pair, word, &mut lines);
+        } else if word == Settled::Hit {
+            let contact = judging::contact(mesh, pair).map_err(|refusal| refused(pair, &refusal))?;
+            form.contact(pair, contact, &mut lines).ok_or_else(|| without_contact(pair))?;
+        }
     }
     Ok(Judged { lines, found: pairs.len() as u64, tally })
 }
@@ -90,6 +96,11 @@ fn refused(pair: Pair, refusal: &makhnodri::Refusal) -> Fault {
         "{} {first} {second}: the library refused the pair ({refusal}): this is a fault of the program",
         kind.letters()
     ))
+}
+
+fn without_contact(pair: Pair) -> Fault {
+    let Pair { kind, first, second } = pair;
+    Fault::new(format!("{} {first} {second}: the pair is hit and has no contact: this is a fault of the library", kind.letters()))
 }
 
 pub fn unwritten(error: io::Error) -> Fault {

@@ -9,11 +9,12 @@ pub const USAGE: &str = "\
 usage: garment [OPTIONS] START.obj END.obj             the report of the mesh: each listed pair with its word, then the totals
        garment split DIR [OPTIONS] START.obj END.obj   the mesh as scenes DIR/part-00001.scene and so on, and an index
        garment join DIR [OPTIONS]                      the same report, from DIR/part-00001.report and so on
-       garment scene [OPTIONS] START.obj END.obj       the mesh as one scene text, of whatever length: what the numbers stand for
+       garment scene [OPTIONS] START.obj END.obj       the mesh as one scene text, of whatever length: what the numbers stand for, and seams
        garment --help | --version
 options:
   --step LENGTH    the length of a grid step, in the files' unit; without it the smallest of 1, 2, 5 times a power of ten that fits
   --seams          vertices in one place at the start and at the end are one vertex
+  --contacts       when and where each hit pair touched, in place of the words; a step that is chosen then fits the range of contacts
   --json           JSON in place of fields parted by tabs
   --only WORDS     lines with these words only, as hit,touch; the totals are of all
   --no-hits        status 3 where a pair is hit
@@ -61,20 +62,25 @@ pub fn understood(words: impl Iterator<Item = OsString>) -> Result<(Command, Opt
         }
     }
     let command = asked.map_or_else(|| command_of(plain), Ok)?;
-    match given.iter().find(|name| !command.takes(name)) {
-        Some(name) => Err(format!("{name} says nothing to this command")),
-        None => Ok((command, options)),
+    if let Some(name) = given.iter().find(|name| !command.takes(name)) {
+        return Err(format!("{name} says nothing to this command"));
     }
+    if options.form.contacts && given.iter().any(|name| name == "--only") {
+        return Err("--only says nothing beside --contacts, which has lines of hits alone".to_string());
+    }
+    Ok((command, options))
 }
 
 impl Command {
     /// Whether an option does anything here; one that does not is refused, since whoever gave it waits for something.
     fn takes(&self, option: &str) -> bool {
         let taken: &[&str] = match self {
-            Command::Report { .. } => &["--step", "--seams", "--json", "--only", "--no-hits", "--threads", "--quiet"],
+            Command::Report { .. } => {
+                &["--step", "--seams", "--contacts", "--json", "--only", "--no-hits", "--threads", "--quiet"]
+            }
             Command::Split { .. } => &["--step", "--seams", "--threads", "--quiet"],
             Command::Join { .. } => &["--json", "--only", "--no-hits", "--quiet"],
-            Command::Scene { .. } => &["--step", "--quiet"],
+            Command::Scene { .. } => &["--step", "--seams", "--quiet"],
             Command::Help | Command::Version => &[],
         };
         taken.contains(&option)
@@ -134,6 +140,7 @@ impl Options {
                 self.form.shown = value.split(',').map(|word| of_letters(word.as_bytes())).collect::<Option<Vec<Settled>>>()?
             }
             "--seams" => self.seams = true,
+            "--contacts" => self.form.contacts = true,
             "--json" => self.form.json = true,
             "--no-hits" => self.no_hits = true,
             "--quiet" => self.quiet = true,

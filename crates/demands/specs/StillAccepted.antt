@@ -35,10 +35,10 @@ whole-triangles s e =
     omega arith
 
 -- no vertex twice in one edge or triangle
-ends-differ : (s : Scene) → repeatedVertex s ≡ false → (j : ℕ) → j < edgeCount s → Different s (endsWritten s j)
+pub ends-differ : (s : Scene) → repeatedVertex s ≡ false → (j : ℕ) → j < edgeCount s → Different s (endsWritten s j)
 ends-differ s e j h = ((none-passes (twiceInEdge s) (edgeCount s) (search or-left) j h, tt), (tt, tt))
 
-corners-differ : (s : Scene) → repeatedVertex s ≡ false → (j : ℕ) → j < triangleCount s → Different s (cornersWritten s j)
+pub corners-differ : (s : Scene) → repeatedVertex s ≡ false → (j : ℕ) → j < triangleCount s → Different s (cornersWritten s j)
 corners-differ s e j h =
     let once : twiceInTriangle s j ≡ false = none-passes (twiceInTriangle s) (triangleCount s) (search (or-left, or-rest)) j h in
     ((search (or-left, or-rest), (search (or-left, or-rest), tt)), ((search (or-left, or-rest), tt), (tt, tt)))
@@ -56,19 +56,19 @@ pub every-rearranged : {A : Type 0} (P : A → Type 0) {k l : List A} → Rearra
 every-rearranged P unmoved h = h
 every-rearranged P (moved e r) h = every-rearranged P r (every-exchanged P e h)
 
-of-two : (P : ℕ → Type 0) (x : ℕ → ℕ) → Every P (x 0 ∷ x 1 ∷ []) → (k : ℕ) → k < 2 → P (x k)
+pub of-two : (P : ℕ → Type 0) (x : ℕ → ℕ) → Every P (x 0 ∷ x 1 ∷ []) → (k : ℕ) → k < 2 → P (x k)
 of-two P x h zero l = h .0
 of-two P x h (suc zero) l = h .1 .0
 of-two P x h (suc (suc k)) l = absurd (omega arith)
 
-of-three : (P : ℕ → Type 0) (x : ℕ → ℕ) → Every P (x 0 ∷ x 1 ∷ x 2 ∷ []) → (k : ℕ) → k < 3 → P (x k)
+pub of-three : (P : ℕ → Type 0) (x : ℕ → ℕ) → Every P (x 0 ∷ x 1 ∷ x 2 ∷ []) → (k : ℕ) → k < 3 → P (x k)
 of-three P x h zero l = h .0
 of-three P x h (suc zero) l = h .1 .0
 of-three P x h (suc (suc zero)) l = h .1 .1 .0
 of-three P x h (suc (suc (suc k))) l = absurd (omega arith)
 
 -- a list of m parts of w numbers each, all of them below n
-all-known : (n w m : ℕ) (l : List ℕ) → 0 < w → length l ≡ w * m → ((j k : ℕ) → j < m → k < w → getD l (w * j + k) 0 < n) → unknownIn n l ≡ false
+pub all-known : (n w m : ℕ) (l : List ℕ) → 0 < w → length l ≡ w * m → ((j k : ℕ) → j < m → k < w → getD l (w * j + k) 0 < n) → unknownIn n l ≡ false
 all-known n w m l some long each =
     none-below (λ i. leb n (getD l i 0)) (length l)
     (λ i h.

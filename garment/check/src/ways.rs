@@ -10,14 +10,20 @@ use garment::progress::Bar;
 use garment::report::{About, Form, Tally};
 use garment::rounding::onto_grid;
 use garment::whole;
+use makhnodri::COORDINATE_LIMIT;
 
 pub const NAMES: [&str; 2] = ["start.obj", "end.obj"];
 
 pub fn mesh_of(texts: &[String; 2], step: Option<f64>, sewn: bool) -> Result<Mesh, Fault> {
+    mesh_within(COORDINATE_LIMIT, texts, step, sewn)
+}
+
+/// No coordinate is larger in size than the limit.
+pub fn mesh_within(limit: i32, texts: &[String; 2], step: Option<f64>, sewn: bool) -> Result<Mesh, Fault> {
     let [from, to] = NAMES;
     let (start, end) = (obj::read(from, texts[0].as_bytes())?, obj::read(to, texts[1].as_bytes())?);
     mesh::same_faces(NAMES, &start, &end)?;
-    let rounded = onto_grid(&start.places, &end.places, step)?;
+    let rounded = onto_grid(&start.places, &end.places, step, limit)?;
     mesh::join(from, start, rounded, sewn)
 }
 
@@ -68,13 +74,15 @@ pub fn objs_of(scene: &ExactScene, random: &mut Random) -> [String; 2] {
     texts
 }
 
-/// A scene as a mesh, with its own edges.
+/// A scene as a mesh, with its own edges and its own seams.
 pub fn as_it_is(scene: &ExactScene) -> Mesh {
     let numbers = |vertex: usize| vertex as u32;
+    let stood = |vertex: usize| scene.stands_for(vertex) as u32;
+    let stands = if scene.seams.is_empty() { Vec::new() } else { (0..scene.vertices.len()).map(stood).collect() };
     Mesh {
         positions: scene.vertices.iter().map(|v| v.map(|n| n as i32)).collect(),
         edges: scene.edges.iter().map(|edge| edge.map(numbers)).collect(),
         triangles: scene.triangles.iter().map(|triangle| triangle.map(numbers)).collect(),
-        stands: Vec::new(),
+        stands,
     }
 }

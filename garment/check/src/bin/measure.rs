@@ -13,6 +13,7 @@ use garment::rounding::onto_grid;
 use garment::work::all_cores;
 use garment_check::clocks::{run, taken, Run};
 use garment_check::cloth::{cloth, Kind as ClothKind, KINDS};
+use makhnodri::COORDINATE_LIMIT;
 use std::hint::black_box;
 use std::process::Command;
 
@@ -64,7 +65,7 @@ fn parts_of(kind: ClothKind, size: usize) {
     let (reading, objs) = shortest(|| [0, 1].map(|i| obj::read("made", texts[i].as_bytes()).expect("it is read")));
     let [start, end] = &objs;
     let (meshing, mesh) = shortest(|| {
-        let rounded = onto_grid(&start.places, &end.places, None).expect("it fits");
+        let rounded = onto_grid(&start.places, &end.places, None, COORDINATE_LIMIT).expect("it fits");
         mesh::Mesh::new(rounded.positions, start.triangles.clone())
     });
     let (celling, finder) = shortest(|| Finder::new(&mesh));

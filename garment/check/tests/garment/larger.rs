@@ -30,7 +30,7 @@ fn rows_of_a_garment() {
             let found = finder.in_rows(row..row + 1);
             assert_eq!(found, exact::row(&mesh, &scene, row), "{}, row {row}", kind.name);
             for pair in found {
-                assert_eq!(settle(&mesh, pair), Ok(exact::settled(&mesh, &scene, pair)), "{}, {pair:?}", kind.name);
+                assert_eq!(settle(&mesh, pair), Ok(exact::settled(&scene, pair)), "{}, {pair:?}", kind.name);
                 pairs += 1;
             }
         }

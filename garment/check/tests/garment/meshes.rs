@@ -3,6 +3,7 @@
 use garment::mesh::Mesh;
 use garment::rounding::{least_step_for, onto_grid};
 use garment_check::ways::mesh_of;
+use makhnodri::COORDINATE_LIMIT;
 
 fn texts(start: &str, end: &str) -> [String; 2] {
     [start.to_string(), end.to_string()]
@@ -28,15 +29,15 @@ fn a_step_is_chosen_so_that_it_fits() {
         (1_048_573.0, 2.0),
         (1e12, 1e6),
     ] {
-        assert_eq!(least_step_for(width), Some(step), "{width}");
+        assert_eq!(least_step_for(width, COORDINATE_LIMIT), Some(step), "{width}");
     }
     // at every width it fits, and the next smaller one would not
     for i in 0..2_000 {
         let width = 1.5f64.powi(i % 200 - 100) * (1.0 + i as f64 / 700.0);
-        let step = least_step_for(width).expect("there is one");
-        let rounded = onto_grid(&[[0.0; 3], [width, 0.0, 0.0]], &[[0.0; 3], [0.0, width, 0.0]], None);
+        let step = least_step_for(width, COORDINATE_LIMIT).expect("there is one");
+        let rounded = onto_grid(&[[0.0; 3], [width, 0.0, 0.0]], &[[0.0; 3], [0.0, width, 0.0]], None, COORDINATE_LIMIT);
         assert_eq!(rounded.expect("it fits").step, step);
-        let smaller = onto_grid(&[[0.0; 3], [width, 0.0, 0.0]], &[[0.0; 3]; 2], Some(step / 2.6));
+        let smaller = onto_grid(&[[0.0; 3], [width, 0.0, 0.0]], &[[0.0; 3]; 2], Some(step / 2.6), COORDINATE_LIMIT);
         assert!(smaller.is_err(), "{width} would fit with {}", step / 2.6);
     }
 }
@@ -46,12 +47,13 @@ fn a_step_is_chosen_so_that_it_fits() {
 fn rounding_is_to_the_nearest_step() {
     for far in [0.0, 12.34, -1_000.0, 5_000.05] {
         let place = |x: f64| [far + x, far, far];
-        let rounded = onto_grid(&[place(0.0), place(0.03)], &[place(-0.01), place(0.02)], Some(0.01)).expect("it fits");
+        let rounded =
+            onto_grid(&[place(0.0), place(0.03)], &[place(-0.01), place(0.02)], Some(0.01), COORDINATE_LIMIT).expect("it fits");
         let xs: Vec<[i32; 2]> = rounded.positions.iter().map(|p| [p[0], p[3]]).collect();
         assert_eq!([xs[0][1] - xs[0][0], xs[1][0] - xs[0][0], xs[1][1] - xs[0][0]], [-1, 3, 2], "{far}");
         assert_eq!(rounded.moved, 0, "{far}");
     }
-    let rounded = onto_grid(&[[0.0, 0.4, 0.6]], &[[1.0, 1.4, 1.6]], Some(1.0)).expect("it fits");
+    let rounded = onto_grid(&[[0.0, 0.4, 0.6]], &[[1.0, 1.4, 1.6]], Some(1.0), COORDINATE_LIMIT).expect("it fits");
     assert_eq!((rounded.moved, (rounded.farthest * 10.0).round()), (4, 4.0));
     let [a, b, c, d, e, f] = rounded.positions[0];
     assert_eq!([d - a, e - b, f - c], [1, 1, 1]);
@@ -59,16 +61,16 @@ fn rounding_is_to_the_nearest_step() {
     // two fall together, one is there already, one moves apart
     let start = [[0.0; 3], [0.2, 0.0, 0.0], [0.0; 3], [0.3, 0.0, 0.0], [3.0; 3]];
     let end = [[0.0; 3], [0.2, 0.0, 0.0], [0.0; 3], [0.9, 0.0, 0.0], [3.0; 3]];
-    assert_eq!(onto_grid(&start, &end, Some(1.0)).expect("it fits").fallen, 1);
+    assert_eq!(onto_grid(&start, &end, Some(1.0), COORDINATE_LIMIT).expect("it fits").fallen, 1);
     // the whole room, and not a step more
-    let ends = |high: f64| onto_grid(&[[-524_287.0, 0.0, 0.0]], &[[high, 0.0, 0.0]], Some(1.0));
+    let ends = |high: f64| onto_grid(&[[-524_287.0, 0.0, 0.0]], &[[high, 0.0, 0.0]], Some(1.0), COORDINATE_LIMIT);
     assert_eq!(ends(524_287.0).expect("it fits").positions, [[-524_287, 0, 0, 524_287, 0, 0]]);
     assert!(ends(524_289.0).expect_err("it is too wide").words.ends_with("take a larger --step; 2 is enough"));
-    assert!(onto_grid(&[[1e18, 0.0, 0.0]], &[[1e18, 0.0, 0.0]], Some(0.01))
+    assert!(onto_grid(&[[1e18, 0.0, 0.0]], &[[1e18, 0.0, 0.0]], Some(0.01), COORDINATE_LIMIT)
         .expect_err("it is far")
         .words
         .contains("too far from 0"));
-    assert!(onto_grid(&[[1e308, 0.0, 0.0]], &[[-1e308, 0.0, 0.0]], None).is_err());
+    assert!(onto_grid(&[[1e308, 0.0, 0.0]], &[[-1e308, 0.0, 0.0]], None, COORDINATE_LIMIT).is_err());
 }
 
 #[test]

@@ -12,7 +12,7 @@ use garment_check::ways::{as_it_is, made, mesh_of, objs_of, report};
 /// The library's own report of the mesh as one scene, where it fits one.
 fn library(mesh: &Mesh) -> Option<String> {
     let fits = mesh.positions.len() <= VERTEX_LIMIT && mesh.edges.len() <= EDGE_LIMIT && mesh.triangles.len() <= TRIANGLE_LIMIT;
-    let text = scene_text::scene(mesh.positions.iter(), mesh.edges.iter().copied(), mesh.triangles.iter().copied());
+    let text = scene_text::of_mesh(mesh);
     if !fits || text.len() > TEXT_LIMIT {
         return None;
     }
@@ -28,11 +28,11 @@ fn words_in(report: &str) -> [usize; 4] {
 
 #[test]
 fn scenes_from_seeds() {
-    let (mut same, mut words) = (0, [0; 4]);
+    let (mut same, mut sewn, mut words) = (0, 0, [0; 4]);
     for seed in 0..1_000 {
         let scene = generate::scene(seed);
         let of_faces = mesh_of(&objs_of(&scene, &mut Random::new(seed)), Some(1.0), false).expect("a scene is a mesh");
-        // the scene's own edges, some of them twice and some of no face
+        // the scene's own edges, some of them twice and some of no face, and its own seams
         let of_scene = as_it_is(&scene);
         for mesh in [of_faces, of_scene] {
             let Some(wanted) = library(&mesh) else { continue };
@@ -40,11 +40,12 @@ fn scenes_from_seeds() {
                 assert_eq!(report(&mesh, &Form::default(), threads).0, wanted, "seed {seed}");
             }
             same += 1;
+            sewn += (mesh.seams() > 0) as usize;
             words_in(&wanted).iter().zip(&mut words).for_each(|(&more, all)| *all += more);
         }
     }
-    println!("{same} meshes, words {words:?}");
-    assert!(same > 800 && words.iter().all(|&count| count > 500), "{same} meshes, words {words:?}");
+    println!("{same} meshes, {sewn} of them sewn, words {words:?}");
+    assert!(same > 800 && sewn > 200 && words.iter().all(|&count| count > 500), "{same} meshes, {sewn} sewn, words {words:?}");
 }
 
 #[test]

@@ -53,7 +53,7 @@ fn joined(folder: &Folder, form: &Form) -> String {
 
 fn forms() -> [Form; 4] {
     let hits = vec![Settled::Hit];
-    let none = Form { json: true, shown: vec![] };
+    let none = Form { json: true, shown: vec![], ..Form::default() };
     [Form::default(), Form { json: true, ..Form::default() }, Form { shown: hits, ..Form::default() }, none]
 }
 

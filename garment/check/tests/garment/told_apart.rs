@@ -1,15 +1,17 @@
 //! Ways that are wrong in one respect each: the comparisons of the other tests notice every one of them.
 
 use compare::generate;
+use compare::scene::{Scene as ExactScene, REPORT_ROOM};
 use garment::boxes::{of_parts, of_vertices, Swept};
 use garment::cells::{cell_of, cells_of, Cells};
 use garment::judging::{settle, Alone};
 use garment::mesh::Mesh;
 use garment::pairs::{Kind, Pair};
+use garment::scene_text;
 use garment_check::cloth::{cloth, KINDS};
 use garment_check::exact;
 use garment_check::ways::{as_it_is, made};
-use makhnodri::Settled;
+use makhnodri::{Contact, Settled};
 
 /// Meshes from seeds, with what the independent program says of each of their pairs.
 fn judged() -> Vec<(Mesh, Vec<(Pair, Settled)>)> {
@@ -17,7 +19,7 @@ fn judged() -> Vec<(Mesh, Vec<(Pair, Settled)>)> {
     meshes.push(made(&cloth(KINDS[1], 300, 1)));
     let with_words = |mesh: Mesh| {
         let scene = exact::scene(&mesh);
-        let words = exact::listed(&mesh).into_iter().map(|pair| (pair, exact::settled(&mesh, &scene, pair))).collect();
+        let words = exact::listed(&mesh).into_iter().map(|pair| (pair, exact::settled(&scene, pair))).collect();
         (mesh, words)
     };
     meshes.into_iter().map(with_words).collect()
@@ -69,6 +71,87 @@ fn what_a_pair_alone_must_keep() {
         }
     }
     assert!(exchanged > 50, "{exchanged}");
+}
+
+/// How many contacts another way to make a pair's own scene changes, of each kind.
+fn contacts_changed(meshes: &[Mesh], wrong: impl Fn(&Mesh, Pair) -> Alone) -> [usize; 2] {
+    let mut counts = [0; 2];
+    for mesh in meshes {
+        let scene = exact::scene(mesh);
+        for pair in exact::listed(mesh) {
+            if let Some(contact) = exact::contact(&scene, pair) {
+                let given = wrong(mesh, pair).contact().expect("it is in range");
+                counts[pair.kind as usize] += (numbers_of(given) != Some(contact.row())) as usize;
+            }
+        }
+    }
+    counts
+}
+
+fn numbers_of(contact: Contact) -> Option<[u32; 5]> {
+    match contact {
+        Contact::PointHit { piece, k, shares: [a, b, c], .. } => Some([piece as u32, k, a, b, c]),
+        Contact::EdgeHit { piece, k, shares: [a, b], .. } => Some([piece as u32, k, a, b, 0]),
+        _ => None,
+    }
+}
+
+#[test]
+fn what_a_contact_must_keep() {
+    let near = |scene: &ExactScene| compare::contacts::in_old_range(scene);
+    let meshes: Vec<Mesh> = (0..120).map(generate::scene).filter(near).map(|scene| as_it_is(&scene)).collect();
+    assert!(meshes.iter().filter(|mesh| mesh.seams() > 0).count() > 20);
+    assert_eq!(contacts_changed(&meshes, Alone::of), [0, 0]);
+    let turned = contacts_changed(&meshes, |mesh, pair| {
+        let mut alone = Alone::of(mesh, pair);
+        alone.positions = rows_of(alone.positions, [3, 2, 1, 0]);
+        alone.places = alone.places.map(|place| 3 - place);
+        alone
+    });
+    assert!(turned[0] > 50 && turned[1] > 50, "{turned:?}");
+    // by own numbers, where the mesh is sewn
+    let own = contacts_changed(&meshes, |mesh, pair| Alone::of(&Mesh { stands: Vec::new(), ..mesh.clone() }, pair));
+    assert!(own[0] > 5 && own[1] > 5, "{own:?}");
+    // the higher edge first: a pair's word does not notice it, its contact does
+    let exchanged = contacts_changed(&meshes, |mesh, pair| {
+        let mut alone = Alone::of(mesh, pair);
+        if pair.kind == Kind::EdgeEdge {
+            alone.places.rotate_left(2);
+        }
+        alone
+    });
+    assert!(exchanged[0] == 0 && exchanged[1] > 50, "{exchanged:?}");
+}
+
+/// 16 goes by the whole mesh: four vertices in range speak for a mesh with a fifth beyond it, and the independent program refuses that mesh.
+#[test]
+fn sixteen_by_four_vertices_is_noticed() {
+    let mut mesh = as_it_is(&generate::scene(0));
+    mesh.positions.push([262_144, 0, 0, 0, 0, 0]);
+    assert_eq!(exact::contacts(&mesh), "refused\t16\t0\n");
+    let alone = exact::listed(&mesh).into_iter().filter(|&pair| Alone::of(&mesh, pair).contact().is_ok()).count();
+    assert!(alone > 0);
+}
+
+/// Seam lines that are left out, or in another order, give another report or none.
+#[test]
+fn what_seam_lines_must_keep() {
+    let (mut sewn, mut left_out) = (0, 0);
+    for mesh in (0..200).map(|seed| as_it_is(&generate::scene(seed))).filter(|mesh| mesh.seams() > 0) {
+        let text = scene_text::of_mesh(&mesh);
+        let scene = compare::text::read(text.as_bytes()).expect("a scene");
+        assert_eq!(scene, exact::scene(&mesh));
+        let whole = compare::report::report(text.as_bytes(), REPORT_ROOM);
+        let (other, seams) = text.split_at(text.find("\nw\t").expect("a seam line") + 1);
+        left_out += (compare::report::report(other.as_bytes(), REPORT_ROOM) != whole) as usize;
+        let turned: Vec<&str> = seams.split_inclusive('\n').rev().collect();
+        if turned.len() > 1 {
+            let report = compare::report::report(format!("{other}{}", turned.concat()).as_bytes(), REPORT_ROOM);
+            assert!(report.starts_with("refused\t15\t"), "{report}");
+        }
+        sewn += 1;
+    }
+    assert!(sewn > 50 && left_out > sewn / 2, "{left_out} of {sewn}");
 }
 
 /// The four vertices in another order.

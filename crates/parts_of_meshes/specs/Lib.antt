@@ -1,0 +1,13 @@
+-- A mesh of any length, and scenes that are parts of it.
+pub mod Part
+pub mod Order
+pub mod Kept
+pub mod Meshes
+pub mod Says
+pub mod SeamsOff
+pub mod CutOut
+pub mod Sorted
+pub mod Alone
+pub mod Joined
+pub mod EachAlone
+pub mod Needed
