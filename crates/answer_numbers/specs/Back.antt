@@ -147,7 +147,7 @@ text-heard a l h = heard-number (λ c. 0) (countsIn (countsLeft a l)) (textSays 
 abbrev pub momentIn : List ℕ → Moment
 momentIn l = record { piece = getD l 0 0; k = getD l 1 0; first = getD l 2 0; second = getD l 3 0; third = getD l 4 0 }
 
-unfoldable metBy : Settled → List ℕ → Meeting
+unfoldable pub metBy : Settled → List ℕ → Meeting
 metBy Settleds.the-variants.Hit l = Meetings.the-variants.Hit (momentIn l)
 metBy Settleds.the-variants.Miss l = Meetings.the-variants.Miss
 metBy Settleds.the-variants.Touch l = Meetings.the-variants.Touch

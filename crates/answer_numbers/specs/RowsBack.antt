@@ -3,14 +3,21 @@ use Prim.Native.Nat.{ℕ, zero, suc, _+_, _*_, _≤_, _<_}
 use native.Mathlib.Omega.{arith}
 use native.Mathlib.Nat.{not-suc-le-zero, le-of-suc-le-suc}
 use mathlib.Core.List.{List, [], _∷_, _++_, map}
-use mathlib.Core.Path.{_≡_, refl, sym, ap, _∙_}
+use mathlib.Core.Path.{_≡_, refl, sym, ap, _∙_, subst}
+use borrow.Author.Tests.{ltb-false}
 use lib.ListN.{length, getD, take, drop, length-take, length-drop, length-map}
 use lib.Seq.{drop-drop, length-take-le, take-append-seam, drop-append-seam}
 use Rattle.sequences.specs.Wrote.{written, written-in-front}
 use Rattle.meaning.specs.SceneWords.{byteOf}
-use Rattle.meaning.specs.Meetings.{wordOf, rowOf, rowLeft, rowsLeft}
+use Rattle.meaning.specs.Scene.{Scene}
+use Rattle.meaning.specs.Refusals.{given, Check, Answers, sceneChecks}
+use Rattle.meaning.specs.List.{pairs, listSays}
+use Rattle.meaning.specs.Meetings.{wordOf, rowOf, rowLeft, rowsLeft, rangeCheck, roomCheck, metRoom, metChecks, MetScene}
+use Rattle.meaning.specs.declared.ListAnswer.{ListAnswer}
 use Rattle.meaning.specs.declared.Meeting.{Meeting}
 use Rattle.meaning.specs.declared.Meeting.the-variants.{Hit, Miss, Touch, Apart}
+use Rattle.scenes.specs.Answering.{is-given}
+use Rattle.scene_contacts.specs.Listed.{all-met-one, meetings-length}
 use Rattle.answer_numbers.specs.Contacts.{wordNumber}
 use Rattle.answer_numbers.specs.Back.{meetingIn, meeting-back}
 
@@ -67,3 +74,23 @@ rows-heard ms b c room k below =
     let byte : getD (written (map wordNumber ms) b) k 0 ≡ wordNumber (getD ms k Miss) =
     written-in-front (map wordNumber ms) b k 0 (omega (arith, length-map ms wordNumber)) ∙ bytes-at ms k below in
     (λ t. meetingIn (rows-left ms c room k below t) (byte t)) ∙ meeting-back (getD ms k Miss) (rowAt c k)
+
+-- ---- after success there is a row for each listed pair
+
+passes : {A : Type 0} (R : A → Type 0) (ks more : List Check) (a : A) → Answers (ks ++ more) R (given a) → Answers more R (given a)
+unfolding Answers
+passes R [] more a p = p
+passes R (k ∷ ks) more a p = passes R ks more a (is-given R k (ks ++ more) a p .1)
+
+module _ {s : Scene} {o o′ b b′ c c′ : List ℕ} {r : ListAnswer} (p : MetScene s o o′ b b′ c c′ r) where
+  pub meetings-many : length (p .meetings) ≡ length (pairs s)
+  meetings-many = ap length (all-met-one s (pairs s) (p .meetings) (p .right)) ∙ meetings-length s (pairs s)
+
+  pub rows-fit : {n : ℕ} → listSays r ≡ given n → 5 * length (p .meetings) ≤ length c
+  rows-fit {n} e =
+      let R : ℕ → Type 0 = λ m. m ≡ length (pairs s) in
+      let a : Answers (metChecks s (metRoom o b c)) R (given n) = subst (Answers (metChecks s (metRoom o b c)) R) e (p .answer) in
+      let later : Answers (rangeCheck s ∷ roomCheck s (metRoom o b c) ∷ []) R (given n) = passes R (sceneChecks s) _ n a in
+      let room = is-given R (roomCheck s (metRoom o b c)) [] n (is-given R (rangeCheck s) _ n later .1) .0 in
+      let fits : length (pairs s) ≤ metRoom o b c = ltb-false (metRoom o b c) (length (pairs s)) room in
+      omega (arith, fits, meetings-many)

@@ -1,5 +1,5 @@
 -- Each promise determines the number and every lent buffer, refused calls too; and what a caller hears in the number is right.
-use Prim.Native.Nat.{ℕ, _*_, _≤_, _<_, min}
+use Prim.Native.Nat.{ℕ, _<_, min}
 use mathlib.Core.List.{List, [], _∷_, map}
 use mathlib.Core.Path.{_≡_, refl, sym, ap, _∙_}
 use native.Mathlib.Omega.{arith}
@@ -10,7 +10,8 @@ use Rattle.meaning.specs.Verdicts.{PieceIs, PairIs}
 use Rattle.meaning.specs.Refusals.{given, refused, Answers, sceneChecks, pairChecks, pieceChecks, SceneChecked, PairJudged, PieceJudged}
 use Rattle.meaning.specs.Resting.{PieceSettled, PairSettled, PairDecided, PieceDecided}
 use Rattle.meaning.specs.Backwards.{sceneLeft, Turning}
-use Rattle.meaning.specs.List.{pairs, entries, roomOf, listChecks, leaves, Counted, Listing}
+use Rattle.sequences.specs.Wrote.{written}
+use Rattle.meaning.specs.List.{pairs, entries, roomOf, listSays, listChecks, leaves, Counted, Listing}
 use Rattle.meaning.specs.Runs.{testsLeft, Tested}
 use Rattle.meaning.specs.SceneWords.{byteOf, SettledScene}
 use Rattle.meaning.specs.Text.{textSays}
@@ -23,7 +24,7 @@ use Rattle.demands.specs.OneAnswer.{one-scene, one-turning, one-pair, one-piece
 use Rattle.demands.specs.OneText.{one-reading}
 use Rattle.demands.specs.TextTable.{TextRows, demand1-text}
 use Rattle.demands.specs.Unchanged.{reading-unchanged, SceneInFront, reading-holds}
-use Rattle.meaning.specs.Meetings.{MeetingIs, contactChecks, meetingSays, metChecks, metRoom, rowsAfter, MetScene}
+use Rattle.meaning.specs.Meetings.{MeetingIs, contactChecks, meetingSays, metChecks, metRoom, rowsLeft, rowsAfter, MetScene}
 use Rattle.meaning.specs.declared.Meeting.the-variants.{Miss}
 use Rattle.meaning.specs.declared.MeetingAnswer.{MeetingAnswer}
 use Rattle.contact_demands.specs.OneContact.{meeting-says-one, one-meeting-answer, one-met-scene}
@@ -31,7 +32,7 @@ use Rattle.answer_numbers.specs.Contacts.{wordNumber, meetingNumber, rowAfter, 
 use Rattle.answer_numbers.specs.Numbers.{sceneNumber, pairNumber, settledNumber, listNumber, textNumber, countsLeft, ReadInto, Told}
 use Rattle.answer_numbers.specs.Small.{counted-small, listing-small, judging-small, met-small, line-small}
 use Rattle.answer_numbers.specs.Back.{heard, noMore, count, countsIn, verdictNumbered, meetingIn, scene-heard, pair-heard, settled-heard, list-heard, text-heard, contact-heard}
-use Rattle.answer_numbers.specs.RowsBack.{meetingAt, rows-heard}
+use Rattle.answer_numbers.specs.RowsBack.{meetingAt, rows-heard, meetings-many, rows-fit}
 
 -- one right answer, one number
 one-number : {A : Type 0} {number : A → ℕ} {R S : A → Type 0} {r r′ : ℕ} (p : Told number R r) (q : Told number S r′) → p .answer ≡ q .answer → r ≡ r′
@@ -161,11 +162,14 @@ met-told-heard s o o′ b b′ c c′ r p =
 
 -- after success the byte and the row of each listed pair tell what it met
 pub met-rows-heard : (s : Scene) (o o′ b b′ c c′ : List ℕ) (r n : ℕ) → (p : Told listNumber (MetScene s o o′ b b′ c c′) r) → heard count r ≡ given n
-    → 5 * length (p .right .meetings) ≤ length c → (k : ℕ) → k < length (p .right .meetings) → meetingAt b′ c′ k ≡ getD (p .right .meetings) k Miss
+    → (k : ℕ) → k < length (pairs s) → meetingAt b′ c′ k ≡ getD (p .right .meetings) k Miss
 unfolding leaves rowsAfter
-met-rows-heard s o o′ b b′ c c′ r n p e room k below =
-    let (answer, list, bytes, rows) = met-told-heard s o o′ b b′ c c′ r p in
-    (λ t. meetingAt (rw e at bytes t) (rw e at rows t) k) ∙ rows-heard (p .right .meetings) b c room k below
+met-rows-heard s o o′ b b′ c c′ r n p e k below =
+    let ms = p .right .meetings in
+    let says : listSays (p .answer) ≡ given n = sym (list-heard (p .answer) (met-small (p .right))) ∙ ap (heard count) (sym (p .is)) ∙ e in
+    let bytes : b′ ≡ written (map wordNumber ms) b = rw says at (p .right .bytes) in
+    let rows : c′ ≡ rowsLeft ms c = rw says at (p .right .rows) in
+    (λ t. meetingAt (bytes t) (rows t) k) ∙ rows-heard ms b c (rows-fit (p .right) says) k (rw (meetings-many (p .right)) below)
 
 -- ---- and of a text too what the lent buffers then hold
 
