@@ -5,3 +5,4 @@ pub mod Numbers
 pub mod OneContact
 pub mod Demand1
 pub mod OnePrinted
+pub mod AnyWriting

@@ -97,7 +97,7 @@ module _ {s t : Scene} (h : Rewritten s t) (a : Accepted s) where
   contacts-as-written ms k =
       met-alike (pairs s) (λ p m. list-is s .stands p .0 m .there) ms (subst (λ (ps : List Pair). AllMet t ps ms) (rewritten-list h) k)
 
-range-alike : {s t : Scene} → Rewritten s t → reachesBeyond contactLimit t ≡ reachesBeyond contactLimit s
+pub range-alike : {s t : Scene} → Rewritten s t → reachesBeyond contactLimit t ≡ reachesBeyond contactLimit s
 range-alike h = rw (h .positions) refl
 
 pub contacts-alike : {t t′ report : List ℕ} → DifferInOrder t t′ → ContactsOf t report → ContactsOf t′ report

@@ -60,14 +60,7 @@ fn hit_lines(
     let mut lines = Lines { next: 0, hits: 0 };
     let mut k = 0;
     while k < count {
-        let meeting = scene_contacts::entry_meeting(
-            positions,
-            edges,
-            triangles,
-            stands,
-            list,
-            k,
-        );
+        let meeting = scene_contacts::entry_meeting(positions, edges, triangles, stands, list, k);
         lines = tell_pair(list[k], meeting, out, lines);
         k += 1;
     }

@@ -119,11 +119,7 @@ fn front_contacts(read: &[u8], count: usize, out: &mut [u8; CONTACTS_BYTES]) -> 
 }
 
 // The contacts of what a program read: the first `count` bytes of its buffer.
-pub fn contacts_read(
-    read: &[u8; READ_BYTES],
-    count: usize,
-    out: &mut [u8; CONTACTS_BYTES],
-) -> usize
+pub fn contacts_read(read: &[u8; READ_BYTES], count: usize, out: &mut [u8; CONTACTS_BYTES]) -> usize
     ensures { λ r. ⌜ ContactsRead (now (read .entry)) count (now (out .entry)) (now (out .exit)) r ⌝ }
 {
     front_contacts(read, count, out)

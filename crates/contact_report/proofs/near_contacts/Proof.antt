@@ -15,42 +15,33 @@ use Rattle.contact_report.proofs.hits.hits_report.Reads as hits-report-
 use Rattle.listing.proofs.accepted.list_accepted.Reads as list-accepted-reads
 use Rattle.wording.proofs.lines.refused_line.Reads as refused-line-reads
 
--- src/lib.rt:47:9
 slice-aggregate-list-accepted : tie.Need-slice-aggregate-list-accepted
 slice-aggregate-list-accepted c = search needs
 
--- src/lib.rt:42:11
 list-accepted-requires : tie.Need-list-accepted-requires
 list-accepted-requires c κs = (old-accepted (c .before .before .before .before .before .before .pre .0), omega (arith, own-room))
 
--- src/lib.rt:51:28
 enum-known-made : tie.Need-enum-known-made
 enum-known-made c = search needs
 
--- src/lib.rt:56:13
 slice-aggregate-hits-report : tie.Need-slice-aggregate-hits-report
 slice-aggregate-hits-report c = search needs
 
--- src/lib.rt:51:37
 hits-report-requires : tie.Need-hits-report-requires
 hits-report-requires c κs =
     let p = c .before .before .before .before .before .before .before .before .before .before .before .before .before .pre in
     let m = made-list (c .before .before .before .before .before .before .list-accepted .ensures .list) {m = c .before .before .before .made .given .0 .0} (search) in
     (p .0, made-stands (old-accepted (p .0)) (omega (arith, own-room)) m, m .counts, omega (arith, m .counts, m .fits), p .1)
 
--- src/lib.rt:60:32
 enum-known-needed : tie.Need-enum-known-needed
 enum-known-needed c = search needs
 
--- src/lib.rt:60:43
 refused-line-requires : tie.Need-refused-line-requires
 refused-line-requires c κs = search needs
 
--- src/lib.rt:30:1
 same-length : tie.Need-same-length
 same-length c = search needs
 
--- src/lib.rt:30:1
 returns : tie.Need-returns
 returns c =
     let start = c .before .before .before .before .before .before .before .before .before .before .before .before .before .before .before .before in
@@ -58,11 +49,9 @@ returns c =
     let m = made-list (c .before .before .before .before .before .before .before .before .before .list-accepted .ensures .list) {m = c .before .before .before .before .before .before .made .given .0 .0} (search) in
     contacts-stand s (start .pre .0 .inRange) (m .fits) (c .before .before .hits-report .ensures)
 
--- src/lib.rt:30:1
 same-length-2 : tie.Need-same-length-2
 same-length-2 c = search needs
 
--- src/lib.rt:30:1
 returns-2 : tie.Need-returns-2
 returns-2 c =
     let start = c .before .before .before .before .before .before .before .before .before .before .before .before .before .before .before in

@@ -17,37 +17,29 @@ use Rattle.meetings.proofs.beyond_old_range.Reads as beyond-old-range-reads
 use Rattle.scenes.proofs.table.sew_all.Reads as sew-all-reads
 use Rattle.wording.proofs.lines.refused_line.Reads as refused-line-reads
 
--- src/lib.rt:75:8
 beyond-old-range-requires : tie.Need-beyond-old-range-requires
 beyond-old-range-requires c κs = search needs
 
--- src/lib.rt:76:9
 refused-line-requires : tie.Need-refused-line-requires
 refused-line-requires c κs = search needs
 
--- src/lib.rt:76:9
 same-length : tie.Need-same-length
 same-length c = search needs
 
--- src/lib.rt:76:9
 returns : tie.Need-returns
 returns c =
     let a = c .before .before .before .before .before .before .before .before .before .before .args in
     beyond-refused (sceneOf (a .positions .now) (a .edges .now) (a .triangles .now) (a .seams .now)) (sym (c .before .before .before .before .before .beyond-old-range .ensures) ∙ c .before .before .before .before .if1 .taken) (c .before .before .refused-line .ensures)
 
--- src/lib.rt:79:31
 slice-aggregate-sew-all : tie.Need-slice-aggregate-sew-all
 slice-aggregate-sew-all c = search needs
 
--- src/lib.rt:79:5
 sew-all-requires : tie.Need-sew-all-requires
 sew-all-requires c κs = accepted-sewable (c .before .before .before .before .before .before .before .pre .0)
 
--- src/lib.rt:80:48
 slice-aggregate-near-contacts : tie.Need-slice-aggregate-near-contacts
 slice-aggregate-near-contacts c = search needs
 
--- src/lib.rt:80:5
 near-contacts-requires : tie.Need-near-contacts-requires
 near-contacts-requires c κs =
     let start = c .before .before .before .before .before .before .before .before .before .before .before in
@@ -58,11 +50,9 @@ near-contacts-requires c κs =
       start .pre .1,
     )
 
--- src/lib.rt:65:1
 same-length-2 : tie.Need-same-length-2
 same-length-2 c = search needs
 
--- src/lib.rt:65:1
 returns-2 : tie.Need-returns-2
 returns-2 c =
     told-as (accepted-tabled (c .before .before .before .before .before .before .before .before .before .before .before .before .before .before .pre .0) (c .before .before .before .before .before .before .sew-all .ensures)) (c .before .before .near-contacts .ensures)

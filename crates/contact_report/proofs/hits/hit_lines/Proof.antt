@@ -29,45 +29,37 @@ Inv-loop positions edges triangles stands list count out₀ lines₀ k₀ out li
 abbrev μ-loop : tie.MeasureT-loop
 μ-loop positions edges triangles stands list count out₀ lines₀ k₀ out lines k = count - k
 
--- src/hits.rt:62:5
 loop-holds : tie.Need-loop-holds Inv-loop μ-loop
 loop-holds c =
     let start = c .before .before .before .before .before in
     let s : Scene = tabled (start .args .positions .now) (start .args .edges .now) (start .args .triangles .now) (start .args .stands .now) in
     (omega arith, omega arith, omega arith, writing-starts-front _ _ (omega (arith, start .pre .2, start .pre .3, start .pre .4, lines-fit s (start .args .list .now) (start .pre .1))), omega arith)
 
--- src/hits.rt:63:13
 entry-meeting-requires : tie.Need-entry-meeting-requires Inv-loop μ-loop
 entry-meeting-requires c κs =
     let p = c .before .before .before .before .before .before .before .pre in
     (p .0, p .1, omega (arith, p .2, c .loop-test .taken))
 
--- src/hits.rt:71:27
 mul-tell-pair : tie.Need-mul-tell-pair Inv-loop μ-loop
 mul-tell-pair c = search needs
 
--- src/hits.rt:71:27
 shared-slice-read-tell-pair : tie.Need-shared-slice-read-tell-pair Inv-loop μ-loop
 shared-slice-read-tell-pair c =
     let p = c .before .before .before .before .before .before .before .before .before .pre in
     omega (arith, p .1 .room, p .2, c .before .before .loop-test .taken)
 
--- src/hits.rt:71:9
 tell-pair-requires : tie.Need-tell-pair-requires Inv-loop μ-loop
 tell-pair-requires c κs =
     let p = c .before .before .before .before .before .before .before .before .before .before .pre in
     let i = c .before .before .before .before .loop .inv in
     (omega (arith, i .1, i .3 .same, p .3, p .4, c .before .before .before .loop-test .taken), omega (arith, i .2, p .3, c .before .before .before .loop-test .taken))
 
--- src/hits.rt:72:9
 add-k : tie.Need-add-k Inv-loop μ-loop
 add-k c = omega (arith, c .before .before .before .before .before .before .loop-test .taken)
 
--- src/hits.rt:62:5
 loop-less : tie.Need-loop-less Inv-loop μ-loop
 loop-less c = omega (arith, c .before .before .before .before .before .before .loop-test .taken)
 
--- src/hits.rt:62:5
 loop-again : tie.Need-loop-again Inv-loop μ-loop
 loop-again c =
     let start = c .before .before .before .before .before .before .before .before .before .before .before .before .before in
@@ -79,8 +71,7 @@ loop-again c =
     let told = c .before .before .tell-pair .ensures in
     let line : linesFrom s k ≡ contactLine _ (c .before .before .before .before .before .entry-meeting .result) ++ linesFrom s (k + 1) =
     lines-next s k below ∙ (λ t. contactLine (sym (start .pre .1 .at k below) t) (sym m t) ++ linesFrom s (k + 1)) in
-    let short = listed-line-short s (start .args .list .now) (start .pre .1) k below in
-    (
+    let short = listed-line-short s (start .args .list .now) (start .pre .1) k below in (
       omega (arith, c .before .before .before .before .before .before .loop-test .taken),
       omega (arith, told .0 .place, i .1, rw (← m) at short),
       omega (arith, told .1, i .2, one-hit (c .before .before .before .before .before .entry-meeting .result)),
@@ -88,19 +79,16 @@ loop-again c =
       omega (arith, told .1, i .4, rw (← m) at (hits-next s k below)),
     )
 
--- src/hits.rt:48:1
 same-length : tie.Need-same-length Inv-loop μ-loop
 same-length c = c .before .loop .inv .3 .same
 
--- src/hits.rt:48:1
 returns : tie.Need-returns Inv-loop μ-loop
 returns c =
     let start = c .before .before .before .before .before .before .before in
     let s : Scene = tabled (start .args .positions .now) (start .args .edges .now) (start .args .triangles .now) (start .args .stands .now) in
     let k = c .before .loop .k in
     let i = c .before .loop .inv in
-    let past : length (pairs s) ≤ k = omega (arith, start .pre .2, c .loop-test .left) in
-    (
+    let past : length (pairs s) ≤ k = omega (arith, start .pre .2, c .loop-test .left) in (
       writing-ends (omega arith) (writing-as (lines-end s k past) (i .3)),
       omega (arith, i .0, i .1, start .pre .3),
       omega (arith, i .4, hits-end s k past),

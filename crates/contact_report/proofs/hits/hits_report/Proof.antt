@@ -18,19 +18,15 @@ use Rattle.contact_report.proofs.hits.hits_report.Lts as lts
 use Rattle.contact_report.proofs.hits.hit_lines.Reads as hit-lines-reads
 use Rattle.wording.proofs.contact_lines.contact_total.Reads as contact-total-reads
 
--- src/hits.rt:90:9
 hit-lines-requires : tie.Need-hit-lines-requires
 hit-lines-requires c κs = search needs
 
--- src/hits.rt:91:5
 contact-total-requires : tie.Need-contact-total-requires
 contact-total-requires c κs = search needs
 
--- src/hits.rt:78:1
 same-length : tie.Need-same-length
 same-length c = search needs
 
--- src/hits.rt:78:1
 returns : tie.Need-returns
 returns c =
     let start = c .before .before .before .before .before .before .before .before .before .before .before .before .before in

@@ -33,46 +33,36 @@ passed Miss h = miss-told
 passed Touch h = touch-told
 passed Apart h = apart-told
 
--- src/hits.rt:34:25
 enum-known-meeting : tie.Need-enum-known-meeting
 enum-known-meeting c = search needs
 
--- src/hits.rt:35:13
 kind-of-requires : tie.Need-kind-of-requires
 kind-of-requires c κs = search needs
 
--- src/hits.rt:36:13
 first-of-requires : tie.Need-first-of-requires
 first-of-requires c κs = search needs
 
--- src/hits.rt:37:13
 second-of-requires : tie.Need-second-of-requires
 second-of-requires c κs = search needs
 
--- src/hits.rt:38:13
 contact-line-requires : tie.Need-contact-line-requires
 contact-line-requires c κs = search needs
 
--- src/hits.rt:41:19
 add-t13 : tie.Need-add-t13
 add-t13 c = search needs
 
--- src/hits.rt:39:9
 same-length : tie.Need-same-length
 same-length c = search needs
 
--- src/hits.rt:39:9
 returns : tie.Need-returns
 returns c =
     let start = c .before .before .before .before .before .before .before .before .before .before .before .before in
     let m = c .before .before .before .before .before .before .before .before .before .meeting .given .0 .0 in
-    let is : start .args .meeting ≡ Hit m = search in
-    (
+    let is : start .args .meeting ≡ Hit m = search in (
       wrote-as (hit-told is (λ t. pair (c .before .before .before .before .before .before .before .kind-of .ensures t) (c .before .before .before .before .before .before .first-of .ensures t) (c .before .before .before .before .before .second-of .ensures t))) (c .before .before .before .contact-line .ensures),
       omega (arith, hit-counts is),
     )
 
--- src/hits.rt:29:1
 returns-2 : tie.Need-returns-2
 returns-2 c =
     let start = c .before .before in

@@ -15,58 +15,48 @@ use Rattle.wording.proofs.lines.put_kind.Reads as put-kind-reads
 use Rattle.wording.proofs.words.put_byte.Reads as put-byte-reads
 use Rattle.wording.proofs.words.put_number.Reads as put-number-reads
 
--- src/contact_lines.rt:45:9
 put-kind-requires : tie.Need-put-kind-requires
 put-kind-requires c κs = search needs
 
--- src/contact_lines.rt:46:5
 put-number-requires : tie.Need-put-number-requires
 put-number-requires c κs =
     let start = c .before .before .before .before .before .before in
     omega (arith, kind-short (start .args .kind))
 
--- src/contact_lines.rt:47:5
 put-number-requires-2 : tie.Need-put-number-requires-2
 put-number-requires-2 c κs =
     let start = c .before .before .before .before .before .before .before .before .before .before in
     omega (arith, kind-short (start .args .kind), digits-length-u64 (start .args .first) (start .fits .first .fits))
 
--- src/contact_lines.rt:48:5
 put-number-requires-3 : tie.Need-put-number-requires-3
 put-number-requires-3 c κs =
     let start = c .before .before .before .before .before .before .before .before .before .before .before .before .before .before in
     omega (arith, kind-short (start .args .kind), digits-length-u64 (start .args .first) (start .fits .first .fits), digits-length-u64 (start .args .second) (start .fits .second .fits))
 
--- src/contact_lines.rt:49:34
 cast-put-number : tie.Need-cast-put-number
 cast-put-number c = search needs
 
--- src/contact_lines.rt:49:5
 put-number-requires-4 : tie.Need-put-number-requires-4
 put-number-requires-4 c κs =
     let start = c .before .before .before .before .before .before .before .before .before .before .before .before .before .before .before .before .before .before .before in
     let sized = c .struct-known .given in
     omega (arith, kind-short (start .args .kind), digits-length-u64 (start .args .first) (start .fits .first .fits), digits-length-u64 (start .args .second) (start .fits .second .fits), digits-length-u64 (start .args .m .piece) (sized .0 .fits))
 
--- src/contact_lines.rt:50:5
 put-shares-requires : tie.Need-put-shares-requires
 put-shares-requires c κs =
     let start = c .before .before .before .before .before .before .before .before .before .before .before .before .before .before .before .before .before .before .before .before .before .before .before in
     let sized = c .before .before .before .before .struct-known .given in
     omega (arith, kind-short (start .args .kind), digits-length-u64 (start .args .first) (start .fits .first .fits), digits-length-u64 (start .args .second) (start .fits .second .fits), digits-length-u64 (start .args .m .piece) (sized .0 .fits), digits-length-u32 (start .args .m .k) (sized .1 .0 .fits), c .before .before .before .before .before .before .before .before .before .before .before .before .before .before .before .before .before .before .before .before .put-kind .ensures .place, c .before .before .before .before .before .before .before .before .before .before .before .before .before .before .before .before .put-number .ensures .place, c .before .before .before .before .before .before .before .before .before .before .before .before .put-number2 .ensures .place, c .before .before .before .before .before .before .before .before .put-number3 .ensures .place, c .before .before .before .put-number4 .ensures .place, start .pre, c .before .before .before .before .before .before .before .before .before .before .before .before .before .before .before .before .before .before .before .before .put-kind .ensures .same, c .before .before .before .before .before .before .before .before .before .before .before .before .before .before .before .before .put-number .ensures .same, c .before .before .before .before .before .before .before .before .before .before .before .before .put-number2 .ensures .same, c .before .before .before .before .before .before .before .before .put-number3 .ensures .same, c .before .before .before .put-number4 .ensures .same)
 
--- src/contact_lines.rt:51:5
 put-byte-requires : tie.Need-put-byte-requires
 put-byte-requires c κs =
     let start = c .before .before .before .before .before .before .before .before .before .before .before .before .before .before .before .before .before .before .before .before .before .before .before .before .before .before .before in
     let sized = c .before .before .before .before .before .before .before .before .struct-known .given in
     omega (arith, kind-short (start .args .kind), digits-length-u64 (start .args .first) (start .fits .first .fits), digits-length-u64 (start .args .second) (start .fits .second .fits), digits-length-u64 (start .args .m .piece) (sized .0 .fits), digits-length-u32 (start .args .m .k) (sized .1 .0 .fits), shares-fit (start .args .kind) (start .args .m) (sized .1 .1 .0 .fits) (sized .1 .1 .1 .0 .fits) (sized .1 .1 .1 .1 .0 .fits), c .before .before .before .before .before .before .before .before .before .before .before .before .before .before .before .before .before .before .before .before .before .before .before .before .put-kind .ensures .place, c .before .before .before .before .before .before .before .before .before .before .before .before .before .before .before .before .before .before .before .before .put-number .ensures .place, c .before .before .before .before .before .before .before .before .before .before .before .before .before .before .before .before .put-number2 .ensures .place, c .before .before .before .before .before .before .before .before .before .before .before .before .put-number3 .ensures .place, c .before .before .before .before .before .before .before .put-number4 .ensures .place, c .before .before .before .put-shares .ensures .place, start .pre, c .before .before .before .before .before .before .before .before .before .before .before .before .before .before .before .before .before .before .before .before .before .before .before .before .put-kind .ensures .same, c .before .before .before .before .before .before .before .before .before .before .before .before .before .before .before .before .before .before .before .before .put-number .ensures .same, c .before .before .before .before .before .before .before .before .before .before .before .before .before .before .before .before .put-number2 .ensures .same, c .before .before .before .before .before .before .before .before .before .before .before .before .put-number3 .ensures .same, c .before .before .before .before .before .before .before .put-number4 .ensures .same, c .before .before .before .put-shares .ensures .same)
 
--- src/contact_lines.rt:34:1
 same-length : tie.Need-same-length
 same-length c = search needs
 
--- src/contact_lines.rt:34:1
 returns : tie.Need-returns
 returns c =
     let start = c .before .before .before .before .before .before .before .before .before .before .before .before .before .before .before .before .before .before .before .before .before .before .before .before .before .before .before .before .before .before in

@@ -14,35 +14,28 @@ use Rattle.wording.proofs.words.put_byte.Reads as put-byte-reads
 use Rattle.wording.proofs.words.put_number.Reads as put-number-reads
 use Rattle.wording.proofs.words.put_word.Reads as put-word-reads
 
--- src/contact_lines.rt:59:38
 slice-aggregate-put-word : tie.Need-slice-aggregate-put-word
 slice-aggregate-put-word c = search needs
 
--- src/contact_lines.rt:59:9
 put-word-requires : tie.Need-put-word-requires
 put-word-requires c κs = search needs
 
--- src/contact_lines.rt:60:5
 put-number-requires : tie.Need-put-number-requires
 put-number-requires c κs = search needs
 
--- src/contact_lines.rt:61:5
 put-number-requires-2 : tie.Need-put-number-requires-2
 put-number-requires-2 c κs =
     let start = c .before .before .before .before .before .before .before .before .before .before .before in
     omega (arith, digits-length-u64 (start .args .listed) (start .fits .listed .fits))
 
--- src/contact_lines.rt:62:5
 put-byte-requires : tie.Need-put-byte-requires
 put-byte-requires c κs =
     let start = c .before .before .before .before .before .before .before .before .before .before .before .before .before .before .before in
     omega (arith, digits-length-u64 (start .args .listed) (start .fits .listed .fits), digits-length-u64 (start .args .hits) (start .fits .hits .fits))
 
--- src/contact_lines.rt:55:1
 same-length : tie.Need-same-length
 same-length c = search needs
 
--- src/contact_lines.rt:55:1
 returns : tie.Need-returns
 returns c =
     let a = c .before .before .before .before .before .before .before .before .before .before .before .before .before .before .before .before .before .before .args in

@@ -11,34 +11,27 @@ use Rattle.wording.proofs.contact_lines.put_shares.Reads as reads
 use Rattle.wording.proofs.contact_lines.put_shares.Lts as lts
 use Rattle.wording.proofs.words.put_number.Reads as put-number-reads
 
--- src/contact_lines.rt:25:40
 cast-put-number : tie.Need-cast-put-number
 cast-put-number c = search needs
 
--- src/contact_lines.rt:25:9
 put-number-requires : tie.Need-put-number-requires
 put-number-requires c κs = search needs
 
--- src/contact_lines.rt:26:34
 cast-put-number-2 : tie.Need-cast-put-number-2
 cast-put-number-2 c = search needs
 
--- src/contact_lines.rt:26:5
 put-number-requires-2 : tie.Need-put-number-requires-2
 put-number-requires-2 c κs =
     let m = c .before .before .before .before .before .before .before .before .args .m in
     let sized = c .struct-known2 .given in
     omega (arith, digits-length-u32 (m .first) (sized .1 .1 .0 .fits))
 
--- src/contact_lines.rt:28:27
 enum-told : tie.Need-enum-told
 enum-told c = search needs
 
--- src/contact_lines.rt:28:38
 cast-put-number-3 : tie.Need-cast-put-number-3
 cast-put-number-3 c = search needs
 
--- src/contact_lines.rt:28:9
 put-number-requires-3 : tie.Need-put-number-requires-3
 put-number-requires-3 c κs =
     let m = c .before .before .before .before .before .before .before .before .before .before .before .before .before .before .before .args .m in
@@ -48,20 +41,16 @@ put-number-requires-3 c κs =
 enum-told-2 : tie.Need-enum-told-2
 enum-told-2 c = search needs
 
--- src/contact_lines.rt:21:1
 same-length : tie.Need-same-length
 same-length c = search needs
 
--- src/contact_lines.rt:21:1
 returns : tie.Need-returns
 returns c =
     wrote-as (three-shares (c .before .before .before .before .before .before .before .before .before .before .before .before .before .before .before .before .before .before .args .m) (c .before .before .before .before .before .enum-told .given .1)) (wrote-then (wrote-then (c .before .before .before .before .before .before .before .before .before .before .before .before .before .before .put-number .ensures) (c .before .before .before .before .before .before .before .before .before .put-number2 .ensures)) (c .before .before .put-number3 .ensures))
 
--- src/contact_lines.rt:21:1
 same-length-2 : tie.Need-same-length-2
 same-length-2 c = search needs
 
--- src/contact_lines.rt:21:1
 returns-2 : tie.Need-returns-2
 returns-2 c =
     wrote-as (two-shares (c .before .before .before .before .before .before .before .before .before .before .before .before .before .args .m) (c .enum-told2 .given .1)) (wrote-then (c .before .before .before .before .before .before .before .before .before .put-number .ensures) (c .before .before .before .before .put-number2 .ensures))
