@@ -9,12 +9,14 @@ use Rattle.decimals.specs.Digits.{digits}
 use Rattle.decimals.specs.Value.{digits-length}
 use Rattle.cutting.specs.Cut.{unit}
 use Rattle.sequences.specs.Parts.{drop-next}
+use Rattle.sequences.specs.Wrote.{Wrote, wrote-then}
+use Rattle.sequences.specs.Writing.{Writing, writing-as, writing-ends}
 use Rattle.meaning.specs.Limits.{reportRoom}
 use Rattle.meaning.specs.Scene.{Scene}
 use Rattle.meaning.specs.List.{Pair, pairs}
 use Rattle.meaning.specs.Text.{further}
 use Rattle.meaning.specs.SceneWords.{byteOf}
-use Rattle.meaning.specs.Report.{isOne, howMany}
+use Rattle.meaning.specs.Report.{totalWord, reportLine, isOne, howMany}
 use Rattle.meaning.specs.Meetings.{MeetingIs, wordOf}
 use Rattle.meaning.specs.ContactLines.{shareFields, contactLine, contactLines, contactTotal}
 use Rattle.meaning.specs.declared.Kind.{Kind}
@@ -28,7 +30,7 @@ use Rattle.scene_words.specs.Listed.{noPair, ListStands}
 use Rattle.scene_contacts.specs.Computed.{SmallNumbers, contact-small, met-pair}
 use Rattle.scene_contacts.specs.Rows.{SmallMeeting, meeting-small, small-hit}
 use Rattle.scene_contacts.specs.Listed.{meetingOfPair, meetingsOf, meetings-length, meetings-at}
-use Rattle.wording.specs.Lines.{kind-short}
+use Rattle.wording.specs.Lines.{wrote-as, kind-short}
 
 abbrev pub hit : Settleds.Settled
 hit = Settleds.the-variants.Hit
@@ -166,3 +168,20 @@ module _ (s : Scene) where
 
   pub lines-fit : (l : List ℕ) → ListStands s l → length (linesFrom 0) ≤ length (pairs s) * 47
   lines-fit l stands = from-place l stands (length (pairs s)) 0 (omega arith)
+
+  -- the line of the k-th entry, then those of the others
+  pub entry-next : (l : List ℕ) → ListStands s l → (k : ℕ) → k < length (pairs s) → (m : Meeting) → m ≡ getD met k Miss
+      → linesFrom k ≡ contactLine (pairAt l k) m ++ linesFrom (k + 1)
+  entry-next l stands k h m e = lines-next k h ∙ (λ t. contactLine (sym (stands .at k h) t) (sym e t) ++ linesFrom (k + 1))
+
+  -- nothing is left: the lines stand in front
+  pub lines-told : {o o′ : List ℕ} {n : ℕ} (k : ℕ) → length (pairs s) ≤ k → Writing o (linesFrom 0) o′ n (linesFrom k) → Wrote o 0 (contactLines (pairs s) met) o′ n
+  lines-told {o} k past w = writing-ends (omega arith) (writing-as (lines-end k past) w)
+
+  -- and the totals behind them
+  pub whole-told : {o o′ o″ : List ℕ} {n r count hits : ℕ} → count ≡ length (pairs s) → hits ≡ hitsOf met → Wrote o 0 (contactLines (pairs s) met) o′ n
+      → Wrote o′ n (reportLine totalWord (digits count ∷ digits hits ∷ [])) o″ r
+      → Wrote o 0 (contactLines (pairs s) met ++ contactTotal met) o″ r
+  whole-told many some lines total =
+      let listed = many ∙ sym (meetings-length s (pairs s)) in
+      wrote-as (λ t. contactLines (pairs s) met ++ reportLine totalWord (digits (listed t) ∷ digits (some t) ∷ [])) (wrote-then lines total)

@@ -29,9 +29,11 @@ slice-aggregate-hits-report c = search needs
 
 hits-report-requires : tie.Need-hits-report-requires
 hits-report-requires c κs =
-    let p = c .before .before .before .before .before .before .before .before .before .before .before .before .before .pre in
-    let m = made-list (c .before .before .before .before .before .before .list-accepted .ensures .list) {m = c .before .before .before .made .given .0 .0} (search) in
-    (p .0, made-stands (old-accepted (p .0)) (omega (arith, own-room)) m, m .counts, omega (arith, m .counts, m .fits), p .1)
+    let start = c .before .before .before .before .before .before .before .before .before .before .before .before .before in
+    let s : Scene = tabled (start .args .positions .now) (start .args .edges .now) (start .args .triangles .now) (start .args .stands .now) in
+    let p = start .pre in
+    let m = made-list {s = s} (c .before .before .before .before .before .before .list-accepted .ensures .list) {m = c .before .before .before .made .given .0 .0} (search) in
+    (p .0, made-stands {s = s} (old-accepted (p .0)) (omega (arith, own-room)) m, m .counts, omega (arith, m .counts, m .fits), p .1)
 
 enum-known-needed : tie.Need-enum-known-needed
 enum-known-needed c = search needs
@@ -46,7 +48,7 @@ returns : tie.Need-returns
 returns c =
     let start = c .before .before .before .before .before .before .before .before .before .before .before .before .before .before .before .before in
     let s : Scene = tabled (start .args .positions .now) (start .args .edges .now) (start .args .triangles .now) (start .args .stands .now) in
-    let m = made-list (c .before .before .before .before .before .before .before .before .before .list-accepted .ensures .list) {m = c .before .before .before .before .before .before .made .given .0 .0} (search) in
+    let m = made-list {s = s} (c .before .before .before .before .before .before .before .before .before .list-accepted .ensures .list) {m = c .before .before .before .before .before .before .made .given .0 .0} (search) in
     contacts-stand s (start .pre .0 .inRange) (m .fits) (c .before .before .hits-report .ensures)
 
 same-length-2 : tie.Need-same-length-2
@@ -56,7 +58,7 @@ returns-2 : tie.Need-returns-2
 returns-2 c =
     let start = c .before .before .before .before .before .before .before .before .before .before .before .before .before .before .before in
     let s : Scene = tabled (start .args .positions .now) (start .args .edges .now) (start .args .triangles .now) (start .args .stands .now) in
-    let n = no-room {x = c .before .before .before .before .before .needed .given .0 .0} {n = c .before .before .before .before .before .needed .given .0 .1 .0} (c .before .before .before .before .before .before .before .before .list-accepted .ensures .list) (search) in
+    let n = no-room {s = s} {x = c .before .before .before .before .before .needed .given .0 .0} {n = c .before .before .before .before .before .needed .given .0 .1 .0} (c .before .before .before .before .before .before .before .before .list-accepted .ensures .list) (search) in
     room-refused s (start .pre .0 .inRange) (n .0) (n .1) (c .before .before .refused-line .ensures)
 
 pub near-contacts-spec : {M : Type 1} → statement M

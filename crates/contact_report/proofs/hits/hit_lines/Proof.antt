@@ -1,18 +1,14 @@
 -- What stands in the buffer, with the lines that are still to come, is what is wanted; so with the hits.
 use Prim.Native.Nat.{_+_, _-_, _*_, _≤_, _<_}
-use mathlib.Core.List.{_++_}
-use mathlib.Core.Path.{_≡_, sym, ap, _∙_}
+use mathlib.Core.Path.{_≡_}
 use native.Mathlib.Omega.{arith}
 use borrow.Author.Needs.{needs}
-use lib.ListN.{length, getD}
-use Rattle.sequences.specs.Writing.{Writing, writing-starts-front, writing-as, writing-steps, writing-ends}
+use lib.ListN.{length}
+use Rattle.sequences.specs.Writing.{Writing, writing-starts-front, writing-as, writing-steps}
 use Rattle.meaning.specs.Scene.{Scene}
 use Rattle.meaning.specs.List.{pairs}
-use Rattle.meaning.specs.ContactLines.{contactLine, contactLines}
-use Rattle.meaning.specs.declared.Meeting.the-variants.{Miss}
 use Rattle.scenes.specs.Alone.{tabled}
-use Rattle.scene_words.specs.Listed.{noPair}
-use Rattle.contact_report.specs.Lines.{one-hit, linesFrom, lines-next, lines-end, lines-fit, hitsFrom, hits-next, hits-end, listed-line-short}
+use Rattle.contact_report.specs.Lines.{one-hit, linesFrom, lines-fit, lines-told, entry-next, hitsFrom, hits-next, hits-end, listed-line-short}
 use Rattle.contact_report.proofs.hits.hit_lines.Statement.{statement}
 use Rattle.contact_report.proofs.hits.hit_lines.Tie as tie
 use Rattle.contact_report.proofs.hits.hit_lines.Reads as reads
@@ -69,8 +65,7 @@ loop-again c =
     let below : k < length (pairs s) = omega (arith, start .pre .2, c .before .before .before .before .before .before .loop-test .taken) in
     let m = c .before .before .before .before .before .entry-meeting .ensures in
     let told = c .before .before .tell-pair .ensures in
-    let line : linesFrom s k ≡ contactLine _ (c .before .before .before .before .before .entry-meeting .result) ++ linesFrom s (k + 1) =
-    lines-next s k below ∙ (λ t. contactLine (sym (start .pre .1 .at k below) t) (sym m t) ++ linesFrom s (k + 1)) in
+    let line = entry-next s (start .args .list .now) (start .pre .1) k below (c .before .before .before .before .before .entry-meeting .result) m in
     let short = listed-line-short s (start .args .list .now) (start .pre .1) k below in (
       omega (arith, c .before .before .before .before .before .before .loop-test .taken),
       omega (arith, told .0 .place, i .1, rw (← m) at short),
@@ -89,7 +84,7 @@ returns c =
     let k = c .before .loop .k in
     let i = c .before .loop .inv in
     let past : length (pairs s) ≤ k = omega (arith, start .pre .2, c .loop-test .left) in (
-      writing-ends (omega arith) (writing-as (lines-end s k past) (i .3)),
+      lines-told s k past (i .3),
       omega (arith, i .0, i .1, start .pre .3),
       omega (arith, i .4, hits-end s k past),
     )

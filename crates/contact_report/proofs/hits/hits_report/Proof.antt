@@ -1,15 +1,7 @@
 -- The lines, then the totals behind them.
-use mathlib.Core.List.{[], _∷_, _++_}
-use mathlib.Core.Path.{sym, _∙_}
-use Rattle.decimals.specs.Digits.{digits}
-use Rattle.sequences.specs.Wrote.{wrote-then}
 use Rattle.meaning.specs.Scene.{Scene}
-use Rattle.meaning.specs.List.{pairs}
-use Rattle.meaning.specs.Report.{totalWord, reportLine}
-use Rattle.meaning.specs.ContactLines.{contactLines}
 use Rattle.scenes.specs.Alone.{tabled}
-use Rattle.scene_contacts.specs.Listed.{meetingsOf, meetings-length}
-use Rattle.wording.specs.Lines.{wrote-as}
+use Rattle.contact_report.specs.Lines.{whole-told}
 use borrow.Author.Needs.{needs}
 use Rattle.contact_report.proofs.hits.hits_report.Statement.{statement}
 use Rattle.contact_report.proofs.hits.hits_report.Tie as tie
@@ -32,9 +24,7 @@ returns c =
     let start = c .before .before .before .before .before .before .before .before .before .before .before .before .before in
     let s : Scene = tabled (start .args .positions .now) (start .args .edges .now) (start .args .triangles .now) (start .args .stands .now) in
     let lines = c .before .before .before .before .before .before .hit-lines .ensures in
-    let many = start .pre .2 ∙ sym (meetings-length s (pairs s)) in
-    wrote-as (λ t. contactLines (pairs s) (meetingsOf s (pairs s)) ++ reportLine totalWord (digits (many t) ∷ digits (lines .2 t) ∷ []))
-    (wrote-then (lines .0) (c .before .before .contact-total .ensures))
+    whole-told s (start .pre .2) (lines .2) (lines .0) (c .before .before .contact-total .ensures)
 
 pub hits-report-spec : {M : Type 1} → statement M
 hits-report-spec =
