@@ -5,14 +5,13 @@ use native.Mathlib.Nat.{not-suc-le-zero, le-of-suc-le-suc}
 use mathlib.Core.List.{List, [], _∷_, _++_, map}
 use mathlib.Core.Path.{_≡_, refl, sym, ap, _∙_, subst}
 use borrow.Author.Tests.{ltb-false}
-use lib.ListN.{length, getD, take, drop, length-take, length-drop, length-map}
+use lib.ListN.{length, getD, take, drop, length-drop, length-map}
 use lib.Seq.{drop-drop, length-take-le, take-append-seam, drop-append-seam}
 use Rattle.sequences.specs.Wrote.{written, written-in-front}
-use Rattle.meaning.specs.SceneWords.{byteOf}
 use Rattle.meaning.specs.Scene.{Scene}
 use Rattle.meaning.specs.Refusals.{given, Check, Answers, sceneChecks}
 use Rattle.meaning.specs.List.{pairs, listSays}
-use Rattle.meaning.specs.Meetings.{wordOf, rowOf, rowLeft, rowsLeft, rangeCheck, roomCheck, metRoom, metChecks, MetScene}
+use Rattle.meaning.specs.Meetings.{rowLeft, rowsLeft, rangeCheck, roomCheck, metRoom, metChecks, MetScene}
 use Rattle.meaning.specs.declared.ListAnswer.{ListAnswer}
 use Rattle.meaning.specs.declared.Meeting.{Meeting}
 use Rattle.meaning.specs.declared.Meeting.the-variants.{Hit, Miss, Touch, Apart}

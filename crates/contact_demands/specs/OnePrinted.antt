@@ -1,13 +1,13 @@
 -- Of a text the contacts that are printed are one: two results that meet the promise are equal, lent buffers too, also of what was read of a text.
 -- A text that differs in the order of ends and corners has the same.
-use Prim.Native.Nat.{ℕ, _≤_, _<_}
+use Prim.Native.Nat.{ℕ}
 use mathlib.Core.Bool.{Bool, true, false, true≢false}
 use mathlib.Core.List.{List, [], _∷_, _++_, List·Memᴰ, List·Memᴰ·head, List·Memᴰ·tail}
 use mathlib.Core.Path.{_≡_, refl, sym, _∙_, ap, subst}
 use native.Mathlib.Omega.{arith}
 use lib.ListN.{length, take}
 use Rattle.sequences.specs.Wrote.{written}
-use Rattle.meaning.specs.Limits.{contactLimit, textLimit}
+use Rattle.meaning.specs.Limits.{contactLimit}
 use Rattle.meaning.specs.Scene.{Scene, reachesBeyond, Accepted}
 use Rattle.meaning.specs.Refusals.{notThere}
 use Rattle.meaning.specs.List.{Pair, pairs}

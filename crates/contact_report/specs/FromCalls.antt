@@ -1,16 +1,16 @@
 -- What the answers of the calls below say to the contacts: of the list that was made, and of the text that was read.
-use Prim.Native.Nat.{ℕ, _≤_, _<_}
+use Prim.Native.Nat.{ℕ, _<_}
 use mathlib.Core.Bool.{Bool, true, false, true≢false}
 use mathlib.Core.Logic.{_⊎_, inl, inr}
-use mathlib.Core.List.{List, [], _∷_}
-use mathlib.Core.Path.{_≡_, refl, sym, ap, _∙_, subst}
+use mathlib.Core.List.{List, []}
+use mathlib.Core.Path.{_≡_, refl, sym, _∙_, subst}
 use lib.Dec.{ltb}
 use lib.ListN.{length, replicate}
 use borrow.Author.Tests.{ltb-true, ltb-false}
 use Rattle.sequences.specs.Pick.{either}
 use Rattle.meaning.specs.Limits.{reportRoom, textLimit}
 use Rattle.meaning.specs.Scene.{Scene}
-use Rattle.meaning.specs.Refusals.{Outcome, given, refused, numberOf, Answers}
+use Rattle.meaning.specs.Refusals.{Outcome, refused, numberOf, Answers}
 use Rattle.meaning.specs.List.{pairs, roomOf, listSays}
 use Rattle.meaning.specs.Text.{TextRead, TextIs, shortBuffer}
 use Rattle.meaning.specs.Report.{refusedLine}

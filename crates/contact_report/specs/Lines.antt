@@ -1,17 +1,15 @@
 -- The lines of a list and of what its pairs met, one pair at a time; no line is long, so any lines fit.
-use Prim.Native.Nat.{ℕ, zero, suc, _+_, _*_, _≤_, _<_, _^_}
-use mathlib.Core.List.{List, [], _∷_, _++_, map, append-nil, List·Memᴰ·head, List·Memᴰ·tail}
+use Prim.Native.Nat.{ℕ, zero, suc, _+_, _*_, _≤_, _<_}
+use mathlib.Core.List.{List, [], _∷_, _++_, map}
 use mathlib.Core.Path.{_≡_, refl, sym, ap, _∙_}
-use native.Mathlib.Nat.{not-suc-le-zero}
 use native.Mathlib.Omega.{arith}
-use lib.ListN.{length, getD, drop, length-append, length-map, drop-of-length-le}
+use lib.ListN.{length, getD, drop, length-append, drop-of-length-le}
 use Rattle.decimals.specs.Digits.{digits}
 use Rattle.decimals.specs.Value.{digits-length}
 use Rattle.cutting.specs.Cut.{unit}
 use Rattle.sequences.specs.Parts.{drop-next}
 use Rattle.sequences.specs.Wrote.{Wrote, wrote-then}
 use Rattle.sequences.specs.Writing.{Writing, writing-as, writing-ends}
-use Rattle.meaning.specs.Limits.{reportRoom}
 use Rattle.meaning.specs.Scene.{Scene}
 use Rattle.meaning.specs.List.{Pair, pairs}
 use Rattle.meaning.specs.Text.{further}
@@ -25,11 +23,11 @@ use Rattle.meaning.specs.declared.Settled as Settleds
 use Rattle.meaning.specs.declared.Moment.{Moment}
 use Rattle.meaning.specs.declared.Meeting.{Meeting}
 use Rattle.meaning.specs.declared.Meeting.the-variants.{Hit, Miss, Touch, Apart}
-use Rattle.entries.specs.Entries.{pairAt, pairOf, places-small}
+use Rattle.entries.specs.Entries.{pairAt, places-small}
 use Rattle.scene_words.specs.Listed.{noPair, ListStands}
 use Rattle.scene_contacts.specs.Computed.{SmallNumbers, contact-small, met-pair}
-use Rattle.scene_contacts.specs.Rows.{SmallMeeting, meeting-small, small-hit}
-use Rattle.scene_contacts.specs.Listed.{meetingOfPair, meetingsOf, meetings-length, meetings-at}
+use Rattle.scene_contacts.specs.Rows.{meeting-small, small-hit}
+use Rattle.scene_contacts.specs.Listed.{meetingsOf, meetings-length, meetings-at}
 use Rattle.wording.specs.Lines.{wrote-as, kind-short}
 
 abbrev pub hit : Settleds.Settled

@@ -1,14 +1,14 @@
 -- A contact's line is its parts, one behind the other.
 use Prim.Native.Nat.{ℕ, _+_, _≤_, _<_, _^_}
 use mathlib.Core.List.{List, [], _∷_, _++_, append-assoc, append-nil}
-use mathlib.Core.Path.{_≡_, refl, sym, ap, _∙_}
+use mathlib.Core.Path.{_≡_}
 use native.Mathlib.Omega.{arith}
 use lib.ListN.{length, length-append}
 use Rattle.decimals.specs.Digits.{digits}
 use Rattle.decimals.specs.Value.{digits-length-u64}
 use Rattle.meaning.specs.Text.{tab, lineFeed, further}
 use Rattle.meaning.specs.List.{Pair}
-use Rattle.meaning.specs.Report.{kindWord, reportLine}
+use Rattle.meaning.specs.Report.{kindWord}
 use Rattle.meaning.specs.ContactLines.{shareFields, contactLine}
 use Rattle.meaning.specs.declared.Kind.{Kind}
 use Rattle.meaning.specs.declared.Kind.the-variants.{PointTriangle, EdgeEdge}

@@ -1,6 +1,6 @@
 -- 16 is told before the list is made; else the table has the seams, so the scene by the table is the scene.
 use mathlib.Core.List.{List}
-use mathlib.Core.Path.{_≡_, sym, _∙_, subst}
+use mathlib.Core.Path.{sym, _∙_, subst}
 use Prim.Native.Nat.{ℕ}
 use Rattle.meaning.specs.Limits.{contactLimit}
 use Rattle.meaning.specs.Scene.{sceneOf, AcceptedWithin}
