@@ -44,7 +44,7 @@ fn give_up(why: &str) -> ! {
 
 /// What must have been wanted: each refusal of a text, and a contact of each piece.
 fn sorts() -> Vec<String> {
-    let refusals = [2, 3, 4, 7, 8, 9, 10, 11, 16].map(|number| format!("refused {number}"));
+    let refusals = [2, 3, 4, 7, 8, 9, 10, 11, 15, 16].map(|number| format!("refused {number}"));
     let points = (0..3).map(|piece| format!("pt piece {piece}"));
     refusals.into_iter().chain(points).chain((0..4).map(|piece| format!("ee piece {piece}"))).collect()
 }

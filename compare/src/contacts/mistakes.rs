@@ -16,6 +16,7 @@ pub enum Mistake {
     ShareOfTheLowerEnd,
     EndsAsWritten,
     CornersAsWritten,
+    SharesByOwnNumber,
     HigherEdgeFirst,
     TouchingPiecesTakePart,
     TouchIsAHit,
@@ -37,9 +38,9 @@ pub enum Mistake {
 
 use Mistake::*;
 
-pub const ALL: [Mistake; 26] = [
+pub const ALL: [Mistake; 27] = [
     NearestInPlaceOfCut, SmallestExactTime, TieToTheLaterPiece, LowestPieceWhateverItsTime, StartWeightsOnly, EndWeightsOnly,
-    ShareOfTheLowerEnd, EndsAsWritten, CornersAsWritten, HigherEdgeFirst, TouchingPiecesTakePart, TouchIsAHit, FloatsThroughout,
+    ShareOfTheLowerEnd, EndsAsWritten, CornersAsWritten, SharesByOwnNumber, HigherEdgeFirst, TouchingPiecesTakePart, TouchIsAHit, FloatsThroughout,
     WeightWrapsAt64Bits, LastShareIsTheRest, OneIsOneLess, TimeFromTheEnd, PiecesFromOne, LineForEveryListedPair,
     TotalWithoutMisses, NoSixteen, SixteenAtTheOldLimit, SixteenForPositiveOnly, SixteenAfterSeven, SixteenInPlaceOfTwo,
     SixteenWithALine,
@@ -110,13 +111,20 @@ fn taking_part(mistake: Mistake, scene: &Scene, pair: Pair) -> Vec<Solved> {
 }
 
 fn wrong_shares(mistake: Mistake, scene: &Scene, pair: Pair, solved: &Solved) -> Vec<Fraction> {
-    let [first, second] = [0, 1].map(|simplex| vertices(&solved.corners[simplex]));
+    let [mut first, mut second] = [0, 1].map(|simplex| vertices(&solved.corners[simplex]));
+    if mistake == SharesByOwnNumber {
+        // not by the number of the vertex stood for, which is how a piece names them
+        first.sort();
+        second.sort();
+    }
     let edges = pair.kind == Kind::EdgeEdge;
     let (low, high) = (pair.first.min(pair.second), pair.first.max(pair.second));
     match mistake {
         ShareOfTheLowerEnd if edges => vec![solved.share(0, first[0]), solved.share(1, second[0])],
         EndsAsWritten if edges => vec![solved.share(0, scene.edges[low][1]), solved.share(1, scene.edges[high][1])],
         HigherEdgeFirst if edges => vec![solved.share(1, second[1]), solved.share(0, first[1])],
+        SharesByOwnNumber if edges => vec![solved.share(0, first[1]), solved.share(1, second[1])],
+        SharesByOwnNumber => second.iter().map(|&corner| solved.share(1, corner)).collect(),
         CornersAsWritten if !edges => scene.triangles[pair.second].map(|corner| solved.share(1, corner)).to_vec(),
         StartWeightsOnly | EndWeightsOnly => {
             let at_end = mistake == EndWeightsOnly;

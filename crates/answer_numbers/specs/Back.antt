@@ -13,6 +13,7 @@ use Rattle.meaning.specs.List.{listSays}
 use Rattle.meaning.specs.Resting.{settledSays}
 use Rattle.meaning.specs.SceneWords.{byteOf}
 use Rattle.meaning.specs.Text.{textSays}
+use Rattle.meaning.specs.Meetings.{wordOf, rowLeft, meetingSays}
 use Rattle.meaning.specs.declared.SceneCounts.{SceneCounts}
 use Rattle.meaning.specs.declared.Verdict.{Verdict}
 use Rattle.meaning.specs.declared.Verdict.the-variants.{Hit, Miss, Degenerate}
@@ -24,6 +25,11 @@ use Rattle.meaning.specs.declared.PairAnswer as PairAnswers
 use Rattle.meaning.specs.declared.PairAnswer.{PairAnswer}
 use Rattle.meaning.specs.declared.SettledAnswer as SettledAnswers
 use Rattle.meaning.specs.declared.SettledAnswer.{SettledAnswer}
+use Rattle.meaning.specs.declared.Moment.{Moment}
+use Rattle.meaning.specs.declared.Meeting as Meetings
+use Rattle.meaning.specs.declared.Meeting.{Meeting}
+use Rattle.meaning.specs.declared.MeetingAnswer as MeetingAnswers
+use Rattle.meaning.specs.declared.MeetingAnswer.{MeetingAnswer}
 use Rattle.meaning.specs.declared.ListAnswer as ListAnswers
 use Rattle.meaning.specs.declared.ListAnswer.{ListAnswer}
 use Rattle.meaning.specs.declared.TextAnswer as TextAnswers
@@ -34,6 +40,7 @@ use Rattle.listing.specs.Once.{list-says-one}
 use Rattle.demands.specs.OneAnswer.{settled-says-one}
 use Rattle.scene_text.specs.Using.{text-says-one}
 use Rattle.answer_numbers.specs.Numbers.{upper, numberFor, verdictNumber, sceneNumber, pairNumber, settledNumber, listNumber, textNumber, countsLeft}
+use Rattle.answer_numbers.specs.Contacts.{wordNumber, meetingNumber, rowAfter}
 use Rattle.answer_numbers.specs.Small.{toldIn, lineIn, number-in-table}
 
 -- what is heard in a number, where a value is known by its own number
@@ -135,6 +142,34 @@ text-heard a l h = heard-number (λ c. 0) (countsIn (countsLeft a l)) (textSays 
     clear : (a : TextAnswer) → lineIn (textSays a) < upper → Clear (λ c. 0) (countsIn (countsLeft a l)) (textSays a)
     clear (TextAnswers.the-variants.Read c) h = (omega arith, refl)
     clear (TextAnswers.the-variants.Refused x line) h = (number-in-table x .some, h)
+
+-- a contact: the word by its number, and a hit's numbers in the lent array
+abbrev pub momentIn : List ℕ → Moment
+momentIn l = record { piece = getD l 0 0; k = getD l 1 0; first = getD l 2 0; second = getD l 3 0; third = getD l 4 0 }
+
+unfoldable pub metBy : Settled → List ℕ → Meeting
+metBy Settleds.the-variants.Hit l = Meetings.the-variants.Hit (momentIn l)
+metBy Settleds.the-variants.Miss l = Meetings.the-variants.Miss
+metBy Settleds.the-variants.Touch l = Meetings.the-variants.Touch
+metBy Settleds.the-variants.Apart l = Meetings.the-variants.Apart
+
+unfoldable pub meetingIn : List ℕ → ℕ → Meeting
+meetingIn l n = metBy (wordOfByte n) l
+
+pub meeting-back : (m : Meeting) (l : List ℕ) → meetingIn (rowLeft m l) (wordNumber m) ≡ m
+unfolding meetingIn metBy wordOfByte byteOf wordOf rowLeft
+meeting-back (Meetings.the-variants.Hit m) l = refl
+meeting-back Meetings.the-variants.Miss l = refl
+meeting-back Meetings.the-variants.Touch l = refl
+meeting-back Meetings.the-variants.Apart l = refl
+
+pub contact-heard : (a : MeetingAnswer) (l : List ℕ) → heard (meetingIn (rowAfter (meetingSays a) l)) (meetingNumber a) ≡ meetingSays a
+unfolding meetingNumber Clear meetingSays rowAfter
+contact-heard a l = heard-number wordNumber (meetingIn (rowAfter (meetingSays a) l)) (meetingSays a) (clear a)
+  where
+    clear : (a : MeetingAnswer) → Clear wordNumber (meetingIn (rowAfter (meetingSays a) l)) (meetingSays a)
+    clear (MeetingAnswers.the-variants.Found m) = (omega (arith, byte-small (wordOf m)), meeting-back m l)
+    clear (MeetingAnswers.the-variants.Refused x) = (number-in-table x .some, omega arith)
 
 -- ---- so a number is one answer's
 

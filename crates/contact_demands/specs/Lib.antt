@@ -4,3 +4,5 @@ pub mod Demand3
 pub mod Numbers
 pub mod OneContact
 pub mod Demand1
+pub mod OnePrinted
+pub mod AnyWriting

@@ -426,7 +426,7 @@ line-long (anyEnds e) = any-line 101 e
 line-long (anyCorners e) = any-line 116 e
 line-long (sameSeam i j) = refl
 
-differ-long : {t t′ : List ℕ} → DifferInOrder t t′ → length t ≡ length t′
+pub differ-long : {t t′ : List ℕ} → DifferInOrder t t′ → length t ≡ length t′
 differ-long (rest l n) = refl
 differ-long (line l n {t} {t′} d) = omega (arith, length-append l (lineFeed ∷ t), length-append l (lineFeed ∷ t′), differ-long d)
 differ-long (entry {r} {r′} s {t} {t′} d) = omega (arith, length-append (lineOf r) t, length-append (lineOf r′) t′, line-long s, differ-long d)

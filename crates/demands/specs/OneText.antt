@@ -22,18 +22,18 @@ one-reading text lent left left′ r r′ p q = one-text-answer p q
 
 -- ---- the report
 
-same-scene : {text : List ℕ} {s t : Scene} → Holds text s → Holds text t → s ≡ t
+pub same-scene : {text : List ℕ} {s t : Scene} → Holds text s → Holds text t → s ≡ t
 unfolding TextIs
 same-scene {text} {s} {t} h k = let e = text-unique text (given s) (given t) h k in cc
 
-held-or-faulty : {text : List ℕ} {s : Scene} {n line : ℕ} → Holds text s → FaultyAt text n line → ⊥
+pub held-or-faulty : {text : List ℕ} {s : Scene} {n line : ℕ} → Holds text s → FaultyAt text n line → ⊥
 unfolding TextIs
 held-or-faulty {text} {s} {n} {line} h f =
     let e = text-unique text (given s) (refused n line) h f in
     let z : _≡_ {A = ℕ} 0 1 = cc in
     omega arith
 
-faulty-one : {text : List ℕ} {n line m place : ℕ} → FaultyAt text n line → FaultyAt text m place → refusedLine n line ≡ refusedLine m place
+pub faulty-one : {text : List ℕ} {n line m place : ℕ} → FaultyAt text n line → FaultyAt text m place → refusedLine n line ≡ refusedLine m place
 unfolding TextIs
 faulty-one {text} {n} {line} {m} {place} f g =
     let e = text-unique text (refused n line) (refused m place) f g in
@@ -48,7 +48,7 @@ judged-one {s} {t} vs ws e h k =
     let f : vs ≡ ws = all-judged-one t (pairs t) vs ws h′ k in
     λ i. pairLines (pairs (e i)) (f i) ++ totalLine (f i)
 
-many-or-few : {s t : Scene} {n : ℕ} → s ≡ t → n < length (pairs s) → length (pairs t) ≤ n → ⊥
+pub many-or-few : {s t : Scene} {n : ℕ} → s ≡ t → n < length (pairs s) → length (pairs t) ≤ n → ⊥
 many-or-few {s} {t} {n} e h k = let d : length (pairs s) ≡ length (pairs t) = ap (λ (u : Scene). length (pairs u)) e in omega arith
 
 pub one-report : {text r r′ : List ℕ} → ReportOf text r → ReportOf text r′ → r ≡ r′

@@ -1,16 +1,17 @@
 -- Each promise determines the number and every lent buffer, refused calls too; and what a caller hears in the number is right.
-use Prim.Native.Nat.{ℕ, min}
+use Prim.Native.Nat.{ℕ, _<_, min}
 use mathlib.Core.List.{List, [], _∷_, map}
 use mathlib.Core.Path.{_≡_, refl, sym, ap, _∙_}
 use native.Mathlib.Omega.{arith}
-use lib.ListN.{length}
+use lib.ListN.{length, getD}
 use Rattle.meaning.specs.Scene.{Scene}
 use Rattle.meaning.specs.Pieces.{pieceOf}
 use Rattle.meaning.specs.Verdicts.{PieceIs, PairIs}
 use Rattle.meaning.specs.Refusals.{given, refused, Answers, sceneChecks, pairChecks, pieceChecks, SceneChecked, PairJudged, PieceJudged}
 use Rattle.meaning.specs.Resting.{PieceSettled, PairSettled, PairDecided, PieceDecided}
 use Rattle.meaning.specs.Backwards.{sceneLeft, Turning}
-use Rattle.meaning.specs.List.{pairs, entries, roomOf, listChecks, leaves, Counted, Listing}
+use Rattle.sequences.specs.Wrote.{written}
+use Rattle.meaning.specs.List.{pairs, entries, roomOf, listSays, listChecks, leaves, Counted, Listing}
 use Rattle.meaning.specs.Runs.{testsLeft, Tested}
 use Rattle.meaning.specs.SceneWords.{byteOf, SettledScene}
 use Rattle.meaning.specs.Text.{textSays}
@@ -23,13 +24,15 @@ use Rattle.demands.specs.OneAnswer.{one-scene, one-turning, one-pair, one-piece
 use Rattle.demands.specs.OneText.{one-reading}
 use Rattle.demands.specs.TextTable.{TextRows, demand1-text}
 use Rattle.demands.specs.Unchanged.{reading-unchanged, SceneInFront, reading-holds}
-use Rattle.meaning.specs.Meetings.{meetingSays, MetScene}
+use Rattle.meaning.specs.Meetings.{MeetingIs, contactChecks, meetingSays, metChecks, metRoom, rowsLeft, rowsAfter, MetScene}
+use Rattle.meaning.specs.declared.Meeting.the-variants.{Miss}
 use Rattle.meaning.specs.declared.MeetingAnswer.{MeetingAnswer}
-use Rattle.contact_demands.specs.OneContact.{one-meeting-answer, one-met-scene}
-use Rattle.answer_numbers.specs.Contacts.{meetingNumber, rowAfter, ContactInto}
+use Rattle.contact_demands.specs.OneContact.{meeting-says-one, one-meeting-answer, one-met-scene}
+use Rattle.answer_numbers.specs.Contacts.{wordNumber, meetingNumber, rowAfter, ContactInto}
 use Rattle.answer_numbers.specs.Numbers.{sceneNumber, pairNumber, settledNumber, listNumber, textNumber, countsLeft, ReadInto, Told}
-use Rattle.answer_numbers.specs.Small.{counted-small, listing-small, judging-small, line-small}
-use Rattle.answer_numbers.specs.Back.{heard, noMore, count, countsIn, verdictNumbered, scene-heard, pair-heard, settled-heard, list-heard, text-heard}
+use Rattle.answer_numbers.specs.Small.{counted-small, listing-small, judging-small, met-small, line-small}
+use Rattle.answer_numbers.specs.Back.{heard, noMore, count, countsIn, verdictNumbered, meetingIn, scene-heard, pair-heard, settled-heard, list-heard, text-heard, contact-heard}
+use Rattle.answer_numbers.specs.RowsBack.{meetingAt, rows-heard, meetings-many, rows-fit}
 
 -- one right answer, one number
 one-number : {A : Type 0} {number : A → ℕ} {R S : A → Type 0} {r r′ : ℕ} (p : Told number R r) (q : Told number S r′) → p .answer ≡ q .answer → r ≡ r′
@@ -134,6 +137,39 @@ pub judging-told-heard : (s : Scene) (o o′ b b′ : List ℕ) (r : ℕ) → (p
     × (b′ ≡ leaves (heard count r) (map byteOf (p .right .words)) b)
 judging-told-heard s o o′ b b′ r p =
     rw (p .is, list-heard (p .answer) (judging-small (p .right))) (p .right .answer, p .right .list, p .right .bytes)
+
+-- of a contact the number and the lent array together: the word, and a hit's numbers
+pub contact-told-heard : (s : Scene) (kind : Kind) (i j : ℕ) (o o′ : List ℕ) (r : ℕ) → Told meetingNumber (ContactInto s kind i j o o′) r
+    → Answers (contactChecks s kind i j) (MeetingIs s kind i j) (heard (meetingIn o′) r)
+    × (o′ ≡ rowAfter (heard (meetingIn o′) r) o)
+contact-told-heard s kind i j o o′ r p =
+    let says : heard (meetingIn o′) r ≡ meetingSays (p .answer) = rw (p .is, p .right .row) (contact-heard (p .answer) o) in
+    (rw says (p .right .found), rw says (p .right .row))
+
+-- so they determine the answer
+pub one-contact-number : (a b : MeetingAnswer) (o : List ℕ) → meetingNumber a ≡ meetingNumber b → rowAfter (meetingSays a) o ≡ rowAfter (meetingSays b) o → a ≡ b
+one-contact-number a b o e f =
+    meeting-says-one a b (sym (contact-heard a o) ∙ (λ i. heard (meetingIn (f i)) (e i)) ∙ contact-heard b o)
+
+-- of a whole scene the number, and the three lent buffers
+pub met-told-heard : (s : Scene) (o o′ b b′ c c′ : List ℕ) (r : ℕ) → (p : Told listNumber (MetScene s o o′ b b′ c c′) r)
+    → Answers (metChecks s (metRoom o b c)) (λ n. n ≡ length (pairs s)) (heard count r)
+    × (o′ ≡ leaves (heard count r) (entries (pairs s)) o)
+    × (b′ ≡ leaves (heard count r) (map wordNumber (p .right .meetings)) b)
+    × (c′ ≡ rowsAfter (heard count r) (p .right .meetings) c)
+met-told-heard s o o′ b b′ c c′ r p =
+    rw (p .is, list-heard (p .answer) (met-small (p .right))) (p .right .answer, p .right .list, p .right .bytes, p .right .rows)
+
+-- after success the byte and the row of each listed pair tell what it met
+pub met-rows-heard : (s : Scene) (o o′ b b′ c c′ : List ℕ) (r n : ℕ) → (p : Told listNumber (MetScene s o o′ b b′ c c′) r) → heard count r ≡ given n
+    → (k : ℕ) → k < length (pairs s) → meetingAt b′ c′ k ≡ getD (p .right .meetings) k Miss
+unfolding leaves rowsAfter
+met-rows-heard s o o′ b b′ c c′ r n p e k below =
+    let ms = p .right .meetings in
+    let says : listSays (p .answer) ≡ given n = sym (list-heard (p .answer) (met-small (p .right))) ∙ ap (heard count) (sym (p .is)) ∙ e in
+    let bytes : b′ ≡ written (map wordNumber ms) b = rw says at (p .right .bytes) in
+    let rows : c′ ≡ rowsLeft ms c = rw says at (p .right .rows) in
+    (λ t. meetingAt (bytes t) (rows t) k) ∙ rows-heard ms b c (rows-fit (p .right) says) k (rw (meetings-many (p .right)) below)
 
 -- ---- and of a text too what the lent buffers then hold
 

@@ -27,7 +27,7 @@ use rows::settled_of;
 use scene_words::byte_of;
 
 // The contact of the k-th entry of the list.
-fn entry_meeting(
+pub fn entry_meeting(
     positions: &[i32],
     edges: &[u16],
     triangles: &[u16],

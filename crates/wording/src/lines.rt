@@ -14,7 +14,7 @@ use crate::words::put_word;
 use meaning::Kind;
 use meaning::Settled;
 
-fn put_kind(out: &mut [u8], at: usize, kind: Kind) -> usize
+pub fn put_kind(out: &mut [u8], at: usize, kind: Kind) -> usize
     requires { ⌜ at + 2 ≤ length (now out) ⌝ }
     ensures { λ r. ⌜ Wrote (now (out .entry)) at (kindWord kind) (now (out .exit)) r ⌝ }
 {

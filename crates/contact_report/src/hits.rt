@@ -1,0 +1,85 @@
+// The part of the output that has pairs in it: each listed pair is met, and a hit has its line.
+
+ghost use Prim.Native.Nat.{_+_, _*_, _≤_, _<_};
+ghost use mathlib.Core.Path.{_≡_};
+ghost use mathlib.Core.List.{_++_};
+ghost use lib.ListN.{length};
+ghost use Rattle.sequences.specs.Wrote.{Wrote};
+ghost use Rattle.meaning.specs.Limits.{contactLimit, reportRoom};
+ghost use Rattle.meaning.specs.Scene.{AcceptedWithin};
+ghost use Rattle.meaning.specs.List.{pairs};
+ghost use Rattle.meaning.specs.ContactLines.{contactLine, contactLines, contactTotal};
+ghost use Rattle.entries.specs.Entries.{pairOf};
+ghost use Rattle.scenes.specs.Alone.{tabledIn, tabledAtEntry};
+ghost use Rattle.scene_words.specs.Listed.{ListStands};
+ghost use Rattle.scene_contacts.specs.Listed.{meetingsOf};
+ghost use Rattle.contact_report.specs.Sizes.{contactsLength};
+ghost use Rattle.contact_report.specs.Lines.{oneHit, hitsOf};
+use meaning::Meeting;
+use wording::contact_lines::contact_line;
+use wording::contact_lines::contact_total;
+
+// How far the lines have come, and how many they are: a line for each hit.
+pub struct Lines {
+    pub next: usize,
+    pub hits: u64,
+}
+
+// One listed pair more. A pair that is not hit has no line.
+fn tell_pair(entry: u32, meeting: Meeting, out: &mut [u8], lines: Lines) -> Lines
+    requires { ⌜ (lines .next + 150 ≤ length (now out)) × (lines .hits < reportRoom) ⌝ }
+    ensures { λ r. ⌜ Wrote (now (out .entry)) (lines .next) (contactLine (pairOf entry) meeting) (now (out .exit)) (r .next) × (r .hits ≡ lines .hits + oneHit meeting) ⌝ }
+{
+    let at = lines.next;
+    if let Meeting::Hit(moment) = meeting {
+        let kind = entries::kind_of(entry);
+        let first = entries::first_of(entry);
+        let second = entries::second_of(entry);
+        let next = contact_line(out, at, kind, first as u64, second as u64, moment);
+        return Lines {
+            next: next,
+            hits: lines.hits + 1,
+        };
+    }
+    lines
+}
+
+// The lines of the listed pairs, in order.
+fn hit_lines(
+    positions: &[i32],
+    edges: &[u16],
+    triangles: &[u16],
+    stands: &[u16],
+    list: &[u32],
+    count: usize,
+    out: &mut [u8],
+) -> Lines
+    requires { ⌜ AcceptedWithin contactLimit (tabledIn positions edges triangles stands) × ListStands (tabledIn positions edges triangles stands) (now list) × (count ≡ length (pairs (tabledIn positions edges triangles stands))) × (count ≤ reportRoom) × (length (now out) ≡ contactsLength) ⌝ }
+    ensures { λ r. ⌜ Wrote (now (out .entry)) 0 (contactLines (pairs (tabledAtEntry positions edges triangles stands)) (meetingsOf (tabledAtEntry positions edges triangles stands) (pairs (tabledAtEntry positions edges triangles stands)))) (now (out .exit)) (r .next) × (r .next ≤ 47 * reportRoom) × (r .hits ≡ hitsOf (meetingsOf (tabledAtEntry positions edges triangles stands) (pairs (tabledAtEntry positions edges triangles stands)))) ⌝ }
+{
+    let mut lines = Lines { next: 0, hits: 0 };
+    let mut k = 0;
+    while k < count {
+        let meeting = scene_contacts::entry_meeting(positions, edges, triangles, stands, list, k);
+        lines = tell_pair(list[k], meeting, out, lines);
+        k += 1;
+    }
+    lines
+}
+
+// The lines, then the totals.
+pub fn hits_report(
+    positions: &[i32],
+    edges: &[u16],
+    triangles: &[u16],
+    stands: &[u16],
+    list: &[u32],
+    count: usize,
+    out: &mut [u8],
+) -> usize
+    requires { ⌜ AcceptedWithin contactLimit (tabledIn positions edges triangles stands) × ListStands (tabledIn positions edges triangles stands) (now list) × (count ≡ length (pairs (tabledIn positions edges triangles stands))) × (count ≤ reportRoom) × (length (now out) ≡ contactsLength) ⌝ }
+    ensures { λ r. ⌜ Wrote (now (out .entry)) 0 (contactLines (pairs (tabledAtEntry positions edges triangles stands)) (meetingsOf (tabledAtEntry positions edges triangles stands) (pairs (tabledAtEntry positions edges triangles stands))) ++ contactTotal (meetingsOf (tabledAtEntry positions edges triangles stands) (pairs (tabledAtEntry positions edges triangles stands)))) (now (out .exit)) r ⌝ }
+{
+    let lines = hit_lines(positions, edges, triangles, stands, list, count, out);
+    contact_total(out, lines.next, count as u64, lines.hits)
+}

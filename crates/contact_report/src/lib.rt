@@ -1,0 +1,126 @@
+// The contacts of a scene as bytes: a line for each listed pair that is hit, then the totals; or the one line of a refusal.
+
+mod hits; // hits.rt: the lines of a list and its totals
+
+ghost use Prim.Native.Nat.{_<_};
+ghost use mathlib.Core.Path.{_≡_};
+ghost use lib.ListN.{length};
+ghost use Rattle.meaning.specs.Limits.{contactLimit, textLimit};
+ghost use Rattle.meaning.specs.Scene.{sceneIn, sceneAtEntry, Accepted, AcceptedWithin};
+ghost use Rattle.meaning.specs.ContactLines.{ContactsReported, ContactsRead};
+ghost use Rattle.scenes.specs.Alone.{tabledIn, tabledAtEntry};
+ghost use Rattle.contact_report.specs.Sizes.{contactsLength};
+ghost use Rattle.contact_report.specs.Whole.{SceneTold};
+use hits::hits_report;
+use meaning::CONTACTS_BYTES;
+use meaning::EDGE_NUMBERS;
+use meaning::ListAnswer;
+use meaning::POSITION_NUMBERS;
+use meaning::REPORT_ROOM;
+use meaning::SEAM_NUMBERS;
+use meaning::TRIANGLE_NUMBERS;
+use meaning::TextAnswer;
+use meaning::VERTEX_LIMIT;
+use scenes::table::sew_all;
+use summary::READ_BYTES;
+use wording::lines::refused_line;
+use wording::number_of;
+
+// The contacts of a scene that is accepted and within the old range, its seams in the table: 7 is found before anything is written.
+fn near_contacts(
+    positions: &[i32],
+    edges: &[u16],
+    triangles: &[u16],
+    stands: &[u16],
+    out: &mut [u8],
+) -> usize
+    requires { ⌜ AcceptedWithin contactLimit (tabledIn positions edges triangles stands) × (length (now out) ≡ contactsLength) ⌝ }
+    ensures { λ r. ⌜ SceneTold (tabledAtEntry positions edges triangles stands) (now (out .entry)) (now (out .exit)) r ⌝ }
+{
+    let mut list = [0u32; REPORT_ROOM];
+    let mut tests = [0usize; 1];
+    match listing::accepted::list_accepted(
+        positions,
+        edges,
+        triangles,
+        stands,
+        &mut list,
+        REPORT_ROOM,
+        &mut tests,
+    ) {
+        ListAnswer::Listed(made) => hits_report(
+            positions,
+            edges,
+            triangles,
+            stands,
+            &list,
+            made.count,
+            out,
+        ),
+        ListAnswer::Refused(_, needed) => refused_line(out, 0, 7, needed as u64),
+    }
+}
+
+// The contacts of a scene that is accepted: 16 before 7.
+fn scene_lines(
+    positions: &[i32],
+    edges: &[u16],
+    triangles: &[u16],
+    seams: &[u16],
+    out: &mut [u8],
+) -> usize
+    requires { ⌜ Accepted (sceneIn positions edges triangles seams) × (length (now out) ≡ contactsLength) ⌝ }
+    ensures { λ r. ⌜ SceneTold (sceneAtEntry positions edges triangles seams) (now (out .entry)) (now (out .exit)) r ⌝ }
+{
+    if meetings::beyond_old_range(positions) {
+        return refused_line(out, 0, 16, 0);
+    }
+    let mut stands = [0u16; VERTEX_LIMIT];
+    sew_all(positions, seams, &mut stands);
+    near_contacts(positions, edges, triangles, &stands, out)
+}
+
+// The contacts of a text.
+pub fn write_contacts(text: &[u8], out: &mut [u8; CONTACTS_BYTES]) -> usize
+    ensures { λ r. ⌜ ContactsReported (now (text .entry)) (now (out .entry)) (now (out .exit)) r ⌝ }
+{
+    let mut positions = [0i32; POSITION_NUMBERS];
+    let mut edges = [0u16; EDGE_NUMBERS];
+    let mut triangles = [0u16; TRIANGLE_NUMBERS];
+    let mut seams = [0u16; SEAM_NUMBERS];
+    match scene_text::read_scene(text, &mut positions, &mut edges, &mut triangles, &mut seams) {
+        TextAnswer::Read(counts) => {
+            let p = 6 * counts.vertices;
+            let e = 2 * counts.edges;
+            let t = 3 * counts.triangles;
+            let w = 2 * counts.seams;
+            scene_lines(
+                &positions[..p],
+                &edges[..e],
+                &triangles[..t],
+                &seams[..w],
+                out,
+            )
+        }
+        TextAnswer::Refused(refusal, line) => refused_line(out, 0, number_of(refusal), line as u64),
+    }
+}
+
+// The contacts of what was read of a text into a buffer that is longer than a text may be. Where it fills the buffer, the text is too long
+// however it goes on; else it is the text.
+fn front_contacts(read: &[u8], count: usize, out: &mut [u8; CONTACTS_BYTES]) -> usize
+    requires { ⌜ textLimit < length (now read) ⌝ }
+    ensures { λ r. ⌜ ContactsRead (now (read .entry)) count (now (out .entry)) (now (out .exit)) r ⌝ }
+{
+    if count < read.len() {
+        return write_contacts(&read[..count], out);
+    }
+    refused_line(out, 0, 8, 0)
+}
+
+// The contacts of what a program read: the first `count` bytes of its buffer.
+pub fn contacts_read(read: &[u8; READ_BYTES], count: usize, out: &mut [u8; CONTACTS_BYTES]) -> usize
+    ensures { λ r. ⌜ ContactsRead (now (read .entry)) count (now (out .entry)) (now (out .exit)) r ⌝ }
+{
+    front_contacts(read, count, out)
+}
