@@ -14,7 +14,7 @@ use Rattle.meaning.specs.List.{Pair, listSays, leaves}
 use Rattle.meaning.specs.Meetings.{rangeCheck, rowLength, rowsLeft, rowsAfter}
 use Rattle.meaning.specs.declared.Made.{Made}
 use Rattle.meaning.specs.declared.Refusal.{Refusal}
-use Rattle.meaning.specs.declared.Refusal.the-variants.{NoRoom, BeyondOldRange}
+use Rattle.meaning.specs.declared.Refusal.the-variants.{Shape, NoRoom, BeyondOldRange}
 use Rattle.meaning.specs.declared.SceneAnswer as SceneAnswers
 use Rattle.meaning.specs.declared.SceneAnswer.{SceneAnswer}
 use Rattle.meaning.specs.declared.ListAnswer as ListAnswers
@@ -25,7 +25,7 @@ use Rattle.scenes.specs.Alone.{tabled}
 use Rattle.scenes.specs.Checking.{Stitched, from-table}
 use Rattle.scene_words.specs.Listed.{pairsIn}
 use Rattle.scene_contacts.specs.Listed.{meetingsOf, metBytes, all-met}
-use Rattle.own_words.specs.OwnList.{askedFor, entryFaults, wordRoom, OwnMet}
+use Rattle.own_words.specs.OwnList.{askedFor, entryFaults, wordRoom, ownLimit, OwnMet}
 use Rattle.own_words.specs.Faults.{FaultFound}
 
 abbrev IsLength : List ℕ → ℕ → Type 0
@@ -47,23 +47,34 @@ pub record AskedMet (s : Scene) (es b b′ c c′ : List ℕ) (r : ListAnswer) :
   pub bytes : b′ ≡ leaves (listSays r) (metBytes s (map askedFor es)) b
   pub rows : c′ ≡ rowsAfter (listSays r) (meetingsOf s (map askedFor es)) c
 
+-- a list that is too long
+pub own-met-long : (s : Scene) (es b c : List ℕ) → ownLimit < length es → OwnMet s es b b c c (ListAnswers.the-variants.Refused Shape 0)
+unfolding listSays leaves rowsAfter numberOf
+own-met-long s es b c h = record {
+  answer = refuses _ _ _ _ (lt-ltb _ _ h) refl;
+  meetings = meetingsOf s (map askedFor es);
+  right = all-met s (map askedFor es);
+  bytes = refl;
+  rows = refl;
+}
+
 module _ (s : Scene) (es b c : List ℕ) where
   -- ---- the scene
 
-  pub own-met-refused : {checked : SceneAnswer} (x : Refusal) → SceneChecked s checked → checked ≡ SceneAnswers.the-variants.Refused x
+  pub own-met-refused : length es ≤ ownLimit → {checked : SceneAnswer} (x : Refusal) → SceneChecked s checked → checked ≡ SceneAnswers.the-variants.Refused x
       → OwnMet s es b b c c (ListAnswers.the-variants.Refused x 0)
   unfolding listSays leaves rowsAfter
-  own-met-refused x p e = record {
-    answer = after-refused s (entryFaults s es ++ lastChecks s es b c) (IsLength es) e p;
+  own-met-refused few x p e = record {
+    answer = lets-pass _ _ _ _ (le-ltb _ _ few) (after-refused s (entryFaults s es ++ lastChecks s es b c) (IsLength es) e p);
     meetings = meetingsOf s (map askedFor es);
     right = all-met s (map askedFor es);
     bytes = refl;
     rows = refl;
   }
 
-  pub own-met-accepted : {b′ c′ : List ℕ} {r : ListAnswer} → Accepted s → AskedMet s es b b′ c c′ r → OwnMet s es b b′ c c′ r
-  own-met-accepted {r = r} a j = record {
-    answer = after-accepted s (entryFaults s es ++ lastChecks s es b c) (IsLength es) (listSays r) a (j .answer);
+  pub own-met-accepted : length es ≤ ownLimit → {b′ c′ : List ℕ} {r : ListAnswer} → Accepted s → AskedMet s es b b′ c c′ r → OwnMet s es b b′ c c′ r
+  own-met-accepted few {r = r} a j = record {
+    answer = lets-pass _ _ _ _ (le-ltb _ _ few) (after-accepted s (entryFaults s es ++ lastChecks s es b c) (IsLength es) (listSays r) a (j .answer));
     meetings = meetingsOf s (map askedFor es);
     right = all-met s (map askedFor es);
     bytes = j .bytes;

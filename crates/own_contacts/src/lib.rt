@@ -1,12 +1,12 @@
 // A list of one's own with contacts: the word of each pair that a caller asks for by its entry, and the contact of each hit in its row.
 
-ghost use Prim.Native.Nat.{_*_, _≤_, min};
+ghost use Prim.Native.Nat.{_≤_, min};
 ghost use mathlib.Core.Path.{_≡_};
 ghost use lib.ListN.{length};
 ghost use Rattle.meaning.specs.Scene.{sceneAtEntry, Accepted};
 ghost use Rattle.scenes.specs.Alone.{tabledIn, tabledAtEntry};
 ghost use Rattle.scene_words.specs.Listed.{AllThere};
-ghost use Rattle.own_words.specs.OwnList.{OwnMet};
+ghost use Rattle.own_words.specs.OwnList.{ownLimit, OwnMet};
 ghost use Rattle.own_contacts.specs.Answering.{SoundMet, AskedMet};
 use meaning::ListAnswer;
 use meaning::Made;
@@ -14,6 +14,7 @@ use meaning::ROW_NUMBERS;
 use meaning::Refusal;
 use meaning::SceneAnswer;
 use meaning::VERTEX_LIMIT;
+use own_words::OWN_LIMIT;
 
 fn smaller(a: usize, b: usize) -> usize
     ensures { λ r. ⌜ r ≡ min a b ⌝ }
@@ -79,8 +80,8 @@ fn meet_asked(
     meet_sound(positions, edges, triangles, stands, list, words, contacts)
 }
 
-// For a scene that may be anything.
-pub fn meet_list(
+// For a scene that may be anything, and a list that is not too long.
+fn meet_few(
     positions: &[i32],
     edges: &[u16],
     triangles: &[u16],
@@ -89,6 +90,7 @@ pub fn meet_list(
     words: &mut [u8],
     contacts: &mut [u32],
 ) -> ListAnswer
+    requires { ⌜ length (now list) ≤ ownLimit ⌝ }
     ensures { λ r. ⌜ OwnMet (sceneAtEntry positions edges triangles seams) (now (list .entry)) (now (words .entry)) (now (words .exit)) (now (contacts .entry)) (now (contacts .exit)) r ⌝ }
 {
     let mut stands = [0u16; VERTEX_LIMIT];
@@ -102,4 +104,22 @@ pub fn meet_list(
         return ListAnswer::Refused(refusal, 0);
     }
     meet_asked(positions, edges, triangles, &stands, list, words, contacts)
+}
+
+// The words and contacts of the pairs that a list asks for.
+pub fn meet_list(
+    positions: &[i32],
+    edges: &[u16],
+    triangles: &[u16],
+    seams: &[u16],
+    list: &[u32],
+    words: &mut [u8],
+    contacts: &mut [u32],
+) -> ListAnswer
+    ensures { λ r. ⌜ OwnMet (sceneAtEntry positions edges triangles seams) (now (list .entry)) (now (words .entry)) (now (words .exit)) (now (contacts .entry)) (now (contacts .exit)) r ⌝ }
+{
+    if OWN_LIMIT < list.len() {
+        return ListAnswer::Refused(Refusal::Shape, 0);
+    }
+    meet_few(positions, edges, triangles, seams, list, words, contacts)
 }

@@ -13,7 +13,7 @@ use Rattle.meaning.specs.List.{Pair, listSays, leaves}
 use Rattle.meaning.specs.SceneWords.{byteOf, AllSettled}
 use Rattle.meaning.specs.declared.Made.{Made}
 use Rattle.meaning.specs.declared.Refusal.{Refusal}
-use Rattle.meaning.specs.declared.Refusal.the-variants.{NoRoom}
+use Rattle.meaning.specs.declared.Refusal.the-variants.{Shape, NoRoom}
 use Rattle.meaning.specs.declared.SceneAnswer as SceneAnswers
 use Rattle.meaning.specs.declared.SceneAnswer.{SceneAnswer}
 use Rattle.meaning.specs.declared.ListAnswer as ListAnswers
@@ -23,7 +23,7 @@ use Rattle.scenes.specs.Accepting.{after-accepted, after-refused}
 use Rattle.scenes.specs.Alone.{tabled}
 use Rattle.scenes.specs.Checking.{Stitched, from-table}
 use Rattle.scene_words.specs.Listed.{wordsOf, bytesOf, all-judged, pairsIn, AllThere}
-use Rattle.own_words.specs.OwnList.{askedFor, entryFaults, wordRoom, OwnSettled}
+use Rattle.own_words.specs.OwnList.{askedFor, entryFaults, wordRoom, ownLimit, OwnSettled}
 use Rattle.own_words.specs.Faults.{FaultFound}
 
 abbrev IsLength : List ℕ → ℕ → Type 0
@@ -34,20 +34,30 @@ pub record OwnJudged (s : Scene) (es b b′ : List ℕ) (r : ListAnswer) : Type 
   pub answer : Answers (entryFaults s es ++ (wordRoom es (length b) ∷ [])) (IsLength es) (listSays r)
   pub bytes : b′ ≡ leaves (listSays r) (bytesOf s (map askedFor es)) b
 
+-- a list that is too long
+pub own-long : (s : Scene) (es b : List ℕ) → ownLimit < length es → OwnSettled s es b b (ListAnswers.the-variants.Refused Shape 0)
+unfolding listSays leaves numberOf
+own-long s es b h = record {
+  answer = refuses _ _ _ _ (lt-ltb _ _ h) refl;
+  words = wordsOf s (map askedFor es);
+  right = all-judged s (map askedFor es);
+  bytes = refl;
+}
+
 module _ (s : Scene) (es b : List ℕ) where
-  pub own-refused : {checked : SceneAnswer} (x : Refusal) → SceneChecked s checked → checked ≡ SceneAnswers.the-variants.Refused x
+  pub own-refused : length es ≤ ownLimit → {checked : SceneAnswer} (x : Refusal) → SceneChecked s checked → checked ≡ SceneAnswers.the-variants.Refused x
       → OwnSettled s es b b (ListAnswers.the-variants.Refused x 0)
   unfolding listSays leaves
-  own-refused x p e = record {
-    answer = after-refused s (entryFaults s es ++ (wordRoom es (length b) ∷ [])) (IsLength es) e p;
+  own-refused few x p e = record {
+    answer = lets-pass _ _ _ _ (le-ltb _ _ few) (after-refused s (entryFaults s es ++ (wordRoom es (length b) ∷ [])) (IsLength es) e p);
     words = wordsOf s (map askedFor es);
     right = all-judged s (map askedFor es);
     bytes = refl;
   }
 
-  pub own-accepted : {b′ : List ℕ} {r : ListAnswer} → Accepted s → OwnJudged s es b b′ r → OwnSettled s es b b′ r
-  own-accepted {r = r} a j = record {
-    answer = after-accepted s (entryFaults s es ++ (wordRoom es (length b) ∷ [])) (IsLength es) (listSays r) a (j .answer);
+  pub own-accepted : length es ≤ ownLimit → {b′ : List ℕ} {r : ListAnswer} → Accepted s → OwnJudged s es b b′ r → OwnSettled s es b b′ r
+  own-accepted few {r = r} a j = record {
+    answer = lets-pass _ _ _ _ (le-ltb _ _ few) (after-accepted s (entryFaults s es ++ (wordRoom es (length b) ∷ [])) (IsLength es) (listSays r) a (j .answer));
     words = wordsOf s (map askedFor es);
     right = all-judged s (map askedFor es);
     bytes = j .bytes;

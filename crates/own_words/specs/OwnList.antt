@@ -44,14 +44,21 @@ faultyFrom s n (e ∷ es) = missingCheck s n e ∷ sharedCheck s n e ∷ faultyF
 abbrev pub entryFaults : Scene → List ℕ → List Check
 entryFaults s es = faultyFrom s 1 es
 
+-- 1: a count over its size. A list may have so many entries, so that an entry's number and a count needed are of 32 bits
+abbrev pub ownLimit : ℕ
+ownLimit = 4_294_967_295
+
+abbrev pub sizeCheck : List ℕ → Check
+sizeCheck es = record { number = 1; holds = ltb ownLimit (length es); carries = 0 }
+
 -- 7: more entries than room for their words; it carries the count needed
 abbrev pub wordRoom : List ℕ → ℕ → Check
 wordRoom es room = record { number = 7; holds = ltb room (length es); carries = length es }
 
--- the words of the entries es are written into a buffer that held b and holds b′. The scene's refusals come first, then those of an entry,
--- then 7
+-- the words of the entries es are written into a buffer that held b and holds b′. The list's size and the scene's
+-- refusals come first, then those of an entry, then 7
 pub record OwnSettled (s : Scene) (es b b′ : List ℕ) (r : ListAnswer) : Type 0 where
-  pub answer : Answers (sceneChecks s ++ (entryFaults s es ++ (wordRoom es (length b) ∷ []))) (λ n. n ≡ length es) (listSays r)
+  pub answer : Answers (sizeCheck es ∷ (sceneChecks s ++ (entryFaults s es ++ (wordRoom es (length b) ∷ [])))) (λ n. n ≡ length es) (listSays r)
   pub words : List Settled
   pub right : AllSettled s (map askedFor es) words
   pub bytes : b′ ≡ leaves (listSays r) (map byteOf words) b
@@ -60,7 +67,7 @@ pub record OwnSettled (s : Scene) (es b b′ : List ℕ) (r : ListAnswer) : Type
 -- smaller of the two
 pub record OwnMet (s : Scene) (es b b′ c c′ : List ℕ) (r : ListAnswer) : Type 0 where
   pub answer : Answers
-      (sceneChecks s ++ (entryFaults s es ++ (rangeCheck s ∷ wordRoom es (min (length b) (length c / rowLength)) ∷ [])))
+      (sizeCheck es ∷ (sceneChecks s ++ (entryFaults s es ++ (rangeCheck s ∷ wordRoom es (min (length b) (length c / rowLength)) ∷ []))))
       (λ n. n ≡ length es) (listSays r)
   pub meetings : List Meeting
   pub right : AllMet s (map askedFor es) meetings

@@ -3,10 +3,11 @@
 ghost use mathlib.Core.Bool.{false};
 ghost use mathlib.Core.List.{List};
 ghost use mathlib.Core.Path.{_≡_};
-ghost use Prim.Native.Nat.{ℕ};
+ghost use Prim.Native.Nat.{ℕ, _≤_};
+ghost use lib.ListN.{length};
 ghost use Rattle.meaning.specs.Scene.{sceneOf, sceneAtEntry, Accepted};
 ghost use Rattle.scenes.specs.Alone.{tabledIn, tabledAtEntry};
-ghost use Rattle.own_words.specs.OwnList.{entryMissing, entryShared, OwnSettled};
+ghost use Rattle.own_words.specs.OwnList.{entryMissing, entryShared, ownLimit, OwnSettled};
 ghost use Rattle.own_words.specs.Faults.{FaultFound};
 ghost use Rattle.own_words.specs.Answering.{OwnJudged};
 use meaning::ListAnswer;
@@ -17,6 +18,9 @@ use meaning::VERTEX_LIMIT;
 
 // 2^21: every pair's number is below it.
 const NO_NUMBER: u32 = 2097152;
+
+// 2^32 - 1: so many entries a list may have, so that an entry's number and a count needed cross to C in 32 bits.
+pub const OWN_LIMIT: usize = 4294967295;
 
 // 5 of an entry.
 fn entry_missing(positions: &[i32], edges: &[u16], triangles: &[u16], entry: u32) -> bool
@@ -105,8 +109,8 @@ fn settle_asked(
     }
 }
 
-// For a scene that may be anything.
-pub fn settle_list(
+// For a scene that may be anything, and a list that is not too long.
+fn settle_few(
     positions: &[i32],
     edges: &[u16],
     triangles: &[u16],
@@ -114,6 +118,7 @@ pub fn settle_list(
     list: &[u32],
     words: &mut [u8],
 ) -> ListAnswer
+    requires { ⌜ length (now list) ≤ ownLimit ⌝ }
     ensures { λ r. ⌜ OwnSettled (sceneAtEntry positions edges triangles seams) (now (list .entry)) (now (words .entry)) (now (words .exit)) r ⌝ }
 {
     let mut stands = [0u16; VERTEX_LIMIT];
@@ -127,4 +132,21 @@ pub fn settle_list(
         return ListAnswer::Refused(refusal, 0);
     }
     settle_asked(positions, edges, triangles, &stands, list, words)
+}
+
+// The words of the pairs that a list asks for.
+pub fn settle_list(
+    positions: &[i32],
+    edges: &[u16],
+    triangles: &[u16],
+    seams: &[u16],
+    list: &[u32],
+    words: &mut [u8],
+) -> ListAnswer
+    ensures { λ r. ⌜ OwnSettled (sceneAtEntry positions edges triangles seams) (now (list .entry)) (now (words .entry)) (now (words .exit)) r ⌝ }
+{
+    if OWN_LIMIT < list.len() {
+        return ListAnswer::Refused(Refusal::Shape, 0);
+    }
+    settle_few(positions, edges, triangles, seams, list, words)
 }
