@@ -95,18 +95,22 @@ at-each : (P : ℕ → Type 0) (e : ℕ) (es : List ℕ) → P e → ((k : ℕ) 
 at-each P e es h f zero b = h
 at-each P e es h f (suc k) b = f k (le-of-suc-le-suc b)
 
-each-passed : (R : ℕ → Type 0) (s : Scene) (n : ℕ) (es : List ℕ) (a : ℕ) → Answers (faultyFrom s n es) R (given a)
-    → R a × ((k : ℕ) → k < length es → entryMissing s (getD es k 0) ≡ false)
+-- an entry that is not at fault
+abbrev pub Sound : Scene → ℕ → Type 0
+Sound s e = (entryMissing s e ≡ false) × (entryShared s e ≡ false)
+
+pub each-passed : (R : ℕ → Type 0) (s : Scene) (n : ℕ) (es : List ℕ) (a : ℕ) → Answers (faultyFrom s n es) R (given a)
+    → R a × ((k : ℕ) → k < length es → Sound s (getD es k 0))
 unfolding Answers faultyFrom
 each-passed R s n [] a p = (p, λ k h. absurd (not-suc-le-zero h))
 each-passed R s n (e ∷ es) a p =
     let (missing, rest) = is-given R (missingCheck s n e) (sharedCheck s n e ∷ faultyFrom s (n + 1) es) a p in
     let (shared, more) = is-given R (sharedCheck s n e) (faultyFrom s (n + 1) es) a rest in
     let (right, all) = each-passed R s (n + 1) es a more in
-    (right, at-each (λ (x : ℕ). entryMissing s x ≡ false) e es missing all)
+    (right, at-each (Sound s) e es (missing, shared) all)
 
 module _ {s : Scene} {es : List ℕ} {r : ListAnswer} {m : Made} (f : FaultFound s es r) (e : r ≡ ListAnswers.the-variants.Listed m) where
-  passed : (m .count ≡ length es) × ((k : ℕ) → k < length es → entryMissing s (getD es k 0) ≡ false)
+  passed : (m .count ≡ length es) × ((k : ℕ) → k < length es → Sound s (getD es k 0))
   unfolding listSays
   passed = each-passed (λ n. n ≡ length es) s 1 es (m .count) (subst (FaultFound s es) e f .says)
 
@@ -114,4 +118,4 @@ module _ {s : Scene} {es : List ℕ} {r : ListAnswer} {m : Made} (f : FaultFound
   so-many = passed .0
 
   pub all-there : AllThere s (m .count) es
-  all-there k h = entry-is-there s (getD es k 0) (passed .1 k (rw (so-many) at h))
+  all-there k h = entry-is-there s (getD es k 0) (passed .1 k (rw so-many at h) .0)

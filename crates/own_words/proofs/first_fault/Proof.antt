@@ -66,10 +66,12 @@ loop-less : tie.Need-loop-less Inv-loop μ-loop
 loop-less c = omega arith
 
 loop-again : tie.Need-loop-again Inv-loop μ-loop
-loop-again c =
-    (omega arith, sound-more (c .before .before .before .before .before .before .loop-test .taken) (c .before .before .before .before .before .before .before .loop .inv .1)
-    (sym (c .before .before .before .before .entry-missing .ensures (seamsOf (c .before .before .before .before .before .before .before .before .before .before .before .before .args .stands .now))) ∙ c .before .before .before .if1 .left)
-    (sym (c .before .entry-shared .ensures) ∙ c .if2 .left))
+loop-again c = (
+  omega arith,
+  sound-more (c .before .before .before .before .before .before .loop-test .taken) (c .before .before .before .before .before .before .before .loop .inv .1)
+      (sym (c .before .before .before .before .entry-missing .ensures (seamsOf (c .before .before .before .before .before .before .before .before .before .before .before .before .args .stands .now))) ∙ c .before .before .before .if1 .left)
+      (sym (c .before .entry-shared .ensures) ∙ c .if2 .left),
+)
 
 returns-3 : tie.Need-returns-3 Inv-loop μ-loop
 returns-3 c = none-found (c .loop-test .left) (c .before .loop .inv .1)
