@@ -8,7 +8,7 @@ use Rattle.meaning.specs.Refusals.{Answers, sceneChecks}
 use Rattle.meaning.specs.List.{leaves}
 use Rattle.meaning.specs.SceneWords.{byteOf}
 use Rattle.meaning.specs.Meetings.{rangeCheck, rowLength, rowsAfter, wordOf}
-use Rattle.own_words.specs.OwnList.{entryFaults, wordRoom, sizeCheck, OwnSettled, OwnMet}
+use Rattle.meaning.specs.OwnList.{entryFaults, wordRoom, sizeCheck, OwnSettled, OwnMet}
 use Rattle.own_demands.specs.OneOwn.{one-own-settled, one-own-met}
 use Rattle.own_demands.specs.Small.{own-small, own-met-small}
 use Rattle.answer_numbers.specs.Numbers.{listNumber, Told}

@@ -1,7 +1,7 @@
 // A list of one's own for C and for Rust.
 
 ghost use Rattle.meaning.specs.Scene.{sceneAtEntry};
-ghost use Rattle.own_words.specs.OwnList.{OwnSettled, OwnMet};
+ghost use Rattle.meaning.specs.OwnList.{OwnSettled, OwnMet};
 ghost use Rattle.answer_numbers.specs.Numbers.{listNumber, Told};
 use answer_numbers::list_number;
 
@@ -33,13 +33,5 @@ pub extern "C" fn makhnodri_contact_list_slices(
 ) -> u64
     ensures { λ r. ⌜ Told listNumber (OwnMet (sceneAtEntry positions edges triangles seams) (now (list .entry)) (now (words .entry)) (now (words .exit)) (now (contacts .entry)) (now (contacts .exit))) r ⌝ }
 {
-    list_number(own_contacts::meet_list(
-        positions,
-        edges,
-        triangles,
-        seams,
-        list,
-        words,
-        contacts,
-    ))
+    list_number(own_contacts::meet_list(positions, edges, triangles, seams, list, words, contacts))
 }

@@ -25,7 +25,7 @@ use Rattle.scenes.specs.Alone.{tabled}
 use Rattle.scenes.specs.Checking.{Stitched, from-table}
 use Rattle.scene_words.specs.Listed.{pairsIn}
 use Rattle.scene_contacts.specs.Listed.{meetingsOf, metBytes, all-met}
-use Rattle.own_words.specs.OwnList.{askedFor, entryFaults, wordRoom, ownLimit, OwnMet}
+use Rattle.meaning.specs.OwnList.{askedFor, entryFaults, wordRoom, ownLimit, OwnMet}
 use Rattle.own_words.specs.Faults.{FaultFound}
 
 abbrev IsLength : List ℕ → ℕ → Type 0

@@ -6,7 +6,7 @@ ghost use lib.ListN.{length};
 ghost use Rattle.meaning.specs.Scene.{sceneAtEntry, Accepted};
 ghost use Rattle.scenes.specs.Alone.{tabledIn, tabledAtEntry};
 ghost use Rattle.scene_words.specs.Listed.{AllThere};
-ghost use Rattle.own_words.specs.OwnList.{ownLimit, OwnMet};
+ghost use Rattle.meaning.specs.OwnList.{ownLimit, OwnMet};
 ghost use Rattle.own_contacts.specs.Answering.{SoundMet, AskedMet};
 use meaning::ListAnswer;
 use meaning::Made;

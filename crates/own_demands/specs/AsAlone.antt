@@ -27,7 +27,7 @@ use Rattle.corner_search.specs.Decided.{pair-word-is}
 use Rattle.entries.specs.Entries.{Narrow, number-back}
 use Rattle.scene_words.specs.Listed.{noPair, wordOfPair, wordsOf, bytesOf, all-judged, bytes-at, bytes-length, wordOfByte, byte-back}
 use Rattle.demands.specs.OneAnswer.{all-judged-one}
-use Rattle.own_words.specs.OwnList.{askedFor, entryFaults, wordRoom, sizeCheck, OwnSettled}
+use Rattle.meaning.specs.OwnList.{askedFor, entryFaults, wordRoom, sizeCheck, OwnSettled}
 use Rattle.own_words.specs.Faults.{Sound, entry-is-there, each-passed}
 
 -- ---- an entry and its pair
@@ -82,7 +82,7 @@ module _ {s : Scene} {es b b′ : List ℕ} {r : ListAnswer} (p : OwnSettled s e
   own-sound =
       each-passed (λ m. m ≡ length es) s 1 es (length es)
       (front-given (λ m. m ≡ length es) (λ m. m ≡ length es) (entryFaults s es) (wordRoom es (length b) ∷ []) n (length es) refl (scene-given (λ m. m ≡ length es) s _ n answer-given .1))
-    .1
+      .1
 
   -- its byte is the word's of its pair
   pub own-byte : (k : ℕ) → k < length es → getD b′ k 0 ≡ byteOf (wordOfPair s (askedFor (getD es k 0)))

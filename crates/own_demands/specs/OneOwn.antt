@@ -14,7 +14,7 @@ use Rattle.scenes.specs.Answering.{one-answer}
 use Rattle.listing.specs.Once.{list-says-one}
 use Rattle.demands.specs.OneAnswer.{all-judged-one}
 use Rattle.scene_contacts.specs.Listed.{metByte, all-met-one}
-use Rattle.own_words.specs.OwnList.{askedFor, OwnSettled, OwnMet}
+use Rattle.meaning.specs.OwnList.{askedFor, OwnSettled, OwnMet}
 
 one-count : (es : List ℕ) (checks : List Check) (r r′ : ListAnswer)
     → Answers checks (λ n. n ≡ length es) (listSays r) → Answers checks (λ n. n ≡ length es) (listSays r′) → r ≡ r′

@@ -15,7 +15,7 @@ use Rattle.scenes.specs.Answering.{is-refused, is-past}
 use Rattle.demands.specs.Deciding.{holds-or-not}
 use Rattle.answer_numbers.specs.Numbers.{upper}
 use Rattle.answer_numbers.specs.Small.{toldIn}
-use Rattle.own_words.specs.OwnList.{missingCheck, sharedCheck, faultyFrom, entryFaults, wordRoom, sizeCheck, ownLimit, OwnSettled, OwnMet}
+use Rattle.meaning.specs.OwnList.{missingCheck, sharedCheck, faultyFrom, entryFaults, wordRoom, sizeCheck, ownLimit, OwnSettled, OwnMet}
 
 -- no check of the list carries more
 unfoldable CarrySmall : List Check → Type 0

@@ -23,7 +23,7 @@ use Rattle.scenes.specs.Accepting.{after-accepted, after-refused}
 use Rattle.scenes.specs.Alone.{tabled}
 use Rattle.scenes.specs.Checking.{Stitched, from-table}
 use Rattle.scene_words.specs.Listed.{wordsOf, bytesOf, all-judged, pairsIn, AllThere}
-use Rattle.own_words.specs.OwnList.{askedFor, entryFaults, wordRoom, ownLimit, OwnSettled}
+use Rattle.meaning.specs.OwnList.{askedFor, entryFaults, wordRoom, ownLimit, OwnSettled}
 use Rattle.own_words.specs.Faults.{FaultFound}
 
 abbrev IsLength : List ℕ → ℕ → Type 0

@@ -20,7 +20,7 @@ use Rattle.scenes.specs.Answering.{refuses, lets-pass, gives, is-given}
 use Rattle.scenes.specs.Below.{or-rest}
 use Rattle.entries.specs.Entries.{kindOf, firstOf, secondOf}
 use Rattle.scene_words.specs.Listed.{AllThere, entry-there}
-use Rattle.own_words.specs.OwnList.{entryMissing, entryShared, missingCheck, sharedCheck, faultyFrom, entryFaults}
+use Rattle.meaning.specs.OwnList.{entryMissing, entryShared, missingCheck, sharedCheck, faultyFrom, entryFaults}
 
 -- ---- one entry
 

@@ -7,7 +7,7 @@ ghost use Prim.Native.Nat.{ℕ, _≤_};
 ghost use lib.ListN.{length};
 ghost use Rattle.meaning.specs.Scene.{sceneOf, sceneAtEntry, Accepted};
 ghost use Rattle.scenes.specs.Alone.{tabledIn, tabledAtEntry};
-ghost use Rattle.own_words.specs.OwnList.{entryMissing, entryShared, ownLimit, OwnSettled};
+ghost use Rattle.meaning.specs.OwnList.{entryMissing, entryShared, ownLimit, OwnSettled};
 ghost use Rattle.own_words.specs.Faults.{FaultFound};
 ghost use Rattle.own_words.specs.Answering.{OwnJudged};
 use meaning::ListAnswer;
