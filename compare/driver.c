@@ -59,6 +59,10 @@ static uint64_t answer(const struct question *q) {
     case 18:
         return makhnodri_contact_scene_slices(SCENE, lent(LIST), q->length[LIST], lent(WORDS), q->length[WORDS], lent(CONTACTS),
                                               q->length[CONTACTS]);
+    case 19: return makhnodri_settle_list_slices(SCENE, lent(LIST), q->length[LIST], lent(WORDS), q->length[WORDS]);
+    case 20:
+        return makhnodri_contact_list_slices(SCENE, lent(LIST), q->length[LIST], lent(WORDS), q->length[WORDS], lent(CONTACTS),
+                                             q->length[CONTACTS]);
     }
     give_up("no such call");
     return 0;

@@ -131,8 +131,8 @@ static inline uint32_t makhnodri_value(makhnodri_answer answer) { return (uint32
  *
  * Three words, HIT, MISS and DEGENERATE, are the answers of makhnodri_judge_pt, _judge_ee, _judge_pt_piece and _judge_ee_piece.
  * Four words, HIT, MISS, TOUCH and APART, are the answers of makhnodri_settle_pt, _settle_ee, _settle_pt_piece and
- * _settle_ee_piece, of makhnodri_contact_pt and _contact_ee, the bytes that makhnodri_settle_scene and _contact_scene write, and the
- * words of the report.
+ * _settle_ee_piece, of makhnodri_contact_pt and _contact_ee, the bytes that makhnodri_settle_scene, _settle_list, _contact_scene and
+ * _contact_list write, and the words of the report.
  */
 enum {
     MAKHNODRI_HIT = 0,        /* a piece: its six equations have one solution, and its weights are not negative; one that is 0 counts */
@@ -269,6 +269,10 @@ makhnodri_answer makhnodri_check_scene_slices(MAKHNODRI_LISTS);
 makhnodri_answer makhnodri_count_pairs_slices(MAKHNODRI_LISTS, size_t tests[MAKHNODRI_AT_LEAST(1)]);
 makhnodri_answer makhnodri_list_pairs_slices(MAKHNODRI_LISTS, uint32_t *list, size_t list_length, size_t tests[MAKHNODRI_AT_LEAST(1)]);
 makhnodri_answer makhnodri_settle_scene_slices(MAKHNODRI_LISTS, uint32_t *list, size_t list_length, uint8_t *words, size_t words_length);
+makhnodri_answer makhnodri_settle_list_slices(MAKHNODRI_LISTS, const uint32_t *list, size_t list_length, uint8_t *words,
+                                              size_t words_length);
+makhnodri_answer makhnodri_contact_list_slices(MAKHNODRI_LISTS, const uint32_t *list, size_t list_length, uint8_t *words,
+                                               size_t words_length, uint32_t *contacts, size_t contacts_length);
 makhnodri_answer makhnodri_judge_pt_slices(MAKHNODRI_LISTS, size_t vertex, size_t triangle);
 makhnodri_answer makhnodri_judge_ee_slices(MAKHNODRI_LISTS, size_t first, size_t second);
 makhnodri_answer makhnodri_judge_pt_piece_slices(MAKHNODRI_LISTS, size_t vertex, size_t triangle, size_t piece);
@@ -338,6 +342,18 @@ static inline makhnodri_answer makhnodri_settle_scene(const makhnodri_scene *sce
 }
 
 /*
+ * A list of one's own, for a program that finds its pairs itself: settles each pair that it asks for by its entry
+ * (makhnodri_entry), listed or not, and checks the scene once. words[i] is the word of entry i, what makhnodri_settle_pt or
+ * _settle_ee answers for that pair. The answer is list_length, and the rest of the words is unchanged; or 1 (also for a list of 2^32
+ * entries or more), 2, 3, 15, 4; or 5 or 6 of the first entry at fault, with its number, counted from 1; or 7 where the words are
+ * fewer than the entries, with list_length. An entry that is no pair's number is 5. After a refusal nothing has changed.
+ */
+static inline makhnodri_answer makhnodri_settle_list(const makhnodri_scene *scene, const uint32_t *list, size_t list_length,
+                                                     uint8_t *words, size_t words_length) {
+    return makhnodri_settle_list_slices(MAKHNODRI_LISTS_OF(scene), list, list_length, words, words_length);
+}
+
+/*
  * Turns a scene without seams round where it stands, so that a clip is played backwards: start and end are swapped, the vertices
  * numbered from last to first, edges and triangles stay in their places. 0, or a refusal (1, 2, 3, 4), after which nothing has
  * changed. Turned twice it is the scene. It has the same contacts: pt v t of the one is pt (vertices - 1 - v) t of the other, and
@@ -352,7 +368,7 @@ makhnodri_answer makhnodri_turn_scene(int32_t *positions, size_t positions_lengt
  * ---- Pairs and pieces, listed or not: these may also refuse with 5 and 6; else the answer is one of three words ----
  *
  * Each call checks the whole scene first, 1, 2, 3, 15, 4, however often it is called with the same one. Where many pairs are wanted,
- * makhnodri_settle_scene checks once.
+ * makhnodri_settle_scene and makhnodri_settle_list check once.
  */
 
 static inline makhnodri_answer makhnodri_judge_pt(const makhnodri_scene *scene, size_t vertex, size_t triangle) {
@@ -444,6 +460,17 @@ static inline makhnodri_answer makhnodri_contact_ee(const makhnodri_scene *scene
 static inline makhnodri_answer makhnodri_contact_scene(const makhnodri_scene *scene, uint32_t *list, size_t list_length, uint8_t *words,
                                                        size_t words_length, uint32_t *contacts, size_t contacts_length) {
     return makhnodri_contact_scene_slices(MAKHNODRI_LISTS_OF(scene), list, list_length, words, words_length, contacts, contacts_length);
+}
+
+/*
+ * As makhnodri_settle_list, and beside the words the contact of each hit pair: that of entry i begins at contacts[5 * i]. The
+ * numbers of a pair that is not hit stay as they were. Room is the smaller of words_length and contacts_length / 5, rounded down.
+ * 16 comes after 6 and before 7.
+ */
+static inline makhnodri_answer makhnodri_contact_list(const makhnodri_scene *scene, const uint32_t *list, size_t list_length,
+                                                      uint8_t *words, size_t words_length, uint32_t *contacts,
+                                                      size_t contacts_length) {
+    return makhnodri_contact_list_slices(MAKHNODRI_LISTS_OF(scene), list, list_length, words, words_length, contacts, contacts_length);
 }
 
 /* ---- Texts ---- */

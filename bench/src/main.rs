@@ -86,6 +86,7 @@ fn main() {
     }
     bench.all_verdicts();
     bench.sewn_verdicts();
+    bench.own_lists();
     bench.lists();
     bench.resting();
     bench.sliding();
@@ -169,6 +170,36 @@ impl Bench {
             println!(
                 "  {name:<24} without {without:>8.2} ns      with {with:>8.2} ns      with over without {:>5.2}",
                 with / without
+            );
+        }
+    }
+
+    /// A list of one's own, its scene checked and its entries looked at, over the same pairs settled where the library lists them.
+    fn own_lists(&self) {
+        let Some(product) = &self.product else { return };
+        let mut random = Random::new(7);
+        let kinds: [(&str, Scene); 4] = [
+            ("pt, cloth in layers", scenes::layers(&mut random, 7, 7, 1_000, false)),
+            ("pt, anywhere", scenes::scattered(&mut random, 70, 200_000, false)),
+            ("ee, cloth in layers", scenes::layers(&mut random, 5, 5, 1_000, true)),
+            ("ee, anywhere", scenes::scattered(&mut random, 90, 200_000, true)),
+        ];
+        println!("\nthe pairs of a list of one's own, the whole call, over the pairs themselves");
+        for (name, scene) in kinds {
+            let Sewn { slices, mut list, mut words, mut alone, mut tests } = Sewn::new(&Slices::of(&scene));
+            product.list(&slices, &mut list, &mut tests).expect("there is room");
+            let (own, mut own_words) = (list.clone(), vec![0; list.len()]);
+            let ways = vec![
+                Way::new("settled", || product.settle_scene(&slices, &mut list, &mut words).expect("there is room") as u64),
+                Way::new("listed", || product.list(&slices, &mut alone, &mut tests).expect("there is room") as u64),
+                Way::new("own", || product.settle_list(&slices, &own, &mut own_words).expect("no entry at fault") as u64),
+            ];
+            let times = shortest(ways, self.rounds);
+            assert!(words == own_words, "one's own list has the words of the library's");
+            let [pairs, own] = [times[0].1 - times[1].1, times[2].1].map(|time| 1e9 * time / words.len() as f64);
+            println!(
+                "  {name:<24} a pair  {pairs:>8.2} ns      own  {own:>8.2} ns      own over a pair    {:>5.2}",
+                own / pairs
             );
         }
     }

@@ -9,6 +9,7 @@
 //! | makhnodri_list_pairs_slices | a scene, list u32, one number | an answer; the list's entries, the box tests of its pt part |
 //! | makhnodri_settle_pt_slices, makhnodri_settle_ee_slices | a scene, two places | an answer: the pair's word |
 //! | makhnodri_settle_pt_piece_slices, makhnodri_settle_ee_piece_slices | a scene, two places, a piece | an answer: the piece's word |
+//! | makhnodri_settle_list_slices | a scene, list u32, words u8 | an answer; the word of each entry of the list, which is only read |
 //! | makhnodri_contact_scene_slices | a scene, list u32, words u8, contacts u32 | as makhnodri_settle_scene_slices, and five numbers for each hit |
 //! | makhnodri_contact_pt_slices, makhnodri_contact_ee_slices | a scene, two places, five numbers | an answer: the pair's word; the numbers of a hit |
 //! | makhnodri_read_scene_slices | text u8, a scene's four lists of full size, four counts | an answer; the scene and its counts |
@@ -47,6 +48,20 @@ mod linked {
             seams: *const u16,
             seams_len: usize,
             list: *mut u32,
+            list_len: usize,
+            words: *mut u8,
+            words_len: usize,
+        ) -> u64;
+        fn makhnodri_settle_list_slices(
+            positions: *const i32,
+            positions_len: usize,
+            edges: *const u16,
+            edges_len: usize,
+            triangles: *const u16,
+            triangles_len: usize,
+            seams: *const u16,
+            seams_len: usize,
+            list: *const u32,
             list_len: usize,
             words: *mut u8,
             words_len: usize,
@@ -197,6 +212,27 @@ mod linked {
             })
         }
 
+        /// The words of entries that are handed in.
+        pub fn settle_list(&self, s: &Slices, list: &[u32], words: &mut [u8]) -> Answer {
+            // SAFETY: as above
+            answer(unsafe {
+                makhnodri_settle_list_slices(
+                    s.positions.as_ptr(),
+                    s.positions.len(),
+                    s.edges.as_ptr(),
+                    s.edges.len(),
+                    s.triangles.as_ptr(),
+                    s.triangles.len(),
+                    s.seams.as_ptr(),
+                    s.seams.len(),
+                    list.as_ptr(),
+                    list.len(),
+                    words.as_mut_ptr(),
+                    words.len(),
+                )
+            })
+        }
+
         /// The word of an entry of the list, asked for by itself.
         pub fn settle(&self, s: &Slices, entry: u32) -> Answer {
             let (kind, first, second) = parts(entry);
@@ -301,6 +337,10 @@ mod missing {
         }
 
         pub fn settle_scene(&self, _: &Slices, _: &mut [u32], _: &mut [u8]) -> Answer {
+            match *self {}
+        }
+
+        pub fn settle_list(&self, _: &Slices, _: &[u32], _: &mut [u8]) -> Answer {
             match *self {}
         }
 

@@ -42,7 +42,7 @@ fn part(number: u32) -> f64 {
 
 impl Contact {
     /// The word, and on a hit the five numbers: piece, k and shares.
-    fn heard(kind: Kind, word: Settled, row: [u32; CONTACT_LENGTH]) -> Contact {
+    pub(crate) fn heard(kind: Kind, word: Settled, row: [u32; CONTACT_LENGTH]) -> Contact {
         let [piece, k, one, two, three] = row;
         let (piece, time) = (piece as usize, part(k));
         match (word, kind) {

@@ -46,12 +46,14 @@
 
 mod answers;
 mod contacts;
+mod own;
 mod raw;
 mod scenes;
 mod texts;
 
 pub use answers::{ClaimsRefusal, Kind, ListRefusal, Listed, Pair, Refusal, Settled, TextRefusal, TurnRefusal, Verdict};
 pub use contacts::Contact;
+pub use own::OwnRefusal;
 pub use scenes::{turn_scene, Scene};
 pub use texts::{read_scene, report, write_report, Counts};
 

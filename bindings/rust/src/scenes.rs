@@ -143,7 +143,8 @@ impl Scene<'_> {
 }
 
 /// A pair, listed or not, and its pieces, in three words. Two edges may be asked for in either order. Each call checks the whole
-/// scene first; many pairs are better asked for at once, by `settle_scene`.
+/// scene first; many pairs are better asked for at once, by `settle_scene`
+/// or `settle_list`.
 impl Scene<'_> {
     pub fn judge_pt(&self, vertex: usize, triangle: usize) -> Result<Verdict, Refusal> {
         heard(ask!(self, makhnodri_judge_pt_slices, vertex, triangle)).map(verdict).map_err(bare)

@@ -162,6 +162,57 @@ fn whole(random: &mut Random, scene: &Scene) -> Vec<Question> {
     // numbers of their own, so that the other questions are those that they would be without claims and contacts
     out.extend(about_claims(&mut random.clone(), scene));
     out.extend(about_contacts(&mut random.clone(), scene));
+    out.extend(about_own_lists(&mut random.clone(), scene));
+    out
+}
+
+/// Entries of pairs that share no vertex, in any order and some twice; two edges either way round.
+fn own_entries(random: &mut Random, scene: &Scene) -> Vec<u32> {
+    let sound: Vec<Pair> = all_pairs(scene).into_iter().filter(|pair| !pair.shares_a_vertex(scene)).collect();
+    let length = if sound.is_empty() { 0 } else { random.below(MOST_PAIRS) };
+    let entry = |random: &mut Random| {
+        let pair = random.pick(&sound);
+        let (first, second) = (pair.first as u32, pair.second as u32);
+        match pair.kind {
+            Kind::PointTriangle => (first << 10) + second,
+            Kind::EdgeEdge if random.below(2) == 0 => (1 << 20) + (first << 10) + second,
+            Kind::EdgeEdge => (1 << 20) + (second << 10) + first,
+        }
+    };
+    (0..length).map(|_| entry(random)).collect()
+}
+
+/// An entry that is refused: no pair's number, a part that isn't there, a pair that shares a vertex.
+fn bad_entry(random: &mut Random, scene: &Scene) -> u32 {
+    let [vertices, edges, triangles] = [scene.vertices.len(), scene.edges.len(), scene.triangles.len()].map(|n| n as u32);
+    let none = [1 << 21, 1 << 31, u32::MAX, 3 << 20, (1 << 21) + 1].to_vec();
+    let mut missing = vec![vertices.min(1_023) << 10, triangles.min(1_023), 1_023, (1 << 20) + 1_023 * 1_025];
+    missing.push((1 << 20) + (edges.min(1_023) << 10));
+    let sharing = all_pairs(scene).into_iter().find(|pair| pair.shares_a_vertex(scene));
+    let shared = sharing.map(|pair| ((pair.kind == Kind::EdgeEdge) as u32) << 20 | (pair.first as u32) << 10 | pair.second as u32);
+    let sort = random.below(3);
+    match (sort, shared) {
+        (0, _) => random.pick(&none),
+        (1, _) | (_, None) => random.pick(&missing),
+        (_, Some(shared)) => shared,
+    }
+}
+
+/// Lists of one's own: all entries sound, one or two at fault in any place, rooms that are just enough, too short and left over.
+fn about_own_lists(random: &mut Random, scene: &Scene) -> Vec<Question> {
+    let mut out = Vec::new();
+    for faults in [0, 0, 0, 1, 1, 2, 3] {
+        let mut list = own_entries(random, scene);
+        for _ in 0..faults {
+            list.insert(random.below(list.len() + 1), bad_entry(random, scene));
+        }
+        let count = list.len();
+        let words = random.pick(&[count, count, count + 3, count.saturating_sub(1), 0]);
+        let rows = random.pick(&[ROW * count, ROW * count, ROW * count + 4, (ROW * count).saturating_sub(1), 0]);
+        let lent = Lent { list, words: marks(words), ..Lent::of_scene(scene) };
+        out.push(Question::new(Call::SettleList, lent.clone()));
+        out.push(Question::new(Call::ContactList, Lent { contacts: marks_of_32(rows), ..lent }));
+    }
     out
 }
 
@@ -314,6 +365,12 @@ fn on_harmed(random: &mut Random, call: Call, harmed: &Lent) -> Vec<Question> {
     }
     if call == Call::ContactScene {
         lent.contacts = marks_of_32(ROW * lent.words.len());
+    }
+    if call.takes_a_list() {
+        let mut own = random.clone();
+        lent.list = own.pick(&[&[][..], &[0, 1 << 21], &[u32::MAX]]).to_vec();
+        lent.words = marks(own.below(3));
+        lent.contacts = marks_of_32(if call == Call::ContactList { ROW * own.below(3) } else { 0 });
     }
     lend_a_row(call, &mut lent);
     if call == Call::CheckClaims {

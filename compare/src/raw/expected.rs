@@ -3,7 +3,7 @@
 
 use super::question::*;
 use crate::contacts::{self, Contact};
-use crate::refusal::{Refusal, NO_ROOM};
+use crate::refusal::{Refusal, NOT_THERE, NO_ROOM, SHARES_A_VERTEX};
 use crate::scene::*;
 use crate::settled::{self, Settled};
 use crate::slices::{self, Slices};
@@ -71,6 +71,7 @@ impl Expecting {
             Call::CheckClaims => check_claims(lent),
             Call::Contact(asked) => self.contact(question, asked, lent),
             Call::ContactScene => self.contact_scene(lent),
+            Call::SettleList | Call::ContactList => self.own_list(question.call, lent),
         }
     }
 
@@ -94,6 +95,33 @@ impl Expecting {
             lent.words[place] = settled::joined(self.words(&scene, pair)).byte();
             if let Some(contact) = self.contact_of(&scene, pair) {
                 lent.contacts[ROW * place..][..ROW].copy_from_slice(&contact.row());
+            }
+        }
+        Ok(pairs.len() as u64)
+    }
+
+    /// The words of a list of one's own, and rows where contacts are asked for: the scene, then the first entry at fault with its number, for
+    /// contacts the range, then the room.
+    fn own_list(&mut self, call: Call, lent: &mut Lent) -> Result<u64, Refusal> {
+        let scene = scene(lent)?;
+        let mut pairs = Vec::new();
+        for (place, &entry) in lent.list.iter().enumerate() {
+            pairs.push(asked_by(&scene, entry).map_err(|number| Refusal::new(number, place as u64 + 1))?);
+        }
+        let mut room = lent.words.len();
+        if call == Call::ContactList {
+            contacts::refuse_beyond(&scene)?;
+            room = room.min(lent.contacts.len() / ROW);
+        }
+        if room < pairs.len() {
+            return Err(Refusal::new(NO_ROOM, pairs.len() as u64));
+        }
+        for (place, &pair) in pairs.iter().enumerate() {
+            lent.words[place] = settled::joined(self.words(&scene, pair)).byte();
+            if call == Call::ContactList {
+                if let Some(contact) = self.contact_of(&scene, pair) {
+                    lent.contacts[ROW * place..][..ROW].copy_from_slice(&contact.row());
+                }
             }
         }
         Ok(pairs.len() as u64)
@@ -134,6 +162,24 @@ fn with_slices<T>(lent: &Lent, then: impl FnOnce(Slices) -> T) -> T {
     let positions: Vec<i64> = lent.positions.iter().map(|&n| n as i64).collect();
     let [edges, triangles, seams] = [&lent.edges, &lent.triangles, &lent.seams].map(|numbers| wide(numbers));
     then(Slices { positions: &positions, edges: &edges, triangles: &triangles, seams: &seams })
+}
+
+/// The pair that an entry asks for, the lower edge first; or 5 or 6.
+pub fn asked_by(scene: &Scene, entry: u32) -> Result<Pair, u64> {
+    let (kind, first, second) = (entry >> 20, (entry >> 10 & 1_023) as usize, (entry & 1_023) as usize);
+    let (firsts, seconds) = match kind {
+        0 => (scene.vertices.len(), scene.triangles.len()),
+        1 => (scene.edges.len(), scene.edges.len()),
+        _ => return Err(NOT_THERE),
+    };
+    if first >= firsts || second >= seconds {
+        return Err(NOT_THERE);
+    }
+    let pair = if kind == 0 { Pair::pt(first, second) } else { Pair::ee(first.min(second), first.max(second)) };
+    if pair.shares_a_vertex(scene) {
+        return Err(SHARES_A_VERTEX);
+    }
+    Ok(pair)
 }
 
 pub fn scene(lent: &Lent) -> Result<Scene, Refusal> {

@@ -21,6 +21,9 @@ pub enum Call {
     /// Of a pair, never of a piece.
     Contact(Asked),
     ContactScene,
+    /// A list of one's own.
+    SettleList,
+    ContactList,
 }
 
 /// Of a pair, or of a piece of one.
@@ -62,6 +65,7 @@ pub fn calls() -> Vec<Call> {
     out.extend(ASKED.map(Call::Settle));
     out.extend([Call::ReadScene, Call::WriteReport, Call::TurnScene, Call::CheckClaims]);
     out.extend([Call::Contact(Asked::Pt), Call::Contact(Asked::Ee), Call::ContactScene]);
+    out.extend([Call::SettleList, Call::ContactList]);
     out
 }
 
@@ -94,7 +98,12 @@ impl Call {
 
     /// Whether it is asked for contacts, so that the old range counts.
     pub fn finds_contacts(self) -> bool {
-        matches!(self, Call::Contact(_) | Call::ContactScene)
+        matches!(self, Call::Contact(_) | Call::ContactScene | Call::ContactList)
+    }
+
+    /// Whether it takes a list of one's own.
+    pub fn takes_a_list(self) -> bool {
+        matches!(self, Call::SettleList | Call::ContactList)
     }
 
     /// Whether it tells its box tests, in a lent number.
@@ -117,6 +126,8 @@ impl Call {
             Call::CheckClaims => "check_claims".into(),
             Call::Contact(asked) => format!("contact_{}", of(asked)),
             Call::ContactScene => "contact_scene".into(),
+            Call::SettleList => "settle_list".into(),
+            Call::ContactList => "contact_list".into(),
         }
     }
 }

@@ -38,6 +38,7 @@ pub fn none_yet() -> Sorts {
     out.push(LONG_LIST.into());
     out.extend(["the list too short", "the words too short", "both too short"].map(|which| format!("settle_scene: {which}")));
     out.extend(of_contact_scenes());
+    out.extend([Call::SettleList, Call::ContactList].into_iter().flat_map(of_own_lists));
     out.extend(SCENE_FAULTS.map(|(number, fault)| alone(number, fault)));
     out.extend(of_texts());
     out.into_iter().map(|sort| (sort, 0)).collect()
@@ -104,6 +105,74 @@ fn of_contact_scenes() -> Vec<String> {
             .chain(["a hit behind another pair", "a pair that is not hit behind a hit"])
             .map(|sort| format!("contact_scene: {sort}")),
     );
+    out
+}
+
+/// A list of one's own: each fault of an entry, in front and behind others, which of two decides, each word, each room.
+fn of_own_lists(call: Call) -> Vec<String> {
+    let mut sorts = vec!["no pair's number", "a part that is not there", "a shared vertex", "6 by a seam", "a fault in the first entry"];
+    sorts.extend(["a fault behind others", "5 behind 6", "6 behind 5", "5 before 7", "6 before 7", "hit", "miss", "touch", "apart"]);
+    sorts.extend(["no entry", "listed", "not listed", "an entry twice", "the higher edge first", "just the room", "room left over"]);
+    sorts.extend(["one too few", "no room at all"]);
+    if call == Call::ContactList {
+        sorts.extend(["the words too short", "the contacts too short", "a part of a row left over", "5 before 16", "6 before 16"]);
+        sorts.extend(["16 before 7", "refused 16", "a pair that is not hit behind a hit"]);
+    }
+    sorts.into_iter().map(|sort| format!("{}: {sort}", call.name())).collect()
+}
+
+/// The sorts of a question about such a list, in a scene that is one.
+fn of_own(question: &Question, answer: &Answer) -> Vec<String> {
+    let (call, lent) = (question.call, &question.lent);
+    let Ok(scene) = expected::scene(lent) else { return vec![] };
+    let mut out = Vec::new();
+    let mut add = |holds: bool, sort: &str| out.extend(holds.then(|| format!("{}: {sort}", call.name())));
+    let (given, count, rows) = (answer.refusal(), lent.list.len(), lent.contacts.len() / ROW);
+    let with_rows = call == Call::ContactList;
+    let room = if with_rows { lent.words.len().min(rows) } else { lent.words.len() };
+    let faults: Vec<Option<u64>> = lent.list.iter().map(|&entry| expected::asked_by(&scene, entry).err()).collect();
+    let far = with_rows && of_range(lent).is_some();
+    let at_fault = [NOT_THERE, SHARES_A_VERTEX].contains(&given);
+    let number = answer.number as u32 as usize;
+    if at_fault {
+        let (entry, later) = (lent.list[number - 1], &faults[number..]);
+        add(given == NOT_THERE && entry >= 1 << 21, "no pair's number");
+        add(given == NOT_THERE && entry < 1 << 21, "a part that is not there");
+        add(given == SHARES_A_VERTEX, "a shared vertex");
+        add(given == SHARES_A_VERTEX && expected::asked_by(&scene.unsewn(), entry).is_ok(), "6 by a seam");
+        add(number == 1, "a fault in the first entry");
+        add(number > 1, "a fault behind others");
+        add(given == SHARES_A_VERTEX && later.contains(&Some(NOT_THERE)), "5 behind 6");
+        add(given == NOT_THERE && later.contains(&Some(SHARES_A_VERTEX)), "6 behind 5");
+        add(room < count, &format!("{given} before 7"));
+        add(far, &format!("{given} before 16"));
+        return out;
+    }
+    add(given == BEYOND_OLD_RANGE, "refused 16");
+    add(given == BEYOND_OLD_RANGE && room < count, "16 before 7");
+    if given == 0 || given == NO_ROOM {
+        add(count > 0 && room == count, "just the room");
+        add(count > 0 && room > count, "room left over");
+        add(room + 1 == count, "one too few");
+        add(count > 0 && room == 0, "no room at all");
+        add(with_rows && lent.words.len() < count && rows >= count, "the words too short");
+        add(with_rows && lent.words.len() >= count && rows < count, "the contacts too short");
+        add(with_rows && given == 0 && lent.contacts.len() % ROW > 0, "a part of a row left over");
+    }
+    if given == 0 {
+        let words = &answer.buffers[WORDS][MARGIN..MARGIN + count];
+        [("hit", 0), ("miss", 1), ("touch", 3), ("apart", 4)].iter().for_each(|(word, byte)| add(words.contains(byte), word));
+        let pairs: Vec<Pair> = lent.list.iter().map(|&entry| expected::asked_by(&scene, entry).unwrap()).collect();
+        add(count == 0, "no entry");
+        add(pairs.iter().any(|&pair| listing::is_listed(&scene, pair)), "listed");
+        add(pairs.iter().any(|&pair| !listing::is_listed(&scene, pair)), "not listed");
+        add((1..count).any(|i| lent.list[..i].contains(&lent.list[i])), "an entry twice");
+        let turned = |&entry: &u32| entry >> 20 == 1 && (entry >> 10 & 1_023) > (entry & 1_023);
+        add(lent.list.iter().any(turned), "the higher edge first");
+        let first_hit = words.iter().position(|&word| word == 0);
+        let stays = first_hit.is_some_and(|place| words[place..].iter().any(|&word| word != 0));
+        add(with_rows && stays, "a pair that is not hit behind a hit");
+    }
     out
 }
 
@@ -286,6 +355,9 @@ fn of_slices(question: &Question, answer: &Answer) -> Vec<String> {
         out.extend((!question.lent.seams.is_empty()).then(|| format!("{}: answered with seams", call.name())));
         out.extend(call.asked().map(|asked| of_told(question, asked, answer)).unwrap_or_default());
         out.extend(of_rows(question, answer));
+    }
+    if call.takes_a_list() {
+        out.extend(of_own(question, answer));
     }
     if call.lists() && (given == 0 || given == NO_ROOM) {
         out.extend(of_room(question, answer.number as u32 as usize));

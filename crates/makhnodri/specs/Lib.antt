@@ -1,2 +1,3 @@
 -- What the functions for C and Rust answer: two answers that meet a promise are one.
 pub mod OneResult
+pub mod OneOwn

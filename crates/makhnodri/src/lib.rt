@@ -1,5 +1,7 @@
 // The library for C and for Rust: numbers and slices only, thin over the crates that do the work. include/makhnodri.h tells the same in C.
 
+pub mod own; // own.rt: a list of one's own
+
 ghost use mathlib.Core.List.{[], _∷_};
 ghost use mathlib.Core.Path.{_≡_};
 ghost use Rattle.meaning.specs.Scene.{sceneAtEntry, sceneAtExit};

@@ -21,3 +21,4 @@ pub mod ContactLines
 pub mod Claims
 pub mod InMotion
 pub mod ReadShown
+pub mod OwnList

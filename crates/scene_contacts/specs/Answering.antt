@@ -1,13 +1,13 @@
 -- From the list that was made and the contacts that were found to the answer of the whole call.
-use Prim.Native.Nat.{ℕ}
+use Prim.Native.Nat.{ℕ, _≤_}
 use mathlib.Core.Bool.{true, false}
 use mathlib.Core.List.{List, [], _∷_, map}
-use mathlib.Core.Path.{_≡_, refl}
+use mathlib.Core.Path.{_≡_, refl, ap, _∙_}
 use Rattle.sequences.specs.Wrote.{written}
 use Rattle.meaning.specs.Limits.{contactLimit}
 use Rattle.meaning.specs.Scene.{Scene, reachesBeyond, Accepted}
 use Rattle.meaning.specs.Refusals.{SceneChecked, Answers, given, refused, numberOf}
-use Rattle.meaning.specs.List.{pairs, listSays, leaves}
+use Rattle.meaning.specs.List.{Pair, pairs, roomOf, listSays, leaves}
 use Rattle.meaning.specs.Meetings.{rangeCheck, roomCheck, metRoom, rowsLeft, rowsAfter, MetScene}
 use Rattle.meaning.specs.declared.Made.{Made}
 use Rattle.meaning.specs.declared.Refusal.{Refusal}
@@ -19,6 +19,8 @@ use Rattle.meaning.specs.declared.ListAnswer.{ListAnswer}
 use Rattle.scenes.specs.Answering.{refuses, lets-pass}
 use Rattle.scenes.specs.Accepting.{after-accepted, after-refused}
 use Rattle.listing.specs.Answering.{IsCount, ListedIn}
+use Rattle.scene_words.specs.Listed.{pairsIn}
+use Rattle.scene_words.specs.Answering.{made-pairs}
 use Rattle.scene_contacts.specs.Listed.{meetingsOf, metBytes, all-met}
 
 -- the list of a scene within the old range was made and judged, if there is room for it
@@ -63,7 +65,7 @@ module _ (s : Scene) (o b c : List ℕ) where
   }
 
 module _ {s : Scene} {room : ℕ} {o o′ : List ℕ} {r : ListAnswer} (l : ListedIn s room o o′ r) where
-  pub met-made : {m : Made} {b b′ c c′ : List ℕ} → r ≡ ListAnswers.the-variants.Listed m → b′ ≡ written (metBytes s (pairs s)) b → c′ ≡ rowsLeft (meetingsOf s (pairs s)) c
+  met-made : {m : Made} {b b′ c c′ : List ℕ} → r ≡ ListAnswers.the-variants.Listed m → b′ ≡ written (metBytes s (pairs s)) b → c′ ≡ rowsLeft (meetingsOf s (pairs s)) c
       → MetNear s room o o′ b b′ c c′ (ListAnswers.the-variants.Listed m)
   unfolding listSays leaves rowsAfter
   met-made e h k = record { list = rw e at l; bytes = h; rows = k }
@@ -72,3 +74,12 @@ module _ {s : Scene} {room : ℕ} {o o′ : List ℕ} {r : ListAnswer} (l : List
       → MetNear s room o o′ b b c c (ListAnswers.the-variants.Refused x n)
   unfolding listSays leaves rowsAfter
   met-without-room e = record { list = rw e at l; bytes = refl; rows = refl }
+
+-- the entries that were met are the list's
+pub met-listed : {s : Scene} {room : ℕ} {o o′ b b′ c c′ : List ℕ} {r : ListAnswer} {m : Made} → Accepted s → room ≤ roomOf o
+    → (l : ListedIn s room o o′ r) (e : r ≡ ListAnswers.the-variants.Listed m)
+    → b′ ≡ written (metBytes s (pairsIn (m .count) o′)) b → c′ ≡ rowsLeft (meetingsOf s (pairsIn (m .count) o′)) c
+    → MetNear s room o o′ b b′ c c′ (ListAnswers.the-variants.Listed m)
+met-listed {s} {b = b} {c = c} a h l e w v =
+    let same = made-pairs a h l e in
+    met-made l e (w ∙ ap (λ (ps : List Pair). written (metBytes s ps) b) same) (v ∙ ap (λ (ps : List Pair). rowsLeft (meetingsOf s ps) c) same)

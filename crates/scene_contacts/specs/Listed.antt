@@ -1,20 +1,18 @@
 -- The contacts of the listed pairs, in the list's order, and their words as bytes.
-use Prim.Native.Nat.{ℕ, zero, suc, _<_}
+use Prim.Native.Nat.{ℕ, zero, suc, _+_, _≤_, _<_}
 use native.Mathlib.Nat.{not-suc-le-zero, le-of-suc-le-suc}
-use mathlib.Core.Path.{_≡_, refl, sym, ap, _∙_, subst}
-use mathlib.Core.Bool.{false}
+use mathlib.Core.Path.{_≡_, refl, sym, ap, _∙_}
 use mathlib.Core.List.{List, [], _∷_, map}
-use lib.ListN.{length, getD, length-map}
+use lib.ListN.{length, getD, drop, length-map}
 use Rattle.meaning.specs.Scene.{Scene}
-use Rattle.meaning.specs.Refusals.{notThere}
 use Rattle.meaning.specs.List.{Pair, pairs}
 use Rattle.meaning.specs.SceneWords.{byteOf}
 use Rattle.meaning.specs.Meetings.{MeetingIs, wordOf, AllMet}
-use Rattle.meaning.specs.declared.Kind.{Kind}
 use Rattle.meaning.specs.declared.Meeting.{Meeting}
 use Rattle.meaning.specs.declared.Meeting.the-variants.{Miss}
-use Rattle.entries.specs.Entries.{pairAt}
-use Rattle.scene_words.specs.Listed.{noPair, ListStands, listed-there, entry-there}
+use Rattle.sequences.specs.Parts.{drop-next}
+use Rattle.entries.specs.Entries.{kindOf, firstOf, secondOf, pairOf, pairAt}
+use Rattle.scene_words.specs.Listed.{noPair, ListStands, pairsIn, pairs-in-length, pairs-in-at}
 use Rattle.scene_contacts.specs.Computed.{meetingOf, met-pair, meeting-is}
 use Rattle.scene_contacts.specs.Rows.{SmallMeeting, meeting-small}
 
@@ -61,15 +59,39 @@ met-bytes-at s (p ∷ ps) zero h = refl
 met-bytes-at s (p ∷ ps) (suc k) h = met-bytes-at s ps k (le-of-suc-le-suc h)
 
 -- each is of a piece
-pub listed-small : (s : Scene) (k : ℕ) → k < length (pairs s) → SmallMeeting (getD (meetingsOf s (pairs s)) k Miss)
-listed-small s k h =
-    rw (meetings-at s (pairs s) k h)
-    (let p : Pair = getD (pairs s) k noPair in meeting-small s (p .kind) (p .first) (p .second) (meetingOfPair s p) (met-pair s (p .kind) (p .first) (p .second)))
+pub pair-small : (s : Scene) (p : Pair) → SmallMeeting (meetingOfPair s p)
+pair-small s p = meeting-small s (p .kind) (p .first) (p .second) (meetingOfPair s p) (met-pair s (p .kind) (p .first) (p .second))
 
--- an entry that was read is the pair in that place of the list
-pub entry-met : {s : Scene} {l : List ℕ} (stands : ListStands s l) (k : ℕ) (h : k < length (pairs s)) (p : Pair)
-    → p .kind ≡ pairAt l k .kind → p .first ≡ pairAt l k .first → p .second ≡ pairAt l k .second
-    → (m : Meeting) → MeetingIs s (p .kind) (p .first) (p .second) m → m ≡ getD (meetingsOf s (pairs s)) k Miss
-entry-met {s} {l} stands k h p kind first second m is =
-    let e : p ≡ getD (pairs s) k noPair = (λ t. record { kind = kind t; first = first t; second = second t }) ∙ stands .at k h in
-    meeting-is s (p .kind) (p .first) (p .second) m .0 is ∙ ap (meetingOfPair s) e ∙ sym (meetings-at s (pairs s) k h)
+-- a pair that was read from an entry has the contact of the entry's pair
+pub entry-met : (s : Scene) (e : ℕ) (p : Pair) → p .kind ≡ kindOf e → p .first ≡ firstOf e → p .second ≡ secondOf e
+    → (m : Meeting) → MeetingIs s (p .kind) (p .first) (p .second) m → m ≡ meetingOfPair s (pairOf e)
+entry-met s e p kind first second m is =
+    meeting-is s (p .kind) (p .first) (p .second) m .0 is
+    ∙ (λ t. meetingOfPair s (record { kind = kind t; first = first t; second = second t }))
+
+-- where the list of the scene stands, an entry has the contact in its place
+pub listed-meeting : {s : Scene} {l : List ℕ} → ListStands s l → (k : ℕ) → k < length (pairs s) → meetingOfPair s (pairAt l k) ≡ getD (meetingsOf s (pairs s)) k Miss
+listed-meeting {s} stands k h = ap (meetingOfPair s) (stands .at k h) ∙ sym (meetings-at s (pairs s) k h)
+
+-- of the first n entries of a buffer
+module _ (n : ℕ) (l : List ℕ) (h : n ≤ length l) (s : Scene) where
+  pub meetings-in-length : length (meetingsOf s (pairsIn n l)) ≡ n
+  meetings-in-length = meetings-length s (pairsIn n l) ∙ pairs-in-length n l h
+
+  pub met-bytes-in-length : length (metBytes s (pairsIn n l)) ≡ n
+  met-bytes-in-length = met-bytes-length s (pairsIn n l) ∙ pairs-in-length n l h
+
+  pub meetings-in-at : (k : ℕ) → k < n → getD (meetingsOf s (pairsIn n l)) k Miss ≡ meetingOfPair s (pairAt l k)
+  meetings-in-at k b =
+      meetings-at s (pairsIn n l) k (rw (pairs-in-length n l h) b) ∙ ap (meetingOfPair s) (pairs-in-at n l h k b)
+
+  -- what is left from there on begins with the entry's own
+  pub meetings-left : (k : ℕ) → k < n
+      → drop k (meetingsOf s (pairsIn n l)) ≡ meetingOfPair s (pairAt l k) ∷ drop (k + 1) (meetingsOf s (pairsIn n l))
+  meetings-left k b = drop-next (meetingsOf s (pairsIn n l)) k Miss (rw meetings-in-length b) ∙ rw (meetings-in-at k b)
+
+  pub met-bytes-left : (k : ℕ) → k < n
+      → drop k (metBytes s (pairsIn n l)) ≡ metByte (meetingOfPair s (pairAt l k)) ∷ drop (k + 1) (metBytes s (pairsIn n l))
+  met-bytes-left k b =
+      drop-next (metBytes s (pairsIn n l)) k 0 (rw met-bytes-in-length b)
+      ∙ rw (met-bytes-at s (pairsIn n l) k (rw (pairs-in-length n l h) b), meetings-in-at k b)

@@ -3,18 +3,18 @@
 pub mod rows; // rows.rt: the five numbers of a contact in a lent buffer
 
 ghost use Prim.Native.Nat.{_+_, _*_, _≤_, _<_, min};
+ghost use mathlib.Core.Bool.{false};
 ghost use mathlib.Core.Path.{_≡_};
-ghost use mathlib.Core.List.{map};
-ghost use lib.ListN.{length, getD};
+ghost use lib.ListN.{length};
 ghost use Rattle.sequences.specs.Wrote.{written};
 ghost use Rattle.meaning.specs.Limits.{contactLimit};
 ghost use Rattle.meaning.specs.Scene.{sceneAtEntry, AcceptedWithin};
-ghost use Rattle.meaning.specs.List.{pairs};
+ghost use Rattle.meaning.specs.Refusals.{notThere};
 ghost use Rattle.meaning.specs.Meetings.{rowsLeft, metRoom, MetScene};
-ghost use Rattle.meaning.specs.declared.Meeting.the-variants.{Miss};
 ghost use Rattle.scenes.specs.Alone.{tabledIn, tabledAtEntry};
-ghost use Rattle.scene_words.specs.Listed.{ListStands};
-ghost use Rattle.scene_contacts.specs.Listed.{meetingsOf, metBytes};
+ghost use Rattle.entries.specs.Entries.{pairAt};
+ghost use Rattle.scene_words.specs.Listed.{pairsIn, AllThere};
+ghost use Rattle.scene_contacts.specs.Listed.{meetingOfPair, meetingsOf, metBytes};
 ghost use Rattle.scene_contacts.specs.Answering.{MetNear};
 use meaning::ListAnswer;
 use meaning::Meeting;
@@ -26,7 +26,7 @@ use rows::put_meeting;
 use rows::settled_of;
 use scene_words::byte_of;
 
-// The contact of the k-th entry of the list.
+// The contact of the k-th entry of a list.
 pub fn entry_meeting(
     positions: &[i32],
     edges: &[u16],
@@ -35,8 +35,8 @@ pub fn entry_meeting(
     list: &[u32],
     k: usize,
 ) -> Meeting
-    requires { ⌜ AcceptedWithin contactLimit (tabledIn positions edges triangles stands) × ListStands (tabledIn positions edges triangles stands) (now list) × (k < length (pairs (tabledIn positions edges triangles stands))) ⌝ }
-    ensures { λ r. ⌜ r ≡ getD (meetingsOf (tabledAtEntry positions edges triangles stands) (pairs (tabledAtEntry positions edges triangles stands))) k Miss ⌝ }
+    requires { ⌜ AcceptedWithin contactLimit (tabledIn positions edges triangles stands) × (k < length (now list)) × (notThere (tabledIn positions edges triangles stands) (pairAt (now list) k .kind) (pairAt (now list) k .first) (pairAt (now list) k .second) ≡ false) ⌝ }
+    ensures { λ r. ⌜ r ≡ meetingOfPair (tabledAtEntry positions edges triangles stands) (pairAt (now (list .entry)) k) ⌝ }
 {
     let entry = list[k];
     let kind = entries::kind_of(entry);
@@ -45,8 +45,8 @@ pub fn entry_meeting(
     meetings::accepted::meeting(positions, edges, triangles, stands, kind, first, second)
 }
 
-// Each entry in turn.
-fn meet_entries(
+// Each of the first entries in turn, whichever pairs they ask for.
+pub fn meet_entries(
     positions: &[i32],
     edges: &[u16],
     triangles: &[u16],
@@ -56,8 +56,8 @@ fn meet_entries(
     contacts: &mut [u32],
     count: usize,
 )
-    requires { ⌜ AcceptedWithin contactLimit (tabledIn positions edges triangles stands) × ListStands (tabledIn positions edges triangles stands) (now list) × (count ≡ length (pairs (tabledIn positions edges triangles stands))) × (count ≤ length (now words)) × (5 * count ≤ length (now contacts)) ⌝ }
-    ensures { λ _. ⌜ (now (words .exit) ≡ written (metBytes (tabledAtEntry positions edges triangles stands) (pairs (tabledAtEntry positions edges triangles stands))) (now (words .entry))) × (now (contacts .exit) ≡ rowsLeft (meetingsOf (tabledAtEntry positions edges triangles stands) (pairs (tabledAtEntry positions edges triangles stands))) (now (contacts .entry))) ⌝ }
+    requires { ⌜ AcceptedWithin contactLimit (tabledIn positions edges triangles stands) × (count ≤ length (now list)) × AllThere (tabledIn positions edges triangles stands) count (now list) × (count ≤ length (now words)) × (5 * count ≤ length (now contacts)) ⌝ }
+    ensures { λ _. ⌜ (now (words .exit) ≡ written (metBytes (tabledAtEntry positions edges triangles stands) (pairsIn count (now (list .entry)))) (now (words .entry))) × (now (contacts .exit) ≡ rowsLeft (meetingsOf (tabledAtEntry positions edges triangles stands) (pairsIn count (now (list .entry)))) (now (contacts .entry))) ⌝ }
 {
     let mut k = 0;
     while k < count {

@@ -6,7 +6,7 @@ use lib.ListN.{length}
 use Rattle.sequences.specs.Wrote.{written}
 use Rattle.meaning.specs.Scene.{Scene, Accepted}
 use Rattle.meaning.specs.Refusals.{SceneChecked, Answers, Outcome, given, refused, numberOf}
-use Rattle.meaning.specs.List.{pairs, entries, roomOf, listSays, listChecks, leaves}
+use Rattle.meaning.specs.List.{Pair, pairs, entries, roomOf, listSays, listChecks, leaves}
 use Rattle.meaning.specs.SceneWords.{byteOf, SettledScene}
 use Rattle.meaning.specs.declared.Refusal.{Refusal}
 use Rattle.meaning.specs.declared.SceneAnswer as SceneAnswers
@@ -16,7 +16,7 @@ use Rattle.meaning.specs.declared.ListAnswer.{ListAnswer}
 use Rattle.scenes.specs.Accepting.{after-accepted, after-refused}
 use Rattle.listing.specs.Answering.{roomChecks, IsCount, ListedIn}
 use Rattle.listing.specs.Sizes.{pairs-narrow}
-use Rattle.scene_words.specs.Listed.{wordsOf, bytesOf, all-judged, ListStands, noPair}
+use Rattle.scene_words.specs.Listed.{wordsOf, bytesOf, all-judged, ListStands, noPair, pairsIn, AllThere, listed-all-there, listed-pairs-in}
 use Rattle.meaning.specs.declared.Made.{Made}
 use Rattle.entries.specs.Entries.{written-at, written-room}
 use Rattle.scenes.specs.Answering.{is-given}
@@ -90,3 +90,24 @@ made-stands {s} {o} a h m =
       room = written-room (pairs s) o (le-trans (m .fits) h);
       at = λ k below. written-at (pairs s) o (pairs-narrow s a) k noPair below;
     })
+
+-- the entries that were judged are the list's, and they are there
+module _ {s : Scene} {room : ℕ} {o o′ : List ℕ} {r : ListAnswer} {m : Made} (a : Accepted s) (h : room ≤ roomOf o)
+    (l : ListedIn s room o o′ r) (e : r ≡ ListAnswers.the-variants.Listed m) where
+  made : MadeList s room o o′ (m .count)
+  made = made-list l e
+
+  pub made-within : m .count ≤ length o′
+  made-within = rw (made .counts) (made-stands a h made .room)
+
+  pub made-there : AllThere s (m .count) o′
+  made-there = rw (made .counts) (listed-all-there (made-stands a h made))
+
+  pub made-pairs : pairsIn (m .count) o′ ≡ pairs s
+  made-pairs = ap (λ (n : ℕ). pairsIn n o′) (made .counts) ∙ listed-pairs-in (made-stands a h made)
+
+  pub judged-listed : {b b′ : List ℕ} → b′ ≡ written (bytesOf s (pairsIn (m .count) o′)) b
+      → SettledIn s room o o′ b b′ (ListAnswers.the-variants.Listed m)
+  judged-listed {b} w =
+      judged-made l e
+      (w ∙ ap (λ (ps : List Pair). written (bytesOf s ps) b) made-pairs)

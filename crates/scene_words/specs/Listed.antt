@@ -1,12 +1,15 @@
 -- The words of listed pairs, as code finds them one by one.
-use Prim.Native.Nat.{ℕ, zero, suc, _≤_, _<_}
+use Prim.Native.Nat.{ℕ, zero, suc, _+_, _≤_, _<_}
 use mathlib.Core.Bool.{cond, false}
 use mathlib.Core.List.{List, [], _∷_, map}
 use mathlib.Core.Path.{_≡_, refl, sym, ap, _∙_, subst}
 use native.Mathlib.Nat.{not-suc-le-zero, le-of-suc-le-suc}
 use native.Mathlib.Omega.{arith}
 use lib.Dec.{eqb}
-use lib.ListN.{length, getD, length-map}
+use lib.ListN.{length, getD, take, drop, length-map}
+use lib.Seq.{length-take-le, getD-take, ext-getD}
+use Rattle.sequences.specs.Mapped.{map-at}
+use Rattle.sequences.specs.Parts.{drop-next}
 use Rattle.sequences.specs.Rising.{at-place}
 use Rattle.sequences.specs.Wrote.{written, written-in-front}
 use Rattle.meaning.specs.Scene.{Scene}
@@ -21,7 +24,7 @@ use Rattle.scene_words.specs.declared.ByteAnswer.{ByteAnswer}
 use Rattle.scene_words.specs.declared.ByteAnswer.the-variants.{Word, NoWord}
 use Rattle.corner_search.specs.Decided.{pairWord, pair-word-is, settled-pair}
 use Rattle.listing.specs.InOrder.{ToList, list-is}
-use Rattle.entries.specs.Entries.{pairAt}
+use Rattle.entries.specs.Entries.{kindOf, firstOf, secondOf, pairOf, pairAt}
 
 abbrev pub wordOfPair : Scene → Pair → Settled
 wordOfPair s p = pairWord s (p .kind) (p .first) (p .second)
@@ -59,20 +62,59 @@ pub listed-there : (s : Scene) (k : ℕ) → k < length (pairs s)
     → notThere s (getD (pairs s) k noPair .kind) (getD (pairs s) k noPair .first) (getD (pairs s) k noPair .second) ≡ false
 listed-there s k h = list-is s .stands (getD (pairs s) k noPair) .0 (at-place (pairs s) k noPair h) .there
 
--- an entry that was read is the pair in that place of the list
-module _ {s : Scene} {l : List ℕ} (stands : ListStands s l) (k : ℕ) (h : k < length (pairs s)) (p : Pair)
-    (kind : p .kind ≡ pairAt l k .kind) (first : p .first ≡ pairAt l k .first) (second : p .second ≡ pairAt l k .second) where
-  same-pair : p ≡ getD (pairs s) k noPair
-  same-pair = (λ t. record { kind = kind t; first = first t; second = second t }) ∙ stands .at k h
+-- ---- entries of any list
 
-  pub entry-there : notThere s (p .kind) (p .first) (p .second) ≡ false
-  entry-there =
-      subst (λ (q : Pair). notThere s (q .kind) (q .first) (q .second) ≡ false) (sym same-pair) (listed-there s k h)
+-- the pairs that the first n entries of a buffer ask for
+abbrev pub pairsIn : ℕ → List ℕ → List Pair
+pairsIn n l = map pairOf (take n l)
 
-  pub entry-byte : (w : Settled) → PairSettled s (p .kind) (p .first) (p .second) w → byteOf w ≡ getD (bytesOf s (pairs s)) k 0
-  entry-byte w is =
-      ap byteOf (pair-word-is s (p .kind) (p .first) (p .second) w .0 is ∙ ap (wordOfPair s) same-pair)
-      ∙ sym (bytes-at s (pairs s) k h)
+-- each of them is there
+abbrev pub AllThere : Scene → ℕ → List ℕ → Type 0
+AllThere s n l = (k : ℕ) → k < n → notThere s (pairAt l k .kind) (pairAt l k .first) (pairAt l k .second) ≡ false
+
+module _ (n : ℕ) (l : List ℕ) (h : n ≤ length l) where
+  pub pairs-in-length : length (pairsIn n l) ≡ n
+  pairs-in-length = length-map (take n l) pairOf ∙ length-take-le n l h
+
+  pub pairs-in-at : (k : ℕ) → k < n → getD (pairsIn n l) k noPair ≡ pairAt l k
+  pairs-in-at k b =
+      map-at pairOf (take n l) k 0 noPair (rw (length-take-le n l h) b) ∙ ap pairOf (getD-take n l k 0 b)
+
+  pub bytes-in-length : (s : Scene) → length (bytesOf s (pairsIn n l)) ≡ n
+  bytes-in-length s = bytes-length s (pairsIn n l) ∙ pairs-in-length
+
+  -- the byte of an entry is the word's of its pair
+  pub bytes-in-at : (s : Scene) (k : ℕ) → k < n → getD (bytesOf s (pairsIn n l)) k 0 ≡ byteOf (wordOfPair s (pairAt l k))
+  bytes-in-at s k b =
+      bytes-at s (pairsIn n l) k (rw pairs-in-length b)
+      ∙ ap (λ (p : Pair). byteOf (wordOfPair s p)) (pairs-in-at k b)
+
+  -- what is left from there on begins with it
+  pub left-in : (s : Scene) (k : ℕ) → k < n
+      → drop k (bytesOf s (pairsIn n l)) ≡ byteOf (wordOfPair s (pairAt l k)) ∷ drop (k + 1) (bytesOf s (pairsIn n l))
+  left-in s k b = drop-next (bytesOf s (pairsIn n l)) k 0 (rw (bytes-in-length s) b) ∙ rw (bytes-in-at s k b)
+
+-- a pair that was read from an entry has the byte of the entry's pair
+pub entry-byte : (s : Scene) (e : ℕ) (p : Pair) → p .kind ≡ kindOf e → p .first ≡ firstOf e → p .second ≡ secondOf e
+    → (w : Settled) → PairSettled s (p .kind) (p .first) (p .second) w → byteOf w ≡ byteOf (wordOfPair s (pairOf e))
+entry-byte s e p kind first second w is =
+    ap byteOf (pair-word-is s (p .kind) (p .first) (p .second) w .0 is)
+    ∙ (λ t. byteOf (wordOfPair s (record { kind = kind t; first = first t; second = second t })))
+
+pub entry-there : (s : Scene) (e : ℕ) (p : Pair) → p .kind ≡ kindOf e → p .first ≡ firstOf e → p .second ≡ secondOf e
+    → notThere s (kindOf e) (firstOf e) (secondOf e) ≡ false → notThere s (p .kind) (p .first) (p .second) ≡ false
+entry-there s e p kind first second h = (λ t. notThere s (kind t) (first t) (second t)) ∙ h
+
+-- where the list of the scene stands, its pairs are these, and they are there
+module _ {s : Scene} {l : List ℕ} (stands : ListStands s l) where
+  pub listed-all-there : AllThere s (length (pairs s)) l
+  listed-all-there k h =
+      subst (λ (q : Pair). notThere s (q .kind) (q .first) (q .second) ≡ false) (sym (stands .at k h)) (listed-there s k h)
+
+  pub listed-pairs-in : pairsIn (length (pairs s)) l ≡ pairs s
+  listed-pairs-in =
+      ext-getD noPair (pairsIn (length (pairs s)) l) (pairs s) (pairs-in-length (length (pairs s)) l (stands .room))
+      (λ k h. let b = rw (pairs-in-length (length (pairs s)) l (stands .room)) at h in pairs-in-at (length (pairs s)) l (stands .room) k b ∙ stands .at k b)
 
 -- ---- bytes and words
 

@@ -1,14 +1,17 @@
 // List a scene and judge each listed pair in the four words, in one call that checks the scene once.
 
 ghost use Prim.Native.Nat.{_≤_, _<_, min};
+ghost use mathlib.Core.Bool.{false};
 ghost use mathlib.Core.Path.{_≡_};
-ghost use lib.ListN.{length, getD};
+ghost use lib.ListN.{length};
 ghost use Rattle.sequences.specs.Wrote.{written};
 ghost use Rattle.meaning.specs.Scene.{sceneAtEntry, Accepted};
-ghost use Rattle.meaning.specs.List.{pairs, roomOf};
+ghost use Rattle.meaning.specs.Refusals.{notThere};
+ghost use Rattle.meaning.specs.List.{roomOf};
 ghost use Rattle.meaning.specs.SceneWords.{byteOf, SettledScene};
 ghost use Rattle.scenes.specs.Alone.{tabledIn, tabledAtEntry};
-ghost use Rattle.scene_words.specs.Listed.{bytesOf, ListStands, StandsFor};
+ghost use Rattle.entries.specs.Entries.{pairAt};
+ghost use Rattle.scene_words.specs.Listed.{wordOfPair, bytesOf, pairsIn, AllThere, StandsFor};
 ghost use Rattle.scene_words.specs.Answering.{SettledIn};
 use meaning::ListAnswer;
 use meaning::SceneAnswer;
@@ -52,7 +55,7 @@ pub fn word_of(byte: u8) -> ByteAnswer
     ByteAnswer::NoWord
 }
 
-// The k-th entry of the list, judged.
+// The k-th entry of a list, judged.
 fn settle_entry(
     positions: &[i32],
     edges: &[u16],
@@ -61,8 +64,8 @@ fn settle_entry(
     list: &[u32],
     k: usize,
 ) -> u8
-    requires { ⌜ Accepted (tabledIn positions edges triangles stands) × ListStands (tabledIn positions edges triangles stands) (now list) × (k < length (pairs (tabledIn positions edges triangles stands))) ⌝ }
-    ensures { λ r. ⌜ r ≡ getD (bytesOf (tabledAtEntry positions edges triangles stands) (pairs (tabledAtEntry positions edges triangles stands))) k 0 ⌝ }
+    requires { ⌜ Accepted (tabledIn positions edges triangles stands) × (k < length (now list)) × (notThere (tabledIn positions edges triangles stands) (pairAt (now list) k .kind) (pairAt (now list) k .first) (pairAt (now list) k .second) ≡ false) ⌝ }
+    ensures { λ r. ⌜ r ≡ byteOf (wordOfPair (tabledAtEntry positions edges triangles stands) (pairAt (now (list .entry)) k)) ⌝ }
 {
     let entry = list[k];
     let kind = entries::kind_of(entry);
@@ -71,8 +74,8 @@ fn settle_entry(
     byte_of(four_words::accepted::pair(positions, edges, triangles, stands, kind, first, second))
 }
 
-// Each entry in turn.
-fn settle_entries(
+// Each of the first entries in turn, whichever pairs they ask for.
+pub fn settle_entries(
     positions: &[i32],
     edges: &[u16],
     triangles: &[u16],
@@ -81,8 +84,8 @@ fn settle_entries(
     out: &mut [u8],
     count: usize,
 )
-    requires { ⌜ Accepted (tabledIn positions edges triangles stands) × ListStands (tabledIn positions edges triangles stands) (now list) × (count ≡ length (pairs (tabledIn positions edges triangles stands))) × (count ≤ length (now out)) ⌝ }
-    ensures { λ _. ⌜ now (out .exit) ≡ written (bytesOf (tabledAtEntry positions edges triangles stands) (pairs (tabledAtEntry positions edges triangles stands))) (now (out .entry)) ⌝ }
+    requires { ⌜ Accepted (tabledIn positions edges triangles stands) × (count ≤ length (now list)) × AllThere (tabledIn positions edges triangles stands) count (now list) × (count ≤ length (now out)) ⌝ }
+    ensures { λ _. ⌜ now (out .exit) ≡ written (bytesOf (tabledAtEntry positions edges triangles stands) (pairsIn count (now (list .entry)))) (now (out .entry)) ⌝ }
 {
     let mut k = 0;
     while k < count {

@@ -1,5 +1,6 @@
--- The entry is taken apart, and its pair is the one in that place of the list.
+-- The entry is taken apart, and its pair is met.
 use borrow.Author.Needs.{needs}
+use lib.ListN.{getD}
 use Rattle.meaning.specs.List.{pair}
 use Rattle.scene_words.specs.Listed.{entry-there}
 use Rattle.scene_contacts.specs.Listed.{entry-met}
@@ -10,13 +11,12 @@ meeting-requires : tie.Need-meeting-requires
 meeting-requires c κs =
     let start = c .before .before .before .before .before .before .before .before in
     let p = start .pre in
-    (p .0, entry-there (p .1) (start .args .k) (p .2) (pair (c .before .before .kind-of .result) (c .before .first-of .result) (c .second-of .result)) (c .before .before .kind-of .ensures) (c .before .first-of .ensures) (c .second-of .ensures))
+    (p .0, entry-there _ (getD (start .args .list .now) (start .args .k) 0) (pair (c .before .before .kind-of .result) (c .before .first-of .result) (c .second-of .result)) (c .before .before .kind-of .ensures) (c .before .first-of .ensures) (c .second-of .ensures) (p .2))
 
 returns : tie.Need-returns
 returns c =
     let start = c .before .before .before .before .before .before .before .before .before in
-    let p = start .pre in
-    entry-met (p .1) (start .args .k) (p .2) (pair (c .before .before .before .kind-of .result) (c .before .before .first-of .result) (c .before .second-of .result)) (c .before .before .before .kind-of .ensures) (c .before .before .first-of .ensures) (c .before .second-of .ensures) (c .meeting .result) (c .meeting .ensures)
+    entry-met _ (getD (start .args .list .now) (start .args .k) 0) (pair (c .before .before .before .kind-of .result) (c .before .before .first-of .result) (c .before .second-of .result)) (c .before .before .before .kind-of .ensures) (c .before .before .first-of .ensures) (c .before .second-of .ensures) (c .meeting .result) (c .meeting .ensures)
 
 pub entry-meeting-spec : {M : Type 1} → statement M
 entry-meeting-spec =

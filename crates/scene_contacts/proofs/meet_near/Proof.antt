@@ -2,9 +2,9 @@
 use borrow.Author.Needs.{needs}
 use mathlib.Core.Path.{_≡_}
 use native.Mathlib.Omega.{arith}
-use Rattle.scene_words.specs.Answering.{made-list, made-stands}
+use Rattle.scene_words.specs.Answering.{made-list, made-within, made-there}
 use Rattle.meetings.specs.Ready.{old-accepted}
-use Rattle.scene_contacts.specs.Answering.{met-made, met-without-room}
+use Rattle.scene_contacts.specs.Answering.{met-listed, met-without-room}
 use Rattle.scene_contacts.proofs.meet_near.Statement.{statement}
 use Rattle.scene_contacts.proofs.meet_near.Tie as tie
 
@@ -18,18 +18,23 @@ meet-entries-requires c κs =
     let small = c .before .before .before .before .before .before .before .before .before .before .before .smaller2 .ensures in
     let less = c .before .before .before .before .before .before .before .before .before .before .before .before .smaller .ensures in
     let room = c .before .before .before .before .before .before .before .before .before .before .before .before .before .room .ensures in
-    let m = made-list (c .before .before .before .before .before .before .before .before .list-accepted .ensures .list) {m = c .before .before .before .before .made .given .0 .0} (search) in (
+    let l = c .before .before .before .before .before .before .before .before .list-accepted .ensures .list in
+    let m = made-list l {m = c .before .before .before .before .made .given .0 .0} (search) in (
       start .pre,
-      made-stands (old-accepted (start .pre)) (rw (small, less, room) (omega arith)) m,
-      m .counts,
+      made-within {m = c .before .before .before .before .made .given .0 .0} (old-accepted (start .pre)) (rw (small, less, room) (omega arith)) l (search),
+      made-there {m = c .before .before .before .before .made .given .0 .0} (old-accepted (start .pre)) (rw (small, less, room) (omega arith)) l (search),
       omega (arith, m .counts, m .fits, small, less),
       omega (arith, m .counts, m .fits, small),
     )
 
 returns : tie.Need-returns
 returns c =
-    rw (c .before .before .before .before .before .before .before .before .before .before .before .before .before .before .before .before .smaller2 .ensures, c .before .before .before .before .before .before .before .before .before .before .before .before .before .before .before .before .before .smaller .ensures, c .before .before .before .before .before .before .before .before .before .before .before .before .before .before .before .before .before .before .room .ensures) at
-    (met-made (c .before .before .before .before .before .before .before .before .before .before .before .before .before .list-accepted .ensures .list) {m = c .before .before .before .before .before .before .before .before .before .made .given .0 .0} (search) (c .before .before .before .before .meet-entries .ensures .0) (c .before .before .before .before .meet-entries .ensures .1))
+    let start = c .before .before .before .before .before .before .before .before .before .before .before .before .before .before .before .before .before .before .before .before .before .before .before .before .before .before in
+    let small = c .before .before .before .before .before .before .before .before .before .before .before .before .before .before .before .before .smaller2 .ensures in
+    let less = c .before .before .before .before .before .before .before .before .before .before .before .before .before .before .before .before .before .smaller .ensures in
+    let room = c .before .before .before .before .before .before .before .before .before .before .before .before .before .before .before .before .before .before .room .ensures in
+    rw (small, less, room) at
+    (met-listed {m = c .before .before .before .before .before .before .before .before .before .made .given .0 .0} (old-accepted (start .pre)) (rw (small, less, room) (omega arith)) (c .before .before .before .before .before .before .before .before .before .before .before .before .before .list-accepted .ensures .list) (search) (c .before .before .before .before .meet-entries .ensures .0) (c .before .before .before .before .meet-entries .ensures .1))
 
 returns-2 : tie.Need-returns-2
 returns-2 c =

@@ -1,12 +1,11 @@
 use Prim.Native.Nat.{_-_, _≤_}
+use mathlib.Core.Path.{sym, _∙_}
 use native.Mathlib.Omega.{arith}
 use lib.ListN.{length, drop, drop-of-length-le}
 use Rattle.sequences.specs.Parts.{drop-next}
 use Rattle.sequences.specs.Writing.{Writing, writing-starts-front, writing-as, writing-room, writing-step, writing-ends-front}
-use Rattle.meaning.specs.Scene.{Scene}
 use Rattle.scenes.specs.Alone.{tabled}
-use Rattle.meaning.specs.List.{pairs}
-use Rattle.scene_words.specs.Listed.{bytesOf, bytes-length}
+use Rattle.scene_words.specs.Listed.{bytesOf, pairsIn, bytes-in-length, bytes-in-at, left-in}
 use Rattle.scene_words.proofs.settle_entries.Statement.{statement}
 use Rattle.scene_words.proofs.settle_entries.Tie as tie
 use Rattle.scene_words.proofs.settle_entries.Reads as reads
@@ -15,48 +14,48 @@ use Rattle.scene_words.proofs.settle_entry.Reads as settle-entry-reads
 
 abbrev Inv-loop : tie.InvT-loop
 Inv-loop positions edges triangles stands list out₀ count k₀ out k =
-    (k ≤ count) × Writing out₀ (bytesOf (tabled positions edges triangles stands) (pairs (tabled positions edges triangles stands))) out k (drop k (bytesOf (tabled positions edges triangles stands) (pairs (tabled positions edges triangles stands))))
+    (k ≤ count) × Writing out₀ (bytesOf (tabled positions edges triangles stands) (pairsIn count list)) out k (drop k (bytesOf (tabled positions edges triangles stands) (pairsIn count list)))
 
 abbrev μ-loop : tie.MeasureT-loop
 μ-loop positions edges triangles stands list out₀ count k₀ out k = count - k
 
--- src/lib.rt:57:5
 loop-holds : tie.Need-loop-holds Inv-loop μ-loop
 loop-holds c =
-    (omega arith, writing-starts-front _ _ (rw (bytes-length (tabled (c .before .before .before .before .before .args .positions .now) (c .before .before .before .before .before .args .edges .now) (c .before .before .before .before .before .args .triangles .now) (c .before .before .before .before .before .args .stands .now)) (pairs (tabled (c .before .before .before .before .before .args .positions .now) (c .before .before .before .before .before .args .edges .now) (c .before .before .before .before .before .args .triangles .now) (c .before .before .before .before .before .args .stands .now)))) (omega (arith, c .before .before .before .before .before .pre .2, c .before .before .before .before .before .pre .3))))
+    let start = c .before .before .before .before .before in
+    let l = bytes-in-length (start .args .count) (start .args .list .now) (start .pre .1) (tabled (start .args .positions .now) (start .args .edges .now) (start .args .triangles .now) (start .args .stands .now)) in
+    (omega arith, writing-starts-front _ _ (rw l (start .pre .3)))
 
--- src/lib.rt:58:18
 settle-entry-requires : tie.Need-settle-entry-requires Inv-loop μ-loop
 settle-entry-requires c κs =
     let p = c .before .before .before .before .before .before .before .pre in
-    (p .0, p .1, omega (arith, p .2))
+    (p .0, omega (arith, p .1), p .2 (c .before .loop .k) (omega arith))
 
--- src/lib.rt:58:9
+-- what is left begins with the byte of the entry
 slice-write-out : tie.Need-slice-write-out Inv-loop μ-loop
-slice-write-out c = writing-room (writing-as (drop-next (bytesOf (tabled (c .before .before .before .before .before .before .before .before .args .positions .now) (c .before .before .before .before .before .before .before .before .args .edges .now) (c .before .before .before .before .before .before .before .before .args .triangles .now) (c .before .before .before .before .before .before .before .before .args .stands .now)) (pairs (tabled (c .before .before .before .before .before .before .before .before .args .positions .now) (c .before .before .before .before .before .before .before .before .args .edges .now) (c .before .before .before .before .before .before .before .before .args .triangles .now) (c .before .before .before .before .before .before .before .before .args .stands .now)))) (c .before .before .loop .k) 0 (rw (bytes-length (tabled (c .before .before .before .before .before .before .before .before .args .positions .now) (c .before .before .before .before .before .before .before .before .args .edges .now) (c .before .before .before .before .before .before .before .before .args .triangles .now) (c .before .before .before .before .before .before .before .before .args .stands .now)) (pairs (tabled (c .before .before .before .before .before .before .before .before .args .positions .now) (c .before .before .before .before .before .before .before .before .args .edges .now) (c .before .before .before .before .before .before .before .before .args .triangles .now) (c .before .before .before .before .before .before .before .before .args .stands .now)))) (omega (arith, c .before .before .before .before .before .before .before .before .pre .2)))) (c .before .before .loop .inv .1))
+slice-write-out c =
+    let start = c .before .before .before .before .before .before .before .before in
+    writing-room (writing-as (left-in (start .args .count) (start .args .list .now) (start .pre .1) _ (c .before .before .loop .k) (omega arith)) (c .before .before .loop .inv .1))
 
--- src/lib.rt:59:9
 add-k : tie.Need-add-k Inv-loop μ-loop
 add-k c = omega arith
 
--- src/lib.rt:57:5
 loop-less : tie.Need-loop-less Inv-loop μ-loop
 loop-less c = omega arith
 
--- src/lib.rt:57:5
 loop-again : tie.Need-loop-again Inv-loop μ-loop
-loop-again c = (omega arith, rw (c .settle-entry .ensures) (writing-step (writing-as (drop-next (bytesOf (tabled (c .before .before .before .before .before .before .before .before .args .positions .now) (c .before .before .before .before .before .before .before .before .args .edges .now) (c .before .before .before .before .before .before .before .before .args .triangles .now) (c .before .before .before .before .before .before .before .before .args .stands .now)) (pairs (tabled (c .before .before .before .before .before .before .before .before .args .positions .now) (c .before .before .before .before .before .before .before .before .args .edges .now) (c .before .before .before .before .before .before .before .before .args .triangles .now) (c .before .before .before .before .before .before .before .before .args .stands .now)))) (c .before .before .loop .k) 0 (rw (bytes-length (tabled (c .before .before .before .before .before .before .before .before .args .positions .now) (c .before .before .before .before .before .before .before .before .args .edges .now) (c .before .before .before .before .before .before .before .before .args .triangles .now) (c .before .before .before .before .before .before .before .before .args .stands .now)) (pairs (tabled (c .before .before .before .before .before .before .before .before .args .positions .now) (c .before .before .before .before .before .before .before .before .args .edges .now) (c .before .before .before .before .before .before .before .before .args .triangles .now) (c .before .before .before .before .before .before .before .before .args .stands .now)))) (omega (arith, c .before .before .before .before .before .before .before .before .pre .2)))) (c .before .before .loop .inv .1))))
+loop-again c =
+    let start = c .before .before .before .before .before .before .before .before in
+    (omega arith, rw (c .settle-entry .ensures) (writing-step (writing-as (left-in (start .args .count) (start .args .list .now) (start .pre .1) _ (c .before .before .loop .k) (omega arith)) (c .before .before .loop .inv .1))))
 
--- src/lib.rt:52:1
 same-length : tie.Need-same-length Inv-loop μ-loop
 same-length c = c .before .loop .inv .1 .same
 
--- src/lib.rt:52:1
 returns : tie.Need-returns Inv-loop μ-loop
 returns c =
-    let s : Scene = (tabled (c .before .before .before .before .before .before .before .args .positions .now) (c .before .before .before .before .before .before .before .args .edges .now) (c .before .before .before .before .before .before .before .args .triangles .now) (c .before .before .before .before .before .before .before .args .stands .now)) in
+    let start = c .before .before .before .before .before .before .before in
+    let s = tabled (start .args .positions .now) (start .args .edges .now) (start .args .triangles .now) (start .args .stands .now) in
     writing-ends-front
-    (writing-as (drop-of-length-le (bytesOf s (pairs s)) {i = c .before .loop .k} (rw (bytes-length s (pairs s)) (omega (arith, c .before .before .before .before .before .before .before .pre .2)))) (c .before .loop .inv .1))
+    (writing-as (drop-of-length-le (bytesOf s (pairsIn (start .args .count) (start .args .list .now))) {i = c .before .loop .k} (rw (bytes-in-length (start .args .count) (start .args .list .now) (start .pre .1) s) (omega arith))) (c .before .loop .inv .1))
 
 pub settle-entries-spec : {M : Type 1} → statement M
 settle-entries-spec =

@@ -1,6 +1,7 @@
--- `settle_entry`: the entry is taken apart, and its pair is the one in that place of the list.
+-- `settle_entry`: the entry is taken apart, and its pair is judged.
 use borrow.Author.Needs.{needs}
 use mathlib.Core.Path.{_∙_}
+use lib.ListN.{getD}
 use Rattle.meaning.specs.List.{pair}
 use Rattle.scene_words.specs.Listed.{entry-there, entry-byte}
 use Rattle.scene_words.proofs.settle_entry.Statement.{statement}
@@ -10,13 +11,12 @@ pair-requires : tie.Need-pair-requires
 pair-requires c κs =
     let start = c .before .before .before .before .before .before .before .before in
     let p = start .pre in
-    (p .0, entry-there (p .1) (start .args .k) (p .2) (pair (c .before .before .kind-of .result) (c .before .first-of .result) (c .second-of .result)) (c .before .before .kind-of .ensures) (c .before .first-of .ensures) (c .second-of .ensures))
+    (p .0, entry-there _ (getD (start .args .list .now) (start .args .k) 0) (pair (c .before .before .kind-of .result) (c .before .first-of .result) (c .second-of .result)) (c .before .before .kind-of .ensures) (c .before .first-of .ensures) (c .second-of .ensures) (p .2))
 
 returns : tie.Need-returns
 returns c =
     let start = c .before .before .before .before .before .before .before .before .before .before in
-    let p = start .pre in
-    c .byte-of .ensures ∙ entry-byte (p .1) (start .args .k) (p .2) (pair (c .before .before .before .before .kind-of .result) (c .before .before .before .first-of .result) (c .before .before .second-of .result)) (c .before .before .before .before .kind-of .ensures) (c .before .before .before .first-of .ensures) (c .before .before .second-of .ensures) (c .before .pair .result) (c .before .pair .ensures)
+    c .byte-of .ensures ∙ entry-byte _ (getD (start .args .list .now) (start .args .k) 0) (pair (c .before .before .before .before .kind-of .result) (c .before .before .before .first-of .result) (c .before .before .second-of .result)) (c .before .before .before .before .kind-of .ensures) (c .before .before .before .first-of .ensures) (c .before .before .second-of .ensures) (c .before .pair .result) (c .before .pair .ensures)
 
 pub settle-entry-spec : {M : Type 1} → statement M
 settle-entry-spec =

@@ -1,6 +1,6 @@
 -- What stands in the buffer, with the lines that are still to come, is what is wanted; so with the hits.
 use Prim.Native.Nat.{_+_, _-_, _*_, _≤_, _<_}
-use mathlib.Core.Path.{_≡_}
+use mathlib.Core.Path.{_≡_, _∙_}
 use native.Mathlib.Omega.{arith}
 use borrow.Author.Needs.{needs}
 use lib.ListN.{length}
@@ -8,6 +8,8 @@ use Rattle.sequences.specs.Writing.{Writing, writing-starts-front, writing-as, 
 use Rattle.meaning.specs.Scene.{Scene}
 use Rattle.meaning.specs.List.{pairs}
 use Rattle.scenes.specs.Alone.{tabled}
+use Rattle.scene_words.specs.Listed.{listed-all-there}
+use Rattle.scene_contacts.specs.Listed.{listed-meeting}
 use Rattle.contact_report.specs.Lines.{one-hit, linesFrom, lines-fit, lines-told, entry-next, hitsFrom, hits-next, hits-end, listed-line-short}
 use Rattle.contact_report.proofs.hits.hit_lines.Statement.{statement}
 use Rattle.contact_report.proofs.hits.hit_lines.Tie as tie
@@ -34,7 +36,7 @@ loop-holds c =
 entry-meeting-requires : tie.Need-entry-meeting-requires Inv-loop μ-loop
 entry-meeting-requires c κs =
     let p = c .before .before .before .before .before .before .before .pre in
-    (p .0, p .1, omega (arith, p .2, c .loop-test .taken))
+    (p .0, omega (arith, p .1 .room, p .2, c .loop-test .taken), listed-all-there (p .1) (c .before .loop .k) (omega (arith, p .2, c .loop-test .taken)))
 
 mul-tell-pair : tie.Need-mul-tell-pair Inv-loop μ-loop
 mul-tell-pair c = search needs
@@ -63,7 +65,7 @@ loop-again c =
     let k = c .before .before .before .before .before .before .before .loop .k in
     let i = c .before .before .before .before .before .before .before .loop .inv in
     let below : k < length (pairs s) = omega (arith, start .pre .2, c .before .before .before .before .before .before .loop-test .taken) in
-    let m = c .before .before .before .before .before .entry-meeting .ensures in
+    let m = c .before .before .before .before .before .entry-meeting .ensures ∙ listed-meeting (start .pre .1) k below in
     let told = c .before .before .tell-pair .ensures in
     let line = entry-next s (start .args .list .now) (start .pre .1) k below (c .before .before .before .before .before .entry-meeting .result) m in
     let short = listed-line-short s (start .args .list .now) (start .pre .1) k below in (

@@ -1,0 +1,4 @@
+-- What was asked of a list of one's own, as theorems.
+pub mod OneOwn
+pub mod AsAlone
+pub mod Small
