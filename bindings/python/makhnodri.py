@@ -379,7 +379,7 @@ _COUNT, _WORD = int, Word
 
 _SCENE = _Lists()
 _TESTS = _Fixed("tests", _SIZE, 1, optional=True)
-_LIST, _WORDS = _Write("list", _UINT32), _Write("words", _UINT8)
+_LIST, _OWN_LIST, _WORDS = _Write("list", _UINT32), _Read("list", _UINT32), _Write("words", _UINT8)
 _CONTACT, _CONTACTS = _Fixed("contact", _UINT32, CONTACT_LENGTH), _Write("contacts", _UINT32)
 _POINT, _EDGES, _PIECE = (_Place("vertex"), _Place("triangle")), (_Place("first"), _Place("second")), _Place("piece")
 _THREE = (_Write("positions", _INT32), _Write("edges", _UINT16), _Write("triangles", _UINT16))
@@ -391,6 +391,8 @@ _FUNCTIONS = (
     ("count_pairs_slices", _COUNT, _SCENE, _TESTS),
     ("list_pairs_slices", _COUNT, _SCENE, _LIST, _TESTS),
     ("settle_scene_slices", _COUNT, _SCENE, _LIST, _WORDS),
+    ("settle_list_slices", _COUNT, _SCENE, _OWN_LIST, _WORDS),
+    ("contact_list_slices", _COUNT, _SCENE, _OWN_LIST, _WORDS, _CONTACTS),
     ("judge_pt_slices", _WORD, _SCENE, *_POINT),
     ("judge_ee_slices", _WORD, _SCENE, *_EDGES),
     ("judge_pt_piece_slices", _WORD, _SCENE, *_POINT, _PIECE),
@@ -514,6 +516,14 @@ class Scene:
         rows = (numbers[at : at + CONTACT_LENGTH] for at in range(0, len(numbers), CONTACT_LENGTH))
         pairs = (Pair.of_entry(number) for number in entries)
         return [(pair, Word(word), Contact.of_numbers(pair.kind, row) if word == HIT else None) for pair, word, row in zip(pairs, words, rows)]
+
+    def settle_pairs(self, pairs):
+        """The words of pairs that one found oneself, in their order: the scene is checked once. A Refused with number 5 or 6 carries the number of the
+        first pair at fault, counted from 1."""
+        entries = array.array(_UINT32.code, (pair.entry() for pair in pairs))
+        words = _room(_UINT8, len(entries))
+        settle_list(self, entries, words)
+        return [Word(word) for word in words]
 
     def contact(self, kind, first, second):
         """The word of a pair, and its contact where that is a hit, else None."""

@@ -45,6 +45,8 @@ static void hold_slices(void) {
     for (size_t i = 0; i < MAKHNODRI_CONTACT_LENGTH; i++)
         if (contact[i] != 7) wrong = 1, puts("a contact of no pair");
     hold("contact_scene", makhnodri_contact_scene_slices(NO_SCENE, NULL, 0, NULL, 0, NULL, 0), 0, 0);
+    hold("settle_list", makhnodri_settle_list_slices(NO_SCENE, NULL, 0, NULL, 0), 0, 0);
+    hold("contact_list", makhnodri_contact_list_slices(NO_SCENE, NULL, 0, NULL, 0, NULL, 0), 0, 0);
     hold("read_scene, no buffers", makhnodri_read_scene_slices(NULL, 0, NO_SCENE, counts), MAKHNODRI_SHORT_BUFFER, 0);
     hold("read_scene, no seams' buffer",
          makhnodri_read_scene_slices(NULL, 0, room.positions, MAKHNODRI_POSITIONS_LENGTH, room.edges, MAKHNODRI_EDGES_LENGTH,
@@ -77,6 +79,8 @@ static void hold_scene(const makhnodri_scene *scene) {
     hold("contact_pt of a struct", makhnodri_contact_pt(scene, 0, 0, contact), MAKHNODRI_NOT_THERE, 0);
     hold("contact_ee of a struct", makhnodri_contact_ee(scene, 0, 0, contact), MAKHNODRI_NOT_THERE, 0);
     hold("contact_scene of a struct", makhnodri_contact_scene(scene, NULL, 0, NULL, 0, NULL, 0), 0, 0);
+    hold("settle_list of a struct", makhnodri_settle_list(scene, NULL, 0, NULL, 0), 0, 0);
+    hold("contact_list of a struct", makhnodri_contact_list(scene, NULL, 0, NULL, 0, NULL, 0), 0, 0);
     for (size_t i = 0; i < MAKHNODRI_CONTACT_LENGTH; i++)
         if (contact[i] != 7) wrong = 1, puts("a contact of no pair of a struct");
 }

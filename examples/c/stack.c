@@ -22,6 +22,8 @@ static uint16_t triangles[MAKHNODRI_TRIANGLES_LENGTH];
 static uint16_t seams[MAKHNODRI_SEAMS_LENGTH], stands[512];
 static size_t seams_length;
 static uint32_t list[MAKHNODRI_PAIR_LIMIT];
+static uint32_t asked[2048];
+static size_t asked_length;
 static uint8_t words[MAKHNODRI_PAIR_LIMIT];
 static uint32_t contacts[MAKHNODRI_CONTACT_LENGTH * MAKHNODRI_PAIR_LIMIT];
 static char text[MAKHNODRI_TEXT_LIMIT + 1];
@@ -51,6 +53,10 @@ static void contact_pt(void) { makhnodri_contact_pt_slices(SCENE, place, place /
 static void contact_ee(void) { makhnodri_contact_ee_slices(SCENE, place, place / 3, contacts); }
 static void contact_scene(void) {
     makhnodri_contact_scene_slices(SCENE, list, sizeof list / sizeof list[0], words, sizeof words, contacts, sizeof contacts / sizeof contacts[0]);
+}
+static void settle_list(void) { makhnodri_settle_list_slices(SCENE, asked, asked_length, words, sizeof words); }
+static void contact_list(void) {
+    makhnodri_contact_list_slices(SCENE, asked, asked_length, words, sizeof words, contacts, sizeof contacts / sizeof contacts[0]);
 }
 static void read_text(void) {
     makhnodri_read_scene_slices((const uint8_t *)text, text_length, own.positions, MAKHNODRI_POSITIONS_LENGTH, own.edges,
@@ -155,6 +161,19 @@ static void write_claims(unsigned seed) {
     claims_length = (size_t)at;
 }
 
+/* a list of one's own: pairs that share no vertex, of both kinds */
+static void write_asked(void) {
+    asked_length = 0;
+    for (size_t i = 0; i < 1024; i++) {
+        uint16_t e[2], f[2], t[3];
+        for (int k = 0; k < 2; k++) e[k] = stands[edges[2 * i + k]], f[k] = stands[edges[2 * (1023 - i) + k]];
+        for (int k = 0; k < 3; k++) t[k] = stands[triangles[3 * (i % 512) + k]];
+        size_t v = 7 * i % 512;
+        if (t[0] != stands[v] && t[1] != stands[v] && t[2] != stands[v]) asked[asked_length++] = makhnodri_entry(MAKHNODRI_PT, v, i % 512);
+        if (e[0] != f[0] && e[0] != f[1] && e[1] != f[0] && e[1] != f[1]) asked[asked_length++] = makhnodri_entry(MAKHNODRI_EE, i, 1023 - i);
+    }
+}
+
 static const struct {
     const char *name;
     void (*call)(void);
@@ -179,6 +198,8 @@ static const struct {
     {"contact_pt", contact_pt, 400},
     {"contact_ee", contact_ee, 400},
     {"contact_scene", contact_scene, 4},
+    {"settle_list", settle_list, 20},
+    {"contact_list", contact_list, 20},
 };
 
 enum { SCENES = 20 };
@@ -191,6 +212,7 @@ static size_t most_of(size_t i) {
         for (int run = seed; run < calls[i].runs; run += SCENES) {
             write_text((unsigned)run);
             write_claims((unsigned)run);
+            write_asked();
             place = (size_t)run;
             size_t used = used_by(calls[i].call);
             if (most < used) most = used;
