@@ -520,7 +520,7 @@ class Scene:
     def settle_pairs(self, pairs):
         """The words of pairs that one found oneself, in their order: the scene is checked once. A Refused with number 5 or 6 carries the number of the
         first pair at fault, counted from 1."""
-        entries = array.array(_UINT32.code, (pair.entry() for pair in pairs))
+        entries = array.array(_UINT32.code, (pair.entry for pair in pairs))
         words = _room(_UINT8, len(entries))
         settle_list(self, entries, words)
         return [Word(word) for word in words]

@@ -136,6 +136,13 @@ class Seeds(unittest.TestCase):
         for word in (b"hit", b"miss", b"touch", b"apart"):
             self.assertGreater(words[word], 50)
 
+    def test_lists_of_ones_own(self):
+        for seed in range(SEEDS):
+            scene = makhnodri.Scene.read(made(seed))
+            settled = scene.settled()
+            turned = [pair for pair, _ in reversed(settled)]
+            self.assertEqual(scene.settle_pairs(turned), [word for _, word in reversed(settled)], seed)
+
     def test_contacts(self):
         met = 0
         for seed in range(SEEDS):

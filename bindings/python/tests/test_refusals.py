@@ -57,6 +57,17 @@ class Refusals(unittest.TestCase):
             self.refused(6, 0, getattr(makhnodri, call), scene, *given)
         self.assertEqual(contact, array.array("I", [7] * 5))
 
+    def test_of_a_list_of_ones_own(self):
+        scene = makhnodri.Scene(*triangle_and_point())
+        sound = makhnodri.Pair(makhnodri.PT, 3, 0).entry
+        words, rows = bytearray(b"\x07" * 3), array.array("I", [7] * 15)
+        for number, at, entries in ((5, 2, [sound, 1 << 21]), (5, 1, [sound + 1, 0]), (6, 3, [sound, sound, 0]), (7, 4, [sound] * 4)):
+            own = array.array("I", entries)
+            self.refused(number, at, makhnodri.settle_list, scene, own, words)
+            self.refused(number, at, makhnodri.contact_list, scene, own, words, rows)
+        self.assertEqual((bytes(words), list(rows)), (b"\x07" * 3, [7] * 15))
+        self.assertEqual(scene.settle_pairs([makhnodri.Pair(makhnodri.PT, 3, 0)] * 2), [scene.settled()[0][1]] * 2)
+
     def test_of_contacts_beyond_the_first_range(self):
         lists = triangle_and_point()
         lists[0][18] = lists[0][21] = 262144
