@@ -4,4 +4,6 @@ pub mod SeriesText
 pub mod Front
 pub mod Longer
 pub mod FirstFault
+pub mod Stepping
+pub mod PartWay
 pub mod Shown
