@@ -1,0 +1,2 @@
+-- A block of a series, read into the draft.
+pub mod Moving
