@@ -1,2 +1,3 @@
 -- A block of a series, read into the draft.
 pub mod Moving
+pub mod Block

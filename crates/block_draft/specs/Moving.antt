@@ -136,7 +136,7 @@ end-moves last k {p} {w} {sizes} r h near =
 moved-length : (p : List ℤ) (k : ℕ) (sizes : List ℕ) (minus : List Bool) → 6 * k + 6 ≤ length p → length (movedOn p k sizes minus) ≡ length p
 moved-length p k sizes minus h = wrote-patched p (6 * k) (threeAt p (6 * k + 3) ++ pointFrom sizes minus 0) h .same
 
-sewable-as-long : {p p′ : List ℤ} {w t : List ℕ} → length p′ ≡ length p → Sewable p w t → Sewable p′ w t
+pub sewable-as-long : {p p′ : List ℤ} {w t : List ℕ} → length p′ ≡ length p → Sewable p w t → Sewable p′ w t
 sewable-as-long {p} {p′} {w} e s = record {
   blank = s .blank;
   even = s .even;
