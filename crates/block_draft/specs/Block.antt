@@ -48,7 +48,7 @@ pub record InBlock (x : SoFar) (s : Scene) (k : ℕ) (p : List ℤ) (w : List �
   -- where the block is whole, no seam comes apart in its step
   pub sewn : vertexCount s ≤ k → brokenSeam (stepAfter s (x .block)) ≡ false
 
-not-at-most : (a b : ℕ) → not (leb a b) ≡ ltb b a
+pub not-at-most : (a b : ℕ) → not (leb a b) ≡ ltb b a
 not-at-most a b =
     ⊎-elim
     (λ le. rw (le-leb a b le, le-ltb b a le) refl)
@@ -132,7 +132,7 @@ module _ {x : SoFar} {s : Scene} {k : ℕ} {p : List ℤ} {w : List ℕ} (b : In
       start-is : threeAt p (6 * k + 3) ≡ threeOf (endOf s k)
       start-is =
           let at : (i : ℕ) → getD p (6 * k + i) (pos 0) ≡ getD (s .positions) (6 * k + i) (pos 0) = λ i.
-              ap (λ (l : List ℤ). getD l (6 * k + i) (pos 0)) (b .draft) ∙ part-at s (x .block) k i in
+          ap (λ (l : List ℤ). getD l (6 * k + i) (pos 0)) (b .draft) ∙ part-at s (x .block) k i in
           let four : 6 * k + 3 + 1 ≡ 6 * k + 4 = omega arith in
           let five : 6 * k + 3 + 2 ≡ 6 * k + 5 = omega arith in
           let second : getD p (6 * k + 3 + 1) (pos 0) ≡ getD (s .positions) (6 * k + 3 + 1) (pos 0) =

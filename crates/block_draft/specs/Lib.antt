@@ -2,3 +2,4 @@
 pub mod Moving
 pub mod Block
 pub mod Taking
+pub mod Reading

@@ -83,7 +83,7 @@ BlockTaken text at k p p′ w r = (x : SoFar) (s : Scene) → InBlock x s k p w 
 
 -- ---- the laws
 
-last-is : (l : List ℕ) (n : ℕ) → nothing (drop n l) ≡ leb (length l) n
+pub last-is : (l : List ℕ) (n : ℕ) → nothing (drop n l) ≡ leb (length l) n
 unfolding nothing
 last-is l n =
     ⊎-elim

@@ -3,8 +3,11 @@
 
 pub mod moving; // moving.rt: a vertex goes on, and what may be wrong with its next end
 
+ghost use Prim.Native.Nat.{_+_, _≤_};
+ghost use lib.ListN.{length};
 ghost use mathlib.Core.Path.{_≡_};
 ghost use Rattle.block_draft.specs.Taking.{endTaken, closedOr, LineAsked, BlockTaken};
+ghost use Rattle.block_draft.specs.Reading.{AtSomeStep, endsAtOnce, BlockRead};
 use moving::EndTaken;
 use moving::take_end;
 use series_line::BlockLine;
@@ -71,4 +74,57 @@ pub fn take_block_line(
             next,
         ),
     }
+}
+
+// What a block gives: its fault with the number of its line; or the place behind it, where another `n` stands or the text ends, and the number of
+// its last line.
+pub enum BlockAnswer {
+    Fault(BlockFault, usize),
+    Whole(usize, usize),
+}
+
+// Whether the text ends behind the `n` at a place, and vertices are still to come.
+fn ends_at_once(text: &[u8], at: usize, positions: &[i32]) -> bool
+    requires { ⌜ at + 2 ≤ length (now text) ⌝ }
+    ensures { λ r. ⌜ r ≡ endsAtOnce (now (text .entry)) at (now (positions .entry)) ⌝ }
+{
+    (text.len() <= at + 2) & (0 < positions.len() / 6)
+}
+
+// The block of the `n` at a place, which is the line of this number, up to the next `n` or to the end of the text. The positions are then those of
+// its step.
+pub fn read_block(
+    text: &[u8],
+    at: usize,
+    line: usize,
+    positions: &mut [i32],
+    seams: &[u16],
+) -> BlockAnswer
+    requires { ⌜ AtSomeStep (now text) at line (now positions) (now seams) ⌝ }
+    ensures { λ r. ⌜ BlockRead (now (text .entry)) at line (now (positions .entry)) (now (positions .exit)) (now (seams .entry)) r ⌝ }
+{
+    if ends_at_once(text, at, positions) {
+        return BlockAnswer::Fault(BlockFault::Length, line);
+    }
+    let mut sizes = [0u64; 6];
+    let mut minus = [false; 6];
+    let mut k = 0;
+    let mut next = at + 2;
+    let mut read = line;
+    while next < text.len() {
+        match take_block_line(text, next, k, positions, seams, &mut sizes, &mut minus) {
+            LineTaken::Fault(fault) => {
+                return BlockAnswer::Fault(fault, read + 1);
+            }
+            LineTaken::Closed => {
+                return BlockAnswer::Whole(next, read);
+            }
+            LineTaken::Moved(after) => {
+                k += 1;
+                next = after;
+                read += 1;
+            }
+        }
+    }
+    BlockAnswer::Whole(next, read)
 }
