@@ -1,7 +1,7 @@
 // A block of a series is read into the draft: each vertex goes on to its next end, where it stands in the reader's own positions. Nothing that was
 // lent is touched here.
 
-pub mod moving; // moving.rt: a vertex goes on, and what may be wrong with its next end
+mod moving; // moving.rt: a vertex goes on, and what may be wrong with its next end
 
 ghost use Prim.Native.Nat.{_+_, _≤_};
 ghost use lib.ListN.{length};
@@ -53,7 +53,7 @@ fn closed_or(vertices: usize, k: usize) -> LineTaken
 }
 
 // The line behind k lines of a block.
-pub fn take_block_line(
+fn take_block_line(
     text: &[u8],
     at: usize,
     k: usize,

@@ -86,7 +86,7 @@ fn apart_here(positions: &[i32], seams: &[u16], k: usize) -> bool
 }
 
 // The line of the vertex behind k others: 13, then 2, then the vertex goes on, and 15.
-pub fn take_end(
+pub(crate) fn take_end(
     last: bool,
     k: usize,
     positions: &mut [i32],
