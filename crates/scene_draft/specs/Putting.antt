@@ -50,7 +50,7 @@ minus-at : (zs : List ℤ) (l : List Bool) (i : ℕ) → take (length zs) l ≡ 
 minus-at zs l i e h =
     sym (getD-take (length zs) l i false h) ∙ ap (λ (k : List Bool). getD k i false) e ∙ List·getD-map negative zs i (pos 0)
 
-signed-at : {sizes : List ℕ} {minus : List Bool} (zs : List ℤ) (i : ℕ) → InFront zs sizes minus → i < length zs
+pub signed-at : {sizes : List ℕ} {minus : List Bool} (zs : List ℤ) (i : ℕ) → InFront zs sizes minus → i < length zs
     → signedAt sizes minus i ≡ getD zs i (pos 0)
 signed-at {sizes} {minus} zs i f h =
     rw (sized-at zs sizes i (f .sized) h, minus-at zs minus i (f .signed) h) (signed-is (getD zs i (pos 0)))

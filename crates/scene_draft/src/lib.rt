@@ -8,7 +8,7 @@ ghost use Rattle.scene_draft.specs.Putting.{Roomy};
 ghost use Rattle.scene_draft.specs.Drafting.{LineReady, LineTaken};
 ghost use Rattle.scene_draft.specs.Reading.{BlankTable, DraftIs, total};
 
-mod place; // place.rt: a record goes to its place in the buffers
+pub mod place; // place.rt: a record goes to its place in the buffers
 mod sewing; // sewing.rt: a seam that was put there is held to 15 and 4
 
 use meaning::Refusal;
@@ -21,12 +21,13 @@ use scene_line::next_line;
 use sewing::hold;
 
 // What a line gives: its fault; or the counts of the scene with its record, which the draft then holds, and the place of the next line.
-enum Taken {
+pub enum Taken {
     Fault(Refusal),
     Next(SceneCounts, usize),
 }
 
-fn take_line(
+// One line: its record goes into the draft.
+pub fn take_line(
     text: &[u8],
     at: usize,
     c: SceneCounts,

@@ -23,7 +23,7 @@ fn coordinate(minus: bool, size: u64) -> i32
 }
 
 // Three coordinates, those from place k on, are put at a place of the positions.
-fn put_point(out: &mut [i32], at: usize, sizes: &[u64], minus: &[bool], k: usize)
+pub fn put_point(out: &mut [i32], at: usize, sizes: &[u64], minus: &[bool], k: usize)
     requires { ⌜ at + 3 ≤ length (now out) ⌝ }
     requires { ⌜ k + 3 ≤ length (now sizes) ⌝ }
     requires { ⌜ k + 3 ≤ length (now minus) ⌝ }

@@ -1,0 +1,2 @@
+-- The front of a series is its scene.
+pub mod Fronts

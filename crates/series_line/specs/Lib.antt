@@ -1,0 +1,3 @@
+-- One line of a series.
+pub mod Rendered
+pub mod Reading
