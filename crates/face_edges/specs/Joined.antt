@@ -7,7 +7,7 @@ use native.Mathlib.Omega.{arith}
 use lib.Dec.{eqb}
 use lib.ListN.{length, getD, drop, length-drop}
 use Rattle.sequences.specs.Parts.{drop-next}
-use Rattle.obj_meaning.specs.ObjFile.{joined}
+use Rattle.meaning.specs.ObjFile.{joined}
 
 pub record Looking (a b : ℕ) (s : List ℕ) (k : ℕ) : Type 0 where
   pub rest : joined a b s ≡ joined a b (drop k s)

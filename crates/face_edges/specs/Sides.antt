@@ -7,7 +7,7 @@ use native.Mathlib.Omega.{arith}
 use lib.ListN.{length, take, set}
 use Rattle.sequences.specs.Pick.{pick, pick-true, pick-false}
 use Rattle.sequences.specs.Wrote.{Wrote, wrote-two}
-use Rattle.obj_meaning.specs.ObjFile.{joined, withSide, withSides}
+use Rattle.meaning.specs.ObjFile.{joined, withSide, withSides}
 
 -- what stands in front is the edges with the side
 pub record SideAdded (a b : ℕ) (o : List ℕ) (count : ℕ) (o′ : List ℕ) (r : ℕ) : Type 0 where

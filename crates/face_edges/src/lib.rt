@@ -2,7 +2,7 @@
 ghost use Prim.Native.Nat.{_+_, _*_, _≤_};
 ghost use lib.ListN.{length, take};
 ghost use mathlib.Core.Path.{_≡_};
-ghost use Rattle.obj_meaning.specs.ObjFile.{joined};
+ghost use Rattle.meaning.specs.ObjFile.{joined};
 ghost use Rattle.face_edges.specs.Sides.{SideAdded, SidesAdded};
 
 // Whether two vertices are the ends of one of these edges.

@@ -8,7 +8,7 @@ use lib.Dec.{eqb}
 use lib.ListN.{length, getD, drop, drop-of-length-le}
 use Rattle.sequences.specs.Parts.{drop-next}
 use Rattle.sequences.specs.Pick.{pick}
-use Rattle.obj_meaning.specs.ObjLine.{placeOf}
+use Rattle.meaning.specs.ObjLine.{placeOf}
 
 pub record Finding (c : ℕ) (s : List ℕ) (k : ℕ) : Type 0 where
   pub place : placeOf c s ≡ k + placeOf c (drop k s)

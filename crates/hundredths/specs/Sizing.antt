@@ -12,10 +12,10 @@ use Rattle.sequences.specs.Pick.{pick, pick-true, pick-false}
 use Rattle.meaning.specs.Limits.{digitLimit}
 use Rattle.meaning.specs.Text.{minusSign}
 use Rattle.decimals.specs.Byte.{byteAt}
-use Rattle.obj_meaning.specs.ObjLine.{placeOf, has, before, behind, point, wholeOf, withPart, onWhole, sizeOf, decimalOf, signedAs, numberOf, zeroDigit}
-use Rattle.obj_meaning.specs.declared.Decimal.{Decimal}
-use Rattle.obj_meaning.specs.declared.Whole.{Whole}
-use Rattle.obj_meaning.specs.declared.Whole.the-variants.{Worth, Bad}
+use Rattle.meaning.specs.ObjLine.{placeOf, has, before, behind, point, wholeOf, withPart, onWhole, sizeOf, decimalOf, signedAs, vertexNumberOf, zeroDigit}
+use Rattle.meaning.specs.declared.Decimal.{Decimal}
+use Rattle.meaning.specs.declared.Whole.{Whole}
+use Rattle.meaning.specs.declared.Whole.the-variants.{Worth, Bad}
 use Rattle.hundredths.specs.Worth.{whole-below}
 
 -- a part that goes to the end
@@ -111,8 +111,8 @@ module _ (s : List ℕ) {b : ℕ} (is : b ≡ byteAt s 0) where
   pub decimal-plain : {w : Whole} {r : Decimal} → (b ≡ minusSign → ⊥) → w ≡ sizeOf s → r ≡ signedAs false w → r ≡ decimalOf s
   decimal-plain n p q = q ∙ ap (signedAs false) p ∙ sym (pick-false _ _ (ne-eqb (byteAt s 0) minusSign (λ e. n (is ∙ e))))
 
-  pub number-zero : b ≡ zeroDigit → Bad ≡ numberOf s
+  pub number-zero : b ≡ zeroDigit → Bad ≡ vertexNumberOf s
   number-zero e = sym (pick-true _ _ (eq-eqb (byteAt s 0) zeroDigit (sym is ∙ e)))
 
-  pub number-plain : {r : Whole} → (b ≡ zeroDigit → ⊥) → r ≡ wholeOf digitLimit s → r ≡ numberOf s
+  pub number-plain : {r : Whole} → (b ≡ zeroDigit → ⊥) → r ≡ wholeOf digitLimit s → r ≡ vertexNumberOf s
   number-plain n p = p ∙ sym (pick-false _ _ (ne-eqb (byteAt s 0) zeroDigit (λ e. n (is ∙ e))))

@@ -13,9 +13,9 @@ use Rattle.sequences.specs.Parts.{drop-next}
 use Rattle.sequences.specs.Pick.{pick, both, neither, pick-true, pick-false, pick-gave}
 use Rattle.decimals.specs.Byte.{IsDigit, digitTest, digit-passed}
 use Rattle.decimals.specs.Value.{value, valueOn}
-use Rattle.obj_meaning.specs.ObjLine.{placeOf, wholeOf, digitsAlone}
-use Rattle.obj_meaning.specs.declared.Whole.{Whole}
-use Rattle.obj_meaning.specs.declared.Whole.the-variants.{Worth, Bad}
+use Rattle.meaning.specs.ObjLine.{placeOf, wholeOf, digitsAlone}
+use Rattle.meaning.specs.declared.Whole.{Whole}
+use Rattle.meaning.specs.declared.Whole.the-variants.{Worth, Bad}
 
 pub record Reading (s : List ℕ) (worth k : ℕ) : Type 0 where
   pub counts : valueOn worth (drop k s) ≡ value s

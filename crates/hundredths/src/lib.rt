@@ -2,11 +2,11 @@
 ghost use Prim.Native.Nat.{_≤_, _<_};
 ghost use lib.ListN.{length};
 ghost use mathlib.Core.Path.{_≡_};
-ghost use Rattle.obj_meaning.specs.ObjLine.{placeOf, wholeOf, withPart, sizeOf, decimalOf, numberOf, signedAs};
+ghost use Rattle.meaning.specs.ObjLine.{placeOf, wholeOf, withPart, sizeOf, decimalOf, vertexNumberOf, signedAs};
 use meaning::DIGIT_LIMIT;
-use obj_meaning::Decimal;
-use obj_meaning::Hundredths;
-use obj_meaning::Whole;
+use meaning::Decimal;
+use meaning::Hundredths;
+use meaning::Whole;
 
 // The place of the first such byte, or the length where there is none.
 pub fn place_of(s: &[u8], byte: u8) -> usize
@@ -100,7 +100,7 @@ pub fn decimal_of(s: &[u8]) -> Decimal
 
 // A plain positive number.
 pub fn number_of(s: &[u8]) -> Whole
-    ensures { λ r. ⌜ r ≡ numberOf (now (s .entry)) ⌝ }
+    ensures { λ r. ⌜ r ≡ vertexNumberOf (now (s .entry)) ⌝ }
 {
     if decimals::byte_at(s, 0) == b'0' {
         return Whole::Bad;

@@ -21,3 +21,7 @@ pub mod ContactLines
 pub mod Claims
 pub mod InMotion
 pub mod ReadShown
+pub mod ObjLine
+pub mod ObjFile
+pub mod ObjPair
+pub mod ObjShown

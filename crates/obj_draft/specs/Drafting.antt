@@ -23,11 +23,11 @@ use Rattle.meaning.specs.declared.Refusal.the-variants.{BadLine}
 use Rattle.meaning.specs.declared.SceneCounts.{SceneCounts}
 use Rattle.scene_line.specs.Above.{Above, Bounded, countedBy, above-more}
 use Rattle.scene_line.specs.Reading.{sortOf}
-use Rattle.obj_meaning.specs.ObjLine.{placeOf, says}
-use Rattle.obj_meaning.specs.ObjFile.{placeAt, withSides, faceAdded, sceneAfter, lineChecks, SaysSome, objLines}
-use Rattle.obj_meaning.specs.declared.Hundredths.{Hundredths}
-use Rattle.obj_meaning.specs.declared.ObjLine as Said
-use Rattle.obj_meaning.specs.declared.ObjLine.{ObjLine}
+use Rattle.meaning.specs.ObjLine.{placeOf, says}
+use Rattle.meaning.specs.ObjFile.{placeAt, withSides, faceAdded, sceneAfter, lineChecks, SaysSome, objLines}
+use Rattle.meaning.specs.declared.Hundredths.{Hundredths}
+use Rattle.meaning.specs.declared.ObjLine as Said
+use Rattle.meaning.specs.declared.ObjLine.{ObjLine}
 use Rattle.obj_records.specs.Faults.{VertexFault, FaceFault, faultless}
 use Rattle.obj_records.specs.Adding.{VertexPut, VertexAdded, FaceRoom, sidesWith, FaceOver, FacePut, FaceAdded}
 use Rattle.obj_records.specs.declared.Added as Addeds

@@ -7,7 +7,7 @@ use meaning::Refusal;
 use meaning::SceneCounts;
 use meaning::TextAnswer;
 use obj_line::line_of;
-use obj_meaning::ObjLine;
+use meaning::ObjLine;
 use obj_records::Added;
 use obj_records::add_face;
 use obj_records::add_vertex;

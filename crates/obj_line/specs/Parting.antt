@@ -12,11 +12,11 @@ use borrow.Author.Tests.{eqb-true}
 use Rattle.decimals.specs.Byte.{byteAt, byte-inside}
 use Rattle.hundredths.specs.Finding.{place-fits}
 use Rattle.hundredths.specs.Sizing.{to-the-end}
-use Rattle.obj_meaning.specs.ObjLine.{placeOf, space, before, behind, firstField, secondField, thirdField, decimalOf, numberOf, vertexWith, faceWith, vertexOf, faceOf, beginsWith, isSkipped, says}
-use Rattle.obj_meaning.specs.declared.Decimal.{Decimal}
-use Rattle.obj_meaning.specs.declared.Whole.{Whole}
-use Rattle.obj_meaning.specs.declared.ObjLine.{ObjLine}
-use Rattle.obj_meaning.specs.declared.ObjLine.the-variants.{Skipped, Bad}
+use Rattle.meaning.specs.ObjLine.{placeOf, space, before, behind, firstField, secondField, thirdField, decimalOf, vertexNumberOf, vertexWith, faceWith, vertexOf, faceOf, beginsWith, isSkipped, says}
+use Rattle.meaning.specs.declared.Decimal.{Decimal}
+use Rattle.meaning.specs.declared.Whole.{Whole}
+use Rattle.meaning.specs.declared.ObjLine.{ObjLine}
+use Rattle.meaning.specs.declared.ObjLine.the-variants.{Skipped, Bad}
 use Rattle.obj_line.specs.declared.Cut.{Cut}
 
 -- what stands before the first space ends there, and what stands behind it begins there
@@ -51,7 +51,7 @@ abbrev pub vertexFrom : Decimal → List ℕ → ObjLine
 vertexFrom x l = vertexWith x (decimalOf (before space l)) (decimalOf (behind space l))
 
 abbrev pub faceFrom : Whole → List ℕ → ObjLine
-faceFrom x l = faceWith x (numberOf (before space l)) (numberOf (behind space l))
+faceFrom x l = faceWith x (vertexNumberOf (before space l)) (vertexNumberOf (behind space l))
 
 module _ (s : List ℕ) {r : Cut} (c : CutAt s r) where
   pub vertex-from : (x : Decimal) {y z : Decimal} {o : ObjLine} → y ≡ decimalOf (take (r .end) s)
@@ -66,17 +66,17 @@ module _ (s : List ℕ) {r : Cut} (c : CutAt s r) where
       e ∙ ap (λ (l : List ℕ). vertexFrom x l) (c .back)
       ∙ ap (λ x. vertexFrom x (behind space s)) (p ∙ ap (λ (l : List ℕ). decimalOf l) (c .front))
 
-  pub face-from : (x : Whole) {y z : Whole} {o : ObjLine} → y ≡ numberOf (take (r .end) s)
-      → z ≡ numberOf (take (length s - r .next) (drop (r .next) s)) → o ≡ faceWith x y z → o ≡ faceFrom x s
+  pub face-from : (x : Whole) {y z : Whole} {o : ObjLine} → y ≡ vertexNumberOf (take (r .end) s)
+      → z ≡ vertexNumberOf (take (length s - r .next) (drop (r .next) s)) → o ≡ faceWith x y z → o ≡ faceFrom x s
   face-from x {y} {z} p q e =
-      e ∙ ap (λ w. faceWith x w z) (p ∙ ap (λ (l : List ℕ). numberOf l) (c .front))
-      ∙ ap (λ z. faceWith x (numberOf (before space s)) z) (q ∙ ap (λ (l : List ℕ). numberOf l) (c .back))
+      e ∙ ap (λ w. faceWith x w z) (p ∙ ap (λ (l : List ℕ). vertexNumberOf l) (c .front))
+      ∙ ap (λ z. faceWith x (vertexNumberOf (before space s)) z) (q ∙ ap (λ (l : List ℕ). vertexNumberOf l) (c .back))
 
-  pub face-of : {x : Whole} {o : ObjLine} → x ≡ numberOf (take (r .end) s)
+  pub face-of : {x : Whole} {o : ObjLine} → x ≡ vertexNumberOf (take (r .end) s)
       → o ≡ faceFrom x (take (length s - r .next) (drop (r .next) s)) → o ≡ faceOf s
   face-of {x} p e =
       e ∙ ap (λ (l : List ℕ). faceFrom x l) (c .back)
-      ∙ ap (λ x. faceFrom x (behind space s)) (p ∙ ap (λ (l : List ℕ). numberOf l) (c .front))
+      ∙ ap (λ x. faceFrom x (behind space s)) (p ∙ ap (λ (l : List ℕ). vertexNumberOf l) (c .front))
 
 -- two bytes stand at its front: there are two
 pub two-there : (s : List ℕ) (a b : ℕ) {x y : ℕ} → x ≡ byteAt s 0 → y ≡ byteAt s 1 → 0 < b → eqb x a && eqb y b ≡ true → 2 ≤ length s

@@ -2,14 +2,14 @@
 ghost use Prim.Native.Nat.{_≤_};
 ghost use lib.ListN.{length};
 ghost use mathlib.Core.Path.{_≡_};
-ghost use Rattle.obj_meaning.specs.ObjLine.{says, vertexOf, faceOf, vertexWith, faceWith};
+ghost use Rattle.meaning.specs.ObjLine.{says, vertexOf, faceOf, vertexWith, faceWith};
 ghost use Rattle.obj_line.specs.Parting.{CutAt, vertexFrom, faceFrom};
 use hundredths::decimal_of;
 use hundredths::number_of;
 use hundredths::place_of;
-use obj_meaning::Decimal;
-use obj_meaning::ObjLine;
-use obj_meaning::Whole;
+use meaning::Decimal;
+use meaning::ObjLine;
+use meaning::Whole;
 
 // Where a field ends, and where what stands behind the space begins.
 struct Cut {

@@ -18,8 +18,8 @@ use Rattle.meaning.specs.Text.{coordinates}
 use Rattle.meaning.specs.declared.Refusal.{Refusal}
 use Rattle.meaning.specs.declared.Refusal.the-variants.{TooMany}
 use Rattle.meaning.specs.declared.SceneCounts.{SceneCounts}
-use Rattle.obj_meaning.specs.ObjFile.{signed, placeAt, withSides}
-use Rattle.obj_meaning.specs.declared.Hundredths.{Hundredths}
+use Rattle.meaning.specs.ObjFile.{signed, placeAt, withSides}
+use Rattle.meaning.specs.declared.Hundredths.{Hundredths}
 use Rattle.scene_line.specs.Above.{Bounded}
 use Rattle.scene_line.specs.Judging.{judgedSays}
 use Rattle.scene_line.specs.declared.Judged as Judgements

@@ -11,7 +11,7 @@ use Rattle.scenes.specs.Below.{or-left, or-rest}
 use Rattle.meaning.specs.Limits.{coordinateLimit, vertexLimit, triangleLimit}
 use Rattle.meaning.specs.Refusals.{Outcome, given, refused}
 use Rattle.meaning.specs.declared.SceneCounts.{SceneCounts}
-use Rattle.obj_meaning.specs.declared.Hundredths.{Hundredths}
+use Rattle.meaning.specs.declared.Hundredths.{Hundredths}
 use Rattle.scene_line.specs.Judging.{FaultIs}
 
 abbrev pub VertexFault : SceneCounts → Hundredths → Hundredths → Hundredths → Outcome (Unit {0}) → Type 0

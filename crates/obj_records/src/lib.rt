@@ -6,7 +6,7 @@ ghost use mathlib.Core.List.{[], _∷_};
 ghost use mathlib.Core.Path.{_≡_};
 ghost use Rattle.sequences.specs.Wrote.{Wrote};
 ghost use Rattle.meaning.specs.Limits.{coordinateLimit};
-ghost use Rattle.obj_meaning.specs.ObjFile.{signed};
+ghost use Rattle.meaning.specs.ObjFile.{signed};
 ghost use Rattle.scene_line.specs.Above.{Bounded};
 ghost use Rattle.scene_line.specs.Judging.{FaultIs, judgedSays};
 ghost use Rattle.obj_records.specs.Faults.{VertexFault, FaceFault};
@@ -18,7 +18,7 @@ use meaning::Refusal;
 use meaning::SceneCounts;
 use meaning::TRIANGLE_LIMIT;
 use meaning::VERTEX_LIMIT;
-use obj_meaning::Hundredths;
+use meaning::Hundredths;
 use scene_line::Judged;
 
 // The largest size of a coordinate, as sizes are held.

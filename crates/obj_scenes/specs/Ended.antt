@@ -17,9 +17,9 @@ use Rattle.meaning.specs.Refusals.{refused}
 use Rattle.meaning.specs.Scene.{Scene}
 use Rattle.lines.specs.Unique.{Readable}
 use Rattle.lines.specs.Feed.{NoFeed, Bodies, first-line, no-line, bodies-readable}
-use Rattle.obj_meaning.specs.ObjLine.{placeOf, says}
-use Rattle.obj_meaning.specs.ObjFile.{Unbroken, SaysSome, objLines}
-use Rattle.obj_meaning.specs.declared.ObjLine.the-variants.{Bad}
+use Rattle.meaning.specs.ObjLine.{placeOf, says}
+use Rattle.meaning.specs.ObjFile.{Unbroken, SaysSome, objLines}
+use Rattle.meaning.specs.declared.ObjLine.the-variants.{Bad}
 
 unbroken-feed : (l : List ℕ) → Unbroken l → NoFeed l
 unfolding Unbroken NoFeed

@@ -18,7 +18,7 @@ use Rattle.scene_line.specs.Above.{Above, Bounded, Lengths, countedBy, above-mo
 use Rattle.scene_line.specs.Reading.{sortOf}
 use Rattle.scene_line.specs.Adding.{anyOf, some-behind, twiceInTwo, edges-more}
 use Rattle.scene_line.specs.Checks.{Comes, comes-triangle}
-use Rattle.obj_meaning.specs.ObjFile.{joined, withSide, withSides}
+use Rattle.meaning.specs.ObjFile.{joined, withSide, withSides}
 
 -- edges of vertices below n, each of two
 pub record EdgesOk (n : ℕ) (e : List ℕ) : Type 0 where

@@ -15,8 +15,8 @@ use Rattle.meaning.specs.declared.SceneCounts.{SceneCounts}
 use Rattle.scene_line.specs.Above.{Above}
 use Rattle.scene_line.specs.Reading.{sortOf}
 use Rattle.scene_line.specs.Judging.{FaultIs, farIn, Judging, Begun, entry-begun, judges-vertex, judges-triangle}
-use Rattle.obj_meaning.specs.ObjFile.{signed, placeAt}
-use Rattle.obj_meaning.specs.declared.Hundredths.{Hundredths}
+use Rattle.meaning.specs.ObjFile.{signed, placeAt}
+use Rattle.meaning.specs.declared.Hundredths.{Hundredths}
 use Rattle.obj_records.specs.Faults.{VertexFault, FaceFault}
 
 abs-signed : (h : Hundredths) → natAbs (signed h) ≡ h .size

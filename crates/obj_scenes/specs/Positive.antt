@@ -12,14 +12,14 @@ use Rattle.sequences.specs.Pick.{pick, pick-gave, both}
 use Rattle.decimals.specs.Byte.{byteAt, IsDigit, digitTest, digit-passed}
 use Rattle.decimals.specs.Value.{value, valueOn}
 use Rattle.meaning.specs.Limits.{digitLimit}
-use Rattle.obj_meaning.specs.ObjLine.{digitsAlone, wholeOf, numberOf, zeroDigit, faceWith, vertexWith, vertexOf, faceOf, firstField, secondField, thirdField, says, isSkipped, beginsWith, space, decimalOf}
-use Rattle.obj_meaning.specs.declared.Decimal as Decimals
-use Rattle.obj_meaning.specs.declared.Decimal.{Decimal}
-use Rattle.obj_meaning.specs.declared.Whole as Wholes
-use Rattle.obj_meaning.specs.declared.Whole.{Whole}
-use Rattle.obj_meaning.specs.declared.Whole.the-variants.{Worth}
-use Rattle.obj_meaning.specs.declared.ObjLine.{ObjLine}
-use Rattle.obj_meaning.specs.declared.ObjLine.the-variants.{Skipped, Vertex, Face, Bad}
+use Rattle.meaning.specs.ObjLine.{digitsAlone, wholeOf, vertexNumberOf, zeroDigit, faceWith, vertexWith, vertexOf, faceOf, firstField, secondField, thirdField, says, isSkipped, beginsWith, space, decimalOf}
+use Rattle.meaning.specs.declared.Decimal as Decimals
+use Rattle.meaning.specs.declared.Decimal.{Decimal}
+use Rattle.meaning.specs.declared.Whole as Wholes
+use Rattle.meaning.specs.declared.Whole.{Whole}
+use Rattle.meaning.specs.declared.Whole.the-variants.{Worth}
+use Rattle.meaning.specs.declared.ObjLine.{ObjLine}
+use Rattle.meaning.specs.declared.ObjLine.the-variants.{Skipped, Vertex, Face, Bad}
 use Rattle.obj_records.specs.Adding.{Positive}
 
 on-from : (v : ℕ) (l : List ℕ) → v ≤ valueOn v l
@@ -36,7 +36,7 @@ value-some (b ∷ l) h e z =
     let other : b ≡ 48 → ⊥ = eqb-false b 48 z in
     omega (arith, on-from (0 * 10 + (b - 48)) l, d .low, other)
 
-pub number-positive : (l : List ℕ) {n : ℕ} → numberOf l ≡ Worth n → 0 < n
+pub number-positive : (l : List ℕ) {n : ℕ} → vertexNumberOf l ≡ Worth n → 0 < n
 number-positive l {n} e =
     ⊎-elim
     (λ g. let z : _≡_ {A = ℕ} 0 1 = cc (g .1) in absurd (omega arith))
@@ -60,7 +60,7 @@ face-with Wholes.the-variants.Bad v w e = let z : _≡_ {A = ℕ} 0 1 = cc in ab
 
 face-of : (l : List ℕ) {a b d : ℕ} → faceOf l ≡ Face a b d → Positive a b d
 face-of l e =
-    let (p, q, r) = face-with (numberOf (firstField l)) (numberOf (secondField l)) (numberOf (thirdField l)) e in
+    let (p, q, r) = face-with (vertexNumberOf (firstField l)) (vertexNumberOf (secondField l)) (vertexNumberOf (thirdField l)) e in
     record {
       first = number-positive (firstField l) p;
       second = number-positive (secondField l) q;

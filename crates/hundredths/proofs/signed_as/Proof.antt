@@ -1,6 +1,6 @@
 -- `hundredths::signed_as` meets its contract: it goes by cases as the definition does.
 use borrow.Author.Needs.{needs}
-use Rattle.obj_meaning.specs.ObjLine.{signedAs}
+use Rattle.meaning.specs.ObjLine.{signedAs}
 use Rattle.hundredths.proofs.signed_as.Statement.{statement}
 use Rattle.hundredths.proofs.signed_as.Tie as tie
 

@@ -1,6 +1,6 @@
 -- `obj_line::face_with` meets its contract: it goes by cases as the definition does.
 use borrow.Author.Needs.{needs}
-use Rattle.obj_meaning.specs.ObjLine.{faceWith}
+use Rattle.meaning.specs.ObjLine.{faceWith}
 use Rattle.obj_line.proofs.face_with.Statement.{statement}
 use Rattle.obj_line.proofs.face_with.Tie as tie
 

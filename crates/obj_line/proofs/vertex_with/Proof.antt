@@ -1,6 +1,6 @@
 -- `obj_line::vertex_with` meets its contract: it goes by cases as the definition does.
 use borrow.Author.Needs.{needs}
-use Rattle.obj_meaning.specs.ObjLine.{vertexWith}
+use Rattle.meaning.specs.ObjLine.{vertexWith}
 use Rattle.obj_line.proofs.vertex_with.Statement.{statement}
 use Rattle.obj_line.proofs.vertex_with.Tie as tie
 

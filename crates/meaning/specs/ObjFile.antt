@@ -8,14 +8,14 @@ use lib.Dec.{eqb}
 use lib.IntN.{ℤ, pos, negℤ}
 use Rattle.whole.specs.Vector.{Vector}
 use Rattle.sequences.specs.Pick.{pick}
 use Rattle.meaning.specs.Scene.{Scene, sceneOf, overSize}
 use Rattle.meaning.specs.Refusals.{Check}
 use Rattle.meaning.specs.Lines.{Grammar}
 use Rattle.meaning.specs.Text.{vertex, triangle, sceneWith, entryChecks, lineFeed}
-use Rattle.obj_meaning.specs.ObjLine.{says}
-use Rattle.obj_meaning.specs.declared.Hundredths.{Hundredths}
-use Rattle.obj_meaning.specs.declared.ObjLine.{ObjLine}
-use Rattle.obj_meaning.specs.declared.ObjLine.the-variants.{Skipped, Vertex, Face, Bad}
+use Rattle.meaning.specs.ObjLine.{says}
+use Rattle.meaning.specs.declared.Hundredths.{Hundredths}
+use Rattle.meaning.specs.declared.ObjLine.{ObjLine}
+use Rattle.meaning.specs.declared.ObjLine.the-variants.{Skipped, Vertex, Face, Bad}
 
 -- ---- edges of faces
 

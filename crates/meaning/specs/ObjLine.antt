@@ -7,17 +7,17 @@ use lib.ListN.{length, take, drop}
 use Rattle.sequences.specs.Pick.{pick}
 use Rattle.decimals.specs.Byte.{byteAt, digitTest}
 use Rattle.decimals.specs.Value.{value}
 use Rattle.meaning.specs.Limits.{digitLimit}
 use Rattle.meaning.specs.Text.{minusSign}
-use Rattle.obj_meaning.specs.declared.Whole as Wholes
-use Rattle.obj_meaning.specs.declared.Whole.{Whole}
-use Rattle.obj_meaning.specs.declared.Whole.the-variants.{Worth}
-use Rattle.obj_meaning.specs.declared.Hundredths.{Hundredths}
-use Rattle.obj_meaning.specs.declared.Decimal as Decimals
-use Rattle.obj_meaning.specs.declared.Decimal.{Decimal}
-use Rattle.obj_meaning.specs.declared.Decimal.the-variants.{Of}
-use Rattle.obj_meaning.specs.declared.ObjLine.{ObjLine}
-use Rattle.obj_meaning.specs.declared.ObjLine.the-variants.{Skipped, Vertex, Face, Bad}
+use Rattle.meaning.specs.declared.Whole as Wholes
+use Rattle.meaning.specs.declared.Whole.{Whole}
+use Rattle.meaning.specs.declared.Whole.the-variants.{Worth}
+use Rattle.meaning.specs.declared.Hundredths.{Hundredths}
+use Rattle.meaning.specs.declared.Decimal as Decimals
+use Rattle.meaning.specs.declared.Decimal.{Decimal}
+use Rattle.meaning.specs.declared.Decimal.the-variants.{Of}
+use Rattle.meaning.specs.declared.ObjLine.{ObjLine}
+use Rattle.meaning.specs.declared.ObjLine.the-variants.{Skipped, Vertex, Face, Bad}
 
 abbrev pub space : ℕ
 space = 32
@@ -90,8 +90,8 @@ abbrev pub decimalOf : List ℕ → Decimal
 decimalOf l = pick (eqb (byteAt l 0) minusSign) (signedAs true (sizeOf (drop 1 l))) (signedAs false (sizeOf l))
 
 -- a plain positive number: no zero in front
-abbrev pub numberOf : List ℕ → Whole
-numberOf l = pick (eqb (byteAt l 0) zeroDigit) Wholes.the-variants.Bad (wholeOf digitLimit l)
+abbrev pub vertexNumberOf : List ℕ → Whole
+vertexNumberOf l = pick (eqb (byteAt l 0) zeroDigit) Wholes.the-variants.Bad (wholeOf digitLimit l)
 
 -- ---- lines
 
@@ -111,7 +111,7 @@ abbrev pub vertexOf : List ℕ → ObjLine
 vertexOf l = vertexWith (decimalOf (firstField l)) (decimalOf (secondField l)) (decimalOf (thirdField l))
 
 abbrev pub faceOf : List ℕ → ObjLine
-faceOf l = faceWith (numberOf (firstField l)) (numberOf (secondField l)) (numberOf (thirdField l))
+faceOf l = faceWith (vertexNumberOf (firstField l)) (vertexNumberOf (secondField l)) (vertexNumberOf (thirdField l))
 
 -- the line begins with these two bytes, or with these three; past its end a byte is 0
 abbrev pub beginsWith : ℕ → ℕ → List ℕ → Bool

@@ -5,14 +5,14 @@ use mathlib.Core.Path.{_≡_, refl}
 use Prim.Native.Nat.{ℕ}
 use lib.IntN.{pos}
 use Rattle.decimals.specs.Value.{value, valueOn}
-use Rattle.obj_meaning.specs.ObjLine.{placeOf, digitsAlone, withPart, onWhole, signedAs, decimalOf, says, vertexWith, faceWith}
-use Rattle.obj_meaning.specs.ObjFile.{joined, edgesFrom, edgesOf, signed}
-use Rattle.obj_meaning.specs.declared.Hundredths.{Hundredths}
-use Rattle.obj_meaning.specs.declared.Decimal as Decimals
-use Rattle.obj_meaning.specs.declared.Decimal.{Decimal}
-use Rattle.obj_meaning.specs.declared.Decimal.the-variants.{Of}
-use Rattle.obj_meaning.specs.declared.ObjLine.{ObjLine}
-use Rattle.obj_meaning.specs.declared.ObjLine.the-variants.{Skipped, Vertex, Face, Bad}
+use Rattle.meaning.specs.ObjLine.{placeOf, digitsAlone, withPart, onWhole, signedAs, decimalOf, says, vertexWith, faceWith}
+use Rattle.meaning.specs.ObjFile.{joined, edgesFrom, edgesOf, signed}
+use Rattle.meaning.specs.declared.Hundredths.{Hundredths}
+use Rattle.meaning.specs.declared.Decimal as Decimals
+use Rattle.meaning.specs.declared.Decimal.{Decimal}
+use Rattle.meaning.specs.declared.Decimal.the-variants.{Of}
+use Rattle.meaning.specs.declared.ObjLine.{ObjLine}
+use Rattle.meaning.specs.declared.ObjLine.the-variants.{Skipped, Vertex, Face, Bad}
 
 abbrev plus : ℕ → Hundredths
 plus n = record { minus = false; size = n }
