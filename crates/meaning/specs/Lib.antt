@@ -22,3 +22,7 @@ pub mod Claims
 pub mod InMotion
 pub mod ReadShown
 pub mod OwnList
+pub mod ObjLine
+pub mod ObjFile
+pub mod ObjPair
+pub mod ObjShown

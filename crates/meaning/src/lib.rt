@@ -80,6 +80,7 @@ pub enum Refusal {
     LateRecord,
     TooMany,
     ShortBuffer,
+    FilesDiffer,
     BrokenSeam,
     BeyondOldRange,
 }
@@ -198,4 +199,42 @@ pub enum Contact {
 pub enum ContactAnswer {
     Given(Contact),
     Refused(Refusal),
+}
+
+// Digits: what they are worth, or that they are no number of the form.
+pub enum Whole {
+    Worth(u64),
+    Bad,
+}
+
+// A decimal, in hundredths.
+pub struct Hundredths {
+    pub minus: bool,
+    pub size: u64,
+}
+
+pub enum Decimal {
+    Of(Hundredths),
+    Bad,
+}
+
+// What a line says: nothing, a vertex, a face by the numbers of its vertices counted from 1; or it is none of these.
+pub enum ObjLine {
+    Skipped,
+    Vertex(Hundredths, Hundredths, Hundredths),
+    Face(u64, u64, u64),
+    Bad,
+}
+
+// Of two OBJ files: the start or the end.
+pub enum WhichFile {
+    Start,
+    End,
+}
+
+// What an import answers: the counts of the scene, or the refusal; for 8 and for a fault of a line also its file and its line.
+pub enum ImportAnswer {
+    Read(SceneCounts),
+    Refused(Refusal),
+    RefusedIn(WhichFile, Refusal, usize),
 }

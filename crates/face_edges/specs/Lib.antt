@@ -1,0 +1,3 @@
+-- Edges of faces.
+pub mod Joined
+pub mod Sides

@@ -1,0 +1,3 @@
+-- An OBJ file in a draft.
+pub mod Drafting
+pub mod Reading

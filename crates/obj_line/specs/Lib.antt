@@ -1,0 +1,2 @@
+-- One line of an OBJ file: how it is parted into fields.
+pub mod Parting

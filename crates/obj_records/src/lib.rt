@@ -1,0 +1,172 @@
+// A vertex or a face of an OBJ file, below the records above it: its first fault; or it goes to its place in a draft, a face with the edges that it
+// brings.
+ghost use Prim.Native.Nat.{_+_, _≤_, _<_};
+ghost use lib.ListN.{length};
+ghost use mathlib.Core.List.{[], _∷_};
+ghost use mathlib.Core.Path.{_≡_};
+ghost use Rattle.sequences.specs.Wrote.{Wrote};
+ghost use Rattle.meaning.specs.Limits.{coordinateLimit};
+ghost use Rattle.meaning.specs.ObjFile.{signed};
+ghost use Rattle.scene_line.specs.Above.{Bounded};
+ghost use Rattle.scene_line.specs.Judging.{FaultIs, judgedSays};
+ghost use Rattle.obj_records.specs.Faults.{VertexFault, FaceFault};
+ghost use Rattle.obj_records.specs.Adding.{Near, pointOf, VertexAdded, Positive, FaceRoom, FaceAdded};
+use face_edges::add_sides;
+use meaning::COORDINATE_LIMIT;
+use meaning::EDGE_LIMIT;
+use meaning::Refusal;
+use meaning::SceneCounts;
+use meaning::TRIANGLE_LIMIT;
+use meaning::VERTEX_LIMIT;
+use meaning::Hundredths;
+use scene_line::Judged;
+
+// The largest size of a coordinate, as sizes are held.
+const LARGEST: u64 = COORDINATE_LIMIT as u64;
+
+// What a record gives: its fault, or the counts with it.
+pub enum Added {
+    Fault(Refusal),
+    Counts(SceneCounts),
+}
+
+// The first check of a record that holds.
+fn first_fault(late: bool, excess: bool, far: bool, unknown: bool, twice: bool) -> Judged
+    ensures { λ r. ⌜ FaultIs late excess far unknown twice (judgedSays r) ⌝ }
+{
+    if late {
+        return Judged::Fault(Refusal::LateRecord);
+    }
+    if excess {
+        return Judged::Fault(Refusal::TooMany);
+    }
+    if far {
+        return Judged::Fault(Refusal::Coordinate);
+    }
+    if unknown {
+        return Judged::Fault(Refusal::UnknownVertex);
+    }
+    if twice {
+        return Judged::Fault(Refusal::RepeatedVertex);
+    }
+    Judged::Good
+}
+
+fn judge_vertex(c: SceneCounts, x: Hundredths, y: Hundredths, z: Hundredths) -> Judged
+    ensures { λ r. ⌜ VertexFault c x y z (judgedSays r) ⌝ }
+{
+    first_fault(
+        (0 < c.edges) | (0 < c.triangles) | (0 < c.seams),
+        VERTEX_LIMIT <= c.vertices,
+        (LARGEST < x.size) | (LARGEST < y.size) | (LARGEST < z.size),
+        false,
+        false,
+    )
+}
+
+// A face by vertices counted from 0.
+fn judge_face(c: SceneCounts, i: u64, j: u64, k: u64) -> Judged
+    ensures { λ r. ⌜ FaceFault c i j k (judgedSays r) ⌝ }
+{
+    let n = c.vertices as u64;
+    first_fault(
+        0 < c.seams,
+        TRIANGLE_LIMIT <= c.triangles,
+        false,
+        (n <= i) | (n <= j) | (n <= k),
+        (i == j) | (i == k) | (j == k),
+    )
+}
+
+fn coordinate(h: Hundredths) -> i32
+    requires { ⌜ h .size ≤ coordinateLimit ⌝ }
+    ensures { λ r. ⌜ r ≡ signed h ⌝ }
+{
+    let size = h.size;
+    if h.minus {
+        0 - (size as i32)
+    } else {
+        size as i32
+    }
+}
+
+fn put_point(out: &mut [i32], at: usize, x: Hundredths, y: Hundredths, z: Hundredths)
+    requires { ⌜ at + 3 ≤ length (now out) ⌝ }
+    requires { ⌜ Near x y z ⌝ }
+    ensures { λ _. ⌜ Wrote (now (out .entry)) at (pointOf x y z) (now (out .exit)) (at + 3) ⌝ }
+{
+    out[at] = coordinate(x);
+    out[at + 1] = coordinate(y);
+    out[at + 2] = coordinate(z);
+}
+
+fn put_triangle(out: &mut [u16], at: usize, a: u16, b: u16, d: u16)
+    requires { ⌜ at + 3 ≤ length (now out) ⌝ }
+    ensures { λ _. ⌜ Wrote (now (out .entry)) at (a ∷ b ∷ d ∷ []) (now (out .exit)) (at + 3) ⌝ }
+{
+    out[at] = a;
+    out[at + 1] = b;
+    out[at + 2] = d;
+}
+
+// A vertex: where it stands is where it starts and where it ends.
+pub fn add_vertex(
+    c: SceneCounts,
+    x: Hundredths,
+    y: Hundredths,
+    z: Hundredths,
+    positions: &mut [i32],
+) -> Added
+    requires { ⌜ 3072 ≤ length (now positions) ⌝ }
+    ensures { λ r. ⌜ VertexAdded c x y z (now (positions .entry)) (now (positions .exit)) r ⌝ }
+{
+    match judge_vertex(c, x, y, z) {
+        Judged::Fault(fault) => Added::Fault(fault),
+        Judged::Good => {
+            let at = 6 * c.vertices;
+            put_point(positions, at, x, y, z);
+            put_point(positions, at + 3, x, y, z);
+            Added::Counts(SceneCounts {
+                vertices: c.vertices + 1,
+                edges: c.edges,
+                triangles: c.triangles,
+                seams: c.seams,
+            })
+        }
+    }
+}
+
+// A face by vertices counted from 1: its corners, and its sides where they are new.
+pub fn add_face(
+    c: SceneCounts,
+    a: u64,
+    b: u64,
+    d: u64,
+    edges: &mut [u16],
+    triangles: &mut [u16],
+) -> Added
+    requires { ⌜ Positive a b d ⌝ }
+    requires { ⌜ Bounded c ⌝ }
+    requires { ⌜ FaceRoom (now edges) (now triangles) ⌝ }
+    ensures { λ r. ⌜ FaceAdded c a b d (now (edges .entry)) (now (triangles .entry)) (now (edges .exit)) (now (triangles .exit)) r ⌝ }
+{
+    let i = a - 1;
+    let j = b - 1;
+    let k = d - 1;
+    match judge_face(c, i, j, k) {
+        Judged::Fault(fault) => Added::Fault(fault),
+        Judged::Good => {
+            let count = add_sides(edges, c.edges, i as u16, j as u16, k as u16);
+            put_triangle(triangles, 3 * c.triangles, i as u16, j as u16, k as u16);
+            if EDGE_LIMIT < count {
+                return Added::Fault(Refusal::TooMany);
+            }
+            Added::Counts(SceneCounts {
+                vertices: c.vertices,
+                edges: count,
+                triangles: c.triangles + 1,
+                seams: c.seams,
+            })
+        }
+    }
+}
