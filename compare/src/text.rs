@@ -151,6 +151,28 @@ pub fn coordinate(field: &[u8]) -> Option<i64> {
 }
 
 /// The text of a scene; whether it is accepted is not looked at, since texts that are refused are wanted too.
+/// A scene whose text has so many bytes, of some 1,000 to 37,000: vertices, then edges, and for the last bytes coordinates made longer.
+pub fn as_long_as(bytes: usize) -> Scene {
+    let mut scene = Scene { vertices: vec![[-100_001, 1, 100_003, -4, 500_005, -6]; 12], ..Scene::default() };
+    while scene.vertices.len() < VERTEX_LIMIT && write(&scene).len() + 60 < bytes {
+        let n = scene.vertices.len() as i64;
+        scene.vertices.push([-n, n, 400_000 - n, n - 500_000, 111_111, 222_222]);
+    }
+    while scene.edges.len() < EDGE_LIMIT && write(&scene).len() + 12 < bytes {
+        scene.edges.push([1, 0]);
+    }
+    let short = bytes - write(&scene).len();
+    // the second number of the first twelve has one digit, and may have six
+    let mut left = short;
+    for vertex in scene.vertices.iter_mut().take(12) {
+        let digits = left.min(5);
+        vertex[1] = 10i64.pow(digits as u32);
+        left -= digits;
+    }
+    assert_eq!(write(&scene).len(), bytes, "as long as it was asked for");
+    scene
+}
+
 pub fn write(scene: &Scene) -> String {
     let mut out = String::new();
     let mut line = |kind: &str, numbers: Vec<String>| out.push_str(&format!("{kind}\t{}\n", numbers.join("\t")));

@@ -21,6 +21,8 @@ pub enum Call {
     /// Of a pair, never of a piece.
     Contact(Asked),
     ContactScene,
+    SavedLength,
+    SaveScene,
 }
 
 /// Of a pair, or of a piece of one.
@@ -62,6 +64,7 @@ pub fn calls() -> Vec<Call> {
     out.extend(ASKED.map(Call::Settle));
     out.extend([Call::ReadScene, Call::WriteReport, Call::TurnScene, Call::CheckClaims]);
     out.extend([Call::Contact(Asked::Pt), Call::Contact(Asked::Ee), Call::ContactScene]);
+    out.extend([Call::SavedLength, Call::SaveScene]);
     out
 }
 
@@ -97,6 +100,11 @@ impl Call {
         matches!(self, Call::Contact(_) | Call::ContactScene)
     }
 
+    /// Whether it writes the scene as text, or tells how long that is.
+    pub fn saves(self) -> bool {
+        matches!(self, Call::SavedLength | Call::SaveScene)
+    }
+
     /// Whether it tells its box tests, in a lent number.
     pub fn tells_tests(self) -> bool {
         matches!(self, Call::CountPairs | Call::ListPairs)
@@ -117,6 +125,8 @@ impl Call {
             Call::CheckClaims => "check_claims".into(),
             Call::Contact(asked) => format!("contact_{}", of(asked)),
             Call::ContactScene => "contact_scene".into(),
+            Call::SavedLength => "saved_length".into(),
+            Call::SaveScene => "save_scene".into(),
         }
     }
 }
@@ -147,6 +157,7 @@ pub const SEAMS: usize = 3;
 pub const LIST: usize = 4;
 pub const WORDS: usize = 5;
 pub const COUNTS: usize = 7;
+pub const TEXT: usize = 6;
 pub const REPORT: usize = 8;
 pub const CONTACTS: usize = 9;
 /// Numbers of a contact.

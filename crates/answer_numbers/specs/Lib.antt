@@ -5,3 +5,4 @@ pub mod Claims
 pub mod Contacts
 pub mod Telling
 pub mod Back
+pub mod Saved

@@ -95,7 +95,7 @@ records-more s c (vertex p q) l h =
     ap recordsOf (with-vertex s p q) ∙ more ∙ vertices-more (s .positions) (c .vertices) p q (l .positions)
     ∙ ap (λ (x : List Entry). x ++ (vertex p q ∷ [])) (sym one)
 records-more s c (edge i j) l h =
-    let ts : trianglesIn (s .triangles) ≡ [] = no-triangles (empty (s .triangles) (search (or-left, or-rest))) in
+    let ts : trianglesIn (s .triangles) ≡ [] = no-triangles (empty (s .triangles) (search or-left)) in
     let ws : seamsIn (s .seams) ≡ [] = no-seams (empty (s .seams) (search (or-left, or-rest))) in
     let v : List Entry = verticesIn (s .positions) in
     let one : v ++ edgesIn (s .edges) ++ trianglesIn (s .triangles) ++ seamsIn (s .seams) ≡ v ++ edgesIn (s .edges) =
