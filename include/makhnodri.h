@@ -98,6 +98,7 @@ extern "C" {
  *     read_scene       26,184      write_report               123,224
  *     turn_scene        1,304      check_claims                 1,904
  *     contact_scene    86,248      contact_pt, contact_ee       2,736
+ *     saved_length      1,464      save_scene                   1,576
  *
  * ---- An answer ----
  *

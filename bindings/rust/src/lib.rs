@@ -50,7 +50,9 @@ mod raw;
 mod scenes;
 mod texts;
 
-pub use answers::{ClaimsRefusal, Kind, ListRefusal, Listed, Pair, Refusal, SaveRefusal, Settled, TextRefusal, TurnRefusal, Verdict};
+pub use answers::{
+    ClaimsRefusal, Kind, ListRefusal, Listed, Pair, Refusal, SaveRefusal, Settled, TextRefusal, TurnRefusal, Verdict,
+};
 pub use contacts::Contact;
 pub use scenes::{turn_scene, Scene};
 pub use texts::{read_scene, report, write_report, Counts};

@@ -388,5 +388,11 @@ fn about_text(random: &mut Random, text: Vec<u8>) -> Vec<Question> {
         Question::new(Call::ReadScene, lent)
     };
     let reported = Lent { text: text.clone(), report: marks(65_536), ..Lent::default() };
-    vec![read(lengths), read(longer), read(short_of), Question::new(Call::WriteReport, reported)]
+    let mut out = vec![read(lengths), read(longer), read(short_of), Question::new(Call::WriteReport, reported)];
+    // and of a text that is a scene: what was read is saved as the same bytes
+    if let Ok(scene) = text::read(&text) {
+        assert_eq!(write(&scene).as_bytes(), text, "there is one text for a scene");
+        out.extend(about_saving(&mut random.clone(), &scene));
+    }
+    out
 }

@@ -30,7 +30,6 @@ use Rattle.answer_numbers.specs.Contacts.{meetingNumber, rowAfter, ContactInto}
 use Rattle.answer_numbers.specs.Numbers.{sceneNumber, pairNumber, settledNumber, listNumber, textNumber, countsLeft, ReadInto, Told}
 use Rattle.answer_numbers.specs.Small.{counted-small, listing-small, judging-small, line-small}
 use Rattle.answer_numbers.specs.Back.{heard, noMore, count, countsIn, verdictNumbered, scene-heard, pair-heard, settled-heard, list-heard, text-heard}
-
 use Rattle.scene_saved.specs.Saved.{savedText, savedChecks, saveChecks, Measured, Saved}
 use Rattle.answer_numbers.specs.Saved.{savedNumber, saved-heard, measured-small, saved-small, one-measured-told, one-saved-told}
 

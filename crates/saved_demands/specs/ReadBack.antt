@@ -63,10 +63,11 @@ after-vertices s (a ∷ b ∷ c ∷ d ∷ e ∷ []) n h = absurd (omega arith)
 
 order-vertices : (s : Scene) (l : List ℤ) → s .edges ≡ [] → s .triangles ≡ [] → s .seams ≡ [] → InOrder s (verticesIn l)
 unfolding InOrder verticesIn late endsIn cornersIn seamIn
-order-vertices s (a ∷ b ∷ c ∷ d ∷ e ∷ f ∷ l) es ts ws =
-    (rw (es, ts, ws) refl,
-    order-vertices (sceneWith s (vertex (record { x = a; y = b; z = c }) (record { x = d; y = e; z = f }))) l (both (s .edges) es) (both (s .triangles) ts)
-    (both (s .seams) ws))
+order-vertices s (a ∷ b ∷ c ∷ d ∷ e ∷ f ∷ l) es ts ws = (
+  rw (es, ts, ws) refl,
+  order-vertices (sceneWith s (vertex (record { x = a; y = b; z = c }) (record { x = d; y = e; z = f }))) l (both (s .edges) es) (both (s .triangles) ts)
+      (both (s .seams) ws),
+)
 order-vertices s [] es ts ws = tt
 order-vertices s (a ∷ []) es ts ws = tt
 order-vertices s (a ∷ b ∷ []) es ts ws = tt
@@ -179,13 +180,22 @@ formed : (s : Scene) (c : SceneCounts) (r : Entry) → Above s c → Accepted (s
 unfolding Short numbersOf
 formed s c (vertex p q) a b =
     let h : outside (p .x) || outside (p .y) || outside (p .z) || outside (q .x) || outside (q .y) || outside (q .z) ≡ false =
-    sym (comes-vertex a p q .range) ∙ b .inRange in
-    (short-coordinate (p .x) (search (or-left, or-rest)),
-    (short-coordinate (p .y) (search (or-left, or-rest)),
-    (short-coordinate (p .z) (search (or-left, or-rest)),
-    (short-coordinate (q .x) (search (or-left, or-rest)),
-    (short-coordinate (q .y) (search (or-left, or-rest)),
-    (short-coordinate (q .z) (search (or-left, or-rest)), tt))))))
+    sym (comes-vertex a p q .range) ∙ b .inRange in (
+      short-coordinate (p .x) (search (or-left, or-rest)),
+      (
+        short-coordinate (p .y) (search (or-left, or-rest)),
+        (
+          short-coordinate (p .z) (search (or-left, or-rest)),
+          (
+            short-coordinate (q .x) (search (or-left, or-rest)),
+            (
+              short-coordinate (q .y) (search (or-left, or-rest)),
+              (short-coordinate (q .z) (search (or-left, or-rest)), tt),
+            ),
+          ),
+        ),
+      ),
+    )
 formed s c (edge i j) a b =
     let n : ℕ = c .vertices in
     let h : leb n i || leb n j ≡ false = sym (comes-edge a i j .known) ∙ b .known in
@@ -193,10 +203,13 @@ formed s c (edge i j) a b =
 formed s c (triangle i j k) a b =
     let n : ℕ = c .vertices in
     let h : leb n i || leb n j || leb n k ≡ false = sym (comes-triangle a i j k .known) ∙ b .known in
-    let g : leb n i || leb n j ≡ false = or-left (leb n i || leb n j) (leb n k) h in
-    (short-number n i (a .bounded .vertices) (or-left (leb n i) (leb n j) g),
-    (short-number n j (a .bounded .vertices) (or-rest (leb n i) (leb n j) g),
-    (short-number n k (a .bounded .vertices) (or-rest (leb n i || leb n j) (leb n k) h), tt)))
+    let g : leb n i || leb n j ≡ false = or-left (leb n i || leb n j) (leb n k) h in (
+      short-number n i (a .bounded .vertices) (or-left (leb n i) (leb n j) g),
+      (
+        short-number n j (a .bounded .vertices) (or-rest (leb n i) (leb n j) g),
+        (short-number n k (a .bounded .vertices) (or-rest (leb n i || leb n j) (leb n k) h), tt),
+      ),
+    )
 formed s c (seam i j) a b =
     let n : ℕ = c .vertices in
     let h : leb n i || leb n j ≡ false = sym (comes-seam a i j .known) ∙ b .known in

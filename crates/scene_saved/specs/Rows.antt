@@ -133,8 +133,14 @@ vertices-next ps k h =
         let three : n + 2 + 1 ≡ n + 3 = omega arith in
         let five : n + 3 + 1 + 1 ≡ n + 3 + 2 = omega arith in
         let six : n + 3 + 2 + 1 ≡ n + 3 + 1 + 1 + 1 = omega arith in
-        cc (drop-next ps n d (omega arith), drop-next ps (n + 1) d (omega arith), drop-next ps (n + 2) d (omega arith),
-          drop-next ps (n + 3) d (omega arith), drop-next ps (n + 3 + 1) d (omega arith), drop-next ps (n + 3 + 2) d (omega arith))
+        cc (
+          drop-next ps n d (omega arith),
+          drop-next ps (n + 1) d (omega arith),
+          drop-next ps (n + 2) d (omega arith),
+          drop-next ps (n + 3) d (omega arith),
+          drop-next ps (n + 3 + 1) d (omega arith),
+          drop-next ps (n + 3 + 2) d (omega arith),
+        )
 
 pub pairs-next : (letter : ℕ) (l : List ℕ) (k : ℕ) → k < length l / 2
     → pairLines letter (drop (2 * k) l) ≡ twoLine letter (getD l (2 * k) 0) (getD l (2 * k + 1) 0) ++ pairLines letter (drop (2 * (k + 1)) l)

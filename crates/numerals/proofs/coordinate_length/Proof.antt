@@ -8,19 +8,14 @@ use Rattle.decimals.specs.Digits.{digits}
 use Rattle.numerals.specs.Marked.{mark-below, mark-above, numeral-length, coordinate-short}
 use Rattle.numerals.proofs.coordinate_length.Statement.{statement}
 use Rattle.numerals.proofs.coordinate_length.Tie as tie
-use Rattle.numerals.proofs.coordinate_length.Reads as reads
-use Rattle.numerals.proofs.coordinate_length.Lts as lts
-use Rattle.decimals.proofs.digit_count.Reads as digit-count-reads
-use Rattle.numerals.proofs.is_negative.Reads as is-negative-reads
-use Rattle.numerals.proofs.size_of.Reads as size-of-reads
 
 -- src/lib.rt:42:40
 size-of-requires : tie.Need-size-of-requires
 size-of-requires c κs = search needs
 
 -- src/lib.rt:42:9
-digit-count-requires : tie.Need-digit-count-requires
-digit-count-requires c κs = search needs
+count-digits-requires : tie.Need-count-digits-requires
+count-digits-requires c κs = search needs
 
 -- src/lib.rt:43:8
 is-negative-requires : tie.Need-is-negative-requires
@@ -31,37 +26,39 @@ add-result : tie.Need-add-result
 add-result c =
     let a = c .before .before .before .before .args in
     let z = getD (a .positions .now) (a .i) (pos 0) in
-    omega (arith, c .before .before .digit-count .ensures, ap (λ n. length (digits n)) (c .before .before .before .size-of .ensures), coordinate-short {z = z} (c .before .before .before .before .pre .1 .at (a .i)))
+    omega (arith, c .before .before .count-digits .ensures, ap (λ n. length (digits n)) (c .before .before .before .size-of .ensures), coordinate-short {z = z} (c .before .before .before .before .pre .1 .at (a .i)))
 
 -- src/lib.rt:46:9
 add-result-2 : tie.Need-add-result-2
 add-result-2 c =
     let a = c .before .before .before .before .args in
     let z = getD (a .positions .now) (a .i) (pos 0) in
-    omega (arith, c .before .before .digit-count .ensures, ap (λ n. length (digits n)) (c .before .before .before .size-of .ensures), coordinate-short {z = z} (c .before .before .before .before .pre .1 .at (a .i)))
+    omega (arith, c .before .before .count-digits .ensures, ap (λ n. length (digits n)) (c .before .before .before .size-of .ensures), coordinate-short {z = z} (c .before .before .before .before .pre .1 .at (a .i)))
 
 -- src/lib.rt:38:1
 returns : tie.Need-returns
 returns c =
     let a = c .before .before .before .before .args in
-    let z = getD (a .positions .now) (a .i) (pos 0) in
-    (omega (arith, c .before .before .digit-count .ensures, ap (λ n. length (digits n)) (c .before .before .before .size-of .ensures), numeral-length z, ap length (mark-below z (sym (c .before .is-negative .ensures) ∙ c .if1 .taken))),
-    omega (arith, c .before .before .digit-count .ensures, ap (λ n. length (digits n)) (c .before .before .before .size-of .ensures), coordinate-short {z = z} (c .before .before .before .before .pre .1 .at (a .i))))
+    let z = getD (a .positions .now) (a .i) (pos 0) in (
+      omega (arith, c .before .before .count-digits .ensures, ap (λ n. length (digits n)) (c .before .before .before .size-of .ensures), numeral-length z, ap length (mark-below z (sym (c .before .is-negative .ensures) ∙ c .if1 .taken))),
+      omega (arith, c .before .before .count-digits .ensures, ap (λ n. length (digits n)) (c .before .before .before .size-of .ensures), coordinate-short {z = z} (c .before .before .before .before .pre .1 .at (a .i))),
+    )
 
 -- src/lib.rt:38:1
 returns-2 : tie.Need-returns-2
 returns-2 c =
     let a = c .before .before .before .before .args in
-    let z = getD (a .positions .now) (a .i) (pos 0) in
-    (omega (arith, c .before .before .digit-count .ensures, ap (λ n. length (digits n)) (c .before .before .before .size-of .ensures), numeral-length z, ap length (mark-above z (sym (c .before .is-negative .ensures) ∙ c .if1 .left))),
-    omega (arith, c .before .before .digit-count .ensures, ap (λ n. length (digits n)) (c .before .before .before .size-of .ensures), coordinate-short {z = z} (c .before .before .before .before .pre .1 .at (a .i))))
+    let z = getD (a .positions .now) (a .i) (pos 0) in (
+      omega (arith, c .before .before .count-digits .ensures, ap (λ n. length (digits n)) (c .before .before .before .size-of .ensures), numeral-length z, ap length (mark-above z (sym (c .before .is-negative .ensures) ∙ c .if1 .left))),
+      omega (arith, c .before .before .count-digits .ensures, ap (λ n. length (digits n)) (c .before .before .before .size-of .ensures), coordinate-short {z = z} (c .before .before .before .before .pre .1 .at (a .i))),
+    )
 
 pub coordinate-length-spec : {M : Type 1} → statement M
 coordinate-length-spec =
     tie.close
     (tie.spec
     size-of-requires
-    digit-count-requires
+    count-digits-requires
     is-negative-requires
     add-result
     add-result-2

@@ -8,10 +8,6 @@ use Rattle.decimals.specs.Value.{digits-length}
 use Rattle.meaning.specs.Text.{numeral}
 use Rattle.numerals.proofs.number_length.Statement.{statement}
 use Rattle.numerals.proofs.number_length.Tie as tie
-use Rattle.numerals.proofs.number_length.Reads as reads
-use Rattle.numerals.proofs.number_length.Lts as lts
-use Rattle.decimals.proofs.digit_count.Reads as digit-count-reads
-use Rattle.numerals.proofs.wide.Reads as wide-reads
 
 -- src/lib.rt:61:32
 mul-wide : tie.Need-mul-wide
@@ -26,19 +22,20 @@ wide-requires : tie.Need-wide-requires
 wide-requires c κs = search needs
 
 -- src/lib.rt:61:5
-digit-count-requires : tie.Need-digit-count-requires
-digit-count-requires c κs = search needs
+count-digits-requires : tie.Need-count-digits-requires
+count-digits-requires c κs = search needs
 
 -- src/lib.rt:61:5
 add-result : tie.Need-add-result
-add-result c = omega (arith, c .digit-count .ensures, digits-length 5 (c .before .wide .result) (omega arith) (omega (arith, c .before .wide .ensures)))
+add-result c = omega (arith, c .count-digits .ensures, digits-length 5 (c .before .wide .result) (omega arith) (omega (arith, c .before .wide .ensures)))
 
 -- src/lib.rt:57:1
 returns : tie.Need-returns
 unfolding numeral
-returns c =
-    (omega (arith, c .digit-count .ensures, ap (λ n. length (digits n)) (c .before .wide .ensures .0)),
-    omega (arith, c .digit-count .ensures, digits-length 5 (c .before .wide .result) (omega arith) (omega (arith, c .before .wide .ensures))))
+returns c = (
+  omega (arith, c .count-digits .ensures, ap (λ n. length (digits n)) (c .before .wide .ensures .0)),
+  omega (arith, c .count-digits .ensures, digits-length 5 (c .before .wide .result) (omega arith) (omega (arith, c .before .wide .ensures))),
+)
 
 pub number-length-spec : {M : Type 1} → statement M
 number-length-spec =
@@ -47,6 +44,6 @@ number-length-spec =
     mul-wide
     shared-slice-read-wide
     wide-requires
-    digit-count-requires
+    count-digits-requires
     add-result
     returns)

@@ -8,11 +8,6 @@ use Rattle.sequences.specs.Wrote.{wrote-then}
 use Rattle.meaning.specs.Text.{numeral}
 use Rattle.numerals.proofs.put_number.Statement.{statement}
 use Rattle.numerals.proofs.put_number.Tie as tie
-use Rattle.numerals.proofs.put_number.Reads as reads
-use Rattle.numerals.proofs.put_number.Lts as lts
-use Rattle.decimals.proofs.write_number.Reads as write-number-reads
-use Rattle.numerals.proofs.put_byte.Reads as put-byte-reads
-use Rattle.numerals.proofs.wide.Reads as wide-reads
 
 -- src/lib.rt:92:9
 put-byte-requires : tie.Need-put-byte-requires
@@ -31,9 +26,9 @@ wide-requires : tie.Need-wide-requires
 wide-requires c κs = search needs
 
 -- src/lib.rt:93:5
-write-number-requires : tie.Need-write-number-requires
+put-digits-requires : tie.Need-put-digits-requires
 unfolding numeral
-write-number-requires c κs = omega (arith, ap (λ n. length (digits n)) (c .wide .ensures .0))
+put-digits-requires c κs = omega (arith, ap (λ n. length (digits n)) (c .wide .ensures .0))
 
 -- src/lib.rt:87:1
 same-length : tie.Need-same-length
@@ -42,7 +37,7 @@ same-length c = search needs
 -- src/lib.rt:87:1
 returns : tie.Need-returns
 unfolding numeral
-returns c = wrote-then (c .before .before .before .before .before .before .before .before .put-byte .ensures) (rw (c .before .before .before .wide .ensures .0) at (c .before .before .write-number .ensures))
+returns c = wrote-then (c .before .before .before .before .before .before .before .before .put-byte .ensures) (rw (c .before .before .before .wide .ensures .0) at (c .before .before .put-digits .ensures))
 
 pub put-number-spec : {M : Type 1} → statement M
 put-number-spec =
@@ -52,6 +47,6 @@ put-number-spec =
     mul-wide
     shared-slice-read-wide
     wide-requires
-    write-number-requires
+    put-digits-requires
     same-length
     returns)
