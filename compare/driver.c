@@ -63,6 +63,8 @@ static uint64_t answer(const struct question *q) {
     case 20:
         return makhnodri_contact_list_slices(SCENE, lent(LIST), q->length[LIST], lent(WORDS), q->length[WORDS], lent(CONTACTS),
                                              q->length[CONTACTS]);
+    case 21: return makhnodri_saved_length_slices(SCENE);
+    case 22: return makhnodri_save_scene_slices(SCENE, lent(TEXT), q->length[TEXT]);
     }
     give_up("no such call");
     return 0;

@@ -103,6 +103,7 @@ extern "C" {
  *     read_scene       26,184      write_report               123,224
  *     turn_scene        1,304      check_claims                 1,904
  *     contact_scene    86,248      contact_pt, contact_ee       2,736
+ *     saved_length      1,464      save_scene                   1,576
  *
  * ---- An answer ----
  *
@@ -174,6 +175,7 @@ static inline uint32_t makhnodri_entry_second(uint32_t entry) { return entry & 1
  * Of a scene: 1, 2, 3, 15, 4, each over the whole scene before the next; then 5, 6, for contacts 16; 7 last.
  * Of a text: 12, 8, then the first faulty line, and in it 9, 10, 11, 2, 3, 15, 4.
  * Of claims: the scene's, 8, then the first faulty line, and in it 9, 5, 6; 7 last.
+ * Of a scene that is saved: the scene's, then 8, then 7.
  */
 enum {
     MAKHNODRI_SHAPE = 1,           /* positions not a multiple of 6 long, edges of 2, triangles of 3, seams of 2, or a count over its size */
@@ -182,8 +184,8 @@ enum {
     MAKHNODRI_REPEATED_VERTEX = 4, /* a vertex twice in one edge or triangle, or two that stand for one vertex; of a text, with the line */
     MAKHNODRI_NOT_THERE = 5,       /* a vertex, edge, triangle or piece asked for that is not there; of claims, with the line */
     MAKHNODRI_SHARED_VERTEX = 6,   /* the pair asked for shares a vertex (an edge with itself too); of claims, with the line */
-    MAKHNODRI_NO_ROOM = 7,         /* more listed pairs, or claims, than room; with the count needed */
-    MAKHNODRI_LONG_TEXT = 8,       /* a text over 32,768 bytes */
+    MAKHNODRI_NO_ROOM = 7,         /* more listed pairs, or claims, than room, with the count needed; of a text that is saved, with the length needed */
+    MAKHNODRI_LONG_TEXT = 8,       /* a text over 32,768 bytes, read or to be written */
     MAKHNODRI_BAD_LINE = 9,        /* a line not of the form, or a last line without LF; with the line */
     MAKHNODRI_LATE_RECORD = 10,    /* a record after one of a later kind; with the line */
     MAKHNODRI_TOO_MANY = 11,       /* one record more than its size; with the line */
@@ -287,6 +289,8 @@ makhnodri_answer makhnodri_contact_scene_slices(MAKHNODRI_LISTS, uint32_t *list,
                                                 uint32_t *contacts, size_t contacts_length);
 makhnodri_answer makhnodri_check_claims_slices(MAKHNODRI_LISTS, const uint8_t *claims, size_t claims_length, uint8_t *answers,
                                                size_t answers_length);
+makhnodri_answer makhnodri_saved_length_slices(MAKHNODRI_LISTS);
+makhnodri_answer makhnodri_save_scene_slices(MAKHNODRI_LISTS, uint8_t *text, size_t text_length);
 makhnodri_answer makhnodri_read_scene_slices(const uint8_t *text, size_t text_length, int32_t *positions, size_t positions_length,
                                              uint16_t *edges, size_t edges_length, uint16_t *triangles, size_t triangles_length,
                                              uint16_t *seams, size_t seams_length, size_t counts[MAKHNODRI_AT_LEAST(4)]);
@@ -520,6 +524,23 @@ size_t makhnodri_write_report(const uint8_t *text, size_t text_length, uint8_t o
 static inline makhnodri_answer makhnodri_check_claims(const makhnodri_scene *scene, const uint8_t *claims, size_t claims_length,
                                                       uint8_t *answers, size_t answers_length) {
     return makhnodri_check_claims_slices(MAKHNODRI_LISTS_OF(scene), claims, claims_length, answers, answers_length);
+}
+
+/*
+ * The length in bytes of a scene's text (docs/FORMAT.md), or a refusal: 1, 2, 3, 15, 4 for the scene, then 8 where the text is over
+ * MAKHNODRI_TEXT_LIMIT bytes. So many bytes are enough for makhnodri_save_scene, and none fewer are.
+ */
+static inline makhnodri_answer makhnodri_saved_length(const makhnodri_scene *scene) {
+    return makhnodri_saved_length_slices(MAKHNODRI_LISTS_OF(scene));
+}
+
+/*
+ * Saves a scene: writes its text in front of a lent buffer and returns its length; the rest of the buffer is unchanged. Each record has
+ * its numbers as the scene has them. Read back it is the same scene, seams included, and what was read from a text is saved as the same
+ * bytes. A refusal writes nothing: as for makhnodri_saved_length, then 7 with the length needed where the buffer is shorter.
+ */
+static inline makhnodri_answer makhnodri_save_scene(const makhnodri_scene *scene, uint8_t *text, size_t text_length) {
+    return makhnodri_save_scene_slices(MAKHNODRI_LISTS_OF(scene), text, text_length);
 }
 
 #ifdef __cplusplus

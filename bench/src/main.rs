@@ -14,6 +14,7 @@ mod plain;
 mod plain_contacts;
 mod plain_report;
 mod plain_rest;
+mod plain_saving;
 mod product;
 mod resting;
 mod scenes;
@@ -92,6 +93,7 @@ fn main() {
     bench.sliding();
     bench.contacts();
     bench.reports();
+    bench.saving();
     bench.wrong_answers();
 }
 
@@ -271,6 +273,33 @@ impl Bench {
             && plain.seams == ours.seams[..2 * seams];
         assert!(self.product.is_none() || same, "the library reads what plain Rust reads");
         table(&format!("reading alone, {name} ({} bytes)", text.len()), ("us", 1e6), &times);
+    }
+
+    /// The largest text, and one with seams.
+    fn saving(&self) {
+        let scenes: [(&str, Scene); 2] = [
+            ("the largest text", compare::text::as_long_as(compare::scene::TEXT_LIMIT)),
+            ("a full-size sheet with 255 seams", scenes::sewn_sheet(&mut Random::new(4))),
+        ];
+        for (name, scene) in scenes {
+            self.save(name, &Slices::of(&scene), write(&scene).as_bytes());
+        }
+    }
+
+    fn save(&self, name: &str, slices: &Slices, text: &[u8]) {
+        let (mut plain, mut formatted, mut ours) = (vec![0; text.len()], vec![0; text.len()], vec![0; text.len()]);
+        let mut ways = vec![
+            Way::new("plain Rust, the length and then the text", || {
+                plain_saving::save(slices, &mut plain).expect("a scene") as u64
+            }),
+            Way::new("write!, with no check", || plain_saving::formatted(slices, &mut formatted).expect("room") as u64),
+        ];
+        if let Some(product) = &self.product {
+            ways.push(Way::new(OURS, || product.save(slices, &mut ours).expect("a scene") as u64));
+        }
+        let times = shortest(ways, self.rounds);
+        assert!(plain == text && formatted == text && (self.product.is_none() || ours == text), "each way writes the same bytes");
+        table(&format!("saving, {name} ({} bytes)", text.len()), ("us", 1e6), &times);
     }
 
     fn report(&self, name: &str, text: &[u8]) {

@@ -12,6 +12,7 @@
 //! | makhnodri_settle_list_slices | a scene, list u32, words u8 | an answer; the word of each entry of the list, which is only read |
 //! | makhnodri_contact_scene_slices | a scene, list u32, words u8, contacts u32 | as makhnodri_settle_scene_slices, and five numbers for each hit |
 //! | makhnodri_contact_pt_slices, makhnodri_contact_ee_slices | a scene, two places, five numbers | an answer: the pair's word; the numbers of a hit |
+//! | makhnodri_save_scene_slices | a scene's four lists, text u8 | an answer; the scene's text |
 //! | makhnodri_read_scene_slices | text u8, a scene's four lists of full size, four counts | an answer; the scene and its counts |
 //! | makhnodri_write_report | text u8, 65,536 bytes for the report | the length of the report |
 //!
@@ -141,6 +142,18 @@ mod linked {
             seams: *mut u16,
             seams_len: usize,
             counts: *mut usize,
+        ) -> u64;
+        fn makhnodri_save_scene_slices(
+            positions: *const i32,
+            positions_len: usize,
+            edges: *const u16,
+            edges_len: usize,
+            triangles: *const u16,
+            triangles_len: usize,
+            seams: *const u16,
+            seams_len: usize,
+            text: *mut u8,
+            text_len: usize,
         ) -> u64;
         fn makhnodri_write_report(text: *const u8, text_len: usize, report: *mut u8) -> usize;
     }
@@ -316,6 +329,25 @@ mod linked {
             })
         }
 
+        /// The scene's text stands in front of the buffer.
+        pub fn save(&self, s: &Slices, text: &mut [u8]) -> Answer {
+            // SAFETY: as above
+            answer(unsafe {
+                makhnodri_save_scene_slices(
+                    s.positions.as_ptr(),
+                    s.positions.len(),
+                    s.edges.as_ptr(),
+                    s.edges.len(),
+                    s.triangles.as_ptr(),
+                    s.triangles.len(),
+                    s.seams.as_ptr(),
+                    s.seams.len(),
+                    text.as_mut_ptr(),
+                    text.len(),
+                )
+            })
+        }
+
         pub fn report(&self, text: &[u8], report: &mut [u8; REPORT_BYTES]) -> usize {
             // SAFETY: as above, and the report's array has its length
             unsafe { makhnodri_write_report(text.as_ptr(), text.len(), report.as_mut_ptr()) }
@@ -341,6 +373,10 @@ mod missing {
         }
 
         pub fn settle_list(&self, _: &Slices, _: &[u32], _: &mut [u8]) -> Answer {
+            match *self {}
+        }
+
+        pub fn save(&self, _: &Slices, _: &mut [u8]) -> Answer {
             match *self {}
         }
 

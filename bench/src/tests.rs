@@ -3,7 +3,7 @@
 use crate::errors::{self, Kind, Set, Source};
 use crate::scenes;
 use crate::slices::Slices;
-use crate::{plain, plain_contacts, plain_report, plain_rest, sweep, wide};
+use crate::{plain, plain_contacts, plain_report, plain_rest, plain_saving, sweep, wide};
 use compare::box_tests;
 use compare::contacts::{self, making};
 use compare::generate;
@@ -118,5 +118,21 @@ fn a_hair_is_a_hair() {
         let volume = |four: &errors::Four| determinant(seen(four, 1), seen(four, 2), seen(four, 3)).abs();
         let near = fours.iter().filter(|four| (1..100).contains(&volume(four))).count();
         assert!(fours.len() > 100 && near * 10 > fours.len() * 9, "{near} of {}", fours.len());
+    }
+}
+
+#[test]
+fn plain_saving_is_the_exact_one() {
+    for seed in 0..190 {
+        let scene = generate::scene(seed);
+        let (slices, right) = (Slices::of(&scene), compare::text::write(&scene).into_bytes());
+        let mut saved = vec![7; right.len() + 3];
+        if right.len() <= compare::scene::TEXT_LIMIT {
+            assert_eq!(plain_saving::save(&slices, &mut saved).ok(), Some(right.len()));
+            assert_eq!(saved[..right.len()], right);
+            assert!(plain_saving::save(&slices, &mut saved[..right.len().saturating_sub(1)]).is_err() || right.is_empty());
+        }
+        assert_eq!(plain_saving::formatted(&slices, &mut saved).ok(), Some(right.len()));
+        assert_eq!(saved[..right.len()], right);
     }
 }

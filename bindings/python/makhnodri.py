@@ -404,6 +404,8 @@ _FUNCTIONS = (
     ("contact_pt_slices", _WORD, _SCENE, *_POINT, _CONTACT),
     ("contact_ee_slices", _WORD, _SCENE, *_EDGES, _CONTACT),
     ("contact_scene_slices", _COUNT, _SCENE, _LIST, _WORDS, _CONTACTS),
+    ("saved_length_slices", _COUNT, _SCENE),
+    ("save_scene_slices", _COUNT, _SCENE, _Write("text", _UINT8)),
     ("check_claims_slices", _COUNT, _SCENE, _Read("claims", _UINT8), _Write("answers", _UINT8)),
     ("read_scene_slices", _NOTHING, _Read("text", _UINT8), *_THREE, _Write("seams", _UINT16), _Fixed("counts", _SIZE, 4)),
     ("write_report", _COUNT, _Read("text", _UINT8), _Fixed("out", _UINT8, REPORT_LENGTH)),
@@ -535,6 +537,12 @@ class Scene:
         """Whether the weights of each claim of a text (docs/FORMAT.md) bear it out, in order."""
         answers = bytearray(memoryview(text).nbytes)
         return [answer == YES for answer in answers[: check_claims(self, text, answers)]]
+
+    def saved(self):
+        """The scene as text (docs/FORMAT.md), in bytes; read back it is the same scene."""
+        text = bytearray(saved_length(self))
+        save_scene(self, text)
+        return bytes(text)
 
     def __repr__(self):
         sizes = ((part.name, getattr(self, part.name)) for part in _Lists.parts)

@@ -151,6 +151,32 @@ pub fn coordinate(field: &[u8]) -> Option<i64> {
 }
 
 /// The text of a scene; whether it is accepted is not looked at, since texts that are refused are wanted too.
+/// A scene whose text has so many bytes, of some 1,000 to 40,000: vertices, then edges, then triangles, and for the last bytes coordinates made longer.
+pub fn as_long_as(bytes: usize) -> Scene {
+    let mut scene = Scene { vertices: vec![[-100_001, 1, 100_003, -4, 500_005, -6]; 12], ..Scene::default() };
+    let left = |scene: &Scene| bytes - write(scene).len();
+    while scene.vertices.len() < VERTEX_LIMIT && left(&scene) > 60 {
+        let n = scene.vertices.len() as i64;
+        scene.vertices.push([n - 400_000, 400_000 - n, 300_000 + n, -300_000 - n, 111_111, 222_222]);
+    }
+    let last = scene.vertices.len() - 1;
+    while scene.edges.len() < EDGE_LIMIT && left(&scene) > 60 {
+        scene.edges.push([last, last - 1]);
+    }
+    while scene.triangles.len() < TRIANGLE_LIMIT && left(&scene) > 60 {
+        scene.triangles.push([last, last - 2, last - 1]);
+    }
+    // the second number of the first twelve has one digit, and may have six
+    let mut short = left(&scene);
+    for vertex in scene.vertices.iter_mut().take(12) {
+        let more = short.min(5);
+        vertex[1] = 10i64.pow(more as u32);
+        short -= more;
+    }
+    assert_eq!(write(&scene).len(), bytes, "as long as it was asked for");
+    scene
+}
+
 pub fn write(scene: &Scene) -> String {
     let mut out = String::new();
     let mut line = |kind: &str, numbers: Vec<String>| out.push_str(&format!("{kind}\t{}\n", numbers.join("\t")));

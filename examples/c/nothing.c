@@ -39,6 +39,8 @@ static void hold_slices(void) {
     hold("settle_pt_piece", makhnodri_settle_pt_piece_slices(NO_SCENE, 0, 0, 0), MAKHNODRI_NOT_THERE, 0);
     hold("settle_ee_piece", makhnodri_settle_ee_piece_slices(NO_SCENE, 0, 0, 0), MAKHNODRI_NOT_THERE, 0);
     hold("check_claims", makhnodri_check_claims_slices(NO_SCENE, NULL, 0, NULL, 0), 0, 0);
+    hold("saved_length", makhnodri_saved_length_slices(NO_SCENE), 0, 0);
+    hold("save_scene", makhnodri_save_scene_slices(NO_SCENE, NULL, 0), 0, 0);
     uint32_t contact[MAKHNODRI_CONTACT_LENGTH] = {7, 7, 7, 7, 7};
     hold("contact_pt", makhnodri_contact_pt_slices(NO_SCENE, 0, 0, contact), MAKHNODRI_NOT_THERE, 0);
     hold("contact_ee", makhnodri_contact_ee_slices(NO_SCENE, 0, 0, contact), MAKHNODRI_NOT_THERE, 0);
@@ -75,6 +77,8 @@ static void hold_scene(const makhnodri_scene *scene) {
     hold("settle_pt_piece of a struct", makhnodri_settle_pt_piece(scene, 0, 0, 0), MAKHNODRI_NOT_THERE, 0);
     hold("settle_ee_piece of a struct", makhnodri_settle_ee_piece(scene, 0, 0, 0), MAKHNODRI_NOT_THERE, 0);
     hold("check_claims of a struct", makhnodri_check_claims(scene, NULL, 0, NULL, 0), 0, 0);
+    hold("saved_length of a struct", makhnodri_saved_length(scene), 0, 0);
+    hold("save_scene of a struct", makhnodri_save_scene(scene, NULL, 0), 0, 0);
     uint32_t contact[MAKHNODRI_CONTACT_LENGTH] = {7, 7, 7, 7, 7};
     hold("contact_pt of a struct", makhnodri_contact_pt(scene, 0, 0, contact), MAKHNODRI_NOT_THERE, 0);
     hold("contact_ee of a struct", makhnodri_contact_ee(scene, 0, 0, contact), MAKHNODRI_NOT_THERE, 0);

@@ -68,6 +68,10 @@ static char claims[MAKHNODRI_TEXT_LIMIT];
 static size_t claims_length;
 static void check_claims(void) { makhnodri_check_claims_slices(SCENE, (const uint8_t *)claims, claims_length, words, sizeof words); }
 
+static uint8_t saved[MAKHNODRI_TEXT_LIMIT];
+static void saved_length(void) { makhnodri_saved_length_slices(SCENE); }
+static void save_scene(void) { makhnodri_save_scene_slices(SCENE, saved, sizeof saved); }
+
 static uint8_t stack[STACK];
 
 static size_t used_by(void (*call)(void)) {
@@ -195,6 +199,8 @@ static const struct {
     {"write_report", write_report, 40},
     {"turn_scene", turn, 4},
     {"check_claims", check_claims, 40},
+    {"saved_length", saved_length, 40},
+    {"save_scene", save_scene, 40},
     {"contact_pt", contact_pt, 400},
     {"contact_ee", contact_ee, 400},
     {"contact_scene", contact_scene, 4},

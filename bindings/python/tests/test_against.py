@@ -136,6 +136,11 @@ class Seeds(unittest.TestCase):
         for word in (b"hit", b"miss", b"touch", b"apart"):
             self.assertGreater(words[word], 50)
 
+    def test_saving(self):
+        for seed in range(SEEDS):
+            text = made(seed)
+            self.assertEqual(makhnodri.Scene.read(text).saved(), text)
+
     def test_lists_of_ones_own(self):
         for seed in range(SEEDS):
             scene = makhnodri.Scene.read(made(seed))

@@ -135,6 +135,17 @@ pub enum ClaimsRefusal {
     NoRoom { needed: usize },
 }
 
+/// Why a scene was not written as text, in the order of the checks.
+#[derive(Clone, Copy, Debug, PartialEq, Eq)]
+pub enum SaveRefusal {
+    /// 1, 2, 3, 15 or 4, of the scene.
+    Scene(Refusal),
+    /// 8: the text would be too long to be read again.
+    LongText,
+    /// 7, with the length of the text.
+    NoRoom { needed: usize },
+}
+
 const REFUSALS: [(Refusal, &str); 14] = [
     (Refusal::Shape, "positions not a multiple of 6 long, edges of 2, triangles of 3, seams of 2, or a count over its size"),
     (Refusal::Coordinate, "a coordinate outside its range"),
@@ -196,6 +207,24 @@ impl ClaimsRefusal {
     }
 }
 
+impl SaveRefusal {
+    pub fn refusal(self) -> Refusal {
+        match self {
+            SaveRefusal::Scene(refusal) => refusal,
+            SaveRefusal::LongText => Refusal::LongText,
+            SaveRefusal::NoRoom { .. } => Refusal::NoRoom,
+        }
+    }
+
+    pub(crate) fn heard((refusal, carried): (Refusal, usize)) -> SaveRefusal {
+        match refusal {
+            Refusal::LongText => SaveRefusal::LongText,
+            Refusal::NoRoom => SaveRefusal::NoRoom { needed: carried },
+            refusal => SaveRefusal::Scene(refusal),
+        }
+    }
+}
+
 impl TextRefusal {
     pub fn refusal(self) -> Refusal {
         match self {
@@ -225,6 +254,15 @@ impl Display for TextRefusal {
     fn fmt(&self, f: &mut Formatter) -> fmt::Result {
         match self {
             TextRefusal::Line { refusal, line } => write!(f, "line {line}: {refusal}"),
+            other => other.refusal().fmt(f),
+        }
+    }
+}
+
+impl Display for SaveRefusal {
+    fn fmt(&self, f: &mut Formatter) -> fmt::Result {
+        match self {
+            SaveRefusal::NoRoom { needed } => write!(f, "{}, {needed} needed", Refusal::NoRoom),
             other => other.refusal().fmt(f),
         }
     }

@@ -51,7 +51,9 @@ mod raw;
 mod scenes;
 mod texts;
 
-pub use answers::{ClaimsRefusal, Kind, ListRefusal, Listed, Pair, Refusal, Settled, TextRefusal, TurnRefusal, Verdict};
+pub use answers::{
+    ClaimsRefusal, Kind, ListRefusal, Listed, Pair, Refusal, SaveRefusal, Settled, TextRefusal, TurnRefusal, Verdict,
+};
 pub use contacts::Contact;
 pub use own::OwnRefusal;
 pub use scenes::{turn_scene, Scene};

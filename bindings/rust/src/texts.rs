@@ -1,7 +1,9 @@
 //! Scene texts and reports.
 
 use crate::answers::heard;
+use crate::scenes::ask;
 use crate::*;
+use std::fmt::{self, Display, Formatter};
 
 /// How many vertices, edges, triangles and seams a scene has.
 #[derive(Clone, Copy, Debug, Default, PartialEq, Eq)]
@@ -61,5 +63,42 @@ impl Scene<'static> {
         triangles.truncate(3 * counts.triangles);
         seams.truncate(2 * counts.seams);
         Ok(Scene::new(positions, edges, triangles).sewn(seams))
+    }
+}
+
+/// A scene as text. Read back it is the same scene, seams included, and what was read from a text is saved as the same bytes.
+impl Scene<'_> {
+    /// How many bytes the text has.
+    pub fn saved_length(&self) -> Result<usize, SaveRefusal> {
+        heard(ask!(self, makhnodri_saved_length_slices)).map_err(SaveRefusal::heard)
+    }
+
+    /// Writes the text in front of `text` and returns its length; the rest is unchanged, and all of it after a refusal.
+    pub fn save_scene(&self, text: &mut [u8]) -> Result<usize, SaveRefusal> {
+        let (t, n) = (text.as_mut_ptr(), text.len());
+        heard(ask!(self, makhnodri_save_scene_slices, t, n)).map_err(SaveRefusal::heard)
+    }
+
+    /// The text, with room of its own.
+    ///
+    /// ```
+    /// use makhnodri::Scene;
+    ///
+    /// let scene = Scene::new(&[0, 0, 0, 1, -2, 3, 4, 5, 6, 4, 5, 6], &[1, 0], &[]);
+    /// let text = scene.saved().unwrap();
+    /// assert_eq!(text, "v\t0\t0\t0\t1\t-2\t3\nv\t4\t5\t6\t4\t5\t6\ne\t1\t0\n");
+    /// assert_eq!(Scene::read(text.as_bytes()), Ok(scene));
+    /// ```
+    pub fn saved(&self) -> Result<String, SaveRefusal> {
+        let mut text = vec![0; self.saved_length()?];
+        self.save_scene(&mut text)?;
+        Ok(String::from_utf8(text).expect("letters, digits, minus, tab and LF"))
+    }
+}
+
+/// The scene's text. It fails where saving is refused, so that `to_string` then panics; [`Scene::saved`] tells why.
+impl Display for Scene<'_> {
+    fn fmt(&self, f: &mut Formatter) -> fmt::Result {
+        f.write_str(&self.saved().map_err(|_| fmt::Error)?)
     }
 }

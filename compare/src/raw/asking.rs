@@ -32,6 +32,7 @@ pub fn fixed() -> Vec<Question> {
     }
     out.extend(trials::fixed().into_iter().flat_map(|trial| about_text(&mut random, trial.text)));
     out.extend(box_tests::SIZES.into_iter().flat_map(about_runs));
+    out.extend(about_long_texts());
     out
 }
 
@@ -163,6 +164,7 @@ fn whole(random: &mut Random, scene: &Scene) -> Vec<Question> {
     out.extend(about_claims(&mut random.clone(), scene));
     out.extend(about_contacts(&mut random.clone(), scene));
     out.extend(about_own_lists(&mut random.clone(), scene));
+    out.extend(about_saving(&mut random.clone(), scene));
     out
 }
 
@@ -212,6 +214,28 @@ fn about_own_lists(random: &mut Random, scene: &Scene) -> Vec<Question> {
         let lent = Lent { list, words: marks(words), ..Lent::of_scene(scene) };
         out.push(Question::new(Call::SettleList, lent.clone()));
         out.push(Question::new(Call::ContactList, Lent { contacts: marks_of_32(rows), ..lent }));
+    }
+    out
+}
+
+/// The scene as text: its length, and rooms that are just enough, one byte too short, more than enough, none; what was written is read again.
+fn about_saving(random: &mut Random, scene: &Scene) -> Vec<Question> {
+    let length = write(scene).len();
+    let more = length + 1 + random.below(40);
+    let mut out = vec![Question::new(Call::SavedLength, Lent::of_scene(scene))];
+    let rooms = [length, length.saturating_sub(1), more, 0];
+    out.extend(rooms.map(|room| Question::new(Call::SaveScene, Lent { text: marks(room), ..Lent::of_scene(scene) })));
+    out
+}
+
+/// Scenes whose text is as long as a text may be, and one byte longer, and much longer; with room for it and without.
+fn about_long_texts() -> Vec<Question> {
+    let mut out = Vec::new();
+    for over in [0, 1, 4_000] {
+        let scene = text::as_long_as(TEXT_LIMIT + over);
+        out.push(Question::new(Call::SavedLength, Lent::of_scene(&scene)));
+        let rooms = [TEXT_LIMIT + over, TEXT_LIMIT + over - 1, TEXT_LIMIT + over + 9, 0];
+        out.extend(rooms.map(|room| Question::new(Call::SaveScene, Lent { text: marks(room), ..Lent::of_scene(&scene) })));
     }
     out
 }
@@ -373,6 +397,9 @@ fn on_harmed(random: &mut Random, call: Call, harmed: &Lent) -> Vec<Question> {
         lent.contacts = marks_of_32(if call == Call::ContactList { ROW * own.below(3) } else { 0 });
     }
     lend_a_row(call, &mut lent);
+    if call == Call::SaveScene {
+        lent.text = marks(random.clone().pick(&[0, 40_000]));
+    }
     if call == Call::CheckClaims {
         let mut own = random.clone();
         lent.text = own.pick(&[b"x\n".repeat(20_000).as_slice(), b"x\n", b""]).to_vec();
@@ -418,5 +445,11 @@ fn about_text(random: &mut Random, text: Vec<u8>) -> Vec<Question> {
         Question::new(Call::ReadScene, lent)
     };
     let reported = Lent { text: text.clone(), report: marks(65_536), ..Lent::default() };
-    vec![read(lengths), read(longer), read(short_of), Question::new(Call::WriteReport, reported)]
+    let mut out = vec![read(lengths), read(longer), read(short_of), Question::new(Call::WriteReport, reported)];
+    // and of a text that is a scene: what was read is saved as the same bytes
+    if let Ok(scene) = text::read(&text) {
+        assert_eq!(write(&scene).as_bytes(), text, "there is one text for a scene");
+        out.extend(about_saving(&mut random.clone(), &scene));
+    }
+    out
 }

@@ -39,7 +39,83 @@ pub fn all() -> Vec<Damage> {
     out.extend(contacts());
     out.extend(contact_rows());
     out.extend(wrong_contacts());
+    out.extend(saving());
     out
+}
+
+/// The text of the scene as this makes it, in the place of the right one.
+fn saved_as(name: &str, wrong: impl Fn(&mut Lent) -> String + 'static) -> Damage {
+    damage(name, move |question, answer| {
+        if question.call == Call::SaveScene && answer.refusal() == 0 {
+            let text = wrong(&mut question.lent.clone());
+            let room = question.lent.text.len();
+            let mut buffer = question.lent.text.clone();
+            let length = text.len().min(room);
+            buffer[..length].copy_from_slice(&text.as_bytes()[..length]);
+            answer.buffers[TEXT][MARGIN..MARGIN + room].copy_from_slice(&buffer);
+            answer.number = length as u64;
+        }
+    })
+}
+
+/// What a writer of texts gets wrong.
+fn saving() -> Vec<Damage> {
+    let text = |lent: &Lent| expected::saved(lent).expect("it was answered");
+    vec![
+        saved_as("an edge's ends saved in rising number", move |lent| {
+            lent.edges.chunks_exact_mut(2).for_each(|ends| ends.sort_unstable());
+            text(lent)
+        }),
+        saved_as("a triangle's corners saved in rising number", move |lent| {
+            lent.triangles.chunks_exact_mut(3).for_each(|corners| corners.sort_unstable());
+            text(lent)
+        }),
+        saved_as("seams left out of what is saved", move |lent| {
+            lent.seams.clear();
+            text(lent)
+        }),
+        saved_as("a minus lost", move |lent| text(lent).replace('-', "")),
+        saved_as("a last line without LF", move |lent| text(lent).trim_end_matches('\n').into()),
+        damage("7 before 8 of a text that is saved", |question, answer| {
+            let text = expected::scene(&question.lent).map(|scene| crate::text::write(&scene).len());
+            if let (Call::SaveScene, TEXT_TOO_LONG, Ok(length)) = (question.call, answer.refusal(), text) {
+                if question.lent.text.len() < length {
+                    answer.number = (NO_ROOM << 32) + length as u64;
+                }
+            }
+        }),
+        damage("8 of a text that is saved carries its length", |question, answer| {
+            if let (true, TEXT_TOO_LONG, Ok(scene)) = (question.call.saves(), answer.refusal(), expected::scene(&question.lent)) {
+                answer.number += crate::text::write(&scene).len() as u64;
+            }
+        }),
+        damage("a length one byte short", |question, answer| {
+            if question.call == Call::SavedLength && answer.refusal() == 0 && answer.number > 0 {
+                answer.number -= 1;
+            }
+        }),
+        damage("7 of a text that is saved with one byte too few", |question, answer| {
+            answer.number -= (question.call == Call::SaveScene && answer.refusal() == NO_ROOM) as u64;
+        }),
+        damage("a text of 32,768 bytes is not saved", |question, answer| {
+            if question.call == Call::SavedLength && answer.number == crate::scene::TEXT_LIMIT as u64 {
+                answer.number = TEXT_TOO_LONG << 32;
+            }
+        }),
+        damage("a text saved where there is no room", |question, answer| {
+            if let (Call::SaveScene, NO_ROOM, Ok(text)) = (question.call, answer.refusal(), expected::saved(&question.lent)) {
+                let room = question.lent.text.len();
+                answer.buffers[TEXT][MARGIN..MARGIN + room].copy_from_slice(&text.as_bytes()[..room]);
+            }
+        }),
+        damage("zeros behind a text that is saved", |question, answer| {
+            if question.call == Call::SaveScene && answer.refusal() == 0 {
+                let from = MARGIN + answer.number as usize;
+                let to = MARGIN + question.lent.text.len();
+                answer.buffers[TEXT][from..to].fill(0);
+            }
+        }),
+    ]
 }
 
 /// What an answer is as one number.

@@ -3,7 +3,7 @@
 
 use super::question::*;
 use crate::contacts::{self, Contact};
-use crate::refusal::{Refusal, NOT_THERE, NO_ROOM, SHARES_A_VERTEX};
+use crate::refusal::{Refusal, NOT_THERE, NO_ROOM, SHARES_A_VERTEX, TEXT_TOO_LONG};
 use crate::scene::*;
 use crate::settled::{self, Settled};
 use crate::slices::{self, Slices};
@@ -72,6 +72,8 @@ impl Expecting {
             Call::Contact(asked) => self.contact(question, asked, lent),
             Call::ContactScene => self.contact_scene(lent),
             Call::SettleList | Call::ContactList => self.own_list(question.call, lent),
+            Call::SavedLength => Ok(saved(lent)?.len() as u64),
+            Call::SaveScene => save(lent),
         }
     }
 
@@ -222,6 +224,25 @@ fn check_claims(lent: &mut Lent) -> Result<u64, Refusal> {
     let answers = claims::answers(&scene(lent)?, &lent.text, lent.words.len())?;
     lent.words.iter_mut().zip(&answers).for_each(|(byte, &yes)| *byte = yes as u8);
     Ok(answers.len() as u64)
+}
+
+/// The scene's text, where it is no longer than a text may be.
+pub fn saved(lent: &Lent) -> Result<String, Refusal> {
+    let text = text::write(&scene(lent)?);
+    if text.len() > TEXT_LIMIT {
+        return Err(Refusal::new(TEXT_TOO_LONG, 0));
+    }
+    Ok(text)
+}
+
+/// The text in front of its buffer, where there is room.
+fn save(lent: &mut Lent) -> Result<u64, Refusal> {
+    let text = saved(lent)?;
+    if text.len() > lent.text.len() {
+        return Err(Refusal::new(NO_ROOM, text.len() as u64));
+    }
+    lent.text[..text.len()].copy_from_slice(text.as_bytes());
+    Ok(text.len() as u64)
 }
 
 fn write(lent: &mut Lent) -> u64 {

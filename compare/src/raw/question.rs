@@ -24,6 +24,8 @@ pub enum Call {
     /// A list of one's own.
     SettleList,
     ContactList,
+    SavedLength,
+    SaveScene,
 }
 
 /// Of a pair, or of a piece of one.
@@ -66,6 +68,7 @@ pub fn calls() -> Vec<Call> {
     out.extend([Call::ReadScene, Call::WriteReport, Call::TurnScene, Call::CheckClaims]);
     out.extend([Call::Contact(Asked::Pt), Call::Contact(Asked::Ee), Call::ContactScene]);
     out.extend([Call::SettleList, Call::ContactList]);
+    out.extend([Call::SavedLength, Call::SaveScene]);
     out
 }
 
@@ -106,6 +109,11 @@ impl Call {
         matches!(self, Call::SettleList | Call::ContactList)
     }
 
+    /// Whether it writes the scene as text, or tells how long that is.
+    pub fn saves(self) -> bool {
+        matches!(self, Call::SavedLength | Call::SaveScene)
+    }
+
     /// Whether it tells its box tests, in a lent number.
     pub fn tells_tests(self) -> bool {
         matches!(self, Call::CountPairs | Call::ListPairs)
@@ -128,6 +136,8 @@ impl Call {
             Call::ContactScene => "contact_scene".into(),
             Call::SettleList => "settle_list".into(),
             Call::ContactList => "contact_list".into(),
+            Call::SavedLength => "saved_length".into(),
+            Call::SaveScene => "save_scene".into(),
         }
     }
 }
@@ -158,6 +168,7 @@ pub const SEAMS: usize = 3;
 pub const LIST: usize = 4;
 pub const WORDS: usize = 5;
 pub const COUNTS: usize = 7;
+pub const TEXT: usize = 6;
 pub const REPORT: usize = 8;
 pub const CONTACTS: usize = 9;
 /// Numbers of a contact.

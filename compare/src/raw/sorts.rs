@@ -19,7 +19,8 @@ pub fn none_yet() -> Sorts {
     for call in calls() {
         let name = call.name();
         if call.takes_a_scene() && call != Call::CheckClaims {
-            out.extend([format!("{name}: answered"), format!("{name}: a scene of full size")]);
+            out.push(format!("{name}: answered"));
+            out.extend((!call.saves()).then(|| format!("{name}: a scene of full size")));
             out.extend(call.takes_seams().then(|| format!("{name}: answered with seams")));
             out.extend(of_scenes(call));
         }
@@ -39,6 +40,7 @@ pub fn none_yet() -> Sorts {
     out.extend(["the list too short", "the words too short", "both too short"].map(|which| format!("settle_scene: {which}")));
     out.extend(of_contact_scenes());
     out.extend([Call::SettleList, Call::ContactList].into_iter().flat_map(of_own_lists));
+    out.extend(of_saving_calls());
     out.extend(SCENE_FAULTS.map(|(number, fault)| alone(number, fault)));
     out.extend(of_texts());
     out.into_iter().map(|sort| (sort, 0)).collect()
@@ -49,6 +51,7 @@ fn of_scenes(call: Call) -> Vec<String> {
     let name = call.name();
     let later: &[u64] = match call {
         Call::ContactScene => &[BEYOND_OLD_RANGE, NO_ROOM],
+        Call::SaveScene => &[],
         Call::Contact(_) => &[NOT_THERE, SHARES_A_VERTEX, BEYOND_OLD_RANGE],
         _ if call.lists() => &[NO_ROOM],
         _ if call.asked().is_some() => &[NOT_THERE, SHARES_A_VERTEX],
@@ -176,6 +179,36 @@ fn of_own(question: &Question, answer: &Answer) -> Vec<String> {
     out
 }
 
+/// A scene as text: each room, 8 alone and before 7, the longest text that there is, a minus.
+fn of_saving_calls() -> Vec<String> {
+    let mut out = Vec::new();
+    for call in ["saved_length", "save_scene"] {
+        out.extend(["refused 8", "the longest text", "a minus"].map(|sort| format!("{call}: {sort}")));
+    }
+    let rooms = ["just the room", "room left over", "one byte too short", "no room at all", "8 before 7"];
+    out.extend(rooms.map(|sort| format!("save_scene: {sort}")));
+    out
+}
+
+fn of_saving(question: &Question, answer: &Answer) -> Vec<String> {
+    let lent = &question.lent;
+    let mut out = Vec::new();
+    let mut add = |holds: bool, sort: &str| out.extend(holds.then(|| format!("{}: {sort}", question.call.name())));
+    let (given, length, room) = (answer.refusal(), answer.number as u32 as usize, lent.text.len());
+    add(given == TEXT_TOO_LONG, "refused 8");
+    add(given == 0 && length == TEXT_LIMIT, "the longest text");
+    add(given == 0 && lent.positions.iter().any(|&n| n < 0), "a minus");
+    if question.call == Call::SaveScene {
+        let counted = (given == 0 || given == NO_ROOM) && length > 0;
+        add(counted && room == length, "just the room");
+        add(counted && room > length, "room left over");
+        add(counted && room + 1 == length, "one byte too short");
+        add(counted && room == 0, "no room at all");
+        add(given == TEXT_TOO_LONG && room <= TEXT_LIMIT, "8 before 7");
+    }
+    out
+}
+
 /// Each cell of the table of faults in texts, and short buffers.
 fn of_texts() -> Vec<String> {
     let mut out = vec!["read_scene: answered".into(), "write_report: pairs listed".into(), "read_scene: 12 before 8".into()];
@@ -230,6 +263,13 @@ pub fn of(question: &Question, answer: &Answer) -> Vec<String> {
             let mut out = texts_cells(question);
             let report = &answer.buffers[REPORT][MARGIN..];
             out.extend((report.starts_with(b"pt") || report.starts_with(b"ee")).then(|| "write_report: pairs listed".into()));
+            out
+        }
+        Call::SavedLength | Call::SaveScene => {
+            let mut out = of_slices(question, answer);
+            // most scenes of full size have a text that is too long
+            out.retain(|sort| !sort.ends_with(": a scene of full size"));
+            out.extend(of_saving(question, answer));
             out
         }
         _ => of_slices(question, answer),

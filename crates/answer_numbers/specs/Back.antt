@@ -48,11 +48,11 @@ unfoldable pub heard : {A : Type 0} → (ℕ → A) → ℕ → Outcome A
 heard back r = cond (ltb r upper) (given (back r)) (refused (r / upper) (r % upper))
 
 -- small enough to be heard again
-unfoldable Clear : {A : Type 0} → (A → ℕ) → (ℕ → A) → Outcome A → Type 0
+unfoldable pub Clear : {A : Type 0} → (A → ℕ) → (ℕ → A) → Outcome A → Type 0
 Clear value back (given a) = (value a < upper) × (back (value a) ≡ a)
 Clear value back (refused n c) = (0 < n) × (c < upper)
 
-heard-number : {A : Type 0} (value : A → ℕ) (back : ℕ → A) (o : Outcome A) → Clear value back o → heard back (numberFor value o) ≡ o
+pub heard-number : {A : Type 0} (value : A → ℕ) (back : ℕ → A) (o : Outcome A) → Clear value back o → heard back (numberFor value o) ≡ o
 unfolding heard Clear numberFor
 heard-number value back (given a) h = rw (lt-ltb (value a) upper (h .0), h .1)
 heard-number value back (refused n c) h =

@@ -6,3 +6,4 @@ pub mod Contacts
 pub mod Telling
 pub mod Back
 pub mod RowsBack
+pub mod Saved

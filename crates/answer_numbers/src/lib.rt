@@ -9,6 +9,8 @@ ghost use Rattle.answer_numbers.specs.Numbers.{upper, verdictNumber, sce
 ghost use Rattle.answer_numbers.specs.Small.{toldIn};
 ghost use Rattle.answer_numbers.specs.Claims.{claimsNumber};
 ghost use Rattle.answer_numbers.specs.Contacts.{wordNumber};
+ghost use Rattle.answer_numbers.specs.Saved.{savedNumber};
+ghost use Rattle.scene_saved.specs.Saved.{saveSays};
 use meaning::ClaimsAnswer;
 use meaning::ListAnswer;
 use meaning::Meeting;
@@ -17,6 +19,7 @@ use meaning::Refusal;
 use meaning::SceneAnswer;
 use meaning::SettledAnswer;
 use meaning::Verdict;
+use scene_saved::SaveAnswer;
 
 // A refusal with the line or the count that it carries.
 pub fn refused(why: Refusal, carries: usize) -> u64
@@ -88,5 +91,15 @@ pub fn claims_number(answer: ClaimsAnswer) -> u64
     match answer {
         ClaimsAnswer::Answered(count) => count as u64,
         ClaimsAnswer::Refused(why, carries) => refused(why, carries),
+    }
+}
+
+pub fn saved_number(answer: SaveAnswer) -> u64
+    requires { ⌜ toldIn (saveSays answer) < upper ⌝ }
+    ensures { λ r. ⌜ r ≡ savedNumber answer ⌝ }
+{
+    match answer {
+        SaveAnswer::Bytes(count) => count as u64,
+        SaveAnswer::Refused(why, carries) => refused(why, carries),
     }
 }

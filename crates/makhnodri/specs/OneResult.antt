@@ -33,6 +33,8 @@ use Rattle.answer_numbers.specs.Numbers.{sceneNumber, pairNumber, settledNumber
 use Rattle.answer_numbers.specs.Small.{counted-small, listing-small, judging-small, met-small, line-small}
 use Rattle.answer_numbers.specs.Back.{heard, noMore, count, countsIn, verdictNumbered, meetingIn, scene-heard, pair-heard, settled-heard, list-heard, text-heard, contact-heard}
 use Rattle.answer_numbers.specs.RowsBack.{meetingAt, rows-heard, meetings-many, rows-fit}
+use Rattle.scene_saved.specs.Saved.{savedText, savedChecks, saveChecks, Measured, Saved}
+use Rattle.answer_numbers.specs.Saved.{savedNumber, saved-heard, measured-small, saved-small, one-measured-told, one-saved-told}
 
 -- one right answer, one number
 one-number : {A : Type 0} {number : A → ℕ} {R S : A → Type 0} {r r′ : ℕ} (p : Told number R r) (q : Told number S r′) → p .answer ≡ q .answer → r ≡ r′
@@ -202,3 +204,20 @@ reading-told-heard text lent left l l′ r p =
         p .right .counts ∙ counts-given (p .answer) l c (sym says ∙ e),
       ),
     )
+
+-- ---- saving
+
+pub one-length-told : (s : Scene) (r r′ : ℕ) → Told savedNumber (Measured s) r → Told savedNumber (Measured s) r′ → r ≡ r′
+one-length-told s r r′ p q = one-measured-told s r r′ p q
+
+pub one-saving-told : (s : Scene) (o o′ o″ : List ℕ) (r r′ : ℕ) → Told savedNumber (Saved s o o′) r → Told savedNumber (Saved s o o″) r′
+    → (r ≡ r′) × (o′ ≡ o″)
+one-saving-told s o o′ o″ r r′ p q = one-saved-told p q
+
+pub length-told-heard : (s : Scene) (r : ℕ) → Told savedNumber (Measured s) r → Answers (savedChecks s) (λ n. n ≡ length (savedText s)) (heard count r)
+length-told-heard s r p = rw (p .is, saved-heard (p .answer) (measured-small s (p .answer) (p .right))) (p .right)
+
+pub saving-told-heard : (s : Scene) (o o′ : List ℕ) (r : ℕ) → Told savedNumber (Saved s o o′) r
+    → Answers (saveChecks s (length o)) (λ n. n ≡ length (savedText s)) (heard count r) × (o′ ≡ leaves (heard count r) (savedText s) o)
+saving-told-heard s o o′ r p =
+    rw (p .is, saved-heard (p .answer) (saved-small (p .right))) (p .right .answer, p .right .buffer)

@@ -18,6 +18,8 @@ ghost use Rattle.meaning.specs.Report.{Reported};
 ghost use Rattle.meaning.specs.Claims.{ClaimsChecked};
 ghost use Rattle.meaning.specs.Meetings.{rowLeft, MetScene};
 ghost use Rattle.answer_numbers.specs.Claims.{claimsNumber};
+ghost use Rattle.answer_numbers.specs.Saved.{savedNumber};
+ghost use Rattle.scene_saved.specs.Saved.{Measured, Saved};
 ghost use Rattle.answer_numbers.specs.Contacts.{meetingNumber, ContactInto};
 ghost use Rattle.scene_contacts.specs.Rows.{SmallMeeting};
 ghost use Rattle.answer_numbers.specs.Numbers.{sceneNumber, pairNumber, settledNumber, listNumber, textNumber, ReadInto, Told};
@@ -25,6 +27,7 @@ use answer_numbers::claims_number;
 use answer_numbers::list_number;
 use answer_numbers::pair_number;
 use answer_numbers::refused;
+use answer_numbers::saved_number;
 use answer_numbers::scene_number;
 use answer_numbers::settled_number;
 use answer_numbers::word_number;
@@ -444,4 +447,33 @@ pub extern "C" fn makhnodri_check_claims_slices(
     ensures { λ r. ⌜ Told claimsNumber (ClaimsChecked (sceneAtEntry positions edges triangles seams) (now (claims .entry)) (now (answers .entry)) (now (answers .exit))) r ⌝ }
 {
     claims_number(claim_answers::check_claims(positions, edges, triangles, seams, claims, answers))
+}
+
+// ---- saving
+
+// How many bytes the text of a scene has.
+#[no_mangle]
+pub extern "C" fn makhnodri_saved_length_slices(
+    positions: &[i32],
+    edges: &[u16],
+    triangles: &[u16],
+    seams: &[u16],
+) -> u64
+    ensures { λ r. ⌜ Told savedNumber (Measured (sceneAtEntry positions edges triangles seams)) r ⌝ }
+{
+    saved_number(scene_saved::saved_length(positions, edges, triangles, seams))
+}
+
+// The text of a scene, in front of the lent buffer.
+#[no_mangle]
+pub extern "C" fn makhnodri_save_scene_slices(
+    positions: &[i32],
+    edges: &[u16],
+    triangles: &[u16],
+    seams: &[u16],
+    text: &mut [u8],
+) -> u64
+    ensures { λ r. ⌜ Told savedNumber (Saved (sceneAtEntry positions edges triangles seams) (now (text .entry)) (now (text .exit))) r ⌝ }
+{
+    saved_number(scene_saved::save_scene(positions, edges, triangles, seams, text))
 }

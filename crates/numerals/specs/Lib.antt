@@ -1,0 +1,3 @@
+-- Numbers of a scene as fields of its text.
+pub mod Marked
+pub mod Counting
