@@ -39,6 +39,9 @@ use timing::{shortest, Timed, Way};
 const TOLERANCE: f64 = 1e-6;
 const OURS: &str = "the library";
 
+/// The verdict of a pair is a short way, and wants many rounds.
+const PAIR_ROUNDS: usize = 100;
+
 /// Seams of the scenes that are sewn.
 const SEAMS: usize = 255;
 
@@ -80,6 +83,7 @@ fn main() {
         _ => (20, 20_000),
     };
     let bench = Bench { rounds, pairs, product: Product::find() };
+    timing::warm_up();
     #[cfg(feature = "earlier")]
     if word == "against" {
         let scenes = std::env::args().nth(2).and_then(|word| word.parse().ok());
@@ -132,7 +136,7 @@ impl Bench {
             ways.push(Way::new(OURS, || product.settle_scene(slices, &mut made, &mut words).expect("there is room") as u64));
             ways.push(Way::new("its list", || product.list(slices, &mut made_alone, &mut [0; 1]).expect("there is room") as u64));
         }
-        let mut times = shortest(ways, self.rounds);
+        let mut times = shortest(ways, self.rounds.max(PAIR_ROUNDS));
         if self.product.is_some() {
             // the call that judges a whole scene makes its list too
             let (_, listing) = times.pop().unwrap();
@@ -166,7 +170,7 @@ impl Bench {
                 ways.push(Way::new("settled", || product.settle_scene(slices, list, words).expect("there is room") as u64));
                 ways.push(Way::new("listed", || product.list(slices, alone, tests).expect("there is room") as u64));
             }
-            let times = shortest(ways, self.rounds);
+            let times = shortest(ways, self.rounds.max(PAIR_ROUNDS));
             lent.iter().for_each(Sewn::hold);
             let [without, with] = [0, 1].map(|place| 1e9 * (times[2 * place].1 - times[2 * place + 1].1) / counts[place] as f64);
             println!(

@@ -26,6 +26,16 @@ fn taken() -> Duration {
     Duration::new(time.seconds as u64, time.nanoseconds as u32)
 }
 
+/// A processor that did nothing starts with a low clock: half a second of work that nobody times.
+pub fn warm_up() {
+    let began = taken();
+    while taken() - began < Duration::from_millis(500) {
+        for number in 0..10_000u64 {
+            black_box(black_box(number).wrapping_mul(number));
+        }
+    }
+}
+
 pub struct Way<'a> {
     name: &'static str,
     work: Box<dyn FnMut() -> u64 + 'a>,

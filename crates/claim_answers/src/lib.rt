@@ -9,6 +9,8 @@ ghost use Rattle.meaning.specs.Pieces.{pieceOf};
 ghost use Rattle.meaning.specs.Refusals.{notThere};
 ghost use Rattle.meaning.specs.Claims.{AnswerIs, answerByte, ClaimsChecked};
 ghost use Rattle.scenes.specs.Alone.{tabledIn, tabledAtEntry};
+ghost use Rattle.scenes.specs.Sewing.{Blank};
+ghost use Rattle.scenes.specs.Checking.{Stitched};
 ghost use Rattle.claim_answers.specs.Inspecting.{Inspected};
 ghost use Rattle.claim_answers.specs.Weighing.{weightsFrom};
 ghost use Rattle.claim_answers.specs.Answering.{Roomy, Answered};
@@ -135,6 +137,43 @@ fn answer_all(
     }
 }
 
+// As `check_claims`, over a lent table without seams, which is that of the scene's seams afterwards.
+fn check_into(
+    positions: &[i32],
+    edges: &[u16],
+    triangles: &[u16],
+    seams: &[u16],
+    stands: &mut [u16],
+    text: &[u8],
+    answers: &mut [u8],
+) -> ClaimsAnswer
+    requires { ⌜ Blank (now seams) (now stands) ⌝ }
+    ensures { λ r. ⌜ ClaimsChecked (sceneAtEntry positions edges triangles seams) (now (text .entry)) (now (answers .entry)) (now (answers .exit)) r × Stitched (sceneAtEntry positions edges triangles seams) (now (stands .entry)) (now (stands .exit)) ⌝ }
+{
+    if let SceneAnswer::Refused(refusal) = scenes::check_into(
+        positions,
+        edges,
+        triangles,
+        seams,
+        stands,
+    ) {
+        return ClaimsAnswer::Refused(refusal, 0);
+    }
+    if TEXT_LIMIT < text.len() {
+        return ClaimsAnswer::Refused(Refusal::LongText, 0);
+    }
+    match inspect(positions, edges, triangles, stands, text) {
+        ClaimsAnswer::Refused(fault, line) => ClaimsAnswer::Refused(fault, line),
+        ClaimsAnswer::Answered(count) => {
+            if answers.len() < count {
+                return ClaimsAnswer::Refused(Refusal::NoRoom, count);
+            }
+            answer_all(positions, edges, triangles, stands, text, answers);
+            ClaimsAnswer::Answered(count)
+        }
+    }
+}
+
 // Checks a text of claims beside a scene. The answer is how many there are, and the lent buffer then holds a byte for each in front, 1
 // for yes and 0 for no; or a refusal, and no claim is answered.
 pub fn check_claims(
@@ -147,27 +186,18 @@ pub fn check_claims(
 ) -> ClaimsAnswer
     ensures { λ r. ⌜ ClaimsChecked (sceneAtEntry positions edges triangles seams) (now (text .entry)) (now (answers .entry)) (now (answers .exit)) r ⌝ }
 {
+    if seams.len() == 0 {
+        let mut none = [0u16; 0];
+        return check_into(positions, edges, triangles, seams, &mut none, text, answers);
+    }
     let mut stands = [0u16; VERTEX_LIMIT];
-    if let SceneAnswer::Refused(refusal) = scenes::check_into(
+    check_into(
         positions,
         edges,
         triangles,
         seams,
         &mut stands,
-    ) {
-        return ClaimsAnswer::Refused(refusal, 0);
-    }
-    if TEXT_LIMIT < text.len() {
-        return ClaimsAnswer::Refused(Refusal::LongText, 0);
-    }
-    match inspect(positions, edges, triangles, &stands, text) {
-        ClaimsAnswer::Refused(fault, line) => ClaimsAnswer::Refused(fault, line),
-        ClaimsAnswer::Answered(count) => {
-            if answers.len() < count {
-                return ClaimsAnswer::Refused(Refusal::NoRoom, count);
-            }
-            answer_all(positions, edges, triangles, &stands, text, answers);
-            ClaimsAnswer::Answered(count)
-        }
-    }
+        text,
+        answers,
+    )
 }

@@ -2,6 +2,7 @@
 
 pub mod arrows; // arrows.rt: volumes with a unit axis among the vectors
 pub mod shared; // shared.rt: the volumes of all pieces of a pair, each determinant once
+pub mod pieces; // pieces.rt: the same, piece by piece
 
 ghost use Prim.Native.Nat.{_<_};
 ghost use Rattle.whole.specs.Vector.{volume};
@@ -107,6 +108,31 @@ fn in_turn(e0: i64, e1: i64, e2: i64, e3: i64) -> Volumes
     }
 }
 
+// The four volumes where the minors of the first two differences and of the last two are there.
+fn volumes_with(
+    positions: &[i32],
+    o0: usize,
+    b0: usize,
+    o1: usize,
+    b1: usize,
+    o2: usize,
+    b2: usize,
+    o3: usize,
+    b3: usize,
+    former: Minors,
+    latter: Minors,
+) -> Volumes
+    requires { ⌜ Rooms (now positions) (four o0 o1 o2 o3) (four b0 b1 b2 b3) × Bounded coordinateLimit (now positions) ⌝ }
+    requires { ⌜ MinorsOf former (apart (now positions) o0 b0) (apart (now positions) o1 b1) × MinorsOf latter (apart (now positions) o2 b2) (apart (now positions) o3 b3) ⌝ }
+    ensures { λ r. ⌜ Holds r (volumesAt (now (positions .entry)) (four o0 o1 o2 o3) (four b0 b1 b2 b3)) ⌝ }
+{
+    let e0 = volume_with(positions, o1, b1, latter);
+    let e1 = volume_with(positions, o0, b0, latter);
+    let e2 = volume_with(positions, o3, b3, former);
+    let e3 = volume_with(positions, o2, b2, former);
+    in_turn(e0, e1, e2, e3)
+}
+
 pub fn volumes_at(
     positions: &[i32],
     o0: usize,
@@ -123,9 +149,5 @@ pub fn volumes_at(
 {
     let former = minors_at(positions, o0, b0, o1, b1);
     let latter = minors_at(positions, o2, b2, o3, b3);
-    let e0 = volume_with(positions, o1, b1, latter);
-    let e1 = volume_with(positions, o0, b0, latter);
-    let e2 = volume_with(positions, o3, b3, former);
-    let e3 = volume_with(positions, o2, b2, former);
-    in_turn(e0, e1, e2, e3)
+    volumes_with(positions, o0, b0, o1, b1, o2, b2, o3, b3, former, latter)
 }

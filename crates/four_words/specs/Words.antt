@@ -2,9 +2,9 @@
 use Prim.Native.Nat.{ℕ, _+_, _≤_, _<_}
 use native.Mathlib.Nat.{eq-or-lt-of-le, lt-of-lt-of-le, not-suc-le-zero}
 use native.Mathlib.Omega.{arith}
-use mathlib.Core.Path.{_≡_, sym, subst}
+use mathlib.Core.Path.{_≡_, refl, sym, subst}
 use mathlib.Core.Logic.{_⊎_, ⊎-elim}
-use mathlib.Core.Bool.{Bool, true, false}
+use mathlib.Core.Bool.{Bool, true, false, true≢false}
 use Rattle.meaning.specs.Scene.{Scene}
 use Rattle.meaning.specs.Pieces.{pieceOf, pieceCount}
 use Rattle.meaning.specs.Verdicts.{SomePiece, PairIs}
@@ -14,6 +14,17 @@ use Rattle.meaning.specs.declared.Verdict.{Verdict}
 use Rattle.meaning.specs.declared.Settled.{Settled}
 use Rattle.meaning.specs.declared.Settled.the-variants.{Hit, Miss, Touch, Apart}
 use Rattle.corner_search.specs.Decided.{one-piece-word, some-hit}
+
+-- whether the pieces of a pair with this verdict are looked at again, and the word of one whose are not
+unfoldable pub isSingular : Verdict → Bool
+isSingular Verdict.Hit = false
+isSingular Verdict.Miss = false
+isSingular Verdict.Degenerate = true
+
+unfoldable pub plainWord : Verdict → Settled
+plainWord Verdict.Hit = Hit
+plainWord Verdict.Miss = Miss
+plainWord Verdict.Degenerate = Miss
 
 module _ (s : Scene) (kind : Kind) (i j : ℕ) where
   -- whether some piece of the pair touches
@@ -75,3 +86,16 @@ module _ (s : Scene) (kind : Kind) (i j : ℕ) where
       where
         of : TouchSaid s kind i j false → ¬ SomeSettled s kind i j Touch
         of (none t) = t
+
+  -- a pair is degenerate, or has the plain word of its verdict
+  pub goes-on : (v : Verdict) → isSingular v ≡ true → PairIs s kind i j v → PairIs s kind i j Verdict.Degenerate
+  unfolding isSingular
+  goes-on Verdict.Hit e h = absurd (true≢false (sym e))
+  goes-on Verdict.Miss e h = absurd (true≢false (sym e))
+  goes-on Verdict.Degenerate e h = h
+
+  pub stays : (v : Verdict) → isSingular v ≡ false → PairIs s kind i j v → PairSettled s kind i j (plainWord v)
+  unfolding isSingular plainWord
+  stays Verdict.Hit e h = hit-stays refl h
+  stays Verdict.Miss e h = miss-stays refl h
+  stays Verdict.Degenerate e h = absurd (true≢false e)

@@ -9,7 +9,7 @@ ghost use Rattle.meaning.specs.Verdicts.{PieceIs, PairIs};
 ghost use Rattle.meaning.specs.Resting.{PieceSettled, PairSettled};
 ghost use Rattle.scenes.specs.Alone.{tabledIn, tabledAtEntry};
 ghost use Rattle.meaning.specs.declared.Verdict.the-variants.{Degenerate};
-ghost use Rattle.four_words.specs.Words.{TouchSaid};
+ghost use Rattle.four_words.specs.Words.{TouchSaid, isSingular, plainWord};
 use super::six::six_of;
 use at_rest::pair_rests;
 use meaning::Kind;
@@ -99,8 +99,8 @@ fn touches(
     }
 }
 
-// The word of a pair, from its verdict: only where that is degenerate are its pieces looked at again.
-pub(crate) fn pair_word(
+// The word of a degenerate pair.
+pub(crate) fn singular_word(
     positions: &[i32],
     edges: &[u16],
     triangles: &[u16],
@@ -108,25 +108,40 @@ pub(crate) fn pair_word(
     kind: Kind,
     i: usize,
     j: usize,
-    verdict: Verdict,
 ) -> Settled
-    requires { ⌜ Accepted (tabledIn positions edges triangles stands) × (notThere (tabledIn positions edges triangles stands) kind i j ≡ false) × PairIs (tabledIn positions edges triangles stands) kind i j verdict ⌝ }
+    requires { ⌜ Accepted (tabledIn positions edges triangles stands) × (notThere (tabledIn positions edges triangles stands) kind i j ≡ false) × PairIs (tabledIn positions edges triangles stands) kind i j Degenerate ⌝ }
     ensures { λ r. ⌜ PairSettled (tabledAtEntry positions edges triangles stands) kind i j r ⌝ }
+{
+    if touches(positions, edges, triangles, stands, kind, i, j) {
+        Settled::Touch
+    } else {
+        Settled::Apart
+    }
+}
+
+// Only where the verdict of a pair is degenerate are its pieces looked at again.
+fn is_singular(verdict: Verdict) -> bool
+    ensures { λ r. ⌜ r ≡ isSingular verdict ⌝ }
+{
+    match verdict {
+        Verdict::Hit => false,
+        Verdict::Miss => false,
+        Verdict::Degenerate => true,
+    }
+}
+
+// The word of a pair that is not degenerate.
+fn plain_word(verdict: Verdict) -> Settled
+    ensures { λ r. ⌜ r ≡ plainWord verdict ⌝ }
 {
     match verdict {
         Verdict::Hit => Settled::Hit,
         Verdict::Miss => Settled::Miss,
-        Verdict::Degenerate => {
-            if touches(positions, edges, triangles, stands, kind, i, j) {
-                Settled::Touch
-            } else {
-                Settled::Apart
-            }
-        }
+        Verdict::Degenerate => Settled::Miss,
     }
 }
 
-// A pair.
+// A pair. Hit and miss are one way: which of them it is cannot be foretold, and a branch on it costs more than the choice of the word.
 pub fn pair(
     positions: &[i32],
     edges: &[u16],
@@ -140,5 +155,9 @@ pub fn pair(
     ensures { λ r. ⌜ PairSettled (tabledAtEntry positions edges triangles stands) kind i j r ⌝ }
 {
     let verdict = three_words::accepted::pair(positions, edges, triangles, stands, kind, i, j);
-    pair_word(positions, edges, triangles, stands, kind, i, j, verdict)
+    if is_singular(verdict) {
+        singular_word(positions, edges, triangles, stands, kind, i, j)
+    } else {
+        plain_word(verdict)
+    }
 }

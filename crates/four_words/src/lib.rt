@@ -9,8 +9,10 @@ ghost use Rattle.scenes.specs.Sewing.{Blank};
 ghost use Rattle.scenes.specs.Checking.{Stitched};
 use meaning::Kind;
 use meaning::PairAnswer;
+use meaning::Settled;
 use meaning::SettledAnswer;
 use meaning::VERTEX_LIMIT;
+use meaning::Verdict;
 
 // The word of a pair, for a scene that may be anything; and the table of its seams. The refusals are those of its verdict.
 pub fn settle_into(
@@ -36,16 +38,19 @@ pub fn settle_into(
         first,
         second,
     ) {
-        PairAnswer::Judged(verdict) => SettledAnswer::Decided(accepted::pair_word(
-            positions,
-            edges,
-            triangles,
-            stands,
-            kind,
-            first,
-            second,
-            verdict,
-        )),
+        PairAnswer::Judged(verdict) => match verdict {
+            Verdict::Hit => SettledAnswer::Decided(Settled::Hit),
+            Verdict::Miss => SettledAnswer::Decided(Settled::Miss),
+            Verdict::Degenerate => SettledAnswer::Decided(accepted::singular_word(
+                positions,
+                edges,
+                triangles,
+                stands,
+                kind,
+                first,
+                second,
+            )),
+        },
         PairAnswer::Refused(refusal) => SettledAnswer::Refused(refusal),
     }
 }
@@ -61,6 +66,19 @@ pub fn settle_pair(
 ) -> SettledAnswer
     ensures { λ r. ⌜ PairDecided (sceneAtEntry positions edges triangles seams) kind first second r ⌝ }
 {
+    if seams.len() == 0 {
+        let mut none = [0u16; 0];
+        return settle_into(
+            positions,
+            edges,
+            triangles,
+            seams,
+            &mut none,
+            kind,
+            first,
+            second,
+        );
+    }
     let mut stands = [0u16; VERTEX_LIMIT];
     settle_into(
         positions,
@@ -74,7 +92,51 @@ pub fn settle_pair(
     )
 }
 
-// The word of one piece of a pair.
+// The word of one piece of a pair; and the table of the scene's seams.
+fn settle_piece_into(
+    positions: &[i32],
+    edges: &[u16],
+    triangles: &[u16],
+    seams: &[u16],
+    stands: &mut [u16],
+    kind: Kind,
+    first: usize,
+    second: usize,
+    piece: usize,
+) -> SettledAnswer
+    requires { ⌜ Blank (now seams) (now stands) ⌝ }
+    ensures { λ r. ⌜ PieceDecided (sceneAtEntry positions edges triangles seams) kind first second piece r × Stitched (sceneAtEntry positions edges triangles seams) (now (stands .entry)) (now (stands .exit)) ⌝ }
+{
+    let judged = three_words::piece_into(
+        positions,
+        edges,
+        triangles,
+        seams,
+        stands,
+        kind,
+        first,
+        second,
+        piece,
+    );
+    match judged {
+        PairAnswer::Judged(verdict) => {
+            let word = accepted::piece_word(
+                positions,
+                edges,
+                triangles,
+                stands,
+                kind,
+                first,
+                second,
+                piece,
+                verdict,
+            );
+            SettledAnswer::Decided(word)
+        }
+        PairAnswer::Refused(refusal) => SettledAnswer::Refused(refusal),
+    }
+}
+
 pub fn settle_piece(
     positions: &[i32],
     edges: &[u16],
@@ -87,8 +149,22 @@ pub fn settle_piece(
 ) -> SettledAnswer
     ensures { λ r. ⌜ PieceDecided (sceneAtEntry positions edges triangles seams) kind first second piece r ⌝ }
 {
+    if seams.len() == 0 {
+        let mut none = [0u16; 0];
+        return settle_piece_into(
+            positions,
+            edges,
+            triangles,
+            seams,
+            &mut none,
+            kind,
+            first,
+            second,
+            piece,
+        );
+    }
     let mut stands = [0u16; VERTEX_LIMIT];
-    let judged = three_words::piece_into(
+    settle_piece_into(
         positions,
         edges,
         triangles,
@@ -98,22 +174,5 @@ pub fn settle_piece(
         first,
         second,
         piece,
-    );
-    match judged {
-        PairAnswer::Judged(verdict) => {
-            let word = accepted::piece_word(
-                positions,
-                edges,
-                triangles,
-                &stands,
-                kind,
-                first,
-                second,
-                piece,
-                verdict,
-            );
-            SettledAnswer::Decided(word)
-        }
-        PairAnswer::Refused(refusal) => SettledAnswer::Refused(refusal),
-    }
+    )
 }

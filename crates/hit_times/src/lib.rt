@@ -14,8 +14,8 @@ ghost use Rattle.three_words.specs.Ready.{PointReady, EdgesReady};
 ghost use Rattle.hit_times.specs.Hits.{PointHits, EdgesHit};
 use earliest::of_four;
 use earliest::of_three;
-use exact::shared::edge_volumes;
-use exact::shared::point_volumes;
+use exact::pieces::edge_pieces;
+use exact::pieces::point_pieces;
 use meaning::Corners;
 use meaning::Ends;
 use meaning::Moment;
@@ -30,7 +30,7 @@ pub fn point_moment(positions: &[i32], p: usize, c: Corners) -> Moment
     requires { ⌜ PointReady (now positions) p c × Bounded contactLimit (now positions) × PointHits (now positions) p c ⌝ }
     ensures { λ r. ⌜ ((s : Scene) (j : ℕ) → s .positions ≡ now (positions .entry) → cornersOf s j ≡ c → MomentIs s PointTriangle p j r) ⌝ }
 {
-    let v = point_volumes(positions, 6 * p, 6 * c.low, 6 * c.middle, 6 * c.high);
+    let v = point_pieces(positions, 6 * p, 6 * c.low, 6 * c.middle, 6 * c.high);
     let first = v.first;
     let second = v.second;
     let third = v.third;
@@ -52,7 +52,7 @@ pub fn edges_moment(positions: &[i32], first: Ends, second: Ends) -> Moment
     requires { ⌜ EdgesReady (now positions) first second × Bounded contactLimit (now positions) × EdgesHit (now positions) first second ⌝ }
     ensures { λ r. ⌜ ((s : Scene) (i j : ℕ) → s .positions ≡ now (positions .entry) → endsOf s (min i j) ≡ first → endsOf s (max i j) ≡ second → MomentIs s EdgeEdge i j r) ⌝ }
 {
-    let v = edge_volumes(
+    let v = edge_pieces(
         positions,
         6 * first.low,
         6 * first.high,

@@ -5,6 +5,8 @@ pub mod accepted; // accepted.rt: the list of a scene that is accepted
 ghost use Rattle.meaning.specs.Scene.{sceneAtEntry};
 ghost use Rattle.meaning.specs.List.{Counted, Listing};
 ghost use Rattle.meaning.specs.Runs.{Tested};
+ghost use Rattle.scenes.specs.Sewing.{Blank};
+ghost use Rattle.scenes.specs.Checking.{Stitched};
 use accepted::count_accepted;
 use accepted::list_accepted;
 use accepted::put_tests;
@@ -14,6 +16,28 @@ use meaning::Made;
 use meaning::SceneAnswer;
 use meaning::VERTEX_LIMIT;
 use scenes::check_into;
+
+// As `count_pairs`, over a lent table without seams, which is that of the scene's seams afterwards.
+fn count_into(
+    positions: &[i32],
+    edges: &[u16],
+    triangles: &[u16],
+    seams: &[u16],
+    stands: &mut [u16],
+    tests: &mut [usize; 1],
+) -> ListAnswer
+    requires { ⌜ Blank (now seams) (now stands) ⌝ }
+    ensures { λ r. ⌜ Tested (sceneAtEntry positions edges triangles seams) (Counted (sceneAtEntry positions edges triangles seams)) (now (tests .entry)) (now (tests .exit)) r × Stitched (sceneAtEntry positions edges triangles seams) (now (stands .entry)) (now (stands .exit)) ⌝ }
+{
+    match check_into(positions, edges, triangles, seams, stands) {
+        SceneAnswer::Refused(why) => ListAnswer::Refused(why, 0),
+        SceneAnswer::Accepted => {
+            let walk = count_accepted(positions, edges, triangles, stands);
+            put_tests(tests, walk.tests);
+            ListAnswer::Listed(Made { count: walk.next })
+        }
+    }
+}
 
 // How many pairs are listed, and into the lent number how many boxes of the pt part are tested for that.
 pub fn count_pairs(
@@ -25,13 +49,32 @@ pub fn count_pairs(
 ) -> ListAnswer
     ensures { λ r. ⌜ Tested (sceneAtEntry positions edges triangles seams) (Counted (sceneAtEntry positions edges triangles seams)) (now (tests .entry)) (now (tests .exit)) r ⌝ }
 {
+    if seams.len() == 0 {
+        let mut none = [0u16; 0];
+        return count_into(positions, edges, triangles, seams, &mut none, tests);
+    }
     let mut stands = [0u16; VERTEX_LIMIT];
-    match check_into(positions, edges, triangles, seams, &mut stands) {
+    count_into(positions, edges, triangles, seams, &mut stands, tests)
+}
+
+// As `list_pairs`, over a lent table without seams, which is that of the scene's seams afterwards.
+fn list_into(
+    positions: &[i32],
+    edges: &[u16],
+    triangles: &[u16],
+    seams: &[u16],
+    stands: &mut [u16],
+    list: &mut [u32],
+    tests: &mut [usize; 1],
+) -> ListAnswer
+    requires { ⌜ Blank (now seams) (now stands) ⌝ }
+    ensures { λ r. ⌜ Tested (sceneAtEntry positions edges triangles seams) (Listing (sceneAtEntry positions edges triangles seams) (now (list .entry)) (now (list .exit))) (now (tests .entry)) (now (tests .exit)) r × Stitched (sceneAtEntry positions edges triangles seams) (now (stands .entry)) (now (stands .exit)) ⌝ }
+{
+    match check_into(positions, edges, triangles, seams, stands) {
         SceneAnswer::Refused(why) => ListAnswer::Refused(why, 0),
         SceneAnswer::Accepted => {
-            let walk = count_accepted(positions, edges, triangles, &stands);
-            put_tests(tests, walk.tests);
-            ListAnswer::Listed(Made { count: walk.next })
+            let most = room(list);
+            list_accepted(positions, edges, triangles, stands, list, most, tests)
         }
     }
 }
@@ -47,12 +90,10 @@ pub fn list_pairs(
 ) -> ListAnswer
     ensures { λ r. ⌜ Tested (sceneAtEntry positions edges triangles seams) (Listing (sceneAtEntry positions edges triangles seams) (now (list .entry)) (now (list .exit))) (now (tests .entry)) (now (tests .exit)) r ⌝ }
 {
-    let mut stands = [0u16; VERTEX_LIMIT];
-    match check_into(positions, edges, triangles, seams, &mut stands) {
-        SceneAnswer::Refused(why) => ListAnswer::Refused(why, 0),
-        SceneAnswer::Accepted => {
-            let most = room(list);
-            list_accepted(positions, edges, triangles, &stands, list, most, tests)
-        }
+    if seams.len() == 0 {
+        let mut none = [0u16; 0];
+        return list_into(positions, edges, triangles, seams, &mut none, list, tests);
     }
+    let mut stands = [0u16; VERTEX_LIMIT];
+    list_into(positions, edges, triangles, seams, &mut stands, list, tests)
 }

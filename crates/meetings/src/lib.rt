@@ -11,6 +11,8 @@ ghost use Rattle.meaning.specs.Limits.{contactLimit};
 ghost use Rattle.meaning.specs.Scene.{sceneAtEntry, beyond, reachesBeyond};
 ghost use Rattle.meaning.specs.Meetings.{MeetingFound, ContactGiven};
 ghost use Rattle.scenes.specs.Alone.{onlyPositions};
+ghost use Rattle.scenes.specs.Sewing.{Blank};
+ghost use Rattle.scenes.specs.Checking.{Stitched};
 use accepted::met;
 use handed::contact_of;
 use meaning::CONTACT_LIMIT;
@@ -42,25 +44,26 @@ pub fn beyond_old_range(positions: &[i32]) -> bool
     found
 }
 
-// The four words, the hit with its numbers, for a scene that may be anything. The refusals are those of a verdict, then 16.
-pub fn meeting_pair(
+// As `meeting_pair`, over a lent table without seams, which is that of the scene's seams afterwards.
+fn meeting_into(
     positions: &[i32],
     edges: &[u16],
     triangles: &[u16],
     seams: &[u16],
+    stands: &mut [u16],
     kind: Kind,
     first: usize,
     second: usize,
 ) -> MeetingAnswer
-    ensures { λ r. ⌜ MeetingFound (sceneAtEntry positions edges triangles seams) kind first second r ⌝ }
+    requires { ⌜ Blank (now seams) (now stands) ⌝ }
+    ensures { λ r. ⌜ MeetingFound (sceneAtEntry positions edges triangles seams) kind first second r × Stitched (sceneAtEntry positions edges triangles seams) (now (stands .entry)) (now (stands .exit)) ⌝ }
 {
-    let mut stands = [0u16; VERTEX_LIMIT];
     let settled = four_words::settle_into(
         positions,
         edges,
         triangles,
         seams,
-        &mut stands,
+        stands,
         kind,
         first,
         second,
@@ -75,7 +78,7 @@ pub fn meeting_pair(
                 positions,
                 edges,
                 triangles,
-                &stands,
+                stands,
                 kind,
                 first,
                 second,
@@ -83,6 +86,44 @@ pub fn meeting_pair(
             ))
         }
     }
+}
+
+// The four words, the hit with its numbers, for a scene that may be anything. The refusals are those of a verdict, then 16.
+pub fn meeting_pair(
+    positions: &[i32],
+    edges: &[u16],
+    triangles: &[u16],
+    seams: &[u16],
+    kind: Kind,
+    first: usize,
+    second: usize,
+) -> MeetingAnswer
+    ensures { λ r. ⌜ MeetingFound (sceneAtEntry positions edges triangles seams) kind first second r ⌝ }
+{
+    if seams.len() == 0 {
+        let mut none = [0u16; 0];
+        return meeting_into(
+            positions,
+            edges,
+            triangles,
+            seams,
+            &mut none,
+            kind,
+            first,
+            second,
+        );
+    }
+    let mut stands = [0u16; VERTEX_LIMIT];
+    meeting_into(
+        positions,
+        edges,
+        triangles,
+        seams,
+        &mut stands,
+        kind,
+        first,
+        second,
+    )
 }
 
 // The same with the time and the shares as they are handed out.

@@ -12,6 +12,8 @@ ghost use Rattle.meaning.specs.Scene.{sceneAtEntry, AcceptedWithin};
 ghost use Rattle.meaning.specs.Refusals.{notThere};
 ghost use Rattle.meaning.specs.Meetings.{rowsLeft, metRoom, MetScene};
 ghost use Rattle.scenes.specs.Alone.{tabledIn, tabledAtEntry};
+ghost use Rattle.scenes.specs.Sewing.{Blank};
+ghost use Rattle.scenes.specs.Checking.{Stitched};
 ghost use Rattle.entries.specs.Entries.{pairAt};
 ghost use Rattle.scene_words.specs.Listed.{pairsIn, AllThere};
 ghost use Rattle.scene_contacts.specs.Listed.{meetingOfPair, meetingsOf, metBytes};
@@ -118,6 +120,35 @@ pub fn meet_near(
     }
 }
 
+// As `meet_scene`, over a lent table without seams, which is that of the scene's seams afterwards.
+fn meet_into(
+    positions: &[i32],
+    edges: &[u16],
+    triangles: &[u16],
+    seams: &[u16],
+    stands: &mut [u16],
+    list: &mut [u32],
+    words: &mut [u8],
+    contacts: &mut [u32],
+) -> ListAnswer
+    requires { ⌜ Blank (now seams) (now stands) ⌝ }
+    ensures { λ r. ⌜ MetScene (sceneAtEntry positions edges triangles seams) (now (list .entry)) (now (list .exit)) (now (words .entry)) (now (words .exit)) (now (contacts .entry)) (now (contacts .exit)) r × Stitched (sceneAtEntry positions edges triangles seams) (now (stands .entry)) (now (stands .exit)) ⌝ }
+{
+    if let SceneAnswer::Refused(refusal) = scenes::check_into(
+        positions,
+        edges,
+        triangles,
+        seams,
+        stands,
+    ) {
+        return ListAnswer::Refused(refusal, 0);
+    }
+    if meetings::beyond_old_range(positions) {
+        return ListAnswer::Refused(Refusal::BeyondOldRange, 0);
+    }
+    meet_near(positions, edges, triangles, stands, list, words, contacts)
+}
+
 // For a scene that may be anything: 1, 2, 3, 15, 4, then 16, then 7.
 pub fn meet_scene(
     positions: &[i32],
@@ -130,18 +161,28 @@ pub fn meet_scene(
 ) -> ListAnswer
     ensures { λ r. ⌜ MetScene (sceneAtEntry positions edges triangles seams) (now (list .entry)) (now (list .exit)) (now (words .entry)) (now (words .exit)) (now (contacts .entry)) (now (contacts .exit)) r ⌝ }
 {
+    if seams.len() == 0 {
+        let mut none = [0u16; 0];
+        return meet_into(
+            positions,
+            edges,
+            triangles,
+            seams,
+            &mut none,
+            list,
+            words,
+            contacts,
+        );
+    }
     let mut stands = [0u16; VERTEX_LIMIT];
-    if let SceneAnswer::Refused(refusal) = scenes::check_into(
+    meet_into(
         positions,
         edges,
         triangles,
         seams,
         &mut stands,
-    ) {
-        return ListAnswer::Refused(refusal, 0);
-    }
-    if meetings::beyond_old_range(positions) {
-        return ListAnswer::Refused(Refusal::BeyondOldRange, 0);
-    }
-    meet_near(positions, edges, triangles, &stands, list, words, contacts)
+        list,
+        words,
+        contacts,
+    )
 }

@@ -10,6 +10,8 @@ ghost use Rattle.meaning.specs.Refusals.{notThere};
 ghost use Rattle.meaning.specs.List.{roomOf};
 ghost use Rattle.meaning.specs.SceneWords.{byteOf, SettledScene};
 ghost use Rattle.scenes.specs.Alone.{tabledIn, tabledAtEntry};
+ghost use Rattle.scenes.specs.Sewing.{Blank};
+ghost use Rattle.scenes.specs.Checking.{Stitched};
 ghost use Rattle.entries.specs.Entries.{pairAt};
 ghost use Rattle.scene_words.specs.Listed.{wordOfPair, bytesOf, pairsIn, AllThere, StandsFor};
 ghost use Rattle.scene_words.specs.Answering.{SettledIn};
@@ -131,6 +133,31 @@ pub fn settle_accepted(
     }
 }
 
+// As `settle_scene`, over a lent table without seams, which is that of the scene's seams afterwards.
+fn settle_into(
+    positions: &[i32],
+    edges: &[u16],
+    triangles: &[u16],
+    seams: &[u16],
+    stands: &mut [u16],
+    list: &mut [u32],
+    out: &mut [u8],
+) -> ListAnswer
+    requires { ⌜ Blank (now seams) (now stands) ⌝ }
+    ensures { λ r. ⌜ SettledScene (sceneAtEntry positions edges triangles seams) (now (list .entry)) (now (list .exit)) (now (out .entry)) (now (out .exit)) r × Stitched (sceneAtEntry positions edges triangles seams) (now (stands .entry)) (now (stands .exit)) ⌝ }
+{
+    if let SceneAnswer::Refused(refusal) = scenes::check_into(
+        positions,
+        edges,
+        triangles,
+        seams,
+        stands,
+    ) {
+        return ListAnswer::Refused(refusal, 0);
+    }
+    settle_accepted(positions, edges, triangles, stands, list, out)
+}
+
 // For a scene that may be anything.
 pub fn settle_scene(
     positions: &[i32],
@@ -142,15 +169,10 @@ pub fn settle_scene(
 ) -> ListAnswer
     ensures { λ r. ⌜ SettledScene (sceneAtEntry positions edges triangles seams) (now (list .entry)) (now (list .exit)) (now (out .entry)) (now (out .exit)) r ⌝ }
 {
-    let mut stands = [0u16; VERTEX_LIMIT];
-    if let SceneAnswer::Refused(refusal) = scenes::check_into(
-        positions,
-        edges,
-        triangles,
-        seams,
-        &mut stands,
-    ) {
-        return ListAnswer::Refused(refusal, 0);
+    if seams.len() == 0 {
+        let mut none = [0u16; 0];
+        return settle_into(positions, edges, triangles, seams, &mut none, list, out);
     }
-    settle_accepted(positions, edges, triangles, &stands, list, out)
+    let mut stands = [0u16; VERTEX_LIMIT];
+    settle_into(positions, edges, triangles, seams, &mut stands, list, out)
 }

@@ -3,6 +3,7 @@ pub mod Below
 pub mod Scanning
 pub mod OneMore
 pub mod Table
+pub mod Ordering
 pub mod Answering
 pub mod Speaking
 pub mod Alone

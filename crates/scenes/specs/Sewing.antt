@@ -154,6 +154,10 @@ blank-table w = record { none = λ v. by-place v (decLt v vertexLimit); room = �
     by-place v (yes h) = getD-replicate vertexLimit v 0 0 h
     by-place v (no h) = List·getD-eq-default (replicate {A = ℕ} vertexLimit 0) 0 {n = v} (omega (arith, length-replicate {A = ℕ} vertexLimit 0))
 
+-- where there are no seams a table without entries will do
+pub blank-none : (w : List ℕ) → length w ≡ 0 → Blank w []
+blank-none w h = record { none = λ v. refl; room = λ more. absurd (omega arith) }
+
 -- seams of two numbers each, every one the number of a vertex that is there, and a table with room for them
 pub record Sewable (p : List ℤ) (w t : List ℕ) : Type 0 where
   pub blank : Blank w t

@@ -41,6 +41,12 @@ looked-from (suc d ∷ t) i (suc k) =
 pub looked-up : (t : List ℕ) (v : ℕ) → stoodFor (seamsOf t) v ≡ v - getD t v 0
 looked-up t v = let e : 0 + v ≡ v = omega arith in rw e at (looked-from t 0 v)
 
+-- a table without entries: every vertex stands for itself
+pub own-number : (t : List ℕ) (v : ℕ) → length t ≡ 0 → stoodFor (seamsOf t) v ≡ v
+unfolding seamsFrom stoodFor
+own-number [] v h = refl
+own-number (d ∷ t) v h = absurd (omega arith)
+
 -- ---- a vertex is replaced where its entry is not 0
 
 abbrev pub firstIn : List ℕ → ℕ → Bool

@@ -61,6 +61,10 @@ pub fn check_scene(
 ) -> SceneAnswer
     ensures { λ r. ⌜ SceneChecked (sceneAtEntry positions edges triangles seams) r ⌝ }
 {
+    if seams.len() == 0 {
+        let mut none = [0u16; 0];
+        return check_into(positions, edges, triangles, seams, &mut none);
+    }
     let mut stands = [0u16; VERTEX_LIMIT];
     check_into(positions, edges, triangles, seams, &mut stands)
 }

@@ -1,5 +1,6 @@
 // Counts, the ends of an edge, the corners of a triangle, and what they share. Each function takes the one list that it reads, and the table of
 // seams where vertices are compared; what it promises of a scene with these alone is, by computation, what it promises of the whole scene.
+// A scene without seams has a table without entries: there every vertex counts as itself, and none is looked up.
 
 ghost use Prim.Native.Nat.{ℕ, _<_};
 ghost use mathlib.Core.List.{List};
@@ -9,10 +10,12 @@ ghost use Rattle.meaning.specs.Scene.{vertexCount, edgeCount, triangleCount, ed
 ghost use Rattle.meaning.specs.Refusals.{shares};
 ghost use Rattle.meaning.specs.declared.Kind.the-variants.{PointTriangle, EdgeEdge};
 ghost use Rattle.scenes.specs.Alone.{onlyPositions, onlyEdges, onlyTriangles, onlyTable, edgesSewn, trianglesSewn, tabled};
+ghost use Rattle.scenes.specs.Ordering.{oneOfThree, oneInCommon};
 use super::table::counts_as;
 use super::written::among;
 use super::written::corner;
 use super::written::edge_end;
+use super::written::in_order;
 use super::written::rising;
 use meaning::Corners;
 use meaning::Ends;
@@ -39,18 +42,35 @@ pub fn ends_of(edges: &[u16], stands: &[u16], j: usize) -> Ends
     requires { ⌜ j < edgeCount (onlyEdges (now edges)) ⌝ }
     ensures { λ r. ⌜ r ≡ endsOf (edgesSewn (now (edges .entry)) (now (stands .entry))) j ⌝ }
 {
-    rising(stands, edge_end(edges, j, 0), edge_end(edges, j, 1))
+    let a = edge_end(edges, j, 0);
+    let b = edge_end(edges, j, 1);
+    if stands.len() == 0 {
+        rising(a, a, b, b)
+    } else {
+        rising(a, counts_as(stands, a), b, counts_as(stands, b))
+    }
 }
 
 pub fn corners_of(triangles: &[u16], stands: &[u16], j: usize) -> Corners
     requires { ⌜ j < triangleCount (onlyTriangles (now triangles)) ⌝ }
     ensures { λ r. ⌜ r ≡ cornersOf (trianglesSewn (now (triangles .entry)) (now (stands .entry))) j ⌝ }
 {
-    among(
-        stands,
-        rising(stands, corner(triangles, j, 0), corner(triangles, j, 1)),
-        corner(triangles, j, 2),
-    )
+    let a = corner(triangles, j, 0);
+    let b = corner(triangles, j, 1);
+    let c = corner(triangles, j, 2);
+    if stands.len() == 0 {
+        let e = rising(a, a, b, b);
+        among(e.low, e.low, e.high, e.high, c, c)
+    } else {
+        in_order(
+            a,
+            counts_as(stands, a),
+            b,
+            counts_as(stands, b),
+            c,
+            counts_as(stands, c),
+        )
+    }
 }
 
 // End k of edge j and corner k of triangle j, as the vertex stood for.
@@ -68,16 +88,36 @@ pub fn corner_counts_as(triangles: &[u16], stands: &[u16], j: usize, k: usize) -
     counts_as(stands, corner(triangles, j, k))
 }
 
+fn one_of_three(v: usize, a: usize, b: usize, c: usize) -> bool
+    ensures { λ r. ⌜ r ≡ oneOfThree v a b c ⌝ }
+{
+    (v == a) | (v == b) | (v == c)
+}
+
 // Whether vertex v is a corner of triangle j.
 pub fn shares_pt(triangles: &[u16], stands: &[u16], v: usize, j: usize) -> bool
     requires { ⌜ j < triangleCount (onlyTriangles (now triangles)) ⌝ }
     ensures { λ r. ⌜ ((p : List ℤ) (e : List ℕ) → r ≡ shares (tabled p e (now (triangles .entry)) (now (stands .entry))) PointTriangle v j) ⌝ }
 {
-    let own = counts_as(stands, v);
-    let a = corner_counts_as(triangles, stands, j, 0);
-    let b = corner_counts_as(triangles, stands, j, 1);
-    let c = corner_counts_as(triangles, stands, j, 2);
-    (own == a) | (own == b) | (own == c)
+    let a = corner(triangles, j, 0);
+    let b = corner(triangles, j, 1);
+    let c = corner(triangles, j, 2);
+    if stands.len() == 0 {
+        one_of_three(v, a, b, c)
+    } else {
+        one_of_three(
+            counts_as(stands, v),
+            counts_as(stands, a),
+            counts_as(stands, b),
+            counts_as(stands, c),
+        )
+    }
+}
+
+fn one_in_common(a: usize, b: usize, c: usize, d: usize) -> bool
+    ensures { λ r. ⌜ r ≡ oneInCommon a b c d ⌝ }
+{
+    (a == c) | (a == d) | (b == c) | (b == d)
 }
 
 // Whether an end of edge i is an end of edge j.
@@ -85,9 +125,18 @@ pub fn shares_ee(edges: &[u16], stands: &[u16], i: usize, j: usize) -> bool
     requires { ⌜ (i < edgeCount (onlyEdges (now edges))) × (j < edgeCount (onlyEdges (now edges))) ⌝ }
     ensures { λ r. ⌜ ((p : List ℤ) (t : List ℕ) → r ≡ shares (tabled p (now (edges .entry)) t (now (stands .entry))) EdgeEdge i j) ⌝ }
 {
-    let a = end_counts_as(edges, stands, i, 0);
-    let b = end_counts_as(edges, stands, i, 1);
-    let c = end_counts_as(edges, stands, j, 0);
-    let d = end_counts_as(edges, stands, j, 1);
-    (a == c) | (a == d) | (b == c) | (b == d)
+    let a = edge_end(edges, i, 0);
+    let b = edge_end(edges, i, 1);
+    let c = edge_end(edges, j, 0);
+    let d = edge_end(edges, j, 1);
+    if stands.len() == 0 {
+        one_in_common(a, b, c, d)
+    } else {
+        one_in_common(
+            counts_as(stands, a),
+            counts_as(stands, b),
+            counts_as(stands, c),
+            counts_as(stands, d),
+        )
+    }
 }

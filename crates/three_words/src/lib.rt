@@ -108,6 +108,19 @@ pub fn judge_pair(
 ) -> PairAnswer
     ensures { λ r. ⌜ PairJudged (sceneAtEntry positions edges triangles seams) kind first second r ⌝ }
 {
+    if seams.len() == 0 {
+        let mut none = [0u16; 0];
+        return pair_into(
+            positions,
+            edges,
+            triangles,
+            seams,
+            &mut none,
+            kind,
+            first,
+            second,
+        );
+    }
     let mut stands = [0u16; VERTEX_LIMIT];
     pair_into(
         positions,
@@ -174,6 +187,20 @@ pub fn judge_piece(
 ) -> PairAnswer
     ensures { λ r. ⌜ PieceJudged (sceneAtEntry positions edges triangles seams) kind first second piece r ⌝ }
 {
+    if seams.len() == 0 {
+        let mut none = [0u16; 0];
+        return piece_into(
+            positions,
+            edges,
+            triangles,
+            seams,
+            &mut none,
+            kind,
+            first,
+            second,
+            piece,
+        );
+    }
     let mut stands = [0u16; VERTEX_LIMIT];
     piece_into(
         positions,

@@ -1,76 +1,18 @@
--- The scene's refusals, 8, what the first pass found, 7; and only where none of these refuses are the claims answered. The claims are looked at
--- beside the scene that the table tells, which is the scene.
+-- `check_claims`: the table is its own, and without entries where there are no seams.
 use borrow.Author.Needs.{needs}
-use Rattle.meaning.specs.Scene.{sceneIn, Accepted}
-use Rattle.scenes.specs.Accepting.{accepted-by}
 use Rattle.scenes.specs.Sewing.{blank-table}
-use Rattle.scenes.specs.Checking.{to-table}
-use Rattle.claim_answers.specs.Checking.{checked-scene, checked-long, checked-faulty, checked-short, claims-roomy, checked-given, checked-in-table}
 use Rattle.claim_answers.proofs.check_claims.Statement.{statement}
 use Rattle.claim_answers.proofs.check_claims.Tie as tie
-
-returns : tie.Need-returns
-returns c = checked-scene _ _ _ (c .before .before .before .before .check-into .ensures .checked) (c .before .refusal .given .1)
-
-returns-2 : tie.Need-returns-2
-returns-2 c = checked-long _ _ _ (accepted-by _ (c .before .enum-told .given .1) (c .before .before .before .before .check-into .ensures .checked)) (c .if1 .taken)
-
-returns-3 : tie.Need-returns-3
-returns-3 c =
-    let a = c .before .before .before .before .before .before .before .before .before .before .before .before .before .before .before .before .before .args in
-    let s = sceneIn (a .positions) (a .edges) (a .triangles) (a .seams) in
-    let called = c .before .before .before .before .before .before .before .before .before .before .check-into .ensures in
-    let accepted = accepted-by s (c .before .before .before .before .before .before .before .enum-told .given .1) (called .checked) in
-    let too = to-table Accepted (called .into) accepted accepted in
-    checked-in-table (called .into) accepted
-    (checked-short _ _ _ too (c .before .before .before .before .before .before .if1 .left) (c .before .before .before .before .inspect .ensures) (c .before .before .count .given .1) (c .if2 .taken))
-
-answer-all-requires : tie.Need-answer-all-requires
-answer-all-requires c κs =
-    let a = c .before .before .before .before .before .before .before .before .before .before .before .before .before .before .before .before .before .before .before .args in
-    let s = sceneIn (a .positions) (a .edges) (a .triangles) (a .seams) in
-    let called = c .before .before .before .before .before .before .before .before .before .before .before .before .check-into .ensures in
-    let accepted = accepted-by s (c .before .before .before .before .before .before .before .before .before .enum-told .given .1) (called .checked) in
-    let too = to-table Accepted (called .into) accepted accepted in
-    (too, claims-roomy _ _ _ too (c .before .before .before .before .before .before .before .before .if1 .left) (c .before .before .before .before .before .before .inspect .ensures) (c .before .before .before .before .count .given .1) (c .before .before .if2 .left))
-
-returns-4 : tie.Need-returns-4
-returns-4 c =
-    let a = c .before .before .before .before .before .before .before .before .before .before .before .before .before .before .before .before .args in
-    let s = sceneIn (a .positions) (a .edges) (a .triangles) (a .seams) in
-    let called = c .before .before .before .before .before .before .before .before .before .check-into .ensures in
-    let accepted = accepted-by s (c .before .before .before .before .before .before .enum-told .given .1) (called .checked) in
-    let too = to-table Accepted (called .into) accepted accepted in
-    checked-in-table (called .into) accepted
-    (checked-faulty _ _ _ too (c .before .before .before .before .before .if1 .left) (c .before .before .before .inspect .ensures) (c .before .fault .given .1))
-
-returns-5 : tie.Need-returns-5
-returns-5 c =
-    let a = c .before .before .before .before .before .before .before .before .before .before .before .before .before .before .before .before .before .before .before .before .before .before .args in
-    let s = sceneIn (a .positions) (a .edges) (a .triangles) (a .seams) in
-    let called = c .before .before .before .before .before .before .before .before .before .before .before .before .before .before .before .check-into .ensures in
-    let accepted = accepted-by s (c .before .before .before .before .before .before .before .before .before .before .before .before .enum-told .given .1) (called .checked) in
-    let too = to-table Accepted (called .into) accepted accepted in
-    checked-in-table (called .into) accepted
-    (checked-given _ _ _ too (c .before .before .before .before .before .before .before .before .before .before .before .if1 .left) (c .before .before .before .before .before .before .before .before .before .inspect .ensures) (c .before .before .before .before .before .before .before .count .given .1) (c .before .before .before .before .before .if2 .left) (c .before .before .answer-all .ensures))
 
 pub check-claims-spec : {M : Type 1} → statement M
 check-claims-spec =
     tie.close
     (tie.spec
     (λ c. search needs)
-    (λ c κs. blank-table _)
-    (λ c. search needs)
-    returns
-    (λ c. search needs)
-    returns-2
-    (λ c. search needs)
     (λ c κs. search needs)
     (λ c. search needs)
     (λ c. search needs)
-    returns-3
     (λ c. search needs)
-    answer-all-requires
-    returns-4
+    (λ c κs. blank-table _)
     (λ c. search needs)
-    returns-5)
+    (λ c. search needs))

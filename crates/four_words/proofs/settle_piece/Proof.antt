@@ -1,50 +1,16 @@
--- `settle_piece`: refused as its verdict is, or decided from it over the same table.
-use mathlib.Core.Bool.{false}
-use mathlib.Core.Path.{_≡_}
+-- `settle_piece`: the table is its own, and without entries where there are no seams.
 use borrow.Author.Needs.{needs}
-use Rattle.meaning.specs.Scene.{Scene, sceneIn, Accepted}
-use Rattle.meaning.specs.Pieces.{pieceOf}
-use Rattle.meaning.specs.Refusals.{notThere}
-use Rattle.meaning.specs.Verdicts.{PieceIs}
-use Rattle.meaning.specs.Resting.{PieceSettled}
-use Rattle.scenes.specs.Sewing.{blank-table}
-use Rattle.scenes.specs.Checking.{to-table, from-table}
-use Rattle.four_words.specs.Deciding.{piece-given, piece-decided, piece-refused}
+use Rattle.scenes.specs.Sewing.{blank-none, blank-table}
 use Rattle.four_words.proofs.settle_piece.Statement.{statement}
 use Rattle.four_words.proofs.settle_piece.Tie as tie
-
-piece-word-requires : tie.Need-piece-word-requires
-piece-word-requires c κs =
-    let a = c .before .before .before .before .before .before .before .before .before .before .args in
-    let s = sceneIn (a .positions) (a .edges) (a .triangles) (a .seams) in
-    let called = c .before .before .before .before .before .piece-into .ensures in
-    let given = piece-given s (a .kind) (a .first) (a .second) (a .piece) _ (called .0) {v = c .before .before .judged .given .0 .0} (search) in
-    to-table (λ (u : Scene). Accepted u × (notThere u (a .kind) (a .first) (a .second) ≡ false) × PieceIs (pieceOf u (a .kind) (a .first) (a .second) (a .piece)) (c .before .before .judged .given .0 .0)) (called .1) (given .0) given
-
-returns : tie.Need-returns
-returns c =
-    let a = c .before .before .before .before .before .before .before .before .before .before .before .args in
-    let s = sceneIn (a .positions) (a .edges) (a .triangles) (a .seams) in
-    let called = c .before .before .before .before .before .before .piece-into .ensures in
-    let given = piece-given s (a .kind) (a .first) (a .second) (a .piece) _ (called .0) {v = c .before .before .before .judged .given .0 .0} (search) in
-    piece-decided s (a .kind) (a .first) (a .second) (a .piece) _ (called .0) {v = c .before .before .before .judged .given .0 .0} (search) (c .piece-word .result)
-    (from-table (λ (u : Scene). PieceSettled (pieceOf u (a .kind) (a .first) (a .second) (a .piece)) (c .piece-word .result)) (called .1) (given .0) (c .piece-word .ensures))
-
-returns-2 : tie.Need-returns-2
-returns-2 c =
-    let a = c .before .before .before .before .before .before .before .before .before .args in
-    let s = sceneIn (a .positions) (a .edges) (a .triangles) (a .seams) in
-    piece-refused s (a .kind) (a .first) (a .second) (a .piece) _ (c .before .before .before .before .piece-into .ensures .0) {x = c .before .judged2 .given .0 .0} (search)
 
 pub settle-piece-spec : {M : Type 1} → statement M
 settle-piece-spec =
     tie.close
     (tie.spec
     (λ c. search needs)
+    (λ c κs. blank-none _ (c .before .if1 .taken))
+    (λ c. c .before .settle-piece-into .ensures .0)
+    (λ c. search needs)
     (λ c κs. blank-table _)
-    (λ c. search needs)
-    (λ c. search needs)
-    piece-word-requires
-    (λ c. search needs)
-    returns
-    returns-2)
+    (λ c. c .before .settle-piece-into2 .ensures .0))

@@ -12,28 +12,28 @@ use Rattle.hit_times.proofs.edges_moment.Tie as tie
 edge-time-requires : tie.Need-edge-time-requires
 edge-time-requires c κs =
     let s = c .before .before .before .before .before .before .before .before .before .before .before in
-    let w = c .before .before .before .before .before .before .edge-volumes .ensures in
+    let w = c .before .before .before .before .before .before .edge-pieces .ensures in
     let k = edges-known-aa (s .args .positions .now) (s .pre .1) (s .args .first) (s .args .second) (w .holds0) (c .before .turn-first .ensures) in
     (k .small, k .small-turned, k .range, edges-asked k)
 
 edge-time-requires-2 : tie.Need-edge-time-requires-2
 edge-time-requires-2 c κs =
     let s = c .before .before .before .before .before .before .before .before .before .before .before .before in
-    let w = c .before .before .before .before .before .before .before .edge-volumes .ensures in
+    let w = c .before .before .before .before .before .before .before .edge-pieces .ensures in
     let k = edges-known-ab (s .args .positions .now) (s .pre .1) (s .args .first) (s .args .second) (w .holds1) (c .before .turn-first2 .ensures) in
     (k .small, k .small-turned, k .range, edges-asked k)
 
 edge-time-requires-3 : tie.Need-edge-time-requires-3
 edge-time-requires-3 c κs =
     let s = c .before .before .before .before .before .before .before .before .before .before .before .before .before in
-    let w = c .before .before .before .before .before .before .before .before .edge-volumes .ensures in
+    let w = c .before .before .before .before .before .before .before .before .edge-pieces .ensures in
     let k = edges-known-ba (s .args .positions .now) (s .pre .1) (s .args .first) (s .args .second) (w .holds2) in
     (k .small, k .small-turned, k .range, edges-asked k)
 
 edge-time-requires-4 : tie.Need-edge-time-requires-4
 edge-time-requires-4 c κs =
     let s = c .before .before .before .before .before .before .before .before .before .before .before .before .before .before in
-    let w = c .before .before .before .before .before .before .before .before .before .edge-volumes .ensures in
+    let w = c .before .before .before .before .before .before .before .before .before .edge-pieces .ensures in
     let k = edges-known-bb (s .args .positions .now) (s .pre .1) (s .args .first) (s .args .second) (w .holds3) in
     (k .small, k .small-turned, k .range, edges-asked k)
 
@@ -41,7 +41,7 @@ edge-numbers-requires : tie.Need-edge-numbers-requires
 edge-numbers-requires c κs =
     let m = c .before in
     let s = m .before .before .before .before .before .before .before .before .before .before .before .before .before .before .before .before in
-    let w = m .before .before .before .before .before .before .before .before .before .before .before .edge-volumes .ensures in
+    let w = m .before .before .before .before .before .before .before .before .before .before .before .edge-pieces .ensures in
     let k0 = edges-known-aa (s .args .positions .now) (s .pre .1) (s .args .first) (s .args .second) (w .holds0) (m .before .before .before .before .before .before .turn-first .ensures) in
     let k1 = edges-known-ab (s .args .positions .now) (s .pre .1) (s .args .first) (s .args .second) (w .holds1) (m .before .before .before .before .before .turn-first2 .ensures) in
     let k2 = edges-known-ba (s .args .positions .now) (s .pre .1) (s .args .first) (s .args .second) (w .holds2) in
@@ -54,7 +54,7 @@ returns : tie.Need-returns
 returns c =
     let m = c .before .before in
     let s = m .before .before .before .before .before .before .before .before .before .before .before .before .before .before .before .before in
-    let w = m .before .before .before .before .before .before .before .before .before .before .before .edge-volumes .ensures in
+    let w = m .before .before .before .before .before .before .before .before .before .before .before .edge-pieces .ensures in
     let k0 = edges-known-aa (s .args .positions .now) (s .pre .1) (s .args .first) (s .args .second) (w .holds0) (m .before .before .before .before .before .before .turn-first .ensures) in
     let k1 = edges-known-ab (s .args .positions .now) (s .pre .1) (s .args .first) (s .args .second) (w .holds1) (m .before .before .before .before .before .turn-first2 .ensures) in
     let k2 = edges-known-ba (s .args .positions .now) (s .pre .1) (s .args .first) (s .args .second) (w .holds2) in
@@ -67,7 +67,7 @@ edge-numbers-requires-2 : tie.Need-edge-numbers-requires-2
 edge-numbers-requires-2 c κs =
     let m = c .before .before in
     let s = m .before .before .before .before .before .before .before .before .before .before .before .before .before .before .before .before in
-    let w = m .before .before .before .before .before .before .before .before .before .before .before .edge-volumes .ensures in
+    let w = m .before .before .before .before .before .before .before .before .before .before .before .edge-pieces .ensures in
     let k0 = edges-known-aa (s .args .positions .now) (s .pre .1) (s .args .first) (s .args .second) (w .holds0) (m .before .before .before .before .before .before .turn-first .ensures) in
     let k1 = edges-known-ab (s .args .positions .now) (s .pre .1) (s .args .first) (s .args .second) (w .holds1) (m .before .before .before .before .before .turn-first2 .ensures) in
     let k2 = edges-known-ba (s .args .positions .now) (s .pre .1) (s .args .first) (s .args .second) (w .holds2) in
@@ -80,7 +80,7 @@ returns-2 : tie.Need-returns-2
 returns-2 c =
     let m = c .before .before .before in
     let s = m .before .before .before .before .before .before .before .before .before .before .before .before .before .before .before .before in
-    let w = m .before .before .before .before .before .before .before .before .before .before .before .edge-volumes .ensures in
+    let w = m .before .before .before .before .before .before .before .before .before .before .before .edge-pieces .ensures in
     let k0 = edges-known-aa (s .args .positions .now) (s .pre .1) (s .args .first) (s .args .second) (w .holds0) (m .before .before .before .before .before .before .turn-first .ensures) in
     let k1 = edges-known-ab (s .args .positions .now) (s .pre .1) (s .args .first) (s .args .second) (w .holds1) (m .before .before .before .before .before .turn-first2 .ensures) in
     let k2 = edges-known-ba (s .args .positions .now) (s .pre .1) (s .args .first) (s .args .second) (w .holds2) in
@@ -93,7 +93,7 @@ edge-numbers-requires-3 : tie.Need-edge-numbers-requires-3
 edge-numbers-requires-3 c κs =
     let m = c .before .before .before in
     let s = m .before .before .before .before .before .before .before .before .before .before .before .before .before .before .before .before in
-    let w = m .before .before .before .before .before .before .before .before .before .before .before .edge-volumes .ensures in
+    let w = m .before .before .before .before .before .before .before .before .before .before .before .edge-pieces .ensures in
     let k0 = edges-known-aa (s .args .positions .now) (s .pre .1) (s .args .first) (s .args .second) (w .holds0) (m .before .before .before .before .before .before .turn-first .ensures) in
     let k1 = edges-known-ab (s .args .positions .now) (s .pre .1) (s .args .first) (s .args .second) (w .holds1) (m .before .before .before .before .before .turn-first2 .ensures) in
     let k2 = edges-known-ba (s .args .positions .now) (s .pre .1) (s .args .first) (s .args .second) (w .holds2) in
@@ -106,7 +106,7 @@ returns-3 : tie.Need-returns-3
 returns-3 c =
     let m = c .before .before .before .before in
     let s = m .before .before .before .before .before .before .before .before .before .before .before .before .before .before .before .before in
-    let w = m .before .before .before .before .before .before .before .before .before .before .before .edge-volumes .ensures in
+    let w = m .before .before .before .before .before .before .before .before .before .before .before .edge-pieces .ensures in
     let k0 = edges-known-aa (s .args .positions .now) (s .pre .1) (s .args .first) (s .args .second) (w .holds0) (m .before .before .before .before .before .before .turn-first .ensures) in
     let k1 = edges-known-ab (s .args .positions .now) (s .pre .1) (s .args .first) (s .args .second) (w .holds1) (m .before .before .before .before .before .turn-first2 .ensures) in
     let k2 = edges-known-ba (s .args .positions .now) (s .pre .1) (s .args .first) (s .args .second) (w .holds2) in
@@ -119,7 +119,7 @@ edge-numbers-requires-4 : tie.Need-edge-numbers-requires-4
 edge-numbers-requires-4 c κs =
     let m = c .before .before .before in
     let s = m .before .before .before .before .before .before .before .before .before .before .before .before .before .before .before .before in
-    let w = m .before .before .before .before .before .before .before .before .before .before .before .edge-volumes .ensures in
+    let w = m .before .before .before .before .before .before .before .before .before .before .before .edge-pieces .ensures in
     let k0 = edges-known-aa (s .args .positions .now) (s .pre .1) (s .args .first) (s .args .second) (w .holds0) (m .before .before .before .before .before .before .turn-first .ensures) in
     let k1 = edges-known-ab (s .args .positions .now) (s .pre .1) (s .args .first) (s .args .second) (w .holds1) (m .before .before .before .before .before .turn-first2 .ensures) in
     let k2 = edges-known-ba (s .args .positions .now) (s .pre .1) (s .args .first) (s .args .second) (w .holds2) in
@@ -132,7 +132,7 @@ returns-4 : tie.Need-returns-4
 returns-4 c =
     let m = c .before .before .before .before in
     let s = m .before .before .before .before .before .before .before .before .before .before .before .before .before .before .before .before in
-    let w = m .before .before .before .before .before .before .before .before .before .before .before .edge-volumes .ensures in
+    let w = m .before .before .before .before .before .before .before .before .before .before .before .edge-pieces .ensures in
     let k0 = edges-known-aa (s .args .positions .now) (s .pre .1) (s .args .first) (s .args .second) (w .holds0) (m .before .before .before .before .before .before .turn-first .ensures) in
     let k1 = edges-known-ab (s .args .positions .now) (s .pre .1) (s .args .first) (s .args .second) (w .holds1) (m .before .before .before .before .before .turn-first2 .ensures) in
     let k2 = edges-known-ba (s .args .positions .now) (s .pre .1) (s .args .first) (s .args .second) (w .holds2) in
@@ -150,8 +150,8 @@ edges-moment-spec =
     (λ c. search needs)
     (λ c. search needs)
     (λ c κs. let r = c .before .before .before .before .pre .0 in (moving (r .low), moving (r .high), moving (r .otherLow), moving (r .otherHigh), r .bounded))
-    (λ c κs. holds-small (c .before .before .before .before .edge-volumes .ensures .holds0))
-    (λ c κs. holds-small (c .before .before .before .before .before .edge-volumes .ensures .holds1))
+    (λ c κs. holds-small (c .before .before .before .before .edge-pieces .ensures .holds0))
+    (λ c κs. holds-small (c .before .before .before .before .before .edge-pieces .ensures .holds1))
     edge-time-requires
     edge-time-requires-2
     edge-time-requires-3

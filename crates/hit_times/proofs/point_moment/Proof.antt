@@ -11,26 +11,26 @@ use Rattle.hit_times.proofs.point_moment.Tie as tie
 point-time-requires : tie.Need-point-time-requires
 point-time-requires c κs =
     let s = c .before .before .before .before .before .before .before in
-    let k = point-known-0 (s .args .positions .now) (s .pre .1) (s .args .p) (s .args .c) (c .before .before .before .point-volumes .ensures .holds0) in
+    let k = point-known-0 (s .args .positions .now) (s .pre .1) (s .args .p) (s .args .c) (c .before .before .before .point-pieces .ensures .holds0) in
     (k .small, k .range, point-asked k)
 
 point-time-requires-2 : tie.Need-point-time-requires-2
 point-time-requires-2 c κs =
     let s = c .before .before .before .before .before .before .before .before in
-    let k = point-known-1 (s .args .positions .now) (s .pre .1) (s .args .p) (s .args .c) (c .before .before .before .before .point-volumes .ensures .holds1) in
+    let k = point-known-1 (s .args .positions .now) (s .pre .1) (s .args .p) (s .args .c) (c .before .before .before .before .point-pieces .ensures .holds1) in
     (k .small, k .range, point-asked k)
 
 point-time-requires-3 : tie.Need-point-time-requires-3
 point-time-requires-3 c κs =
     let s = c .before .before .before .before .before .before .before .before .before in
-    let k = point-known-2 (s .args .positions .now) (s .pre .1) (s .args .p) (s .args .c) (c .before .before .before .before .before .point-volumes .ensures .holds2) in
+    let k = point-known-2 (s .args .positions .now) (s .pre .1) (s .args .p) (s .args .c) (c .before .before .before .before .before .point-pieces .ensures .holds2) in
     (k .small, k .range, point-asked k)
 
 point-numbers-requires : tie.Need-point-numbers-requires
 point-numbers-requires c κs =
     let m = c .before in
     let s = m .before .before .before .before .before .before .before .before .before .before .before in
-    let w = m .before .before .before .before .before .before .before .point-volumes .ensures in
+    let w = m .before .before .before .before .before .before .before .point-pieces .ensures in
     let k0 = point-known-0 (s .args .positions .now) (s .pre .1) (s .args .p) (s .args .c) (w .holds0) in
     let k1 = point-known-1 (s .args .positions .now) (s .pre .1) (s .args .p) (s .args .c) (w .holds1) in
     let k2 = point-known-2 (s .args .positions .now) (s .pre .1) (s .args .p) (s .args .c) (w .holds2) in
@@ -42,7 +42,7 @@ returns : tie.Need-returns
 returns c =
     let m = c .before .before in
     let s = m .before .before .before .before .before .before .before .before .before .before .before in
-    let w = m .before .before .before .before .before .before .before .point-volumes .ensures in
+    let w = m .before .before .before .before .before .before .before .point-pieces .ensures in
     let k0 = point-known-0 (s .args .positions .now) (s .pre .1) (s .args .p) (s .args .c) (w .holds0) in
     let k1 = point-known-1 (s .args .positions .now) (s .pre .1) (s .args .p) (s .args .c) (w .holds1) in
     let k2 = point-known-2 (s .args .positions .now) (s .pre .1) (s .args .p) (s .args .c) (w .holds2) in
@@ -54,7 +54,7 @@ point-numbers-requires-2 : tie.Need-point-numbers-requires-2
 point-numbers-requires-2 c κs =
     let m = c .before .before in
     let s = m .before .before .before .before .before .before .before .before .before .before .before in
-    let w = m .before .before .before .before .before .before .before .point-volumes .ensures in
+    let w = m .before .before .before .before .before .before .before .point-pieces .ensures in
     let k0 = point-known-0 (s .args .positions .now) (s .pre .1) (s .args .p) (s .args .c) (w .holds0) in
     let k1 = point-known-1 (s .args .positions .now) (s .pre .1) (s .args .p) (s .args .c) (w .holds1) in
     let k2 = point-known-2 (s .args .positions .now) (s .pre .1) (s .args .p) (s .args .c) (w .holds2) in
@@ -66,7 +66,7 @@ returns-2 : tie.Need-returns-2
 returns-2 c =
     let m = c .before .before .before in
     let s = m .before .before .before .before .before .before .before .before .before .before .before in
-    let w = m .before .before .before .before .before .before .before .point-volumes .ensures in
+    let w = m .before .before .before .before .before .before .before .point-pieces .ensures in
     let k0 = point-known-0 (s .args .positions .now) (s .pre .1) (s .args .p) (s .args .c) (w .holds0) in
     let k1 = point-known-1 (s .args .positions .now) (s .pre .1) (s .args .p) (s .args .c) (w .holds1) in
     let k2 = point-known-2 (s .args .positions .now) (s .pre .1) (s .args .p) (s .args .c) (w .holds2) in
@@ -78,7 +78,7 @@ point-numbers-requires-3 : tie.Need-point-numbers-requires-3
 point-numbers-requires-3 c κs =
     let m = c .before .before in
     let s = m .before .before .before .before .before .before .before .before .before .before .before in
-    let w = m .before .before .before .before .before .before .before .point-volumes .ensures in
+    let w = m .before .before .before .before .before .before .before .point-pieces .ensures in
     let k0 = point-known-0 (s .args .positions .now) (s .pre .1) (s .args .p) (s .args .c) (w .holds0) in
     let k1 = point-known-1 (s .args .positions .now) (s .pre .1) (s .args .p) (s .args .c) (w .holds1) in
     let k2 = point-known-2 (s .args .positions .now) (s .pre .1) (s .args .p) (s .args .c) (w .holds2) in
@@ -90,7 +90,7 @@ returns-3 : tie.Need-returns-3
 returns-3 c =
     let m = c .before .before .before in
     let s = m .before .before .before .before .before .before .before .before .before .before .before in
-    let w = m .before .before .before .before .before .before .before .point-volumes .ensures in
+    let w = m .before .before .before .before .before .before .before .point-pieces .ensures in
     let k0 = point-known-0 (s .args .positions .now) (s .pre .1) (s .args .p) (s .args .c) (w .holds0) in
     let k1 = point-known-1 (s .args .positions .now) (s .pre .1) (s .args .p) (s .args .c) (w .holds1) in
     let k2 = point-known-2 (s .args .positions .now) (s .pre .1) (s .args .p) (s .args .c) (w .holds2) in

@@ -1,56 +1,22 @@
--- The scene is checked, then its range, and then it is met, over the table of its seams.
+-- `meet_scene`: the table is its own, and without entries where there are no seams.
 use borrow.Author.Needs.{needs}
-use mathlib.Core.Path.{sym, _∙_}
-use Rattle.meaning.specs.Limits.{contactLimit}
-use Rattle.meaning.specs.Scene.{sceneIn, AcceptedWithin}
-use Rattle.scenes.specs.Accepting.{accepted-by}
-use Rattle.scenes.specs.Checking.{one-scene, to-table}
 use Rattle.scenes.specs.Sewing.{blank-table}
-use Rattle.meetings.specs.Ready.{within-old}
-use Rattle.scene_contacts.specs.Answering.{met-refused, met-beyond, met-near}
 use Rattle.scene_contacts.proofs.meet_scene.Statement.{statement}
 use Rattle.scene_contacts.proofs.meet_scene.Tie as tie
-
-returns : tie.Need-returns
-returns c =
-    let a = c .before .before .before .before .before .before .before .before .before .before .before .before .args in
-    met-refused (sceneIn (a .positions) (a .edges) (a .triangles) (a .seams)) _ _ _ (c .before .refusal .given .0 .0) (c .before .before .before .before .check-into .ensures .checked) (search)
-
-returns-2 : tie.Need-returns-2
-returns-2 c =
-    let a = c .before .before .before .before .before .before .before .before .before .before .before .before .before .args in
-    met-beyond (sceneIn (a .positions) (a .edges) (a .triangles) (a .seams)) _ _ _ (accepted-by (sceneIn (a .positions) (a .edges) (a .triangles) (a .seams)) (c .before .before .enum-told .given .1) (c .before .before .before .before .before .check-into .ensures .checked)) (sym (c .before .beyond-old-range .ensures) ∙ c .if1 .taken)
-
-meet-near-requires : tie.Need-meet-near-requires
-meet-near-requires c κs =
-    let a = c .before .before .before .before .before .before .before .before .before .before .before .before .before .before .before .before .before .args in
-    let called = c .before .before .before .before .before .before .before .before .before .check-into .ensures in
-    let accepted = accepted-by (sceneIn (a .positions) (a .edges) (a .triangles) (a .seams)) (c .before .before .before .before .before .before .enum-told .given .1) (called .checked) in
-    to-table (AcceptedWithin contactLimit) (called .into) accepted (within-old accepted (sym (c .before .before .before .before .before .beyond-old-range .ensures) ∙ c .before .before .before .before .if1 .left))
-
-returns-3 : tie.Need-returns-3
-returns-3 c =
-    let a = c .before .before .before .before .before .before .before .before .before .before .before .before .before .before .before .before .before .before .before .before .before .before .before .before .args in
-    let s = (sceneIn (a .positions) (a .edges) (a .triangles) (a .seams)) in
-    let called = c .before .before .before .before .before .before .before .before .before .before .before .before .before .before .before .before .check-into .ensures in
-    let accepted = accepted-by s (c .before .before .before .before .before .before .before .before .before .before .before .before .before .enum-told .given .1) (called .checked) in
-    met-near s _ _ _ accepted (sym (c .before .before .before .before .before .before .before .before .before .before .before .before .beyond-old-range .ensures) ∙ c .before .before .before .before .before .before .before .before .before .before .before .if1 .left)
-    (rw (one-scene {s = s} (called .into) accepted) at (c .before .before .before .before .before .before .meet-near .ensures))
 
 pub meet-scene-spec : {M : Type 1} → statement M
 meet-scene-spec =
     tie.close
     (tie.spec
     (λ c. search needs)
+    (λ c κs. search needs)
+    (λ c. search needs)
+    (λ c. search needs)
+    (λ c. search needs)
+    (λ c. search needs)
+    (λ c. search needs)
     (λ c κs. blank-table _)
     (λ c. search needs)
-    returns
-    (λ c. search needs)
-    (λ c κs. search needs)
-    returns-2
-    (λ c. search needs)
-    meet-near-requires
     (λ c. search needs)
     (λ c. search needs)
-    (λ c. search needs)
-    returns-3)
+    (λ c. search needs))

@@ -1,9 +1,16 @@
--- `judge_piece`: the table is its own.
+-- `judge_piece`: the table is its own, and without entries where there are no seams.
 use borrow.Author.Needs.{needs}
-use Rattle.scenes.specs.Sewing.{blank-table}
+use Rattle.scenes.specs.Sewing.{blank-none, blank-table}
 use Rattle.three_words.proofs.judge_piece.Statement.{statement}
 use Rattle.three_words.proofs.judge_piece.Tie as tie
 
 pub judge-piece-spec : {M : Type 1} → statement M
 judge-piece-spec =
-    tie.close (tie.spec (λ c. search needs) (λ c κs. blank-table _) (λ c. c .before .piece-into .ensures .0))
+    tie.close
+    (tie.spec
+    (λ c. search needs)
+    (λ c κs. blank-none _ (c .before .if1 .taken))
+    (λ c. c .before .piece-into .ensures .0)
+    (λ c. search needs)
+    (λ c κs. blank-table _)
+    (λ c. c .before .piece-into2 .ensures .0))
