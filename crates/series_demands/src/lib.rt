@@ -1,0 +1,1 @@
+// What was asked of a series, as theorems, in specs/. No code stands here.
