@@ -20,12 +20,12 @@ use Rattle.meaning.specs.Scene.{Scene, sceneOf, Accepted, someBelow, vertexCoun
 use Rattle.meaning.specs.Text.{none, vertex, triangle, sceneWith, coordinates, coordinatesIn, endsIn, cornersIn, seamIn, entryChecks, EntryJudged}
 use Rattle.meaning.specs.ObjLine.{says}
 use Rattle.meaning.specs.ObjFile.{placeAt, withSides, faceAdded, sceneAfter, lineChecks, objLines}
-use Rattle.meaning.specs.ObjPair.{differing, positionsBetween, imported, FileRead, BothRead}
+use Rattle.meaning.specs.ObjPair.{sameNumbers, differing, positionsBetween, imported, FileRead, BothRead}
 use Rattle.meaning.specs.declared.SceneCounts.{SceneCounts}
 use Rattle.meaning.specs.declared.ObjLine.{ObjLine}
 use Rattle.meaning.specs.declared.ObjLine.the-variants.{Skipped, Vertex, Face, Bad}
 use Rattle.scene_line.specs.Above.{Above, above-none, noCounts, above-more, Faultless, faultless}
-use Rattle.scene_line.specs.Adding.{anyOf, some-behind, twiceInTwo}
+use Rattle.scene_line.specs.Adding.{some-behind, twiceInThree}
 use Rattle.scene_line.specs.Checks.{comes-triangle}
 use Rattle.obj_scenes.specs.Faces.{EdgesOk, ok-scene, ok-sides, above-edges}
 use Rattle.obj_pair.specs.Between.{six-each}
@@ -110,3 +110,82 @@ file-fine {s = s} r =
 -- a file that is read is a scene at rest that every call accepts
 pub file-accepted : {text : List ℕ} {s : Scene} → FileRead text s → Accepted s
 file-accepted r = file-fine r .above .accepted
+
+-- ---- the scene of two files
+
+abbrev someIn : (ℤ → Bool) → List ℤ → Bool
+someIn t l = someBelow (length l) (λ i. t (getD l i (pos 0)))
+
+none-gathered : (t : ℤ → Bool) (f : ℕ → List ℤ) (n : ℕ) → ((v : ℕ) → v < n → someIn t (f v) ≡ false) → (v : ℕ) → someIn t (gather f v n) ≡ false
+unfolding someBelow
+none-gathered t f n none =
+    towards n (λ v. someIn t (gather f v n) ≡ false)
+    (λ v h. ap (someIn t) (gather-none f v n h))
+    (λ v h next.
+    ap (someIn t) (gather-first f v n h) ∙ some-behind t (pos 0) (f v) (gather f (v + 1) n) (none v h)
+    ∙ sym (some-behind t (pos 0) [] (gather f (v + 1) n) refl)
+    ∙ next)
+
+module _ {s e : Scene} (fs : Fine s) (fe : Fine e) (alike : differing s e ≡ false) where
+  as-many : vertexCount s ≡ vertexCount e
+  as-many =
+      eqb-true (vertexCount s) (vertexCount e)
+      (not-false _ (or-left (not (eqb (vertexCount s) (vertexCount e))) (not (sameNumbers (s .triangles) (e .triangles))) alike))
+
+  near : (f : Scene) → Fine f → vertexCount f ≡ vertexCount s → (v i : ℕ) → v < vertexCount s → i < 6 → outside (getD (f .positions) (6 * v + i) (pos 0)) ≡ false
+  near f ff n v i h k =
+      none-passes (λ j. outside (getD (f .positions) j (pos 0))) (length (f .positions)) (ff .above .accepted .inRange) (6 * v + i)
+      (omega (arith, n, ff .above .lengths .positions))
+
+  vertex-near : (v : ℕ) → v < vertexCount s → someIn outside (coordinates (startOf s v) (endOf e v)) ≡ false
+  unfolding someBelow
+  vertex-near v h =
+      let zero : 6 * v + 0 ≡ 6 * v = omega arith in
+      let four : 6 * v + 4 ≡ 6 * v + 3 + 1 = omega arith in
+      let five : 6 * v + 5 ≡ 6 * v + 3 + 2 = omega arith in
+      let a : outside (getD (s .positions) (6 * v) (pos 0)) ≡ false = rw zero at (near s fs refl v 0 h (omega arith)) in
+      let b : outside (getD (s .positions) (6 * v + 1) (pos 0)) ≡ false = near s fs refl v 1 h (omega arith) in
+      let c : outside (getD (s .positions) (6 * v + 2) (pos 0)) ≡ false = near s fs refl v 2 h (omega arith) in
+      let d : outside (getD (e .positions) (6 * v + 3) (pos 0)) ≡ false = near e fe (sym as-many) v 3 h (omega arith) in
+      let g : outside (getD (e .positions) (6 * v + 3 + 1) (pos 0)) ≡ false = rw four at (near e fe (sym as-many) v 4 h (omega arith)) in
+      let k : outside (getD (e .positions) (6 * v + 3 + 2) (pos 0)) ≡ false = rw five at (near e fe (sym as-many) v 5 h (omega arith)) in
+      cc (a, b, c, d, g, k)
+
+  long : length (positionsBetween s e) ≡ 6 * vertexCount s
+  long =
+      let six : length (positionsBetween s e) + 6 * 0 ≡ 6 * vertexCount s =
+      six-each (λ v. coordinates (startOf s v) (endOf e v)) (λ v. refl) (vertexCount s) 0 (omega arith) in
+      omega (arith, six)
+
+  -- accepted by every other call
+  pub import-accepted : Accepted (imported s e)
+  unfolding someBelow
+  import-accepted =
+      let n : vertexCount (imported s e) ≡ vertexCount s = omega (arith, long) in
+      let six : length (positionsBetween s e) % 6 ≡ 0 = omega (arith, long) in
+      let two : length (s .edges) % 2 ≡ 0 = omega (arith, fs .above .lengths .edges) in
+      let three : length (s .triangles) % 3 ≡ 0 = omega (arith, fs .above .lengths .triangles) in
+      let ok : EdgesOk (vertexCount s) (s .edges) = ok-scene (fs .above) (fs .seamless) in
+      let known : unknownVertex s ≡ false = fs .above .accepted .known in
+      let corners : unknownIn (vertexCount s) (s .triangles) ≡ false = search (or-left, or-rest) in
+      let once : repeatedVertex s ≡ false = fs .above .accepted .distinct in
+      let thrice : someBelow (length (s .triangles) / 3) (twiceInThree (s .seams) (s .triangles)) ≡ false = search (or-left, or-rest) in
+      let thrice′ : someBelow (length (s .triangles) / 3) (twiceInThree [] (s .triangles)) ≡ false =
+      subst (λ (w : List ℕ). someBelow (length (s .triangles) / 3) (twiceInThree w (s .triangles)) ≡ false) (fs .seamless) thrice in
+      record {
+        shapely = cc (
+          eq-eqb (length (positionsBetween s e) % 6) 0 six,
+          eq-eqb (length (s .edges) % 2) 0 two,
+          eq-eqb (length (s .triangles) % 3) 0 three,
+          le-ltb vertexLimit (length (positionsBetween s e) / 6) (omega (arith, long, fs .above .lengths .positions, fs .above .bounded .vertices)),
+          le-ltb edgeLimit (length (s .edges) / 2) (omega (arith, fs .above .lengths .edges, fs .above .bounded .edges)),
+          le-ltb triangleLimit (length (s .triangles) / 3) (omega (arith, fs .above .lengths .triangles, fs .above .bounded .triangles)),
+        );
+        inRange = none-gathered outside (λ v. coordinates (startOf s v) (endOf e v)) (vertexCount s) vertex-near 0;
+        known = cc (n, ok .known, corners);
+        sewnWell = refl;
+        distinct = cc (ok .distinct, thrice′);
+      }
+
+pub imports-accepted : {start end : List ℕ} (b : BothRead start end false) → Accepted (imported (b .starts) (b .ends))
+imports-accepted b = import-accepted (file-fine (b .first)) (file-fine (b .second)) (b .compared)
