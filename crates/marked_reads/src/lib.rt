@@ -32,6 +32,7 @@ fn number_of(refusal: Refusal) -> usize {
         Refusal::ShortBuffer => 12,
         Refusal::BrokenSeam => 15,
         Refusal::BeyondOldRange => 16,
+        Refusal::StaleBox => 17,
     }
 }
 

@@ -27,5 +27,6 @@ pub fn number_of(refusal: Refusal) -> u64
         Refusal::ShortBuffer => 12,
         Refusal::BrokenSeam => 15,
         Refusal::BeyondOldRange => 16,
+        Refusal::StaleBox => 17,
     }
 }
