@@ -6,15 +6,17 @@ use mathlib.Core.Logic.{⊎-elim}
 use mathlib.Core.Path.{_≡_, refl, sym, ap, _∙_, subst}
 use native.Mathlib.Nat.{not-suc-le-zero}
 use native.Mathlib.Omega.{arith}
-use native.Mathlib.Decide.{decEq}
+use lib.Dec.{eqb}
+use borrow.Author.Tests.{eqb-true, eqb-false}
 use lib.IntN.{ℤ, pos}
 use lib.ListN.{length, getD}
 use Rattle.sequences.specs.Range.{le-or-lt}
+use Rattle.sequences.specs.Pick.{either}
 use Rattle.meaning.specs.Limits.{vertexLimit}
-use Rattle.meaning.specs.Scene.{Scene, vertexCount, edgeCount, triangleCount}
-use Rattle.meaning.specs.StoredBoxes.{Box, boxAt, Holds, KeptBehind, boxNumbers, vertexBox, edgePlace, trianglePlace}
+use Rattle.meaning.specs.Scene.{Scene, vertexCount}
+use Rattle.meaning.specs.StoredBoxes.{Box, spanAt, boxAt, Holds, KeptBehind, boxNumbers}
 use Rattle.boxes.specs.Kept.{jointBox}
-use Rattle.boxes.specs.Storing.{BoxStored, others-kept, same-box}
+use Rattle.boxes.specs.Storing.{BoxStored, withSpan, withBox, box-stored, others-kept, same-box}
 use Rattle.boxes.specs.Parts.{Drawn}
 
 -- a box for each vertex, and one more
@@ -29,18 +31,18 @@ pub record WorkedOut (b : Box) (own : List ℤ) : Type 0 where
 pub record Workable (s : Scene) (own boxes : List ℤ) : Type 0 where
   pub drawn : Drawn s
   pub few : vertexCount s ≤ vertexLimit
-  pub own : length own ≡ workNumbers
+  pub long : length own ≡ workNumbers
   pub room : boxNumbers ≤ length boxes
 
 -- ---- working one out
 
 -- a vertex's box stands, whichever vertex's box is stored then
 still : {l l′ : List ℤ} (f : ℕ → Box) (a b : ℕ) → BoxStored l b (f b) l′ → boxAt l a ≡ f a → boxAt l′ a ≡ f a
-still {l} {l′} f a b stored so = go (decEq a b)
-  where
-    go : Dec (a ≡ b) → boxAt l′ a ≡ f a
-    go (yes e) = subst (λ (n : ℕ). boxAt l′ n ≡ f n) (sym e) (stored .here)
-    go (no n) = others-kept stored a n ∙ so
+still {l} {l′} f a b stored so =
+    ⊎-elim
+    (λ e. subst (λ (n : ℕ). boxAt l′ n ≡ f n) (sym (eqb-true a b e)) (stored .here))
+    (λ e. others-kept stored a (eqb-false a b e) ∙ so)
+    (either (eqb a b))
 
 module _ (f : ℕ → Box) {a b : ℕ} {l l₁ l₂ l₃ : List ℤ} where
   pub two-worked : length l ≡ workNumbers → BoxStored l a (f a) l₁ → BoxStored l₁ b (f b) l₂
@@ -56,6 +58,15 @@ three-worked away so stored joined =
     let one = others-kept stored vertexLimit (omega arith) ∙ so .here in
     let two = stored .here in
     record { here = joined .here ∙ λ t. jointBox (one t) (two t); same = joined .same ∙ stored .same ∙ so .same }
+
+-- copied span by span
+module _ (own l : List ℤ) (k : ℕ) {l₁ l₂ l₃ : List ℤ} (first : l₁ ≡ withSpan l (6 * k) (spanAt own (6 * vertexLimit)))
+    (second : l₂ ≡ withSpan l₁ (6 * k + 1) (spanAt own (6 * vertexLimit + 1))) (third : l₃ ≡ withSpan l₂ (6 * k + 2) (spanAt own (6 * vertexLimit + 2))) where
+  pub box-copied : 6 * k + 5 < length l → BoxStored l k (boxAt own vertexLimit) l₃
+  box-copied h =
+      let front = second ∙ λ t. withSpan (first t) (6 * k + 1) (spanAt own (6 * vertexLimit + 1)) in
+      let whole : l₃ ≡ withBox l k (boxAt own vertexLimit) = third ∙ λ t. withSpan (front t) (6 * k + 2) (spanAt own (6 * vertexLimit + 2)) in
+      subst (BoxStored l k (boxAt own vertexLimit)) (sym whole) (box-stored l k (boxAt own vertexLimit) h)
 
 -- ---- stored, or left
 

@@ -8,11 +8,11 @@ ghost use mathlib.Core.Path.{_≡_};
 ghost use lib.ListN.{length};
 ghost use Rattle.meaning.specs.Limits.{vertexLimit};
 ghost use Rattle.meaning.specs.Scene.{sceneOf, vertexCount, edgeCount, triangleCount};
-ghost use Rattle.meaning.specs.StoredBoxes.{boxAt, vertexBox, edgeBox, triangleBox, edgePlace, trianglePlace, boxNumbers};
+ghost use Rattle.meaning.specs.StoredBoxes.{spanAt, boxAt, vertexBox, edgeBox, triangleBox, edgePlace, trianglePlace, boxNumbers};
 ghost use Rattle.meaning.specs.Dragging.{edgeHas, triangleHas, BoxesMoved};
 ghost use Rattle.scenes.specs.Alone.{onlyPositions, onlyEdges, onlyTriangles, unsewnIn, unsewnAtEntry};
 ghost use Rattle.boxes.specs.Kept.{jointBox};
-ghost use Rattle.boxes.specs.Storing.{BoxStored};
+ghost use Rattle.boxes.specs.Storing.{BoxStored, withSpan};
 ghost use Rattle.boxes.specs.Parts.{Drawn};
 ghost use Rattle.mending.specs.Mending.{workNumbers, WorkedOut, Workable, Mended};
 use boxes::kept::store_joint_box;
@@ -46,6 +46,14 @@ fn triangle_has(triangles: &[u16], v: usize, j: usize) -> bool
     (a == v) | (b == v) | (c == v)
 }
 
+fn copy_span(own: &[i32], from: usize, boxes: &mut [i32], to: usize)
+    requires { ⌜ (from + 3 < length (now own)) × (to + 3 < length (now boxes)) ⌝ }
+    ensures { λ _. ⌜ now (boxes .exit) ≡ withSpan (now (boxes .entry)) to (spanAt (now (own .entry)) from) ⌝ }
+{
+    boxes[to] = own[from];
+    boxes[to + 3] = own[from + 3];
+}
+
 // The last of one's own boxes, stored under a number.
 fn copy_box(own: &[i32], boxes: &mut [i32], to: usize)
     requires { ⌜ (length (now own) ≡ workNumbers) × (6 * to + 5 < length (now boxes)) ⌝ }
@@ -53,12 +61,9 @@ fn copy_box(own: &[i32], boxes: &mut [i32], to: usize)
 {
     let from = 6 * VERTEX_LIMIT;
     let at = 6 * to;
-    boxes[at] = own[from];
-    boxes[at + 3] = own[from + 3];
-    boxes[at + 1] = own[from + 1];
-    boxes[at + 1 + 3] = own[from + 1 + 3];
-    boxes[at + 2] = own[from + 2];
-    boxes[at + 2 + 3] = own[from + 2 + 3];
+    copy_span(own, from, boxes, at);
+    copy_span(own, from + 1, boxes, at + 1);
+    copy_span(own, from + 2, boxes, at + 2);
 }
 
 // The joint box of two vertices, and of three, worked out as the last of one's own.
