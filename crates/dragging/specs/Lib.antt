@@ -1,5 +1,2 @@
--- The scene after a move: its positions, that it is accepted, its boxes; and what the calls answer.
-pub mod Placed
-pub mod Torn
-pub mod Moved
+-- What the calls answer.
 pub mod Answering

@@ -2,12 +2,14 @@
 
 mod tearing; // tearing.rt: whether a move would take a seam apart
 
-ghost use Prim.Native.Nat.{_<_};
+ghost use Prim.Native.Nat.{_+_, _<_};
 ghost use mathlib.Core.Path.{_≡_};
+ghost use lib.ListN.{length};
 ghost use Rattle.meaning.specs.Scene.{sceneAtEntry, vertexCount};
 ghost use Rattle.meaning.specs.StoredBoxes.{BoxesFilled};
 ghost use Rattle.meaning.specs.Dragging.{placed, VertexMoved};
 ghost use Rattle.scenes.specs.Alone.{onlyPositions};
+ghost use Rattle.boxed_scenes.specs.Placed.{threePlaced};
 use boxes::filling::fill;
 use meaning::BOX_NUMBERS;
 use meaning::Refusal;
@@ -38,17 +40,24 @@ pub fn fill_boxes(
     SceneAnswer::Accepted
 }
 
-fn place(positions: &mut [i32], v: usize, coordinates: &[i32; 6])
-    requires { ⌜ v < vertexCount (onlyPositions (now positions)) ⌝ }
+// Three coordinates, one behind the other.
+fn place_three(positions: &mut [i32], at: usize, coordinates: &[i32], from: usize)
+    requires { ⌜ (at + 2 < length (now positions)) × (from + 2 < length (now coordinates)) ⌝ }
+    ensures { λ _. ⌜ now (positions .exit) ≡ threePlaced (now (positions .entry)) at (now (coordinates .entry)) from ⌝ }
+{
+    positions[at] = coordinates[from];
+    positions[at + 1] = coordinates[from + 1];
+    positions[at + 2] = coordinates[from + 2];
+}
+
+// The start and the end of vertex v.
+fn place(positions: &mut [i32], v: usize, coordinates: &[i32])
+    requires { ⌜ (v < vertexCount (onlyPositions (now positions))) × (length (now coordinates) ≡ 6) ⌝ }
     ensures { λ _. ⌜ now (positions .exit) ≡ placed (now (positions .entry)) v (now (coordinates .entry)) ⌝ }
 {
     let at = 6 * v;
-    positions[at] = coordinates[0];
-    positions[at + 1] = coordinates[1];
-    positions[at + 2] = coordinates[2];
-    positions[at + 3] = coordinates[3];
-    positions[at + 4] = coordinates[4];
-    positions[at + 5] = coordinates[5];
+    place_three(positions, at, coordinates, 0);
+    place_three(positions, at + 3, coordinates, 3);
 }
 
 // Vertex v is moved: six coordinates, start and end, and the boxes of the parts that have it. No stored box is looked at, and a refusal changes

@@ -1,15 +1,14 @@
 // Whether a seam would come apart if a vertex were moved, told before anything is moved.
 
-ghost use Prim.Native.Nat.{_+_, _*_, _/_, _≤_, _<_};
-ghost use mathlib.Core.Bool.{false};
+ghost use Prim.Native.Nat.{ℕ, _<_};
 ghost use mathlib.Core.Path.{_≡_};
 ghost use lib.IntN.{pos};
 ghost use lib.ListN.{length, getD};
-ghost use Rattle.meaning.specs.Scene.{vertexCount, seamCount, sewn, onto, differ, comesApart, unknownIn};
-ghost use Rattle.meaning.specs.Dragging.{placed, movedScene, tearsSeam};
+ghost use Rattle.meaning.specs.Scene.{vertexCount, seamCount, sewn, onto, differ, comesApart};
+ghost use Rattle.meaning.specs.Dragging.{movedScene, tearsSeam};
 ghost use Rattle.scenes.specs.Alone.{onlyPositions};
 ghost use Rattle.scenes.specs.Sewing.{seamsAlone};
-ghost use Rattle.dragging.specs.Placed.{Together};
+ghost use Rattle.boxed_scenes.specs.Torn.{apartFrom, Together};
 use scenes::written::wide;
 
 // Whether two numbers, each of its own list, differ.
@@ -51,7 +50,7 @@ fn tears(positions: &[i32], seams: &[u16], v: usize, coordinates: &[i32], k: usi
 }
 
 pub(crate) fn tears_seam(positions: &[i32], seams: &[u16], v: usize, coordinates: &[i32]) -> bool
-    requires { ⌜ Accepted (seamsAlone (now positions) (now seams)) ⌝ }
+    requires { ⌜ ((k : ℕ) → k < seamCount (seamsAlone (now positions) (now seams)) → Together (seamsAlone (now positions) (now seams)) k) × (v < vertexCount (onlyPositions (now positions))) × (length (now coordinates) ≡ 6) ⌝ }
     ensures { λ r. ⌜ r ≡ tearsSeam (seamsAlone (now (positions .entry)) (now (seams .entry))) v (now (coordinates .entry)) ⌝ }
 {
     let count = seams.len() / 2;

@@ -20,7 +20,7 @@ use Rattle.meaning.specs.Dragging.{placed, movedScene, newOutside, tearsSeam, e
 use Rattle.scenes.specs.Below.{or-left, none-passes, none-below}
 use Rattle.scenes.specs.Facts.{accepted-coordinate}
 use Rattle.boxes.specs.Kept.{jointBox, between}
-use Rattle.dragging.specs.Placed.{placed-length, placed-here, placed-other, placed-elsewhere}
+use Rattle.boxed_scenes.specs.Placed.{placed-length, placed-here, placed-other, placed-elsewhere}
 
 module _ (s : Scene) (v : ℕ) (c : List ℤ) where
   same-count : vertexCount (movedScene s v c) ≡ vertexCount s

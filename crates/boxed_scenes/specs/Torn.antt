@@ -3,18 +3,19 @@ use Prim.Native.Nat.{ℕ, _+_, _*_, _/_, _≤_, _<_}
 use mathlib.Core.Bool.{Bool, true, false, _||_, or-comm}
 use mathlib.Core.List.{List}
 use mathlib.Core.Logic.{_≢_}
-use mathlib.Core.Path.{_≡_, refl, sym, ap, ap₂, subst, _∙_}
+use mathlib.Core.Path.{_≡_, refl, sym, ap, ap₂, _∙_}
 use native.Mathlib.Omega.{arith}
 use lib.Dec.{leb}
 use lib.IntN.{ℤ, pos}
 use lib.ListN.{length, getD}
 use lib.Signed.{ltZ}
 use borrow.Author.Tests.{leb-false}
-use Rattle.meaning.specs.Scene.{Scene, Accepted, vertexCount, seamCount, sewn, onto, someBelow, differ, comesApart, notRising, replaced, wrongSeam, unknownIn}
+use Rattle.meaning.specs.Scene.{Scene, Accepted, vertexCount, seamCount, sewn, onto, someBelow, differ, comesApart, notRising, replaced, wrongSeam}
 use Rattle.meaning.specs.Dragging.{placed, movedScene}
 use Rattle.scenes.specs.Below.{or-left, or-rest, none-passes, some-alike}
 use Rattle.scenes.specs.Facts.{known-inside, accepted-sized}
-use Rattle.dragging.specs.Placed.{placed-here, placed-elsewhere}
+use Rattle.scenes.specs.Sewing.{seamsAlone}
+use Rattle.boxed_scenes.specs.Placed.{placed-here, placed-elsewhere}
 
 -- vertex u is not at the six coordinates c
 abbrev pub apartFrom : List ℤ → ℕ → List ℤ → Bool
@@ -27,7 +28,7 @@ pub record Together (s : Scene) (k : ℕ) : Type 0 where
   pub there : sewn s k < vertexCount s
   pub whole : comesApart s (sewn s k) (onto s k) ≡ false
 
-pub together : {s : Scene} → Accepted s → (k : ℕ) → k < seamCount s → Together s k
+pub together : {s : Scene} → Accepted s → (k : ℕ) → k < seamCount s → Together (seamsAlone (s .positions) (s .seams)) k
 together {s} a k h =
     let sized = accepted-sized a in
     let fine : wrongSeam s k ≡ false = none-passes (wrongSeam s) (seamCount s) (a .sewnWell) k h in

@@ -11,6 +11,23 @@ use lib.Seq.{getD-set-same, getD-set-other}
 use Rattle.sequences.specs.Range.{le-or-lt}
 use Rattle.meaning.specs.Dragging.{placed}
 
+-- three numbers of c, from one place on, put into p from another on
+abbrev pub threePlaced : List ℤ → ℕ → List ℤ → ℕ → List ℤ
+threePlaced p i c k =
+    set (set (set p i (getD c k (pos 0))) (i + 1) (getD c (k + 1) (pos 0))) (i + 2) (getD c (k + 2) (pos 0))
+
+-- a start and an end
+pub placed-halves : (p : List ℤ) (v : ℕ) (c : List ℤ) → threePlaced (threePlaced p (6 * v) c 0) (6 * v + 3) c 3 ≡ placed p v c
+placed-halves p v c =
+    let four : 6 * v + 3 + 1 ≡ 6 * v + 4 = omega arith in
+    let five : 6 * v + 3 + 2 ≡ 6 * v + 5 = omega arith in
+    λ t.
+    set
+    (set
+    (set (threePlaced p (6 * v) c 0) (6 * v + 3) (getD c 3 (pos 0)))
+    (four t) (getD c 4 (pos 0)))
+    (five t) (getD c 5 (pos 0))
+
 module _ (p : List ℤ) (v : ℕ) (c : List ℤ) where
   abbrev new : ℕ → ℤ
   new k = getD c k (pos 0)
