@@ -7,7 +7,7 @@ ghost use mathlib.Core.Path.{_≡_};
 ghost use lib.ListN.{length};
 ghost use Rattle.meaning.specs.Scene.{sceneAtEntry, vertexCount};
 ghost use Rattle.meaning.specs.StoredBoxes.{BoxesFilled};
-ghost use Rattle.meaning.specs.Dragging.{placed, VertexMoved};
+ghost use Rattle.meaning.specs.Dragging.{placed, newOutside, VertexMoved};
 ghost use Rattle.scenes.specs.Alone.{onlyPositions};
 ghost use Rattle.boxed_scenes.specs.Placed.{threePlaced};
 use boxes::filling::fill;
@@ -40,9 +40,17 @@ pub fn fill_boxes(
     SceneAnswer::Accepted
 }
 
+// 2 for the new coordinates.
+fn new_outside(coordinates: &[i32]) -> bool
+    requires { ⌜ length (now coordinates) ≡ 6 ⌝ }
+    ensures { λ r. ⌜ r ≡ newOutside (now (coordinates .entry)) ⌝ }
+{
+    out_of_range(coordinates)
+}
+
 // Three coordinates, one behind the other.
 fn place_three(positions: &mut [i32], at: usize, coordinates: &[i32], from: usize)
-    requires { ⌜ (at + 2 < length (now positions)) × (from + 2 < length (now coordinates)) ⌝ }
+    requires { ⌜ (at < length (now positions)) × (at + 1 < length (now positions)) × (at + 2 < length (now positions)) × (from + 2 < length (now coordinates)) ⌝ }
     ensures { λ _. ⌜ now (positions .exit) ≡ threePlaced (now (positions .entry)) at (now (coordinates .entry)) from ⌝ }
 {
     positions[at] = coordinates[from];
@@ -82,7 +90,7 @@ pub fn move_vertex(
     if vertex_count(positions) <= v {
         return SceneAnswer::Refused(Refusal::NotThere);
     }
-    if out_of_range(coordinates) {
+    if new_outside(coordinates) {
         return SceneAnswer::Refused(Refusal::Coordinate);
     }
     if tears_seam(positions, seams, v, coordinates) {
