@@ -8,12 +8,15 @@ ghost use Rattle.meaning.specs.Scene.{sceneAtEntry, Accepted};
 ghost use Rattle.meaning.specs.List.{pairs, roomOf};
 ghost use Rattle.meaning.specs.SceneWords.{byteOf, SettledScene};
 ghost use Rattle.scenes.specs.Alone.{tabledIn, tabledAtEntry};
+ghost use Rattle.walking.specs.Skipping.{Prepared};
 ghost use Rattle.scene_words.specs.Listed.{bytesOf, ListStands, StandsFor};
 ghost use Rattle.scene_words.specs.Answering.{SettledIn};
 use meaning::ListAnswer;
 use meaning::SceneAnswer;
 use meaning::Settled;
 use meaning::VERTEX_LIMIT;
+use walking::skipping::WALK_NUMBERS;
+use walking::skipping::prepare;
 
 // The answer to "which word does this byte stand for?".
 pub enum ByteAnswer {
@@ -97,6 +100,39 @@ fn smaller(a: usize, b: usize) -> usize
     if a < b { a } else { b }
 }
 
+// For a scene that was checked already, and whose boxes and runs are prepared.
+pub fn settle_prepared(
+    positions: &[i32],
+    edges: &[u16],
+    triangles: &[u16],
+    stands: &[u16],
+    boxes: &[i32],
+    list: &mut [u32],
+    out: &mut [u8],
+) -> ListAnswer
+    requires { ⌜ Prepared (tabledIn positions edges triangles stands) (now boxes) ⌝ }
+    ensures { λ r. ⌜ SettledIn (tabledAtEntry positions edges triangles stands) (min (roomOf (now (list .entry))) (length (now (out .entry)))) (now (list .entry)) (now (list .exit)) (now (out .entry)) (now (out .exit)) r ⌝ }
+{
+    let room = smaller(entries::room(list), out.len());
+    let mut tests = [0usize; 1];
+    match listing::accepted::list_prepared(
+        positions,
+        edges,
+        triangles,
+        stands,
+        boxes,
+        list,
+        room,
+        &mut tests,
+    ) {
+        ListAnswer::Listed(made) => {
+            settle_entries(positions, edges, triangles, stands, list, out, made.count);
+            ListAnswer::Listed(made)
+        }
+        ListAnswer::Refused(refusal, needed) => ListAnswer::Refused(refusal, needed),
+    }
+}
+
 // For a scene that was checked already.
 pub fn settle_accepted(
     positions: &[i32],
@@ -109,23 +145,9 @@ pub fn settle_accepted(
     requires { ⌜ Accepted (tabledIn positions edges triangles stands) ⌝ }
     ensures { λ r. ⌜ SettledIn (tabledAtEntry positions edges triangles stands) (min (roomOf (now (list .entry))) (length (now (out .entry)))) (now (list .entry)) (now (list .exit)) (now (out .entry)) (now (out .exit)) r ⌝ }
 {
-    let room = smaller(entries::room(list), out.len());
-    let mut tests = [0usize; 1];
-    match listing::accepted::list_accepted(
-        positions,
-        edges,
-        triangles,
-        stands,
-        list,
-        room,
-        &mut tests,
-    ) {
-        ListAnswer::Listed(made) => {
-            settle_entries(positions, edges, triangles, stands, list, out, made.count);
-            ListAnswer::Listed(made)
-        }
-        ListAnswer::Refused(refusal, needed) => ListAnswer::Refused(refusal, needed),
-    }
+    let mut boxes = [0i32; WALK_NUMBERS];
+    prepare(positions, edges, triangles, stands, &mut boxes);
+    settle_prepared(positions, edges, triangles, stands, &boxes, list, out)
 }
 
 // For a scene that may be anything.
