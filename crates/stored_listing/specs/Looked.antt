@@ -1,7 +1,7 @@
 -- 12, the scene's own checks and 17 are asked first; a scene that passes them is accepted and its stored boxes are right, so that the list is
 -- that of the scene. 7 comes after them.
-use Prim.Native.Nat.{ℕ, _*_, _+_, _≤_, min}
-use mathlib.Core.Bool.{true, false}
+use Prim.Native.Nat.{ℕ, _*_, _+_, _≤_}
+use mathlib.Core.Bool.{true, false, cond}
 use mathlib.Core.List.{List, [], _∷_, _++_}
 use mathlib.Core.Path.{_≡_, refl, sym, subst, _∙_}
 use native.Mathlib.Omega.{arith}
@@ -10,7 +10,7 @@ use lib.ListN.{length}
 use Rattle.meaning.specs.Scene.{Scene, Accepted, vertexCount, edgeCount, triangleCount}
 use Rattle.meaning.specs.Refusals.{Outcome, given, refused, numberOf, Check, Answers, sceneSays, SceneChecked}
 use Rattle.meaning.specs.List.{pairs, entries, roomOf, listSays, leaves}
-use Rattle.meaning.specs.StoredBoxes.{Boxed, boxNumbers, shortBoxes, staleBox, boxChecks, staleChecks, storedChecks, CountedStored, ListedStored, SettledStored}
+use Rattle.meaning.specs.StoredBoxes.{Boxed, boxNumbers, shortBoxes, staleBox, boxChecks, staleChecks, storedChecks, CountedStored, ListedStored}
 use Rattle.meaning.specs.declared.Refusal.{Refusal}
 use Rattle.meaning.specs.declared.Refusal.the-variants.{ShortBuffer, StaleBox}
 use Rattle.meaning.specs.declared.SceneAnswer as SceneAnswers
@@ -26,8 +26,6 @@ use Rattle.scenes.specs.Facts.{accepted-sized}
 use Rattle.boxed_scenes.specs.Checks.{short-boxes, boxed-refused, boxed-accepted}
 use Rattle.looking.specs.Looked.{boxes-right}
 use Rattle.listing.specs.Answering.{IsCount, roomChecks, ListedIn}
-use Rattle.scene_words.specs.Answering.{SettledIn}
-use Rattle.scene_words.specs.Listed.{wordsOf, all-judged}
 
 abbrev Fine : Unit {0} → Type 0
 Fine t = Unit {0}
@@ -36,35 +34,35 @@ Fine t = Unit {0}
 abbrev pub lookChecks : Scene → List ℤ → List Check
 lookChecks s b = boxChecks s b ++ staleChecks s b
 
--- the answer of the look is right, and where the scene is accepted the table has its seams
+-- the answer of the look is right; the table is made with the check of the scene, unless 12 came before it
 pub record LookedAt (s : Scene) (b : List ℤ) (t t′ : List ℕ) (r : SceneAnswer) : Type 0 where
   pub answer : Answers (lookChecks s b) Fine (sceneSays r)
-  pub tells : r ≡ SceneAnswers.the-variants.Accepted → Stitched s t t′
+  pub table : cond (shortBoxes b) (t′ ≡ t) (Stitched s t t′)
+
+pub look-short : (s : Scene) (b : List ℤ) {t : List ℕ} → shortBoxes b ≡ true → LookedAt s b t t (SceneAnswers.the-variants.Refused ShortBuffer)
+unfolding sceneSays numberOf
+look-short s b h = record { answer = short-boxes s b (staleChecks s b) Fine h; table = rw h refl }
 
 module _ (s : Scene) (b : List ℤ) {t t′ : List ℕ} where
-  pub look-short : shortBoxes b ≡ true → LookedAt s b t t′ (SceneAnswers.the-variants.Refused ShortBuffer)
-  unfolding sceneSays numberOf
-  look-short h = record { answer = short-boxes s b (staleChecks s b) Fine h; tells = λ e. cc }
-
-  module _ (long : shortBoxes b ≡ false) where
+  module _ (long : shortBoxes b ≡ false) (into : Stitched s t t′) where
     pub look-refused : {r : SceneAnswer} (x : Refusal) → r ≡ SceneAnswers.the-variants.Refused x → SceneChecked s r
         → LookedAt s b t t′ (SceneAnswers.the-variants.Refused x)
     unfolding sceneSays
-    look-refused x e p = record { answer = boxed-refused s b (staleChecks s b) Fine long e p; tells = λ e. cc }
+    look-refused x e p = record { answer = boxed-refused s b (staleChecks s b) Fine long e p; table = rw long into }
 
     module _ (a : Accepted s) where
       pub look-stale : staleBox s b ≡ true → LookedAt s b t t′ (SceneAnswers.the-variants.Refused StaleBox)
       unfolding sceneSays numberOf
       look-stale h = record {
         answer = boxed-accepted s b (staleChecks s b) Fine long (refused 17 0) a (refuses Fine _ [] (refused 17 0) h refl);
-        tells = λ e. cc;
+        table = rw long into;
       }
 
-      pub look-right : staleBox s b ≡ false → Stitched s t t′ → LookedAt s b t t′ SceneAnswers.the-variants.Accepted
+      pub look-right : staleBox s b ≡ false → LookedAt s b t t′ SceneAnswers.the-variants.Accepted
       unfolding sceneSays
-      look-right h i = record {
+      look-right h = record {
         answer = boxed-accepted s b (staleChecks s b) Fine long (given tt) a (lets-pass Fine _ [] (given tt) h (gives Fine tt tt));
-        tells = λ e. i;
+        table = rw long into;
       }
 
 -- ---- a scene that passes is accepted, and its boxes are right
@@ -91,7 +89,7 @@ module _ {s : Scene} {b : List ℤ} {t t′ : List ℕ} {r : SceneAnswer} (p : L
       record {
         accepted = a;
         boxed = boxes-right s b (omega (arith, ltb-false (length b) boxNumbers long, sized .fewVertices, sized .fewEdges, sized .fewTriangles)) fresh;
-        into = p .tells e;
+        into = rw long at (p .table);
       }
 
   -- a refusal of the look stands, whatever comes after it
@@ -124,26 +122,3 @@ module _ {s : Scene} {b : List ℤ} {t t′ : List ℕ} {r : SceneAnswer} (p : L
       → ListedStored s b o o′ a
   listed-right {o} {o′} {a} e q l =
       record { answer = accepted-too p (roomChecks s (roomOf o)) (IsCount s) (listSays a) e (rw q at (l .answer)); buffer = l .buffer }
-
-  pub settled-refused : (o w : List ℕ) (x : Refusal) → r ≡ SceneAnswers.the-variants.Refused x
-      → SettledStored s b o o w w (ListAnswers.the-variants.Refused x 0)
-  unfolding listSays leaves
-  settled-refused o w x e =
-      record {
-        answer = refused-too p (roomChecks s (min (roomOf o) (length w))) (IsCount s) x e;
-        list = refl;
-        words = wordsOf s (pairs s);
-        right = all-judged s (pairs s);
-        bytes = refl;
-      }
-
-  pub settled-right : {o o′ w w′ : List ℕ} {a : ListAnswer} → r ≡ SceneAnswers.the-variants.Accepted
-      → SettledIn s (min (roomOf o) (length w)) o o′ w w′ a → SettledStored s b o o′ w w′ a
-  settled-right {o} {o′} {w} {w′} {a} e j =
-      record {
-        answer = accepted-too p (roomChecks s (min (roomOf o) (length w))) (IsCount s) (listSays a) e (j .list .answer);
-        list = j .list .buffer;
-        words = wordsOf s (pairs s);
-        right = all-judged s (pairs s);
-        bytes = j .bytes;
-      }

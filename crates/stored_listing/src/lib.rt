@@ -1,11 +1,7 @@
-// The list made from stored boxes, after one look over them: counted, made, and each listed pair judged.
+// The list made from stored boxes, after one look over them: counted, and made.
 
-ghost use Prim.Native.Nat.{_≤_};
-ghost use mathlib.Core.Bool.{false};
-ghost use mathlib.Core.Path.{_≡_};
-ghost use lib.ListN.{length};
 ghost use Rattle.meaning.specs.Scene.{sceneAtEntry};
-ghost use Rattle.meaning.specs.StoredBoxes.{CountedStored, ListedStored, SettledStored};
+ghost use Rattle.meaning.specs.StoredBoxes.{CountedStored, ListedStored};
 ghost use Rattle.meaning.specs.Runs.{Tested};
 ghost use Rattle.scenes.specs.Sewing.{Blank};
 ghost use Rattle.stored_listing.specs.Looked.{LookedAt};
@@ -20,13 +16,12 @@ use meaning::Made;
 use meaning::Refusal;
 use meaning::SceneAnswer;
 use meaning::VERTEX_LIMIT;
-use scene_words::settle_prepared;
 use scenes::check_into;
 use walking::skipping::WALK_NUMBERS;
 use walking::skipping::prepare_stored;
 
 // 12, the scene's own checks and 17, in this order; the table of seams is made on the way.
-fn look(
+pub fn look(
     positions: &[i32],
     edges: &[u16],
     triangles: &[u16],
@@ -94,29 +89,6 @@ pub fn list_stored(
             prepare_stored(positions, edges, triangles, &stands, stored, &mut boxes);
             let most = room(list);
             list_prepared(positions, edges, triangles, &stands, &boxes, list, most, tests)
-        }
-    }
-}
-
-// The list, and the word of each listed pair as a byte.
-pub fn settle_stored(
-    positions: &[i32],
-    edges: &[u16],
-    triangles: &[u16],
-    seams: &[u16],
-    stored: &[i32],
-    list: &mut [u32],
-    out: &mut [u8],
-) -> ListAnswer
-    ensures { λ r. ⌜ SettledStored (sceneAtEntry positions edges triangles seams) (now (stored .entry)) (now (list .entry)) (now (list .exit)) (now (out .entry)) (now (out .exit)) r ⌝ }
-{
-    let mut stands = [0u16; VERTEX_LIMIT];
-    match look(positions, edges, triangles, seams, stored, &mut stands) {
-        SceneAnswer::Refused(why) => ListAnswer::Refused(why, 0),
-        SceneAnswer::Accepted => {
-            let mut boxes = [0i32; WALK_NUMBERS];
-            prepare_stored(positions, edges, triangles, &stands, stored, &mut boxes);
-            settle_prepared(positions, edges, triangles, &stands, &boxes, list, out)
         }
     }
 }

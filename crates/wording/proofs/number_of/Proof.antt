@@ -60,10 +60,15 @@ returns-14 : tie.Need-returns-14
 unfolding numberOf
 returns-14 c = rw (c .enum-told14 .given .1)
 
+returns-15 : tie.Need-returns-15
+unfolding numberOf
+returns-15 c = rw (c .enum-told15 .given .1)
+
 pub number-of-spec : {M : Type 1} → statement M
 number-of-spec =
     tie.close
     (tie.spec
+    (λ c. search needs)
     (λ c. search needs)
     (λ c. search needs)
     (λ c. search needs)
@@ -91,4 +96,5 @@ number-of-spec =
     returns-11
     returns-12
     returns-13
-    returns-14)
+    returns-14
+    returns-15)
