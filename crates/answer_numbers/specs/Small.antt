@@ -34,7 +34,7 @@ toldIn (refused n c) = c
 -- a number of the table
 pub record InTable (n : ℕ) : Type 0 where
   pub some : 0 < n
-  pub few : n ≤ 16
+  pub few : n ≤ 17
 
 pub number-in-table : (x : Refusal) → InTable (numberOf x)
 unfolding numberOf
