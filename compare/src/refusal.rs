@@ -15,6 +15,8 @@ pub const LENT_TOO_SHORT: u64 = 12;
 pub const BROKEN_SEAM: u64 = 15;
 /// Document 02, §13: a contact asked for in a scene beyond the old range.
 pub const BEYOND_OLD_RANGE: u64 = 16;
+/// Document 02, §8: a stored box that isn't the one worked out.
+pub const STALE_BOX: u64 = 17;
 
 /// `third` is the third field of a refused report: the line, the needed count, or 0 where there is neither.
 #[derive(Clone, Copy, Debug, PartialEq, Eq)]

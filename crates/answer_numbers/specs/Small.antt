@@ -14,7 +14,7 @@ use Rattle.meaning.specs.SceneWords.{SettledScene}
 use Rattle.meaning.specs.Text.{textOf, FaultyAt, TextIs, shortBuffer, longText, TextOutcome, countsTold, textSays, TextRead}
 use Rattle.meaning.specs.Meetings.{rangeCheck, roomCheck, metRoom, metChecks, MetScene}
 use Rattle.meaning.specs.declared.Refusal.{Refusal}
-use Rattle.meaning.specs.declared.Refusal.the-variants.{Shape, Coordinate, UnknownVertex, RepeatedVertex, NotThere, SharedVertex, NoRoom, LongText, BadLine, LateRecord, TooMany, ShortBuffer, FilesDiffer, BrokenSeam, BeyondOldRange}
+use Rattle.meaning.specs.declared.Refusal.the-variants.{Shape, Coordinate, UnknownVertex, RepeatedVertex, NotThere, SharedVertex, NoRoom, LongText, BadLine, LateRecord, TooMany, ShortBuffer, FilesDiffer, BrokenSeam, BeyondOldRange, StaleBox}
 use Rattle.meaning.specs.declared.ListAnswer.{ListAnswer}
 use Rattle.meaning.specs.declared.TextAnswer.{TextAnswer}
 use Rattle.scenes.specs.Answering.{is-refused, is-past}
@@ -34,7 +34,7 @@ toldIn (refused n c) = c
 -- a number of the table
 pub record InTable (n : ℕ) : Type 0 where
   pub some : 0 < n
-  pub few : n ≤ 16
+  pub few : n ≤ 17
 
 pub number-in-table : (x : Refusal) → InTable (numberOf x)
 unfolding numberOf
@@ -53,6 +53,7 @@ number-in-table ShortBuffer = record { some = omega arith; few = omega arith }
 number-in-table FilesDiffer = record { some = omega arith; few = omega arith }
 number-in-table BrokenSeam = record { some = omega arith; few = omega arith }
 number-in-table BeyondOldRange = record { some = omega arith; few = omega arith }
+number-in-table StaleBox = record { some = omega arith; few = omega arith }
 
 -- ---- the list
 

@@ -8,8 +8,7 @@ use native.Mathlib.Omega.{arith}
 use lib.IntN.{ℤ, pos}
 use lib.ListN.{length, getD}
 use Rattle.sequences.specs.Range.{le-or-lt}
-use Rattle.meaning.specs.Scene.{Scene, vertexCount, edgeCount, triangleCount}
-use Rattle.boxes.specs.Kept.{Box, boxAt, Holds, Boxed}
+use Rattle.meaning.specs.StoredBoxes.{Box, boxAt, Holds, KeptBehind}
 use Rattle.boxes.specs.Storing.{BoxStored, others-kept}
 
 pub holds-none : (l : List ℤ) (first : ℕ) (want : ℕ → Box) → Holds l first 0 want
@@ -35,11 +34,6 @@ module _ {l l′ : List ℤ} {first n : ℕ} {want : ℕ → Box} (so : Holds l 
 pub holds-all : {l : List ℤ} {first n m : ℕ} {want : ℕ → Box} → n ≡ m → Holds l first n want → Holds l first m want
 holds-all e so = rw e at so
 
--- behind the first n boxes the list is as it was
-pub record KeptBehind (l l′ : List ℤ) (n : ℕ) : Type 0 where
-  pub at : (i : ℕ) → 6 * n ≤ i → getD l′ i (pos 0) ≡ getD l i (pos 0)
-  pub same : length l′ ≡ length l
-
 pub kept-all : (l : List ℤ) (n : ℕ) → KeptBehind l l n
 kept-all l n = record { at = λ i h. refl; same = refl }
 
@@ -52,8 +46,3 @@ kept-more so stored h e =
 
 pub kept-then : {l₀ l l′ : List ℤ} {n m : ℕ} → KeptBehind l₀ l n → KeptBehind l l′ m → n ≤ m → KeptBehind l₀ l′ m
 kept-then so next h = record { at = λ i p. next .at i p ∙ so .at i (omega arith); same = next .same ∙ so .same }
-
--- the boxes of a scene are filled in, and nothing else has changed
-pub record Filled (s : Scene) (l l′ : List ℤ) : Type 0 where
-  pub boxed : Boxed s l′
-  pub kept : KeptBehind l l′ (vertexCount s + edgeCount s + triangleCount s)

@@ -10,9 +10,9 @@ use lib.ListN.{length, getD}
 use lib.Seq.{ext-getD}
 use Rattle.sequences.specs.Range.{le-or-lt}
 use Rattle.meaning.specs.Scene.{Scene, vertexCount, edgeCount, triangleCount}
-use Rattle.boxes.specs.Kept.{Box, boxAt, Holds, Boxed}
+use Rattle.meaning.specs.StoredBoxes.{Box, boxAt, Holds, Boxed}
 use Rattle.boxes.specs.Storing.{BoxStored, others-kept}
-use Rattle.boxes.specs.Filling.{Filled}
+use Rattle.meaning.specs.StoredBoxes.{Filled}
 
 -- a box's numbers in their order
 abbrev numberOf : Box → ℕ → ℤ

@@ -10,7 +10,8 @@ use lib.ListN.{length}
 use Rattle.meaning.specs.Scene.{Scene, Accepted, vertexCount, edgeCount, triangleCount, edgeEnd, corner, unknownIn}
 use Rattle.scenes.specs.Below.{or-left, or-rest}
 use Rattle.scenes.specs.Facts.{known-inside, edge-inside, triangle-inside, accepted-sized}
-use Rattle.boxes.specs.Kept.{Box, boxNumbers, boxAt, jointBox, vertexBox, edgeBox, triangleBox, VerticesIn}
+use Rattle.meaning.specs.StoredBoxes.{Box, boxNumbers, boxAt, vertexBox, edgeBox, triangleBox, VerticesIn}
+use Rattle.boxes.specs.Kept.{jointBox}
 use Rattle.boxes.specs.Storing.{BoxStored, others-kept}
 
 -- every end and every corner is a vertex, and there is room for a box of each part

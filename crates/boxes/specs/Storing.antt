@@ -9,7 +9,7 @@ use lib.ListN.{length, getD, set, length-set}
 use lib.Seq.{getD-set-same, getD-set-other}
 use Rattle.sequences.specs.Range.{le-or-lt}
 use Rattle.meaning.specs.Boxes.{Span}
-use Rattle.boxes.specs.Kept.{Box, spanAt, boxAt}
+use Rattle.meaning.specs.StoredBoxes.{Box, spanAt, boxAt}
 
 -- a list with a span stored at a place
 abbrev pub withSpan : List ℤ → ℕ → Span → List ℤ

@@ -7,7 +7,8 @@ use lib.IntN.{ℤ, pos}
 use lib.ListN.{length, getD}
 use Rattle.meaning.specs.Boxes.{joint}
 use Rattle.meaning.specs.Scene.{Scene}
-use Rattle.boxes.specs.Kept.{between, numbersBetween, spanAt, boxAt, jointBox, vertexBox}
+use Rattle.meaning.specs.StoredBoxes.{spanAt, boxAt, vertexBox}
+use Rattle.boxes.specs.Kept.{between, numbersBetween, jointBox}
 use Rattle.boxes.specs.Storing.{BoxStored, Apart, withSpan, withBox, span-kept, box-stored}
 
 module _ (s : Scene) (l : List ℤ) (v : ℕ) {l₁ l₂ l₃ : List ℤ}

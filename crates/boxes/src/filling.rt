@@ -7,23 +7,17 @@ ghost use mathlib.Core.Path.{_≡_};
 ghost use lib.ListN.{length};
 ghost use Rattle.meaning.specs.Scene.{sceneOf, vertexCount, edgeCount, triangleCount, unknownIn};
 ghost use Rattle.scenes.specs.Alone.{onlyPositions, onlyEdges, onlyTriangles, unsewnIn, unsewnAtEntry};
-ghost use Rattle.boxes.specs.Kept.{edgePlace, trianglePlace, edgeBox, triangleBox, VerticesIn, EdgesIn, boxNumbers};
+ghost use Rattle.meaning.specs.StoredBoxes.{edgePlace, trianglePlace, edgeBox, triangleBox, VerticesIn, EdgesIn, boxNumbers};
 ghost use Rattle.boxes.specs.Storing.{BoxStored};
 ghost use Rattle.boxes.specs.Parts.{Ready, Drawn};
-ghost use Rattle.boxes.specs.Filling.{KeptBehind, Filled};
+ghost use Rattle.meaning.specs.StoredBoxes.{KeptBehind, Filled};
 use super::kept::store_joint_box;
 use super::kept::store_vertex;
-use meaning::EDGE_LIMIT;
-use meaning::TRIANGLE_LIMIT;
-use meaning::VERTEX_LIMIT;
 use scenes::parts::edge_count;
 use scenes::parts::triangle_count;
 use scenes::parts::vertex_count;
 use scenes::written::corner;
 use scenes::written::edge_end;
-
-// Six numbers for each part that a scene can have.
-pub const BOX_NUMBERS: usize = 6 * (VERTEX_LIMIT + EDGE_LIMIT + TRIANGLE_LIMIT);
 
 fn fill_vertices(positions: &[i32], boxes: &mut [i32])
     requires { ⌜ 6 * vertexCount (onlyPositions (now positions)) ≤ length (now boxes) ⌝ }

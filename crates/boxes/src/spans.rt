@@ -6,7 +6,8 @@ ghost use lib.IntN.{pos};
 ghost use lib.ListN.{length, getD};
 ghost use lib.Signed.{leZ};
 ghost use Rattle.meaning.specs.Boxes.{smaller, larger, joint, meet};
-ghost use Rattle.boxes.specs.Kept.{numbersBetween, spanAt};
+ghost use Rattle.meaning.specs.StoredBoxes.{spanAt};
+ghost use Rattle.boxes.specs.Kept.{numbersBetween};
 ghost use Rattle.boxes.specs.Storing.{withSpan};
 
 fn at_most(list: &[i32], i: usize, j: usize) -> bool

@@ -10,7 +10,8 @@ use Rattle.meaning.specs.Boxes.{listed, boxesMeet, meetOn}
 use Rattle.meaning.specs.Refusals.{shares}
 use Rattle.meaning.specs.declared.Kind.{Kind}
 use Rattle.meaning.specs.declared.Kind.the-variants.{PointTriangle, EdgeEdge}
-use Rattle.boxes.specs.Kept.{boxAt, vertexBox, meetBoxes, edgePlace, trianglePlace, Boxed}
+use Rattle.meaning.specs.StoredBoxes.{boxAt, vertexBox, edgePlace, trianglePlace, Boxed}
+use Rattle.boxes.specs.Kept.{meetBoxes}
 
 -- the test of two of the boxes is the test of the scene's
 module _ {s : Scene} {l : List ℤ} (so : Boxed s l) (i j : ℕ) {a b : ℕ} {meets : Bool} (tested : meets ≡ meetBoxes (boxAt l a) (boxAt l b)) where

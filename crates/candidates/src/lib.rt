@@ -6,7 +6,7 @@ ghost use Rattle.meaning.specs.Scene.{vertexCount, edgeCount, triangleCount};
 ghost use Rattle.scenes.specs.Alone.{tabledIn, tabledAtEntry};
 ghost use Rattle.meaning.specs.Boxes.{listed};
 ghost use Rattle.meaning.specs.declared.Kind.the-variants.{PointTriangle, EdgeEdge};
-ghost use Rattle.boxes.specs.Kept.{Boxed};
+ghost use Rattle.meaning.specs.StoredBoxes.{Boxed};
 ghost use Rattle.candidates.specs.Rows.{firstCount, secondCount, secondFrom};
 use boxes::kept::boxes_meet;
 use meaning::Kind;

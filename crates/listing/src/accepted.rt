@@ -9,30 +9,49 @@ ghost use Rattle.meaning.specs.Scene.{Accepted};
 ghost use Rattle.scenes.specs.Alone.{tabledIn, tabledAtEntry};
 ghost use Rattle.meaning.specs.List.{pairs, entries, roomOf};
 ghost use Rattle.meaning.specs.Runs.{boxTests, Tested};
+ghost use Rattle.walking.specs.Skipping.{Prepared};
 ghost use Rattle.listing.specs.Answering.{ListedIn};
 ghost use Rattle.listing.specs.Own.{OwnList};
 use meaning::ListAnswer;
 use meaning::Made;
 use meaning::Refusal;
 use walking::Walk;
-use walking::walk_accepted;
+use walking::skipping::WALK_NUMBERS;
+use walking::skipping::prepare;
+use walking::walk_prepared;
 
 // Most lists are shorter: they are walked once, into an array of one's own, and copied when it is known that there is room.
 const OWN_ENTRIES: usize = 8192;
 
 // One pass is told, also of a list that was walked twice.
-pub(crate) fn put_tests(tests: &mut [usize; 1], walked: usize)
+pub fn put_tests(tests: &mut [usize; 1], walked: usize)
     ensures { λ _. ⌜ now (tests .exit) ≡ walked ∷ [] ⌝ }
 {
     *tests = [walked];
+}
+
+// Of a scene whose boxes and runs are prepared.
+pub fn count_prepared(
+    positions: &[i32],
+    edges: &[u16],
+    triangles: &[u16],
+    stands: &[u16],
+    boxes: &[i32],
+) -> Walk
+    requires { ⌜ Prepared (tabledIn positions edges triangles stands) (now boxes) ⌝ }
+    ensures { λ r. ⌜ (r .next ≡ length (pairs (tabledAtEntry positions edges triangles stands))) × (r .tests ≡ boxTests (tabledAtEntry positions edges triangles stands)) ⌝ }
+{
+    let mut none = [0u32; 1];
+    walk_prepared(positions, edges, triangles, stands, boxes, &mut none, 0)
 }
 
 pub fn count_accepted(positions: &[i32], edges: &[u16], triangles: &[u16], stands: &[u16]) -> Walk
     requires { ⌜ Accepted (tabledIn positions edges triangles stands) ⌝ }
     ensures { λ r. ⌜ (r .next ≡ length (pairs (tabledAtEntry positions edges triangles stands))) × (r .tests ≡ boxTests (tabledAtEntry positions edges triangles stands)) ⌝ }
 {
-    let mut none = [0u32; 1];
-    walk_accepted(positions, edges, triangles, stands, &mut none, 0)
+    let mut boxes = [0i32; WALK_NUMBERS];
+    prepare(positions, edges, triangles, stands, &mut boxes);
+    count_prepared(positions, edges, triangles, stands, &boxes)
 }
 
 // The first entries of one list, in front of another.
@@ -53,21 +72,46 @@ fn enter(
     edges: &[u16],
     triangles: &[u16],
     stands: &[u16],
+    boxes: &[i32],
     own: &[u32],
     list: &mut [u32],
     count: usize,
 )
-    requires { ⌜ Accepted (tabledIn positions edges triangles stands) × OwnList (tabledIn positions edges triangles stands) (now own) count × (count ≤ length (now list)) ⌝ }
+    requires { ⌜ Prepared (tabledIn positions edges triangles stands) (now boxes) × OwnList (tabledIn positions edges triangles stands) (now own) count × (count ≤ length (now list)) ⌝ }
     ensures { λ _. ⌜ now (list .exit) ≡ written (entries (pairs (tabledAtEntry positions edges triangles stands))) (now (list .entry)) ⌝ }
 {
     if count <= own.len() {
         copy_front(own, list, count);
     } else {
-        walk_accepted(positions, edges, triangles, stands, list, count);
+        walk_prepared(positions, edges, triangles, stands, boxes, list, count);
     }
 }
 
 // Nothing is written before it is known that all of it has room. The tests are those of the first walk.
+pub fn list_prepared(
+    positions: &[i32],
+    edges: &[u16],
+    triangles: &[u16],
+    stands: &[u16],
+    boxes: &[i32],
+    list: &mut [u32],
+    room: usize,
+    tests: &mut [usize; 1],
+) -> ListAnswer
+    requires { ⌜ Prepared (tabledIn positions edges triangles stands) (now boxes) × (room ≤ roomOf (now list)) ⌝ }
+    ensures { λ r. ⌜ Tested (tabledAtEntry positions edges triangles stands) (ListedIn (tabledAtEntry positions edges triangles stands) room (now (list .entry)) (now (list .exit))) (now (tests .entry)) (now (tests .exit)) r ⌝ }
+{
+    let mut own = [0u32; OWN_ENTRIES];
+    let walk = walk_prepared(positions, edges, triangles, stands, boxes, &mut own, OWN_ENTRIES);
+    let count = walk.next;
+    if room < count {
+        return ListAnswer::Refused(Refusal::NoRoom, count);
+    }
+    enter(positions, edges, triangles, stands, boxes, &own, list, count);
+    put_tests(tests, walk.tests);
+    ListAnswer::Listed(Made { count })
+}
+
 pub fn list_accepted(
     positions: &[i32],
     edges: &[u16],
@@ -80,13 +124,7 @@ pub fn list_accepted(
     requires { ⌜ Accepted (tabledIn positions edges triangles stands) × (room ≤ roomOf (now list)) ⌝ }
     ensures { λ r. ⌜ Tested (tabledAtEntry positions edges triangles stands) (ListedIn (tabledAtEntry positions edges triangles stands) room (now (list .entry)) (now (list .exit))) (now (tests .entry)) (now (tests .exit)) r ⌝ }
 {
-    let mut own = [0u32; OWN_ENTRIES];
-    let walk = walk_accepted(positions, edges, triangles, stands, &mut own, OWN_ENTRIES);
-    let count = walk.next;
-    if room < count {
-        return ListAnswer::Refused(Refusal::NoRoom, count);
-    }
-    enter(positions, edges, triangles, stands, &own, list, count);
-    put_tests(tests, walk.tests);
-    ListAnswer::Listed(Made { count })
+    let mut boxes = [0i32; WALK_NUMBERS];
+    prepare(positions, edges, triangles, stands, &mut boxes);
+    list_prepared(positions, edges, triangles, stands, &boxes, list, room, tests)
 }

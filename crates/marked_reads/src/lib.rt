@@ -33,6 +33,7 @@ fn number_of(refusal: Refusal) -> usize {
         Refusal::FilesDiffer => 14,
         Refusal::BrokenSeam => 15,
         Refusal::BeyondOldRange => 16,
+        Refusal::StaleBox => 17,
     }
 }
 

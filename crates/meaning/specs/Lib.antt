@@ -14,6 +14,8 @@ pub mod SceneWords
 pub mod Lines
 pub mod Backwards
 pub mod Text
+pub mod StoredBoxes
+pub mod Dragging
 pub mod Report
 pub mod Contacts
 pub mod Meetings

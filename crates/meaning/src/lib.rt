@@ -27,6 +27,9 @@ pub const TRIANGLE_NUMBERS: usize = 3 * TRIANGLE_LIMIT;
 
 pub const SEAM_NUMBERS: usize = 2 * SEAM_LIMIT;
 
+// The boxes of the largest scene: six numbers for each part that it can have.
+pub const BOX_NUMBERS: usize = 6 * (VERTEX_LIMIT + EDGE_LIMIT + TRIANGLE_LIMIT);
+
 // The pairs that a report has room for, and the bytes that hold any report.
 pub const REPORT_ROOM: usize = 3072;
 
@@ -66,7 +69,7 @@ pub enum Settled {
     Apart,
 }
 
-// The refusals of documents 01 and 02, in the order of their numbers: 1 to 12, then 15 and 16.
+// The refusals of documents 01 and 02, in the order of their numbers: 1 to 12, then 15 to 17.
 pub enum Refusal {
     Shape,
     Coordinate,
@@ -83,6 +86,7 @@ pub enum Refusal {
     FilesDiffer,
     BrokenSeam,
     BeyondOldRange,
+    StaleBox,
 }
 
 // The answer to "may this scene be used?".

@@ -10,7 +10,8 @@ use lib.ListN.{length, getD}
 use lib.Signed.{leZ}
 use Rattle.meaning.specs.Boxes.{Span, joint}
 use Rattle.meaning.specs.Runs.{runsOf, runFrom, runTo}
-use Rattle.boxes.specs.Kept.{Box, boxAt, jointBox, Holds}
+use Rattle.meaning.specs.StoredBoxes.{Box, boxAt, Holds}
+use Rattle.boxes.specs.Kept.{jointBox}
 use Rattle.boxes.specs.Storing.{BoxStored, others-kept, same-box}
 use Rattle.boxes.specs.Filling.{holds-none, holds-more, holds-all}
 use Rattle.runs.specs.Joined.{jointBoxes, joint-same, joint-moved}

@@ -11,7 +11,8 @@ use Rattle.sequences.specs.Range.{le-or-lt}
 use Rattle.meaning.specs.Boxes.{Span, Axis, joint, meet}
 use Rattle.meaning.specs.Runs.{jointSpan}
 use Rattle.theory.specs.Spans.{Compared, ordered, reversed, compared, around, Apart, not-meeting}
-use Rattle.boxes.specs.Kept.{Box, boxOf, jointBox, meetBoxes}
+use Rattle.meaning.specs.StoredBoxes.{Box, boxOf}
+use Rattle.boxes.specs.Kept.{jointBox, meetBoxes}
 
 -- ---- two spans
 

@@ -8,7 +8,7 @@ use lib.IntN.{ℤ, pos}
 use lib.ListN.{length, getD}
 use lib.Seq.{ext-getD}
 use Rattle.sequences.specs.Range.{le-or-lt}
-use Rattle.boxes.specs.Kept.{boxAt}
+use Rattle.meaning.specs.StoredBoxes.{boxAt}
 use Rattle.boxes.specs.Storing.{same-box}
 use Rattle.boxes.specs.Once.{numbers-same, holds-one}
 use Rattle.runs.specs.Filled.{RunsFilling}

@@ -4,7 +4,7 @@ ghost use Prim.Native.Nat.{_+_, _*_, _≤_, _<_};
 ghost use mathlib.Core.Path.{_≡_};
 ghost use lib.ListN.{length};
 ghost use Rattle.meaning.specs.Runs.{runsOf, runTo};
-ghost use Rattle.boxes.specs.Kept.{boxAt};
+ghost use Rattle.meaning.specs.StoredBoxes.{boxAt};
 ghost use Rattle.boxes.specs.Storing.{BoxStored};
 ghost use Rattle.runs.specs.Joined.{jointBoxes};
 ghost use Rattle.runs.specs.Filled.{RunsFilled};

@@ -14,11 +14,14 @@ ghost use Rattle.scenes.specs.Sewing.{Blank};
 ghost use Rattle.scenes.specs.Checking.{Stitched};
 ghost use Rattle.entries.specs.Entries.{pairAt};
 ghost use Rattle.scene_words.specs.Listed.{wordOfPair, bytesOf, pairsIn, AllThere, StandsFor};
+ghost use Rattle.walking.specs.Skipping.{Prepared};
 ghost use Rattle.scene_words.specs.Answering.{SettledIn};
 use meaning::ListAnswer;
 use meaning::SceneAnswer;
 use meaning::Settled;
 use meaning::VERTEX_LIMIT;
+use walking::skipping::WALK_NUMBERS;
+use walking::skipping::prepare;
 
 // The answer to "which word does this byte stand for?".
 pub enum ByteAnswer {
@@ -102,6 +105,39 @@ fn smaller(a: usize, b: usize) -> usize
     if a < b { a } else { b }
 }
 
+// For a scene that was checked already, and whose boxes and runs are prepared.
+pub fn settle_prepared(
+    positions: &[i32],
+    edges: &[u16],
+    triangles: &[u16],
+    stands: &[u16],
+    boxes: &[i32],
+    list: &mut [u32],
+    out: &mut [u8],
+) -> ListAnswer
+    requires { ⌜ Prepared (tabledIn positions edges triangles stands) (now boxes) ⌝ }
+    ensures { λ r. ⌜ SettledIn (tabledAtEntry positions edges triangles stands) (min (roomOf (now (list .entry))) (length (now (out .entry)))) (now (list .entry)) (now (list .exit)) (now (out .entry)) (now (out .exit)) r ⌝ }
+{
+    let room = smaller(entries::room(list), out.len());
+    let mut tests = [0usize; 1];
+    match listing::accepted::list_prepared(
+        positions,
+        edges,
+        triangles,
+        stands,
+        boxes,
+        list,
+        room,
+        &mut tests,
+    ) {
+        ListAnswer::Listed(made) => {
+            settle_entries(positions, edges, triangles, stands, list, out, made.count);
+            ListAnswer::Listed(made)
+        }
+        ListAnswer::Refused(refusal, needed) => ListAnswer::Refused(refusal, needed),
+    }
+}
+
 // For a scene that was checked already.
 pub fn settle_accepted(
     positions: &[i32],
@@ -114,23 +150,9 @@ pub fn settle_accepted(
     requires { ⌜ Accepted (tabledIn positions edges triangles stands) ⌝ }
     ensures { λ r. ⌜ SettledIn (tabledAtEntry positions edges triangles stands) (min (roomOf (now (list .entry))) (length (now (out .entry)))) (now (list .entry)) (now (list .exit)) (now (out .entry)) (now (out .exit)) r ⌝ }
 {
-    let room = smaller(entries::room(list), out.len());
-    let mut tests = [0usize; 1];
-    match listing::accepted::list_accepted(
-        positions,
-        edges,
-        triangles,
-        stands,
-        list,
-        room,
-        &mut tests,
-    ) {
-        ListAnswer::Listed(made) => {
-            settle_entries(positions, edges, triangles, stands, list, out, made.count);
-            ListAnswer::Listed(made)
-        }
-        ListAnswer::Refused(refusal, needed) => ListAnswer::Refused(refusal, needed),
-    }
+    let mut boxes = [0i32; WALK_NUMBERS];
+    prepare(positions, edges, triangles, stands, &mut boxes);
+    settle_prepared(positions, edges, triangles, stands, &boxes, list, out)
 }
 
 // As `settle_scene`, over a lent table without seams, which is that of the scene's seams afterwards.

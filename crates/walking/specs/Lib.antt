@@ -2,3 +2,4 @@
 pub mod Skipping
 pub mod Preparing
 pub mod Testing
+pub mod Taking

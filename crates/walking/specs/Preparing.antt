@@ -9,7 +9,7 @@ use Rattle.meaning.specs.Scene.{Scene, Accepted, vertexCount, edgeCount, triang
 use Rattle.meaning.specs.Runs.{runsOf, runFrom, runTo}
 use Rattle.meaning.specs.declared.Kind.the-variants.{PointTriangle, EdgeEdge}
 use Rattle.scenes.specs.Facts.{accepted-sized}
-use Rattle.boxes.specs.Kept.{Box, boxAt, vertexBox, edgeBox, triangleBox, Holds, Boxed, boxNumbers}
+use Rattle.meaning.specs.StoredBoxes.{Box, boxAt, vertexBox, edgeBox, triangleBox, Holds, Boxed, boxNumbers}
 use Rattle.boxes.specs.Storing.{same-box}
 use Rattle.runs.specs.Joined.{jointBoxes, joint-same}
 use Rattle.runs.specs.Filled.{runBoxIn, RunsFilling, RunsFilled, run-inside}

@@ -16,7 +16,8 @@ use Rattle.meaning.specs.Runs.{runsOf, runFrom, runTo}
 use Rattle.meaning.specs.List.{Pair}
 use Rattle.meaning.specs.declared.Kind.{Kind}
 use Rattle.meaning.specs.declared.Kind.the-variants.{PointTriangle, EdgeEdge}
-use Rattle.boxes.specs.Kept.{Box, boxAt, vertexBox, edgeBox, triangleBox, meetBoxes, Holds, Boxed, boxNumbers}
+use Rattle.meaning.specs.StoredBoxes.{Box, boxAt, vertexBox, edgeBox, triangleBox, Holds, Boxed, boxNumbers}
+use Rattle.boxes.specs.Kept.{meetBoxes}
 use Rattle.runs.specs.Joined.{jointBoxes, run-misses}
 use Rattle.candidates.specs.Rows.{firstCount, secondCount, candidate}
 

@@ -13,7 +13,8 @@ use Rattle.meaning.specs.Refusals.{shares}
 use Rattle.meaning.specs.Runs.{runsOf, runFrom, runTo, runMeets, testsInRun, testsOfVertex, boxTests}
 use Rattle.meaning.specs.declared.Kind.{Kind}
 use Rattle.meaning.specs.declared.Kind.the-variants.{PointTriangle, EdgeEdge}
-use Rattle.boxes.specs.Kept.{Box, vertexBox, triangleBox, meetBoxes}
+use Rattle.meaning.specs.StoredBoxes.{Box, vertexBox, triangleBox}
+use Rattle.boxes.specs.Kept.{meetBoxes}
 use Rattle.runs.specs.Joined.{joint-spans, run-misses}
 use Rattle.runs.specs.Tests.{sum-short, at-most-all}
 use Rattle.candidates.specs.Rows.{firstCount, secondCount, secondFrom, few-seconds}

@@ -1,20 +1,18 @@
 // The walk over the pairs that can be listed: every listed pair is counted, and entered while its number is below a bound. A first part
 // that misses the joint box of a run of second parts misses all of them, so the run is skipped.
 
-mod skipping; // skipping.rt: whether a first part meets a run
+pub mod skipping; // skipping.rt: boxes and runs prepared, and whether a first part meets a run
 mod steps; // steps.rt: a pair, a run, a row, the rows
 
 ghost use Prim.Native.Nat.{_≤_};
 ghost use mathlib.Core.Path.{_≡_};
 ghost use lib.ListN.{length};
-ghost use Rattle.meaning.specs.Scene.{Accepted};
 ghost use Rattle.scenes.specs.Alone.{tabledIn, tabledAtEntry};
 ghost use Rattle.meaning.specs.List.{pairs};
 ghost use Rattle.meaning.specs.Runs.{boxTests};
 ghost use Rattle.entries.specs.UpTo.{Walked};
+ghost use Rattle.walking.specs.Skipping.{Prepared};
 use meaning::Kind;
-use skipping::WALK_NUMBERS;
-use skipping::prepare;
 use steps::walk_rows;
 
 // What a walk tells: the number behind the last pair that it came by, and how many boxes of the pt part it tested.
@@ -23,26 +21,25 @@ pub struct Walk {
     pub tests: usize,
 }
 
-// The whole list of an accepted scene, from the front of the buffer on.
-pub fn walk_accepted(
+// The whole list of an accepted scene whose boxes and runs are prepared, from the front of the buffer on.
+pub fn walk_prepared(
     positions: &[i32],
     edges: &[u16],
     triangles: &[u16],
     stands: &[u16],
+    boxes: &[i32],
     list: &mut [u32],
     most: usize,
 ) -> Walk
-    requires { ⌜ Accepted (tabledIn positions edges triangles stands) × (most ≤ length (now list)) ⌝ }
+    requires { ⌜ Prepared (tabledIn positions edges triangles stands) (now boxes) × (most ≤ length (now list)) ⌝ }
     ensures { λ r. ⌜ Walked most (now (list .entry)) 0 (pairs (tabledAtEntry positions edges triangles stands)) (now (list .exit)) (r .next) × (r .tests ≡ boxTests (tabledAtEntry positions edges triangles stands)) ⌝ }
 {
-    let mut boxes = [0i32; WALK_NUMBERS];
-    prepare(positions, edges, triangles, stands, &mut boxes);
     let points = walk_rows(
         positions,
         edges,
         triangles,
         stands,
-        &boxes,
+        boxes,
         Kind::PointTriangle,
         list,
         most,
@@ -53,7 +50,7 @@ pub fn walk_accepted(
         edges,
         triangles,
         stands,
-        &boxes,
+        boxes,
         Kind::EdgeEdge,
         list,
         most,

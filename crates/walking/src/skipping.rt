@@ -7,13 +7,15 @@ ghost use lib.ListN.{length};
 ghost use Rattle.meaning.specs.Scene.{Accepted};
 ghost use Rattle.scenes.specs.Alone.{tabledIn, tabledAtEntry};
 ghost use Rattle.meaning.specs.Runs.{runsOf};
+ghost use Rattle.meaning.specs.StoredBoxes.{Boxed};
 ghost use Rattle.boxes.specs.Kept.{meetBoxes};
 ghost use Rattle.candidates.specs.Rows.{firstCount, secondCount};
 ghost use Rattle.walking.specs.Skipping.{firstPlace, runPlace, firstBox, runBox, walkNumbers};
 ghost use Rattle.walking.specs.Skipping.{Prepared};
-use boxes::filling::BOX_NUMBERS;
+ghost use Rattle.walking.specs.Taking.{CopiedUpTo};
 use boxes::filling::fill;
 use boxes::kept::boxes_meet;
+use meaning::BOX_NUMBERS;
 use meaning::Kind;
 use runs::fill_runs;
 use runs::runs_of;
@@ -22,9 +24,42 @@ use scenes::parts::triangle_count;
 use scenes::parts::vertex_count;
 
 // Six numbers for each part, and for each run: 64 of edges, 32 of triangles.
-pub(crate) const WALK_NUMBERS: usize = BOX_NUMBERS + 576;
+pub const WALK_NUMBERS: usize = BOX_NUMBERS + 576;
 
-pub(crate) fn prepare(
+// The joint boxes of all runs, behind the boxes of all parts.
+fn join_runs(
+    positions: &[i32],
+    edges: &[u16],
+    triangles: &[u16],
+    stands: &[u16],
+    boxes: &mut [i32],
+)
+    requires { ⌜ Accepted (tabledIn positions edges triangles stands) × Boxed (tabledIn positions edges triangles stands) (now boxes) × (walkNumbers ≤ length (now boxes)) ⌝ }
+    ensures { λ _. ⌜ Prepared (tabledAtEntry positions edges triangles stands) (now (boxes .exit)) ⌝ }
+{
+    let vertices = vertex_count(positions);
+    let edge_parts = edge_count(edges);
+    let triangle_parts = triangle_count(triangles);
+    let all = vertices + edge_parts + triangle_parts;
+    fill_runs(boxes, vertices, edge_parts, all);
+    let behind = all + runs_of(edge_parts);
+    fill_runs(boxes, vertices + edge_parts, triangle_parts, behind);
+}
+
+// The first numbers of one list, in front of another.
+fn copy_numbers(from: &[i32], to: &mut [i32], count: usize)
+    requires { ⌜ (count ≤ length (now from)) × (count ≤ length (now to)) ⌝ }
+    ensures { λ _. ⌜ CopiedUpTo (now (from .entry)) count (now (to .entry)) (now (to .exit)) ⌝ }
+{
+    let mut k = 0;
+    while k < count {
+        to[k] = from[k];
+        k += 1;
+    }
+}
+
+// The boxes of all parts are worked out, and the runs joined behind them.
+pub fn prepare(
     positions: &[i32],
     edges: &[u16],
     triangles: &[u16],
@@ -35,13 +70,24 @@ pub(crate) fn prepare(
     ensures { λ _. ⌜ Prepared (tabledAtEntry positions edges triangles stands) (now (boxes .exit)) ⌝ }
 {
     fill(positions, edges, triangles, boxes);
-    let vertices = vertex_count(positions);
-    let edge_parts = edge_count(edges);
-    let triangle_parts = triangle_count(triangles);
-    let all = vertices + edge_parts + triangle_parts;
-    fill_runs(boxes, vertices, edge_parts, all);
-    let behind = all + runs_of(edge_parts);
-    fill_runs(boxes, vertices + edge_parts, triangle_parts, behind);
+    join_runs(positions, edges, triangles, stands, boxes);
+}
+
+// The same from boxes that are stored already: they are taken over, and the runs are joined from them.
+pub fn prepare_stored(
+    positions: &[i32],
+    edges: &[u16],
+    triangles: &[u16],
+    stands: &[u16],
+    stored: &[i32],
+    boxes: &mut [i32],
+)
+    requires { ⌜ Accepted (tabledIn positions edges triangles stands) × Boxed (tabledIn positions edges triangles stands) (now stored) × (walkNumbers ≤ length (now boxes)) ⌝ }
+    ensures { λ _. ⌜ Prepared (tabledAtEntry positions edges triangles stands) (now (boxes .exit)) ⌝ }
+{
+    let all = vertex_count(positions) + edge_count(edges) + triangle_count(triangles);
+    copy_numbers(stored, boxes, 6 * all);
+    join_runs(positions, edges, triangles, stands, boxes);
 }
 
 fn first_place(

@@ -29,5 +29,6 @@ pub fn number_of(refusal: Refusal) -> u64
         Refusal::FilesDiffer => 14,
         Refusal::BrokenSeam => 15,
         Refusal::BeyondOldRange => 16,
+        Refusal::StaleBox => 17,
     }
 }

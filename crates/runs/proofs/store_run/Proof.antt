@@ -3,7 +3,7 @@ use borrow.Author.Needs.{needs}
 use native.Mathlib.Omega.{arith}
 use Prim.Native.Nat.{_-_, _≤_}
 use mathlib.Core.Path.{_≡_, _∙_}
-use Rattle.boxes.specs.Kept.{boxAt}
+use Rattle.meaning.specs.StoredBoxes.{boxAt}
 use Rattle.boxes.specs.Storing.{BoxStored}
 use Rattle.runs.specs.Joined.{jointBoxes}
 use Rattle.runs.specs.Filled.{run-begun, run-goes, run-ends}

@@ -6,8 +6,9 @@ use mathlib.Core.List.{[]}
 use mathlib.Core.Path.{refl}
 use Rattle.meaning.specs.Scene.{sceneOf, vertexCount}
 use Rattle.scenes.specs.Alone.{onlyPositions}
-use Rattle.boxes.specs.Kept.{Holds, edgeBox, VerticesIn}
-use Rattle.boxes.specs.Filling.{holds-none, holds-kept, holds-more, holds-all, KeptBehind, kept-all, kept-wider, kept-more}
+use Rattle.meaning.specs.StoredBoxes.{Holds, edgeBox, VerticesIn}
+use Rattle.meaning.specs.StoredBoxes.{KeptBehind}
+use Rattle.boxes.specs.Filling.{holds-none, holds-kept, holds-more, holds-all, kept-all, kept-wider, kept-more}
 use Rattle.boxes.proofs.filling.fill_edges.Statement.{statement}
 use Rattle.boxes.proofs.filling.fill_edges.Tie as tie
 

@@ -3,8 +3,9 @@ use borrow.Author.Needs.{needs}
 use native.Mathlib.Omega.{arith}
 use Prim.Native.Nat.{_-_, _≤_}
 use Rattle.scenes.specs.Alone.{onlyPositions}
-use Rattle.boxes.specs.Kept.{Holds, vertexBox}
-use Rattle.boxes.specs.Filling.{holds-none, holds-more, holds-all, KeptBehind, kept-all, kept-wider, kept-more}
+use Rattle.meaning.specs.StoredBoxes.{Holds, vertexBox}
+use Rattle.meaning.specs.StoredBoxes.{KeptBehind}
+use Rattle.boxes.specs.Filling.{holds-none, holds-more, holds-all, kept-all, kept-wider, kept-more}
 use Rattle.boxes.proofs.filling.fill_vertices.Statement.{statement}
 use Rattle.boxes.proofs.filling.fill_vertices.Tie as tie
 

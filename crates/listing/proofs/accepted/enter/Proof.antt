@@ -7,14 +7,16 @@ use Rattle.listing.proofs.accepted.enter.Statement.{statement}
 use Rattle.listing.proofs.accepted.enter.Tie as tie
 
 returns : tie.Need-returns
-returns c = rw (c .before .before .before .before .before .before .before .before .before .before .pre .1 .front (omega (arith, c .before .before .before .before .if1 .taken))) at (c .before .before .copy-front .ensures)
+returns c =
+    let start = c .before .before .before .before .before .before .before .before .before .before in
+    rw (start .pre .1 .front (omega (arith, c .before .before .before .before .if1 .taken))) at (c .before .before .copy-front .ensures)
 
 returns-2 : tie.Need-returns-2
 returns-2 c =
     let start = c .before .before .before .before .before .before .before .before .before .before in
     let a = start .args in
     let s = tabled (a .positions .now) (a .edges .now) (a .triangles .now) (a .stands .now) in
-    walked-whole s (c .before .before .walk-accepted .ensures .0) (start .pre .1 .counts) (start .pre .2)
+    walked-whole s (c .before .before .walk-prepared .ensures .0) (start .pre .1 .counts) (start .pre .2)
 
 pub enter-spec : {M : Type 1} → statement M
 enter-spec =

@@ -1,34 +1,11 @@
--- `accepted::list_accepted`: walked into an array of its own, and entered where there is room.
+-- `accepted::list_accepted`: prepared, then listed.
 use borrow.Author.Needs.{needs}
 use native.Mathlib.Omega.{arith}
-use mathlib.Core.Path.{refl}
-use Rattle.scenes.specs.Alone.{tabled}
-use Rattle.listing.specs.Answering.{too-many, listed, tested-refused, tested-listed}
-use Rattle.listing.specs.Own.{own-list}
 use Rattle.listing.proofs.accepted.list_accepted.Statement.{statement}
 use Rattle.listing.proofs.accepted.list_accepted.Tie as tie
 
 returns : tie.Need-returns
-returns c =
-    let start = c .before .before .before .before .before .before .before .before in
-    let a = start .args in
-    let s = tabled (a .positions .now) (a .edges .now) (a .triangles .now) (a .stands .now) in
-    tested-refused s (too-many s _ (own-list s (c .before .before .walk-accepted .ensures .0) refl .counts) _ (c .if1 .taken))
-
-enter-requires : tie.Need-enter-requires
-enter-requires c κs =
-    let start = c .before .before .before .before .before .before .before .before .before .before in
-    let a = start .args in
-    let s = tabled (a .positions .now) (a .edges .now) (a .triangles .now) (a .stands .now) in
-    (start .pre .0, own-list s (c .before .before .before .before .walk-accepted .ensures .0) refl, omega (arith, start .pre .1, c .before .before .if1 .left))
-
-returns-2 : tie.Need-returns-2
-returns-2 c =
-    let start = c .before .before .before .before .before .before .before .before .before .before .before .before .before .before .before in
-    let a = start .args in
-    let s = tabled (a .positions .now) (a .edges .now) (a .triangles .now) (a .stands .now) in
-    let walked = c .before .before .before .before .before .before .before .before .before .walk-accepted .ensures in
-    tested-listed s (listed s _ (own-list s (walked .0) refl .counts) _ (c .before .before .before .before .before .before .before .if1 .left) (c .before .before .before .before .enter .ensures)) (c .put-tests .ensures) (walked .1)
+returns c = c .before .before .list-prepared .ensures
 
 pub list-accepted-spec : {M : Type 1} → statement M
 list-accepted-spec =
@@ -36,9 +13,7 @@ list-accepted-spec =
     (tie.spec
     (λ c. search needs)
     (λ c κs. search needs)
-    returns
     (λ c. search needs)
-    enter-requires
     (λ c κs. search needs)
     (λ c. search needs)
-    returns-2)
+    returns)

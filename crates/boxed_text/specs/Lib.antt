@@ -1,0 +1,2 @@
+-- What the reader of a text with its boxes answers.
+pub mod Answering

@@ -1,0 +1,2 @@
+-- What the calls answer.
+pub mod Answering

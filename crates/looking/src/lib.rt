@@ -1,0 +1,150 @@
+// One look over stored boxes: whether each is the one worked out from the positions. A number is known to be the smaller or the larger of others by
+// comparing it with them, so nothing is worked out a second time; and once the boxes of all vertices are known to be right, those of edges
+// and triangles are held against them.
+
+mod spans; // spans.rt: one span against the numbers that it is made of
+
+ghost use Prim.Native.Nat.{ℕ, _+_, _*_, _≤_, _<_};
+ghost use mathlib.Core.Bool.{false};
+ghost use mathlib.Core.List.{List, []};
+ghost use mathlib.Core.Path.{_≡_};
+ghost use lib.ListN.{length};
+ghost use Rattle.meaning.specs.Scene.{sceneOf, vertexCount, edgeCount, triangleCount, someBelow, unknownIn};
+ghost use Rattle.meaning.specs.StoredBoxes.{boxAt, edgePlace, trianglePlace, VerticesIn, boxNumbers, otherBox, staleVertex, staleEdge, staleTriangle, staleBox};
+ghost use Rattle.scenes.specs.Alone.{onlyPositions, unsewnIn, unsewnAtEntry};
+ghost use Rattle.boxes.specs.Kept.{jointBox};
+ghost use Rattle.boxes.specs.Parts.{Ready, Drawn};
+use scenes::parts::edge_count;
+use scenes::parts::triangle_count;
+use scenes::parts::vertex_count;
+use scenes::written::corner;
+use scenes::written::edge_end;
+use spans::other_joint;
+use spans::other_triple;
+use spans::other_vertex;
+
+// Of vertex v.
+fn stale_vertex(positions: &[i32], boxes: &[i32], v: usize) -> bool
+    requires { ⌜ (v < vertexCount (onlyPositions (now positions))) × (6 * v + 5 < length (now boxes)) ⌝ }
+    ensures { λ r. ⌜ r ≡ staleVertex (onlyPositions (now (positions .entry))) (now (boxes .entry)) v ⌝ }
+{
+    let at = 6 * v;
+    let x = other_vertex(positions, at, boxes);
+    let y = other_vertex(positions, at + 1, boxes);
+    let z = other_vertex(positions, at + 2, boxes);
+    x | y | z
+}
+
+fn stale_vertices(positions: &[i32], boxes: &[i32]) -> bool
+    requires { ⌜ 6 * vertexCount (onlyPositions (now positions)) ≤ length (now boxes) ⌝ }
+    ensures { λ r. ⌜ r ≡ someBelow (vertexCount (onlyPositions (now (positions .entry)))) (staleVertex (onlyPositions (now (positions .entry))) (now (boxes .entry))) ⌝ }
+{
+    let count = vertex_count(positions);
+    let mut found = false;
+    let mut v = 0;
+    while v < count {
+        found = found | stale_vertex(positions, boxes, v);
+        v += 1;
+    }
+    found
+}
+
+// Whether box k is not the joint box of boxes a and b.
+fn other_joint_box(boxes: &[i32], a: usize, b: usize, k: usize) -> bool
+    requires { ⌜ (6 * a + 5 < length (now boxes)) × (6 * b + 5 < length (now boxes)) × (6 * k + 5 < length (now boxes)) ⌝ }
+    ensures { λ r. ⌜ r ≡ otherBox (boxAt (now (boxes .entry)) k) (jointBox (boxAt (now (boxes .entry)) a) (boxAt (now (boxes .entry)) b)) ⌝ }
+{
+    let i = 6 * a;
+    let j = 6 * b;
+    let at = 6 * k;
+    let x = other_joint(boxes, i, j, at);
+    let y = other_joint(boxes, i + 1, j + 1, at + 1);
+    let z = other_joint(boxes, i + 2, j + 2, at + 2);
+    x | y | z
+}
+
+// Whether box k is not the joint box of boxes a, b and c.
+fn other_triple_box(boxes: &[i32], a: usize, b: usize, c: usize, k: usize) -> bool
+    requires { ⌜ (6 * a + 5 < length (now boxes)) × (6 * b + 5 < length (now boxes)) × (6 * c + 5 < length (now boxes)) × (6 * k + 5 < length (now boxes)) ⌝ }
+    ensures { λ r. ⌜ r ≡ otherBox (boxAt (now (boxes .entry)) k) (jointBox (jointBox (boxAt (now (boxes .entry)) a) (boxAt (now (boxes .entry)) b)) (boxAt (now (boxes .entry)) c)) ⌝ }
+{
+    let i = 6 * a;
+    let j = 6 * b;
+    let l = 6 * c;
+    let at = 6 * k;
+    let x = other_triple(boxes, i, j, l, at);
+    let y = other_triple(boxes, i + 1, j + 1, l + 1, at + 1);
+    let z = other_triple(boxes, i + 2, j + 2, l + 2, at + 2);
+    x | y | z
+}
+
+// Of edge j, the boxes of its ends being right.
+fn stale_edge(positions: &[i32], edges: &[u16], boxes: &[i32], j: usize) -> bool
+    requires { ⌜ j < edgeCount (sceneOf (now positions) (now edges) [] []) ⌝ }
+    requires { ⌜ Ready (sceneOf (now positions) (now edges) [] []) (now edges) (now boxes) (edgePlace (sceneOf (now positions) (now edges) [] []) j) ⌝ }
+    ensures { λ r. ⌜ r ≡ staleEdge (sceneOf (now (positions .entry)) (now (edges .entry)) [] []) (now (boxes .entry)) j ⌝ }
+{
+    let place = vertex_count(positions) + j;
+    other_joint_box(boxes, edge_end(edges, j, 0), edge_end(edges, j, 1), place)
+}
+
+// Of triangle j, the boxes of its corners being right.
+fn stale_triangle(positions: &[i32], edges: &[u16], triangles: &[u16], boxes: &[i32], j: usize) -> bool
+    requires { ⌜ j < triangleCount (unsewnIn positions edges triangles) ⌝ }
+    requires { ⌜ Ready (unsewnIn positions edges triangles) (now triangles) (now boxes) (trianglePlace (unsewnIn positions edges triangles) j) ⌝ }
+    ensures { λ r. ⌜ r ≡ staleTriangle (unsewnAtEntry positions edges triangles) (now (boxes .entry)) j ⌝ }
+{
+    let place = vertex_count(positions) + edge_count(edges) + j;
+    other_triple_box(
+        boxes,
+        corner(triangles, j, 0),
+        corner(triangles, j, 1),
+        corner(triangles, j, 2),
+        place,
+    )
+}
+
+fn stale_edges(positions: &[i32], edges: &[u16], boxes: &[i32]) -> bool
+    requires { ⌜ unknownIn (vertexCount (onlyPositions (now positions))) (now edges) ≡ false ⌝ }
+    requires { ⌜ 6 * edgePlace (onlyPositions (now positions)) (edgeCount (sceneOf (now positions) (now edges) [] [])) ≤ length (now boxes) ⌝ }
+    requires { ⌜ VerticesIn (onlyPositions (now positions)) (now boxes) ⌝ }
+    ensures { λ r. ⌜ r ≡ someBelow (edgeCount (sceneOf (now (positions .entry)) (now (edges .entry)) [] [])) (staleEdge (sceneOf (now (positions .entry)) (now (edges .entry)) [] []) (now (boxes .entry))) ⌝ }
+{
+    let count = edge_count(edges);
+    let mut found = false;
+    let mut j = 0;
+    while j < count {
+        found = found | stale_edge(positions, edges, boxes, j);
+        j += 1;
+    }
+    found
+}
+
+fn stale_triangles(positions: &[i32], edges: &[u16], triangles: &[u16], boxes: &[i32]) -> bool
+    requires { ⌜ unknownIn (vertexCount (onlyPositions (now positions))) (now triangles) ≡ false ⌝ }
+    requires { ⌜ 6 * trianglePlace (unsewnIn positions edges triangles) (triangleCount (unsewnIn positions edges triangles)) ≤ length (now boxes) ⌝ }
+    requires { ⌜ VerticesIn (onlyPositions (now positions)) (now boxes) ⌝ }
+    ensures { λ r. ⌜ r ≡ someBelow (triangleCount (unsewnAtEntry positions edges triangles)) (staleTriangle (unsewnAtEntry positions edges triangles) (now (boxes .entry))) ⌝ }
+{
+    let count = triangle_count(triangles);
+    let mut found = false;
+    let mut j = 0;
+    while j < count {
+        found = found | stale_triangle(positions, edges, triangles, boxes, j);
+        j += 1;
+    }
+    found
+}
+
+// 17: some stored box of the scene isn't the one worked out. A box looks at no seam, so this is told of the scene with any seams.
+pub fn stale_box(positions: &[i32], edges: &[u16], triangles: &[u16], boxes: &[i32]) -> bool
+    requires { ⌜ Drawn (unsewnIn positions edges triangles) × (boxNumbers ≤ length (now boxes)) ⌝ }
+    ensures { λ r. ⌜ ((w : List ℕ) → r ≡ staleBox (sceneOf (now (positions .entry)) (now (edges .entry)) (now (triangles .entry)) w) (now (boxes .entry))) ⌝ }
+{
+    if stale_vertices(positions, boxes) {
+        return true;
+    }
+    let edge = stale_edges(positions, edges, boxes);
+    let triangle = stale_triangles(positions, edges, triangles, boxes);
+    edge | triangle
+}

@@ -1,0 +1,76 @@
+// Whether a stored span is another than the one that it should be: the low stands at a place, and the high three places behind it. A number is
+// the smaller of two exactly when one of them is at most it and it is at most both: nothing is chosen, so nothing branches.
+
+ghost use Prim.Native.Nat.{_+_, _<_};
+ghost use mathlib.Core.Bool.{not};
+ghost use mathlib.Core.Path.{_≡_};
+ghost use lib.IntN.{pos};
+ghost use lib.ListN.{length, getD};
+ghost use Rattle.meaning.specs.Boxes.{joint};
+ghost use Rattle.meaning.specs.StoredBoxes.{spanAt, otherSpan};
+ghost use Rattle.boxes.specs.Kept.{numbersBetween};
+ghost use Rattle.looking.specs.Telling.{isLow, isHigh, isLowest, isHighest};
+
+// Whether number k of one list is not the smaller, and not the larger, of two numbers of another.
+fn other_low(list: &[i32], k: usize, from: &[i32], i: usize, j: usize) -> bool
+    requires { ⌜ (k < length (now list)) × (i < length (now from)) × (j < length (now from)) ⌝ }
+    ensures { λ r. ⌜ r ≡ not (isLow (getD (now (list .entry)) k (pos 0)) (getD (now (from .entry)) i (pos 0)) (getD (now (from .entry)) j (pos 0))) ⌝ }
+{
+    !(((from[i] <= list[k]) | (from[j] <= list[k])) & ((list[k] <= from[i]) & (list[k] <= from[j])))
+}
+
+fn other_high(list: &[i32], k: usize, from: &[i32], i: usize, j: usize) -> bool
+    requires { ⌜ (k < length (now list)) × (i < length (now from)) × (j < length (now from)) ⌝ }
+    ensures { λ r. ⌜ r ≡ not (isHigh (getD (now (list .entry)) k (pos 0)) (getD (now (from .entry)) i (pos 0)) (getD (now (from .entry)) j (pos 0))) ⌝ }
+{
+    !(((from[i] <= list[k]) & (from[j] <= list[k])) & ((list[k] <= from[i]) | (list[k] <= from[j])))
+}
+
+// Whether number k is not the smallest, and not the largest, of three.
+fn other_lowest(list: &[i32], k: usize, i: usize, j: usize, l: usize) -> bool
+    requires { ⌜ (k < length (now list)) × (i < length (now list)) × (j < length (now list)) × (l < length (now list)) ⌝ }
+    ensures { λ r. ⌜ r ≡ not (isLowest (getD (now (list .entry)) k (pos 0)) (getD (now (list .entry)) i (pos 0)) (getD (now (list .entry)) j (pos 0)) (getD (now (list .entry)) l (pos 0))) ⌝ }
+{
+    let one = ((list[i] <= list[k]) | (list[j] <= list[k])) | (list[l] <= list[k]);
+    let all = ((list[k] <= list[i]) & (list[k] <= list[j])) & (list[k] <= list[l]);
+    !(one & all)
+}
+
+fn other_highest(list: &[i32], k: usize, i: usize, j: usize, l: usize) -> bool
+    requires { ⌜ (k < length (now list)) × (i < length (now list)) × (j < length (now list)) × (l < length (now list)) ⌝ }
+    ensures { λ r. ⌜ r ≡ not (isHighest (getD (now (list .entry)) k (pos 0)) (getD (now (list .entry)) i (pos 0)) (getD (now (list .entry)) j (pos 0)) (getD (now (list .entry)) l (pos 0))) ⌝ }
+{
+    let all = ((list[i] <= list[k]) & (list[j] <= list[k])) & (list[l] <= list[k]);
+    let one = ((list[k] <= list[i]) | (list[k] <= list[j])) | (list[k] <= list[l]);
+    !(all & one)
+}
+
+// Than that of a vertex, whose start and end values stand three places apart too.
+pub(crate) fn other_vertex(positions: &[i32], at: usize, boxes: &[i32]) -> bool
+    requires { ⌜ (at + 3 < length (now positions)) × (at + 3 < length (now boxes)) ⌝ }
+    ensures { λ r. ⌜ r ≡ otherSpan (spanAt (now (boxes .entry)) at) (numbersBetween (now (positions .entry)) at) ⌝ }
+{
+    let low = other_low(boxes, at, positions, at, at + 3);
+    let high = other_high(boxes, at + 3, positions, at, at + 3);
+    low | high
+}
+
+// Than the joint span of those at i and j.
+pub(crate) fn other_joint(list: &[i32], i: usize, j: usize, at: usize) -> bool
+    requires { ⌜ (i + 3 < length (now list)) × (j + 3 < length (now list)) × (at + 3 < length (now list)) ⌝ }
+    ensures { λ r. ⌜ r ≡ otherSpan (spanAt (now (list .entry)) at) (joint (spanAt (now (list .entry)) i) (spanAt (now (list .entry)) j)) ⌝ }
+{
+    let low = other_low(list, at, list, i, j);
+    let high = other_high(list, at + 3, list, i + 3, j + 3);
+    low | high
+}
+
+// Than the joint span of those at i, j and l.
+pub(crate) fn other_triple(list: &[i32], i: usize, j: usize, l: usize, at: usize) -> bool
+    requires { ⌜ (i + 3 < length (now list)) × (j + 3 < length (now list)) × (l + 3 < length (now list)) × (at + 3 < length (now list)) ⌝ }
+    ensures { λ r. ⌜ r ≡ otherSpan (spanAt (now (list .entry)) at) (joint (joint (spanAt (now (list .entry)) i) (spanAt (now (list .entry)) j)) (spanAt (now (list .entry)) l)) ⌝ }
+{
+    let low = other_lowest(list, at, i, j, l);
+    let high = other_highest(list, at + 3, i + 3, j + 3, l + 3);
+    low | high
+}

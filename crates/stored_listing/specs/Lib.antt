@@ -1,0 +1,2 @@
+-- The look over the stored boxes, and what the calls that list from them answer.
+pub mod Looked
