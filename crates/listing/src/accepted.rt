@@ -102,12 +102,29 @@ pub fn list_prepared(
     ensures { λ r. ⌜ Tested (tabledAtEntry positions edges triangles stands) (ListedIn (tabledAtEntry positions edges triangles stands) room (now (list .entry)) (now (list .exit))) (now (tests .entry)) (now (tests .exit)) r ⌝ }
 {
     let mut own = [0u32; OWN_ENTRIES];
-    let walk = walk_prepared(positions, edges, triangles, stands, boxes, &mut own, OWN_ENTRIES);
+    let walk = walk_prepared(
+        positions,
+        edges,
+        triangles,
+        stands,
+        boxes,
+        &mut own,
+        OWN_ENTRIES,
+    );
     let count = walk.next;
     if room < count {
         return ListAnswer::Refused(Refusal::NoRoom, count);
     }
-    enter(positions, edges, triangles, stands, boxes, &own, list, count);
+    enter(
+        positions,
+        edges,
+        triangles,
+        stands,
+        boxes,
+        &own,
+        list,
+        count,
+    );
     put_tests(tests, walk.tests);
     ListAnswer::Listed(Made { count })
 }
@@ -126,5 +143,14 @@ pub fn list_accepted(
 {
     let mut boxes = [0i32; WALK_NUMBERS];
     prepare(positions, edges, triangles, stands, &mut boxes);
-    list_prepared(positions, edges, triangles, stands, &boxes, list, room, tests)
+    list_prepared(
+        positions,
+        edges,
+        triangles,
+        stands,
+        &boxes,
+        list,
+        room,
+        tests,
+    )
 }

@@ -89,7 +89,13 @@ fn stale_edge(positions: &[i32], edges: &[u16], boxes: &[i32], j: usize) -> bool
 }
 
 // Of triangle j, the boxes of its corners being right.
-fn stale_triangle(positions: &[i32], edges: &[u16], triangles: &[u16], boxes: &[i32], j: usize) -> bool
+fn stale_triangle(
+    positions: &[i32],
+    edges: &[u16],
+    triangles: &[u16],
+    boxes: &[i32],
+    j: usize,
+) -> bool
     requires { ⌜ j < triangleCount (unsewnIn positions edges triangles) ⌝ }
     requires { ⌜ Ready (unsewnIn positions edges triangles) (now triangles) (now boxes) (trianglePlace (unsewnIn positions edges triangles) j) ⌝ }
     ensures { λ r. ⌜ r ≡ staleTriangle (unsewnAtEntry positions edges triangles) (now (boxes .entry)) j ⌝ }

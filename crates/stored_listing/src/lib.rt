@@ -88,7 +88,16 @@ pub fn list_stored(
             let mut boxes = [0i32; WALK_NUMBERS];
             prepare_stored(positions, edges, triangles, &stands, stored, &mut boxes);
             let most = room(list);
-            list_prepared(positions, edges, triangles, &stands, &boxes, list, most, tests)
+            list_prepared(
+                positions,
+                edges,
+                triangles,
+                &stands,
+                &boxes,
+                list,
+                most,
+                tests,
+            )
         }
     }
 }

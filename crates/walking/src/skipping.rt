@@ -27,13 +27,7 @@ use scenes::parts::vertex_count;
 pub const WALK_NUMBERS: usize = BOX_NUMBERS + 576;
 
 // The joint boxes of all runs, behind the boxes of all parts.
-fn join_runs(
-    positions: &[i32],
-    edges: &[u16],
-    triangles: &[u16],
-    stands: &[u16],
-    boxes: &mut [i32],
-)
+fn join_runs(positions: &[i32], edges: &[u16], triangles: &[u16], stands: &[u16], boxes: &mut [i32])
     requires { ⌜ Accepted (tabledIn positions edges triangles stands) × Boxed (tabledIn positions edges triangles stands) (now boxes) × (walkNumbers ≤ length (now boxes)) ⌝ }
     ensures { λ _. ⌜ Prepared (tabledAtEntry positions edges triangles stands) (now (boxes .exit)) ⌝ }
 {

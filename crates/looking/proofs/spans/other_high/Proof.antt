@@ -12,9 +12,11 @@ use Rattle.looking.proofs.spans.other_high.Tie as tie
 returns : tie.Need-returns
 returns c =
     let a = c .before .before .before .before .before .before .before .before .args in
-    rw (toZ-ofZ {z = getD (a .from .now) (a .i) (pos 0)} (sfits-of (c .before .before .before .before .before .before .before .result .given)),
-    toZ-ofZ {z = getD (a .list .now) (a .k) (pos 0)} (sfits-of (c .before .before .before .before .before .before .result2 .given)),
-    toZ-ofZ {z = getD (a .from .now) (a .j) (pos 0)} (sfits-of (c .before .before .before .before .before .result3 .given))) refl
+    rw (
+      toZ-ofZ {z = getD (a .from .now) (a .i) (pos 0)} (sfits-of (c .before .before .before .before .before .before .before .result .given)),
+      toZ-ofZ {z = getD (a .list .now) (a .k) (pos 0)} (sfits-of (c .before .before .before .before .before .before .result2 .given)),
+      toZ-ofZ {z = getD (a .from .now) (a .j) (pos 0)} (sfits-of (c .before .before .before .before .before .result3 .given)),
+    ) refl
 
 pub other-high-spec : {M : Type 1} → statement M
 other-high-spec =

@@ -12,10 +12,12 @@ use Rattle.looking.proofs.spans.other_lowest.Tie as tie
 returns : tie.Need-returns
 returns c =
     let a = c .before .before .before .before .before .before .before .before .before .before .before .before .args in
-    rw (toZ-ofZ {z = getD (a .list .now) (a .i) (pos 0)} (sfits-of (c .before .before .before .before .before .before .before .before .before .before .before .one .given)),
-    toZ-ofZ {z = getD (a .list .now) (a .k) (pos 0)} (sfits-of (c .before .before .before .before .before .before .before .before .before .before .one2 .given)),
-    toZ-ofZ {z = getD (a .list .now) (a .j) (pos 0)} (sfits-of (c .before .before .before .before .before .before .before .before .before .one3 .given)),
-    toZ-ofZ {z = getD (a .list .now) (a .l) (pos 0)} (sfits-of (c .before .before .before .before .before .before .before .one5 .given))) refl
+    rw (
+      toZ-ofZ {z = getD (a .list .now) (a .i) (pos 0)} (sfits-of (c .before .before .before .before .before .before .before .before .before .before .before .one .given)),
+      toZ-ofZ {z = getD (a .list .now) (a .k) (pos 0)} (sfits-of (c .before .before .before .before .before .before .before .before .before .before .one2 .given)),
+      toZ-ofZ {z = getD (a .list .now) (a .j) (pos 0)} (sfits-of (c .before .before .before .before .before .before .before .before .before .one3 .given)),
+      toZ-ofZ {z = getD (a .list .now) (a .l) (pos 0)} (sfits-of (c .before .before .before .before .before .before .before .one5 .given)),
+    ) refl
 
 pub other-lowest-spec : {M : Type 1} → statement M
 other-lowest-spec =
