@@ -96,14 +96,15 @@ extern "C" {
  * MAKHNODRI_STACK bytes of stack are enough for any call. As measured by `examples/c/run stack` on x86-64, in bytes, and on aarch64 it
  * was less for each:
  *
- *     check_scene       1,304      judge_pt, judge_pt_piece     1,992
- *     count_pairs      53,304      judge_ee, judge_ee_piece     2,024
- *     list_pairs       86,168      settle_pt, settle_pt_piece   2,640
- *     settle_scene     86,344      settle_ee, settle_ee_piece   2,640
+ *     check_scene       1,288      judge_pt, judge_pt_piece     1,792
+ *     count_pairs      53,240      judge_ee, judge_ee_piece     1,824
+ *     list_pairs       86,200      settle_pt, settle_pt_piece   2,624
+ *     settle_scene     86,376      settle_ee, settle_ee_piece   2,624
  *     read_scene       26,184      write_report               123,224
- *     turn_scene        1,304      check_claims                 1,904
- *     contact_scene    86,248      contact_pt, contact_ee       2,736
+ *     turn_scene          280      check_claims                 2,032
+ *     contact_scene    86,344      contact_pt, contact_ee       2,976
  *     saved_length      1,464      save_scene                   1,576
+ *     settle_list       2,800      contact_list                 3,200
  *
  * ---- An answer ----
  *
