@@ -179,8 +179,7 @@ first-in-front l (a ∷ b ∷ c ∷ k) =
     let (m₁, e₁) = side-in-front a b l in
     let (m₂, e₂) = side-in-front b c (withSide l a b) in
     let (m₃, e₃) = side-in-front c a (withSide (withSide l a b) b c) in
-    let (m₄, e₄) = first-in-front (withSides l a b c) k in
-    (
+    let (m₄, e₄) = first-in-front (withSides l a b c) k in (
       m₁ ++ (m₂ ++ (m₃ ++ m₄)),
       e₄ ∙ ap (λ (x : List ℕ). x ++ m₄) e₃
           ∙ append-assoc (withSide (withSide l a b) b c) m₃ m₄

@@ -14,11 +14,11 @@ ghost use Rattle.obj_records.specs.Adding.{Near, pointOf, VertexAdded, P
 use face_edges::add_sides;
 use meaning::COORDINATE_LIMIT;
 use meaning::EDGE_LIMIT;
+use meaning::Hundredths;
 use meaning::Refusal;
 use meaning::SceneCounts;
 use meaning::TRIANGLE_LIMIT;
 use meaning::VERTEX_LIMIT;
-use meaning::Hundredths;
 use scene_line::Judged;
 
 // The largest size of a coordinate, as sizes are held.
