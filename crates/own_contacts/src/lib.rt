@@ -5,6 +5,8 @@ ghost use mathlib.Core.Path.{_≡_};
 ghost use lib.ListN.{length};
 ghost use Rattle.meaning.specs.Scene.{sceneAtEntry, Accepted};
 ghost use Rattle.scenes.specs.Alone.{tabledIn, tabledAtEntry};
+ghost use Rattle.scenes.specs.Sewing.{Blank};
+ghost use Rattle.scenes.specs.Checking.{Stitched};
 ghost use Rattle.scene_words.specs.Listed.{AllThere};
 ghost use Rattle.meaning.specs.OwnList.{ownLimit, OwnMet};
 ghost use Rattle.own_contacts.specs.Answering.{SoundMet, AskedMet};
@@ -80,33 +82,33 @@ fn meet_asked(
     meet_sound(positions, edges, triangles, stands, list, words, contacts)
 }
 
-// For a scene that may be anything, and a list that is not too long.
-fn meet_few(
+// For a scene that may be anything and a list that is not too long, over a lent table without seams, which is that of the scene's seams afterwards.
+fn meet_into(
     positions: &[i32],
     edges: &[u16],
     triangles: &[u16],
     seams: &[u16],
+    stands: &mut [u16],
     list: &[u32],
     words: &mut [u8],
     contacts: &mut [u32],
 ) -> ListAnswer
-    requires { ⌜ length (now list) ≤ ownLimit ⌝ }
-    ensures { λ r. ⌜ OwnMet (sceneAtEntry positions edges triangles seams) (now (list .entry)) (now (words .entry)) (now (words .exit)) (now (contacts .entry)) (now (contacts .exit)) r ⌝ }
+    requires { ⌜ Blank (now seams) (now stands) × (length (now list) ≤ ownLimit) ⌝ }
+    ensures { λ r. ⌜ OwnMet (sceneAtEntry positions edges triangles seams) (now (list .entry)) (now (words .entry)) (now (words .exit)) (now (contacts .entry)) (now (contacts .exit)) r × Stitched (sceneAtEntry positions edges triangles seams) (now (stands .entry)) (now (stands .exit)) ⌝ }
 {
-    let mut stands = [0u16; VERTEX_LIMIT];
     if let SceneAnswer::Refused(refusal) = scenes::check_into(
         positions,
         edges,
         triangles,
         seams,
-        &mut stands,
+        stands,
     ) {
         return ListAnswer::Refused(refusal, 0);
     }
-    meet_asked(positions, edges, triangles, &stands, list, words, contacts)
+    meet_asked(positions, edges, triangles, stands, list, words, contacts)
 }
 
-// The words and contacts of the pairs that a list asks for.
+// The words and contacts of the pairs that a list asks for. Where there are no seams nothing is looked up.
 pub fn meet_list(
     positions: &[i32],
     edges: &[u16],
@@ -121,5 +123,28 @@ pub fn meet_list(
     if OWN_LIMIT < list.len() {
         return ListAnswer::Refused(Refusal::Shape, 0);
     }
-    meet_few(positions, edges, triangles, seams, list, words, contacts)
+    if seams.len() == 0 {
+        let mut none = [0u16; 0];
+        return meet_into(
+            positions,
+            edges,
+            triangles,
+            seams,
+            &mut none,
+            list,
+            words,
+            contacts,
+        );
+    }
+    let mut stands = [0u16; VERTEX_LIMIT];
+    meet_into(
+        positions,
+        edges,
+        triangles,
+        seams,
+        &mut stands,
+        list,
+        words,
+        contacts,
+    )
 }

@@ -7,6 +7,8 @@ ghost use Prim.Native.Nat.{ℕ, _≤_};
 ghost use lib.ListN.{length};
 ghost use Rattle.meaning.specs.Scene.{sceneOf, sceneAtEntry, Accepted};
 ghost use Rattle.scenes.specs.Alone.{tabledIn, tabledAtEntry};
+ghost use Rattle.scenes.specs.Sewing.{Blank};
+ghost use Rattle.scenes.specs.Checking.{Stitched};
 ghost use Rattle.meaning.specs.OwnList.{entryMissing, entryShared, ownLimit, OwnSettled};
 ghost use Rattle.own_words.specs.Faults.{FaultFound};
 ghost use Rattle.own_words.specs.Answering.{OwnJudged};
@@ -109,32 +111,32 @@ fn settle_asked(
     }
 }
 
-// For a scene that may be anything, and a list that is not too long.
-fn settle_few(
+// For a scene that may be anything and a list that is not too long, over a lent table without seams, which is that of the scene's seams afterwards.
+fn settle_into(
     positions: &[i32],
     edges: &[u16],
     triangles: &[u16],
     seams: &[u16],
+    stands: &mut [u16],
     list: &[u32],
     words: &mut [u8],
 ) -> ListAnswer
-    requires { ⌜ length (now list) ≤ ownLimit ⌝ }
-    ensures { λ r. ⌜ OwnSettled (sceneAtEntry positions edges triangles seams) (now (list .entry)) (now (words .entry)) (now (words .exit)) r ⌝ }
+    requires { ⌜ Blank (now seams) (now stands) × (length (now list) ≤ ownLimit) ⌝ }
+    ensures { λ r. ⌜ OwnSettled (sceneAtEntry positions edges triangles seams) (now (list .entry)) (now (words .entry)) (now (words .exit)) r × Stitched (sceneAtEntry positions edges triangles seams) (now (stands .entry)) (now (stands .exit)) ⌝ }
 {
-    let mut stands = [0u16; VERTEX_LIMIT];
     if let SceneAnswer::Refused(refusal) = scenes::check_into(
         positions,
         edges,
         triangles,
         seams,
-        &mut stands,
+        stands,
     ) {
         return ListAnswer::Refused(refusal, 0);
     }
-    settle_asked(positions, edges, triangles, &stands, list, words)
+    settle_asked(positions, edges, triangles, stands, list, words)
 }
 
-// The words of the pairs that a list asks for.
+// The words of the pairs that a list asks for. Where there are no seams nothing is looked up.
 pub fn settle_list(
     positions: &[i32],
     edges: &[u16],
@@ -148,5 +150,10 @@ pub fn settle_list(
     if OWN_LIMIT < list.len() {
         return ListAnswer::Refused(Refusal::Shape, 0);
     }
-    settle_few(positions, edges, triangles, seams, list, words)
+    if seams.len() == 0 {
+        let mut none = [0u16; 0];
+        return settle_into(positions, edges, triangles, seams, &mut none, list, words);
+    }
+    let mut stands = [0u16; VERTEX_LIMIT];
+    settle_into(positions, edges, triangles, seams, &mut stands, list, words)
 }
