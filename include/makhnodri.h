@@ -104,7 +104,7 @@ extern "C" {
  *     turn_scene          280      check_claims                 2,032
  *     contact_scene    86,344      contact_pt, contact_ee       2,976
  *     saved_length      1,464      save_scene                   1,576
- *     settle_list       2,800      contact_list                 3,200
+ *     settle_list       3,184      contact_list                 3,296
  *
  * ---- An answer ----
  *

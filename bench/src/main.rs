@@ -203,10 +203,7 @@ impl Bench {
             let times = shortest(ways, self.rounds);
             assert!(words == own_words, "one's own list has the words of the library's");
             let [pairs, own] = [times[0].1 - times[1].1, times[2].1].map(|time| 1e9 * time / words.len() as f64);
-            println!(
-                "  {name:<24} a pair  {pairs:>8.2} ns      own  {own:>8.2} ns      own over a pair    {:>5.2}",
-                own / pairs
-            );
+            println!("  {name:<24} a pair  {pairs:>8.2} ns      own  {own:>8.2} ns      own over a pair    {:>5.2}", own / pairs);
         }
     }
 

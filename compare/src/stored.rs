@@ -93,7 +93,11 @@ pub fn moved(lent: Slices, stored: &[i64], vertex: u64, to: [i64; 6], wrong: Wro
         let worked_out = if wrong == Wrong::JoinsStored && part.len() > 1 {
             std::array::from_fn(|i| {
                 let of = part.iter().map(|&v| after[6 * v + i]);
-                if i < 3 { of.min().unwrap() } else { of.max().unwrap() }
+                if i < 3 {
+                    of.min().unwrap()
+                } else {
+                    of.max().unwrap()
+                }
             })
         } else {
             box_of(&scene, part)
@@ -112,7 +116,8 @@ pub fn listed(lent: Slices, stored: &[i64], room: usize, wrong: Wrong) -> Result
         _ => true,
     };
     let right = boxes(&scene, wrong);
-    let stale = parts(&scene).iter().enumerate().any(|(k, part)| looked_at(part) && stored[6 * k..6 * k + 6] != right[6 * k..6 * k + 6]);
+    let stale =
+        parts(&scene).iter().enumerate().any(|(k, part)| looked_at(part) && stored[6 * k..6 * k + 6] != right[6 * k..6 * k + 6]);
     let behind = wrong == Wrong::LooksBehind && stored[right.len()..].iter().any(|&number| number != 0);
     let full = if pairs.len() > room { Err(Refusal::new(NO_ROOM, pairs.len() as u64)) } else { Ok(()) };
     if wrong == Wrong::SeventeenLast {
@@ -258,8 +263,11 @@ mod tests {
                 let vertex = random.below(scene.vertices.len());
                 let to = target(&mut random, &scene, vertex);
                 let room = random.below(3);
-                let way = |wrong| (moved(lent.slices(), &stored, vertex as u64, to, wrong), listed(lent.slices(), &stored, room, wrong));
-                let fresh = |wrong| listed(lent.slices(), &filled(lent.slices(), &stored, Wrong::None).unwrap(), usize::MAX, wrong);
+                let way = |wrong| {
+                    (moved(lent.slices(), &stored, vertex as u64, to, wrong), listed(lent.slices(), &stored, room, wrong))
+                };
+                let fresh =
+                    |wrong| listed(lent.slices(), &filled(lent.slices(), &stored, Wrong::None).unwrap(), usize::MAX, wrong);
                 way(wrong) != way(Wrong::None) || fresh(wrong) != fresh(Wrong::None)
             });
             assert!(told, "{wrong:?} is not told apart");

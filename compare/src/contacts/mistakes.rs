@@ -40,10 +40,10 @@ use Mistake::*;
 
 pub const ALL: [Mistake; 27] = [
     NearestInPlaceOfCut, SmallestExactTime, TieToTheLaterPiece, LowestPieceWhateverItsTime, StartWeightsOnly, EndWeightsOnly,
-    ShareOfTheLowerEnd, EndsAsWritten, CornersAsWritten, SharesByOwnNumber, HigherEdgeFirst, TouchingPiecesTakePart, TouchIsAHit, FloatsThroughout,
-    WeightWrapsAt64Bits, LastShareIsTheRest, OneIsOneLess, TimeFromTheEnd, PiecesFromOne, LineForEveryListedPair,
-    TotalWithoutMisses, NoSixteen, SixteenAtTheOldLimit, SixteenForPositiveOnly, SixteenAfterSeven, SixteenInPlaceOfTwo,
-    SixteenWithALine,
+    ShareOfTheLowerEnd, EndsAsWritten, CornersAsWritten, SharesByOwnNumber, HigherEdgeFirst, TouchingPiecesTakePart, TouchIsAHit,
+    FloatsThroughout, WeightWrapsAt64Bits, LastShareIsTheRest, OneIsOneLess, TimeFromTheEnd, PiecesFromOne,
+    LineForEveryListedPair, TotalWithoutMisses, NoSixteen, SixteenAtTheOldLimit, SixteenForPositiveOnly, SixteenAfterSeven,
+    SixteenInPlaceOfTwo, SixteenWithALine,
 ];
 
 impl Mistake {

@@ -191,7 +191,8 @@ fn bad_entry(random: &mut Random, scene: &Scene) -> u32 {
     let mut missing = vec![vertices.min(1_023) << 10, triangles.min(1_023), 1_023, (1 << 20) + 1_023 * 1_025];
     missing.push((1 << 20) + (edges.min(1_023) << 10));
     let sharing = all_pairs(scene).into_iter().find(|pair| pair.shares_a_vertex(scene));
-    let shared = sharing.map(|pair| ((pair.kind == Kind::EdgeEdge) as u32) << 20 | (pair.first as u32) << 10 | pair.second as u32);
+    let shared =
+        sharing.map(|pair| ((pair.kind == Kind::EdgeEdge) as u32) << 20 | (pair.first as u32) << 10 | pair.second as u32);
     let sort = random.below(3);
     match (sort, shared) {
         (0, _) => random.pick(&none),
@@ -210,7 +211,7 @@ fn about_own_lists(random: &mut Random, scene: &Scene) -> Vec<Question> {
         }
         let count = list.len();
         let words = random.pick(&[count, count, count + 3, count.saturating_sub(1), 0]);
-        let rows = random.pick(&[ROW * count, ROW * count, ROW * count + 4, (ROW * count).saturating_sub(1), 0]);
+        let rows = random.pick(&[ROW * count, ROW * (count + 2), ROW * count + 4, (ROW * count).saturating_sub(1), 0]);
         let lent = Lent { list, words: marks(words), ..Lent::of_scene(scene) };
         out.push(Question::new(Call::SettleList, lent.clone()));
         out.push(Question::new(Call::ContactList, Lent { contacts: marks_of_32(rows), ..lent }));

@@ -39,6 +39,7 @@ pub fn all() -> Vec<Damage> {
     out.extend(contacts());
     out.extend(contact_rows());
     out.extend(wrong_contacts());
+    out.extend(own_lists());
     out.extend(saving());
     out
 }
@@ -113,6 +114,39 @@ fn saving() -> Vec<Damage> {
                 let from = MARGIN + answer.number as usize;
                 let to = MARGIN + question.lent.text.len();
                 answer.buffers[TEXT][from..to].fill(0);
+            }
+        }),
+    ]
+}
+
+/// Lists of one's own.
+fn own_lists() -> Vec<Damage> {
+    let at_fault = |question: &Question, answer: &Answer| {
+        question.call.takes_a_list() && [NOT_THERE, SHARES_A_VERTEX].contains(&answer.refusal())
+    };
+    vec![
+        damage("entries of one's own list counted from 0", move |question, answer| {
+            answer.number -= at_fault(question, answer) as u64;
+        }),
+        damage("an entry at fault told without its number", move |question, answer| {
+            if at_fault(question, answer) {
+                answer.number &= !(u32::MAX as u64);
+            }
+        }),
+        damage("the words of one's own list in the order of the library's", |question, answer| {
+            if question.call.takes_a_list() && answer.refusal() == 0 {
+                let mut entries = question.lent.list.clone();
+                entries.sort();
+                let words = answer.buffers[WORDS].clone();
+                for (place, entry) in entries.iter().enumerate() {
+                    let from = question.lent.list.iter().position(|other| other == entry).unwrap();
+                    answer.buffers[WORDS][MARGIN + place] = words[MARGIN + from];
+                }
+            }
+        }),
+        damage("words written before an entry at fault is found", move |question, answer| {
+            if at_fault(question, answer) && answer.number as u32 > 1 && !question.lent.words.is_empty() {
+                answer.buffers[WORDS][MARGIN] = 0;
             }
         }),
     ]

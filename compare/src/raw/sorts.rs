@@ -51,6 +51,7 @@ fn of_scenes(call: Call) -> Vec<String> {
     let name = call.name();
     let later: &[u64] = match call {
         Call::ContactScene => &[BEYOND_OLD_RANGE, NO_ROOM],
+        Call::ContactList => &[BEYOND_OLD_RANGE],
         Call::SaveScene => &[],
         Call::Contact(_) => &[NOT_THERE, SHARES_A_VERTEX, BEYOND_OLD_RANGE],
         _ if call.lists() => &[NO_ROOM],
@@ -113,15 +114,23 @@ fn of_contact_scenes() -> Vec<String> {
 
 /// A list of one's own: each fault of an entry, in front and behind others, which of two decides, each word, each room.
 fn of_own_lists(call: Call) -> Vec<String> {
-    let mut sorts = vec!["no pair's number", "a part that is not there", "a shared vertex", "6 by a seam", "a fault in the first entry"];
-    sorts.extend(["a fault behind others", "5 behind 6", "6 behind 5", "5 before 7", "6 before 7", "hit", "miss", "touch", "apart"]);
-    sorts.extend(["no entry", "listed", "not listed", "an entry twice", "the higher edge first", "just the room", "room left over"]);
+    let mut sorts =
+        vec!["no pair's number", "a part that is not there", "a shared vertex", "6 by a seam", "a fault in the first entry"];
+    sorts.extend([
+        "a fault behind others", "5 behind 6", "6 behind 5", "5 before 7", "6 before 7", "hit", "miss", "touch", "apart",
+    ]);
+    sorts.extend([
+        "no entry", "listed", "not listed", "an entry twice", "the higher edge first", "just the room", "room left over",
+    ]);
     sorts.extend(["one too few", "no room at all"]);
     if call == Call::ContactList {
-        sorts.extend(["the words too short", "the contacts too short", "a part of a row left over", "5 before 16", "6 before 16"]);
+        sorts
+            .extend(["the words too short", "the contacts too short", "a part of a row left over", "5 before 16", "6 before 16"]);
         sorts.extend(["16 before 7", "refused 16", "a pair that is not hit behind a hit"]);
     }
-    sorts.into_iter().map(|sort| format!("{}: {sort}", call.name())).collect()
+    let mut out: Vec<String> = sorts.into_iter().map(|sort| format!("{}: {sort}", call.name())).collect();
+    out.extend((call == Call::ContactList).then(|| asked_for(call, BEYOND.0, BEYOND.1)));
+    out
 }
 
 /// The sorts of a question about such a list, in a scene that is one.
