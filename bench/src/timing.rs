@@ -26,7 +26,7 @@ fn taken() -> Duration {
     Duration::new(time.seconds as u64, time.nanoseconds as u32)
 }
 
-/// A processor that did nothing starts with a low clock: half a second of work that nobody times.
+/// A processor that did nothing may start with a low clock: half a second of work that nobody times.
 pub fn warm_up() {
     let began = taken();
     while taken() - began < Duration::from_millis(500) {
