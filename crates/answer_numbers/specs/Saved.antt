@@ -12,9 +12,9 @@ use Rattle.meaning.specs.Scene.{Scene}
 use Rattle.meaning.specs.Refusals.{Outcome, given, refused, Check, Answers, numberOf, sceneChecks}
 use Rattle.meaning.specs.declared.Refusal.{Refusal}
 use Rattle.scenes.specs.Answering.{is-refused, is-past}
-use Rattle.scene_saved.specs.Saved.{savedText, saveSays, savedChecks, saveChecks, Measured, Saved}
-use Rattle.scene_saved.specs.declared.SaveAnswer.{SaveAnswer}
-use Rattle.scene_saved.specs.declared.SaveAnswer.the-variants.{Bytes, Refused}
+use Rattle.meaning.specs.Saved.{savedText, saveSays, savedChecks, saveChecks, Measured, Saved}
+use Rattle.meaning.specs.declared.SaveAnswer.{SaveAnswer}
+use Rattle.meaning.specs.declared.SaveAnswer.the-variants.{Bytes, Refused}
 use Rattle.saved_demands.specs.OneSave.{one-measured, one-saved}
 use Rattle.demands.specs.Deciding.{holds-or-not}
 use Rattle.answer_numbers.specs.Numbers.{upper, numberFor, Told}

@@ -14,7 +14,7 @@ use Rattle.meaning.specs.SceneWords.{SettledScene}
 use Rattle.meaning.specs.Text.{textOf, FaultyAt, TextIs, shortBuffer, longText, TextOutcome, countsTold, textSays, TextRead}
 use Rattle.meaning.specs.Meetings.{rangeCheck, roomCheck, metRoom, metChecks, MetScene}
 use Rattle.meaning.specs.declared.Refusal.{Refusal}
-use Rattle.meaning.specs.declared.Refusal.the-variants.{Shape, Coordinate, UnknownVertex, RepeatedVertex, NotThere, SharedVertex, NoRoom, LongText, BadLine, LateRecord, TooMany, ShortBuffer, FilesDiffer, BrokenSeam, BeyondOldRange, StaleBox}
+use Rattle.meaning.specs.declared.Refusal.the-variants.{Shape, Coordinate, UnknownVertex, RepeatedVertex, NotThere, SharedVertex, NoRoom, LongText, BadLine, LateRecord, TooMany, ShortBuffer, BlockLength, FilesDiffer, BrokenSeam, BeyondOldRange, StaleBox}
 use Rattle.meaning.specs.declared.ListAnswer.{ListAnswer}
 use Rattle.meaning.specs.declared.TextAnswer.{TextAnswer}
 use Rattle.scenes.specs.Answering.{is-refused, is-past}
@@ -50,6 +50,7 @@ number-in-table BadLine = record { some = omega arith; few = omega arith }
 number-in-table LateRecord = record { some = omega arith; few = omega arith }
 number-in-table TooMany = record { some = omega arith; few = omega arith }
 number-in-table ShortBuffer = record { some = omega arith; few = omega arith }
+number-in-table BlockLength = record { some = omega arith; few = omega arith }
 number-in-table FilesDiffer = record { some = omega arith; few = omega arith }
 number-in-table BrokenSeam = record { some = omega arith; few = omega arith }
 number-in-table BeyondOldRange = record { some = omega arith; few = omega arith }

@@ -10,16 +10,16 @@ ghost use Rattle.answer_numbers.specs.Small.{toldIn};
 ghost use Rattle.answer_numbers.specs.Claims.{claimsNumber};
 ghost use Rattle.answer_numbers.specs.Contacts.{wordNumber};
 ghost use Rattle.answer_numbers.specs.Saved.{savedNumber};
-ghost use Rattle.scene_saved.specs.Saved.{saveSays};
+ghost use Rattle.meaning.specs.Saved.{saveSays};
 use meaning::ClaimsAnswer;
 use meaning::ListAnswer;
 use meaning::Meeting;
 use meaning::PairAnswer;
 use meaning::Refusal;
+use meaning::SaveAnswer;
 use meaning::SceneAnswer;
 use meaning::SettledAnswer;
 use meaning::Verdict;
-use scene_saved::SaveAnswer;
 
 // A refusal with the line or the count that it carries.
 pub fn refused(why: Refusal, carries: usize) -> u64

@@ -26,8 +26,8 @@ use Rattle.scenes.specs.Below.{or-left, or-rest}
 use Rattle.scenes.specs.Checking.{sewable}
 use Rattle.scenes.specs.Sewing.{seamsAlone, Sewable, blank-table}
 use Rattle.scene_draft.specs.Putting.{pointFrom, signedAt, signed-at}
-use Rattle.steps.specs.Series.{lastFrom, stepAfter, lastStep}
-use Rattle.steps.specs.SeriesText.{Item, ends, next, threeOf, itemLine, SoFar, blocksSoFar, seriesSoFar, withItem, ItemFormed, blockFull, blockShort, wrongLength, farEnd, comesApartNow, itemChecks, seriesLines}
+use Rattle.meaning.specs.Series.{lastFrom, stepAfter, lastStep}
+use Rattle.meaning.specs.SeriesText.{Item, ends, next, threeOf, itemLine, SoFar, blocksSoFar, seriesSoFar, withItem, ItemFormed, blockFull, blockShort, wrongLength, farEnd, comesApartNow, itemChecks, seriesLines}
 use Rattle.steps.specs.Longer.{last-append}
 use Rattle.steps.specs.Stepping.{AllNear, step-length}
 use Rattle.steps.specs.PartWay.{partWay, part-length, part-at, part-next, part-ends}

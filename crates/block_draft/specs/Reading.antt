@@ -19,8 +19,8 @@ use Rattle.scenes.specs.Answering.{refuses, lets-pass, gives, is-given}
 use Rattle.scenes.specs.Below.{or-left, or-rest}
 use Rattle.scenes.specs.Sewing.{seamsAlone}
 use Rattle.lines.specs.Going.{Reached, reached-next, reached-longer, reached-fault}
-use Rattle.steps.specs.Series.{lastFrom, stepAfter, lastStep}
-use Rattle.steps.specs.SeriesText.{Item, ends, next, threeOf, itemLine, SoFar, nothingYet, blocksSoFar, seriesSoFar, withItem, ItemFormed, blockFull, blockShort, wrongLength, itemChecks, seriesLines}
+use Rattle.meaning.specs.Series.{lastFrom, stepAfter, lastStep}
+use Rattle.meaning.specs.SeriesText.{Item, ends, next, threeOf, itemLine, SoFar, nothingYet, blocksSoFar, seriesSoFar, withItem, ItemFormed, blockFull, blockShort, wrongLength, itemChecks, seriesLines}
 use Rattle.steps.specs.Longer.{last-append}
 use Rattle.steps.specs.Stepping.{AllNear, step-accepted, step-length, step-vertices, step-seams}
 use Rattle.steps.specs.PartWay.{partWay, part-starts, part-ends}

@@ -16,7 +16,7 @@ use Rattle.meaning.specs.Scene.{Scene, vertexCount}
 use Rattle.meaning.specs.Refusals.{Outcome, given, refused, Answers}
 use Rattle.meaning.specs.Lines.{Fault, misplaced, nothing, RecordJudged}
 use Rattle.scenes.specs.Answering.{refuses}
-use Rattle.steps.specs.SeriesText.{Item, ends, next, threeOf, itemLine, SoFar, withItem, ItemFormed, blockShort, wrongLength, itemChecks, seriesLines}
+use Rattle.meaning.specs.SeriesText.{Item, ends, next, threeOf, itemLine, SoFar, withItem, ItemFormed, blockShort, wrongLength, itemChecks, seriesLines}
 use Rattle.series_line.specs.Reading.{EndsGot, BlockLineRead}
 use Rattle.series_line.specs.declared.BlockLine.{BlockLine}
 use Rattle.series_line.specs.declared.BlockLine.the-variants as Lines

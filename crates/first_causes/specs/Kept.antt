@@ -13,7 +13,7 @@ use Rattle.sequences.specs.Mapped.{map-append}
 use Rattle.sequences.specs.Parts.{take-next-set}
 use Rattle.sequences.specs.Range.{le-or-lt}
 use Rattle.meaning.specs.List.{pair}
-use Rattle.steps.specs.Series.{HitAt, hitAt, logLimit, counted, logOf, laterOf}
+use Rattle.meaning.specs.Series.{HitAt, hitAt, logLimit, counted, logOf, laterOf}
 use Rattle.steps.specs.Front.{log-full, log-filled}
 use Rattle.first_causes.specs.Logged.{largest, oneMore, emptyLog, logged}
 use Rattle.first_causes.specs.declared.StepHit.{StepHit}

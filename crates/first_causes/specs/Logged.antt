@@ -4,7 +4,7 @@ use mathlib.Core.Bool.{cond}
 use lib.Dec.{ltb}
 use lib.ListN.{set, replicate}
 use Rattle.meaning.specs.declared.Kind.the-variants.{PointTriangle}
-use Rattle.steps.specs.Series.{logLimit}
+use Rattle.meaning.specs.Series.{logLimit}
 use Rattle.first_causes.specs.declared.StepHit.{StepHit}
 use Rattle.first_causes.specs.declared.Log.{Log}
 

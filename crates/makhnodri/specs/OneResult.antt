@@ -33,7 +33,7 @@ use Rattle.answer_numbers.specs.Numbers.{sceneNumber, pairNumber, settledNumber
 use Rattle.answer_numbers.specs.Small.{counted-small, listing-small, judging-small, met-small, line-small}
 use Rattle.answer_numbers.specs.Back.{heard, noMore, count, countsIn, verdictNumbered, meetingIn, scene-heard, pair-heard, settled-heard, list-heard, text-heard, contact-heard}
 use Rattle.answer_numbers.specs.RowsBack.{meetingAt, rows-heard, meetings-many, rows-fit}
-use Rattle.scene_saved.specs.Saved.{savedText, savedChecks, saveChecks, Measured, Saved}
+use Rattle.meaning.specs.Saved.{savedText, savedChecks, saveChecks, Measured, Saved}
 use Rattle.answer_numbers.specs.Saved.{savedNumber, saved-heard, measured-small, saved-small, one-measured-told, one-saved-told}
 
 -- one right answer, one number

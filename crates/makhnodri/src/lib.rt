@@ -19,7 +19,7 @@ ghost use Rattle.meaning.specs.Claims.{ClaimsChecked};
 ghost use Rattle.meaning.specs.Meetings.{rowLeft, MetScene};
 ghost use Rattle.answer_numbers.specs.Claims.{claimsNumber};
 ghost use Rattle.answer_numbers.specs.Saved.{savedNumber};
-ghost use Rattle.scene_saved.specs.Saved.{Measured, Saved};
+ghost use Rattle.meaning.specs.Saved.{Measured, Saved};
 ghost use Rattle.answer_numbers.specs.Contacts.{meetingNumber, ContactInto};
 ghost use Rattle.scene_contacts.specs.Rows.{SmallMeeting};
 ghost use Rattle.answer_numbers.specs.Numbers.{sceneNumber, pairNumber, settledNumber, listNumber, textNumber, ReadInto, Told};

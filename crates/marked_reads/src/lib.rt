@@ -30,6 +30,7 @@ fn number_of(refusal: Refusal) -> usize {
         Refusal::LateRecord => 10,
         Refusal::TooMany => 11,
         Refusal::ShortBuffer => 12,
+        Refusal::BlockLength => 13,
         Refusal::FilesDiffer => 14,
         Refusal::BrokenSeam => 15,
         Refusal::BeyondOldRange => 16,

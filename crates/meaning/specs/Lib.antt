@@ -28,3 +28,8 @@ pub mod ObjLine
 pub mod ObjFile
 pub mod ObjPair
 pub mod ObjShown
+pub mod Saved
+pub mod Series
+pub mod SeriesText
+pub mod FirstFault
+pub mod SeriesShown

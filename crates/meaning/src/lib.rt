@@ -69,7 +69,7 @@ pub enum Settled {
     Apart,
 }
 
-// The refusals of documents 01 and 02, in the order of their numbers: 1 to 12, then 15 to 17.
+// The refusals of documents 01 and 02, in the order of their numbers, 1 to 17.
 pub enum Refusal {
     Shape,
     Coordinate,
@@ -83,6 +83,7 @@ pub enum Refusal {
     LateRecord,
     TooMany,
     ShortBuffer,
+    BlockLength,
     FilesDiffer,
     BrokenSeam,
     BeyondOldRange,
@@ -241,4 +242,11 @@ pub enum ImportAnswer {
     Read(SceneCounts),
     Refused(Refusal),
     RefusedIn(WhichFile, Refusal, usize),
+}
+
+// The answer to "write this scene as text" and to "how long is it?": how many bytes the text has, or a refusal, with the length needed where it
+// is NoRoom (else 0).
+pub enum SaveAnswer {
+    Bytes(usize),
+    Refused(Refusal, usize),
 }

@@ -14,10 +14,10 @@ use Rattle.meaning.specs.List.{leaves}
 use Rattle.meaning.specs.declared.Refusal.{Refusal}
 use Rattle.demands.specs.Deciding.{Refuses, carriedBy, NoneHolds, absent, distinct, refused-exactly, number-known, gives-exactly}
 use Rattle.demands.specs.Demand1.{SceneRows}
-use Rattle.scene_saved.specs.Saved.{savedText, saveSays, savedChecks, saveChecks, Measured, Saved}
+use Rattle.meaning.specs.Saved.{savedText, saveSays, savedChecks, saveChecks, Measured, Saved}
 use Rattle.scene_saved.specs.Answering.{IsLength}
-use Rattle.scene_saved.specs.declared.SaveAnswer.{SaveAnswer}
-use Rattle.scene_saved.specs.declared.SaveAnswer.the-variants.{Refused}
+use Rattle.meaning.specs.declared.SaveAnswer.{SaveAnswer}
+use Rattle.meaning.specs.declared.SaveAnswer.the-variants.{Refused}
 
 -- 8, and where it does not hold 7
 abbrev pub overLong : Scene → Bool

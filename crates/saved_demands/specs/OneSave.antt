@@ -13,10 +13,10 @@ use Rattle.meaning.specs.Text.{Holds}
 use Rattle.scenes.specs.Answering.{is-given, one-answer}
 use Rattle.scenes.specs.Speaking.{one-number}
 use Rattle.meaning.specs.declared.Refusal.{Refusal}
-use Rattle.scene_saved.specs.Saved.{savedText, saveSays, savedChecks, saveChecks, Measured, Saved}
+use Rattle.meaning.specs.Saved.{savedText, saveSays, savedChecks, saveChecks, Measured, Saved}
 use Rattle.scene_saved.specs.Answering.{IsLength, measured-accepted, measured-is}
-use Rattle.scene_saved.specs.declared.SaveAnswer.{SaveAnswer}
-use Rattle.scene_saved.specs.declared.SaveAnswer.the-variants.{Bytes, Refused}
+use Rattle.meaning.specs.declared.SaveAnswer.{SaveAnswer}
+use Rattle.meaning.specs.declared.SaveAnswer.the-variants.{Bytes, Refused}
 
 pub says-one : (r r′ : SaveAnswer) → saveSays r ≡ saveSays r′ → r ≡ r′
 unfolding saveSays

@@ -23,7 +23,7 @@ use Rattle.scenes.specs.Facts.{Sized, accepted-sized}
 use Rattle.scene_line.specs.Reading.{sortOf}
 use Rattle.scene_line.specs.Above.{Above, Lengths, Bounded, above-none, bounded-by, lengths-more, countedBy, noCounts}
 use Rattle.scene_line.specs.Checks.{comes-vertex, comes-edge, comes-triangle, comes-seam}
-use Rattle.scene_saved.specs.Saved.{verticesIn, edgesIn, trianglesIn, seamsIn, recordsOf, savedText}
+use Rattle.meaning.specs.Saved.{verticesIn, edgesIn, trianglesIn, seamsIn, recordsOf, savedText}
 use Rattle.saved_demands.specs.Fronts.{few-of, accepted-before}
 
 -- ---- records in their order, none after one of a later kind

@@ -19,7 +19,7 @@ use Rattle.scenes.specs.Below.{or-left, or-rest}
 use Rattle.scene_line.specs.Reading.{sortOf}
 use Rattle.scene_line.specs.Above.{Above, Lengths, above-none, above-more, countedBy, noCounts, faultless}
 use Rattle.scene_line.specs.Checks.{with-vertex, with-edge, with-triangle, with-seam}
-use Rattle.scene_saved.specs.Saved.{verticesIn, edgesIn, trianglesIn, seamsIn, recordsOf, savedText}
+use Rattle.meaning.specs.Saved.{verticesIn, edgesIn, trianglesIn, seamsIn, recordsOf, savedText}
 
 -- a list without an element
 pub empty : {A : Type 0} (l : List A) → ltb 0 (length l) ≡ false → l ≡ []

@@ -20,10 +20,10 @@ use Rattle.meaning.specs.declared.TextAnswer.the-variants.{Read}
 use Rattle.scenes.specs.Answering.{is-given}
 use Rattle.scene_text.specs.Using.{frontOf, Came, came, byBuffers, byLength, byLines, holds-read, accepted-read, short-read}
 use Rattle.scene_text.specs.Unique.{text-unique}
-use Rattle.scene_saved.specs.Saved.{savedText, saveSays, savedChecks, saveChecks, Measured, Saved}
+use Rattle.meaning.specs.Saved.{savedText, saveSays, savedChecks, saveChecks, Measured, Saved}
 use Rattle.scene_saved.specs.Answering.{IsLength, measured-given, measured-is, saved-given}
-use Rattle.scene_saved.specs.declared.SaveAnswer.{SaveAnswer}
-use Rattle.scene_saved.specs.declared.SaveAnswer.the-variants.{Bytes, Refused}
+use Rattle.meaning.specs.declared.SaveAnswer.{SaveAnswer}
+use Rattle.meaning.specs.declared.SaveAnswer.the-variants.{Bytes, Refused}
 use Rattle.scenes.specs.Accepting.{accepted-checked}
 use Rattle.meaning.specs.declared.SceneAnswer as SceneAnswers
 use Rattle.saved_demands.specs.Records.{same-bytes}

@@ -17,9 +17,9 @@ use Rattle.meaning.specs.declared.SceneAnswer as SceneAnswers
 use Rattle.meaning.specs.declared.SceneAnswer.{SceneAnswer}
 use Rattle.scenes.specs.Answering.{refuses, lets-pass, gives, is-given, refused-before, given-before}
 use Rattle.scenes.specs.Accepting.{checked-accepted, after-accepted, past-accepted, after-refused}
-use Rattle.scene_saved.specs.Saved.{savedText, saveSays, savedChecks, saveChecks, Measured, Saved}
-use Rattle.scene_saved.specs.declared.SaveAnswer.{SaveAnswer}
-use Rattle.scene_saved.specs.declared.SaveAnswer.the-variants.{Bytes, Refused}
+use Rattle.meaning.specs.Saved.{savedText, saveSays, savedChecks, saveChecks, Measured, Saved}
+use Rattle.meaning.specs.declared.SaveAnswer.{SaveAnswer}
+use Rattle.meaning.specs.declared.SaveAnswer.the-variants.{Bytes, Refused}
 
 abbrev pub IsLength : Scene → ℕ → Type 0
 IsLength s n = n ≡ length (savedText s)

@@ -8,7 +8,7 @@ use lib.ListN.{length, getD, drop, length-append, drop-of-length-le}
 use Rattle.sequences.specs.Parts.{drop-next}
 use Rattle.sequences.specs.Flat.{flat-nil, flat-cons}
 use Rattle.meaning.specs.Text.{Entry, vertex, tab, lineFeed, numeral, further, letterOf, numbersOf, lineOf, textOf}
-use Rattle.scene_saved.specs.Saved.{verticesIn}
+use Rattle.meaning.specs.Saved.{verticesIn}
 use Rattle.scene_saved.specs.Rows.{field, threeFields, sixLine, vertexLines, twoLine, threeLine, pairLines, tripleLines}
 
 -- the lengths of the fields of a list

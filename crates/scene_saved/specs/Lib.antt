@@ -1,5 +1,4 @@
 -- A scene as text: what is written, how it is made of lines and fields, and how an answer is shown right.
-pub mod Saved
 pub mod Rows
 pub mod Lengths
 pub mod Shaped

@@ -10,7 +10,7 @@ use Rattle.sequences.specs.Parts.{drop-next}
 use Rattle.sequences.specs.Flat.{flat-nil, flat-cons, flat-append}
 use Rattle.meaning.specs.Scene.{vectorAt}
 use Rattle.meaning.specs.Text.{Entry, vertex, edge, triangle, seam, tab, lineFeed, numeral, further, letterOf, numbersOf, lineOf, textOf}
-use Rattle.scene_saved.specs.Saved.{verticesIn, edgesIn, trianglesIn, seamsIn}
+use Rattle.meaning.specs.Saved.{verticesIn, edgesIn, trianglesIn, seamsIn}
 
 -- one field with its tab
 abbrev pub field : ℤ → List ℕ

@@ -11,7 +11,7 @@ use Rattle.meaning.specs.Scene.{Scene, Accepted, seamCount, wrongShape}
 use Rattle.scenes.specs.Below.{or-left, or-rest}
 use Rattle.scenes.specs.Facts.{Sized, accepted-sized, accepted-coordinate}
 use Rattle.numerals.specs.Marked.{Coordinates}
-use Rattle.scene_saved.specs.Saved.{savedText}
+use Rattle.meaning.specs.Saved.{savedText}
 use Rattle.scene_saved.specs.Rows.{vertexLines, pairLines, tripleLines, saved-parts}
 use Rattle.scene_saved.specs.Lengths.{fieldsLong, numbersLong, vertices-long, pairs-long, triples-long}
 

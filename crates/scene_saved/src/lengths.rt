@@ -5,7 +5,7 @@ ghost use mathlib.Core.Path.{_≡_};
 ghost use lib.ListN.{length};
 ghost use Rattle.meaning.specs.Scene.{sceneAtEntry, sceneIn, Accepted};
 ghost use Rattle.numerals.specs.Marked.{Coordinates};
-ghost use Rattle.scene_saved.specs.Saved.{savedText};
+ghost use Rattle.meaning.specs.Saved.{savedText};
 ghost use Rattle.scene_saved.specs.Lengths.{fieldsLong, numbersLong};
 use numerals::coordinate_length;
 use numerals::number_length;

@@ -7,21 +7,15 @@ ghost use Prim.Native.Nat.{_≤_};
 ghost use lib.ListN.{length};
 ghost use Rattle.meaning.specs.Scene.{sceneAtEntry, sceneIn, Accepted};
 ghost use Rattle.sequences.specs.Wrote.{Wrote};
-ghost use Rattle.scene_saved.specs.Saved.{savedText, Measured, Saved};
+ghost use Rattle.meaning.specs.Saved.{savedText, Measured, Saved};
 use lengths::text_length;
 use meaning::Refusal;
+use meaning::SaveAnswer;
 use meaning::SceneAnswer;
 use meaning::TEXT_LIMIT;
 use rows::put_pairs;
 use rows::put_triangles;
 use rows::put_vertices;
-
-// The answer to "write this scene as text" and to "how long is it?": how many bytes the text has, or a refusal, with the length needed where it
-// is NoRoom (else 0).
-pub enum SaveAnswer {
-    Bytes(usize),
-    Refused(Refusal, usize),
-}
 
 // The text of an accepted scene, in front of a buffer that has room for it.
 fn write_text(

@@ -6,7 +6,7 @@ use lib.ListN.{getD}
 use Rattle.meaning.specs.Scene.{Scene}
 use Rattle.meaning.specs.Refusals.{numberOf, sceneSays, pairSays, sceneChecks, SceneChecked}
 use Rattle.meaning.specs.declared.Refusal.{Refusal}
-use Rattle.meaning.specs.declared.Refusal.the-variants.{Shape, Coordinate, UnknownVertex, RepeatedVertex, NotThere, SharedVertex, NoRoom, LongText, BadLine, LateRecord, TooMany, ShortBuffer, FilesDiffer, BrokenSeam, BeyondOldRange, StaleBox}
+use Rattle.meaning.specs.declared.Refusal.the-variants.{Shape, Coordinate, UnknownVertex, RepeatedVertex, NotThere, SharedVertex, NoRoom, LongText, BadLine, LateRecord, TooMany, ShortBuffer, BlockLength, FilesDiffer, BrokenSeam, BeyondOldRange, StaleBox}
 use Rattle.meaning.specs.declared.SceneAnswer as SceneAnswers
 use Rattle.meaning.specs.declared.SceneAnswer.{SceneAnswer}
 use Rattle.meaning.specs.declared.PairAnswer as PairAnswers
@@ -17,7 +17,7 @@ use Rattle.scenes.specs.Answering.{one-answer}
 abbrev numbered : ℕ → Refusal
 numbered n =
     getD
-    (Shape ∷ Coordinate ∷ UnknownVertex ∷ RepeatedVertex ∷ NotThere ∷ SharedVertex ∷ NoRoom ∷ LongText ∷ BadLine ∷ LateRecord ∷ TooMany ∷ ShortBuffer ∷ Shape ∷ FilesDiffer ∷ BrokenSeam ∷ BeyondOldRange ∷ StaleBox ∷ [])
+    (Shape ∷ Coordinate ∷ UnknownVertex ∷ RepeatedVertex ∷ NotThere ∷ SharedVertex ∷ NoRoom ∷ LongText ∷ BadLine ∷ LateRecord ∷ TooMany ∷ ShortBuffer ∷ BlockLength ∷ FilesDiffer ∷ BrokenSeam ∷ BeyondOldRange ∷ StaleBox ∷ [])
     (pred n)
     Shape
 
@@ -35,6 +35,7 @@ own-number BadLine = refl
 own-number LateRecord = refl
 own-number TooMany = refl
 own-number ShortBuffer = refl
+own-number BlockLength = refl
 own-number FilesDiffer = refl
 own-number BrokenSeam = refl
 own-number BeyondOldRange = refl

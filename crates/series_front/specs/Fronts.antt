@@ -21,8 +21,8 @@ use Rattle.scene_draft.specs.Drafting.{Drafted, TakenAs, LineTaken}
 use Rattle.scene_draft.specs.Reading.{Drafting, total}
 use Rattle.scene_draft.specs.declared.Taken as Takes
 use Rattle.scene_draft.specs.declared.Taken.{Taken}
-use Rattle.steps.specs.Series.{lastFrom}
-use Rattle.steps.specs.SeriesText.{Item, of, ends, next, itemLine, SoFar, nothingYet, withItem, ItemFormed, itemChecks, seriesLines}
+use Rattle.meaning.specs.Series.{lastFrom}
+use Rattle.meaning.specs.SeriesText.{Item, of, ends, next, itemLine, SoFar, nothingYet, withItem, ItemFormed, itemChecks, seriesLines}
 use Rattle.series_line.specs.Rendered.{series-readable}
 use Rattle.series_line.specs.Reading.{nextHere, next-stands, no-next}
 use Rattle.block_draft.specs.Reading.{StepHere}

@@ -34,7 +34,7 @@ use Rattle.scene_line.specs.declared.Sort.{Sort}
 use Rattle.scene_line.specs.declared.Step.{Step}
 use Rattle.scene_line.specs.declared.Step as Steps
 use Rattle.meaning.specs.declared.SceneCounts.{SceneCounts}
-use Rattle.steps.specs.SeriesText.{Item, of, ends, next, threeOf, itemLine, SoFar, sixNumbers, ItemFormed, itemChecks, seriesLines}
+use Rattle.meaning.specs.SeriesText.{Item, of, ends, next, threeOf, itemLine, SoFar, sixNumbers, ItemFormed, itemChecks, seriesLines}
 use Rattle.series_line.specs.Rendered.{ends-line-is, letter-of-six, letter-not-next, six-not-here}
 use Rattle.series_line.specs.declared.BlockLine as Blocks
 use Rattle.series_line.specs.declared.BlockLine.{BlockLine}

@@ -12,7 +12,7 @@ use Rattle.fields.specs.Rows.{rowOf, row-cancel}
 use Rattle.meaning.specs.Text.{Entry, vertex, edge, triangle, seam, letterOf, numbersOf, lineOf, lineFeed}
 use Rattle.lines.specs.Unique.{Readable}
 use Rattle.scene_line.specs.Rendered.{coordinateForm, numberForm, line-is, line-cancel}
-use Rattle.steps.specs.SeriesText.{Item, of, ends, next, threeOf, itemLine, SoFar, sixNumbers, ItemFormed, seriesLines}
+use Rattle.meaning.specs.SeriesText.{Item, of, ends, next, threeOf, itemLine, SoFar, sixNumbers, ItemFormed, seriesLines}
 
 -- the line of an end: the letter, the row of its three numbers, LF
 pub ends-line-is : (p : Vector) (x : List ℕ) → itemLine (ends p) ++ x ≡ 118 ∷ (rowOf coordinateForm (threeOf p) ++ (lineFeed ∷ x))

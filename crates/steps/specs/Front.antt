@@ -7,7 +7,7 @@ use lib.ListN.{length, take, drop, take-append-drop}
 use lib.Seq.{take-all, take-append-le, take-append-add}
 use Rattle.sequences.specs.Range.{le-or-lt}
 use mathlib.Core.Logic.{⊎-elim}
-use Rattle.steps.specs.Series.{HitAt, logLimit, logOf, firstStep}
+use Rattle.meaning.specs.Series.{HitAt, logLimit, logOf, firstStep}
 
 -- what the log holds stands in front of all hits
 pub log-is-front : (hs : List HitAt) → (rest : List HitAt) × (hs ≡ logOf hs ++ rest)

@@ -10,7 +10,7 @@ use Rattle.meaning.specs.Scene.{Scene}
 use Rattle.meaning.specs.List.{pairs}
 use Rattle.meaning.specs.SceneWords.{AllSettled}
 use Rattle.meaning.specs.declared.Settled.{Settled}
-use Rattle.steps.specs.Series.{Series, stepAfter, stepsFrom, lastFrom, stepsOf, lastStep, HitAt, hitsIn, hitsFrom, hitsOf, StepsSettled, logOf, firstStep, Told, toldOf, ToldRight}
+use Rattle.meaning.specs.Series.{Series, stepAfter, stepsFrom, lastFrom, stepsOf, lastStep, HitAt, hitsIn, hitsFrom, hitsOf, StepsSettled, logOf, firstStep, Told, toldOf, ToldRight}
 use Rattle.steps.specs.Front.{log-kept}
 
 -- the steps behind this one

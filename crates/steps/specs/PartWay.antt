@@ -12,8 +12,8 @@ use Rattle.sequences.specs.Wrote.{patched}
 use Rattle.meaning.specs.Scene.{Scene, vertexCount, vectorAt, endOf}
 use Rattle.meaning.specs.Text.{coordinates}
 use Rattle.backwards.specs.Blocks.{gather-wide}
-use Rattle.steps.specs.Series.{goesOn, stepAfter}
-use Rattle.steps.specs.SeriesText.{threeOf}
+use Rattle.meaning.specs.Series.{goesOn, stepAfter}
+use Rattle.meaning.specs.SeriesText.{threeOf}
 
 unfoldable pub partWay : Scene → List ℤ → ℕ → List ℤ
 partWay s ends k = gather (goesOn s ends) 0 k ++ drop (6 * k) (s .positions)

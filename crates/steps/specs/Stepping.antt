@@ -14,7 +14,7 @@ use Rattle.sequences.specs.Range.{le-or-lt}
 use Rattle.scenes.specs.Below.{or-left, or-rest, none-passes, none-below}
 use Rattle.meaning.specs.Scene.{Scene, sceneOf, vertexCount, someBelow, uneven, overSize, wrongShape, outside, outOfRange, unknownIn, unknownVertex, brokenSeam, repeatedVertex, Accepted}
 use Rattle.backwards.specs.Blocks.{gather-wide, gather-at}
-use Rattle.steps.specs.Series.{goesOn, stepAfter}
+use Rattle.meaning.specs.Series.{goesOn, stepAfter}
 
 -- what holds of six numbers holds of each
 pub each-of-six : (P : ℤ → Type 0) (a b c d e f : ℤ) → P a → P b → P c → P d → P e → P f

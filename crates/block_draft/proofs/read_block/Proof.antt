@@ -6,7 +6,7 @@ use native.Mathlib.Omega.{arith}
 use lib.ListN.{length}
 use borrow.Author.Needs.{needs}
 use Rattle.meaning.specs.Scene.{Scene}
-use Rattle.steps.specs.SeriesText.{SoFar}
+use Rattle.meaning.specs.SeriesText.{SoFar}
 use Rattle.block_draft.specs.Block.{block-ready}
 use Rattle.block_draft.specs.Reading.{AtStep, Going, ends-fault, block-starts, read-fails, read-closes, read-goes, read-ends, count-small, next-inside}
 use Rattle.block_draft.proofs.read_block.Statement.{statement}

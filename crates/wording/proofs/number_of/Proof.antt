@@ -68,10 +68,15 @@ returns-16 : tie.Need-returns-16
 unfolding numberOf
 returns-16 c = rw (c .enum-told16 .given .1)
 
+returns-17 : tie.Need-returns-17
+unfolding numberOf
+returns-17 c = rw (c .enum-told17 .given .1)
+
 pub number-of-spec : {M : Type 1} → statement M
 number-of-spec =
     tie.close
     (tie.spec
+    (λ c. search needs)
     (λ c. search needs)
     (λ c. search needs)
     (λ c. search needs)
@@ -103,4 +108,5 @@ number-of-spec =
     returns-13
     returns-14
     returns-15
-    returns-16)
+    returns-16
+    returns-17)

@@ -9,19 +9,19 @@ use lib.ListN.{length, take, drop, replicate}
 use Rattle.whole.specs.Vector.{Vector}
 use Rattle.sequences.specs.Gather.{gather}
 use Rattle.sequences.specs.Range.{over, times}
 use Rattle.meaning.specs.Scene.{Scene, sceneOf, stoodFor, someBelow}
 use Rattle.meaning.specs.Boxes.{meetOn}
 use Rattle.meaning.specs.Refusals.{Outcome, given, refused, shares}
 use Rattle.meaning.specs.List.{pair, pairs}
 use Rattle.meaning.specs.SceneWords.{byteOf}
 use Rattle.meaning.specs.Report.{isOne, howMany}
 use Rattle.meaning.specs.Text.{Entry, vertex, edge, triangle, seam, coordinates, coordinatesIn, endsIn, cornersIn, seamIn, late}
 use Rattle.meaning.specs.declared.Kind.the-variants.{PointTriangle}
 use Rattle.meaning.specs.declared.Settled.{Settled}
 use Rattle.meaning.specs.declared.Settled.the-variants.{Hit, Touch}
-use Rattle.steps.specs.Series.{Series, stepAfter, stepsFrom, lastFrom, stepsOf, lastStep, HitAt, hitAt, hitsHere, hitsIn, hitsFrom, logOf, laterOf, firstStep, listedIn, totalOf, toldOf}
-use Rattle.steps.specs.SeriesText.{Item, of, ends, next, SoFar, nothingYet, withItem, seriesSoFar, sixNumbers, ItemFormed, wrongLength, itemChecks, seriesLines}
-use Rattle.steps.specs.FirstFault.{firstHeld, noneOf, orElse, firstFault}
+use Rattle.meaning.specs.Series.{Series, stepAfter, stepsFrom, lastFrom, stepsOf, lastStep, HitAt, hitAt, hitsHere, hitsIn, hitsFrom, logOf, laterOf, firstStep, listedIn, totalOf, toldOf}
+use Rattle.meaning.specs.SeriesText.{Item, of, ends, next, SoFar, nothingYet, withItem, seriesSoFar, sixNumbers, ItemFormed, wrongLength, itemChecks, seriesLines}
+use Rattle.meaning.specs.FirstFault.{firstHeld, noneOf, orElse, firstFault}
 
 abbrev pub height : ℕ → Vector
 height h = record { x = pos 0; y = pos 0; z = pos h }

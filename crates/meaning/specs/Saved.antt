@@ -6,13 +6,13 @@ use mathlib.Core.Path.{_≡_}
 use lib.Dec.{ltb}
 use lib.IntN.{ℤ}
 use lib.ListN.{length}
 use Rattle.meaning.specs.Limits.{textLimit}
 use Rattle.meaning.specs.Scene.{Scene}
 use Rattle.meaning.specs.Refusals.{Outcome, given, refused, numberOf, Check, Answers, sceneChecks}
 use Rattle.meaning.specs.List.{leaves}
 use Rattle.meaning.specs.Text.{Entry, vertex, edge, triangle, seam, textOf}
-use Rattle.scene_saved.specs.declared.SaveAnswer.{SaveAnswer}
-use Rattle.scene_saved.specs.declared.SaveAnswer.the-variants.{Bytes, Refused}
+use Rattle.meaning.specs.declared.SaveAnswer.{SaveAnswer}
+use Rattle.meaning.specs.declared.SaveAnswer.the-variants.{Bytes, Refused}
 
 -- ---- the records of a scene: each part as it is stored, ends, corners and seams too
 

@@ -9,14 +9,14 @@ use lib.IntN.{ℤ}
 use lib.ListN.{length}
 use Rattle.whole.specs.Vector.{Vector}
 use Rattle.sequences.specs.Wrote.{written}
 use Rattle.meaning.specs.Limits.{digitLimit}
 use Rattle.meaning.specs.Scene.{Scene, sceneOf, vertexCount, outside, brokenSeam}
 use Rattle.meaning.specs.Refusals.{Outcome, given, refused, Check, Answers}
 use Rattle.meaning.specs.Lines as Lines
 use Rattle.meaning.specs.Lines.{Grammar, afterAll}
 use Rattle.meaning.specs.List.{pairs, entries}
 use Rattle.meaning.specs.Text.{Entry, vertex, edge, triangle, seam, lineOf, numbersOf, numeral, further, Short, tab, lineFeed, none, sceneWith, entryChecks, shortBuffer, longText}
-use Rattle.steps.specs.Series.{Series, stepsOf, lastStep, Told, ToldRight}
+use Rattle.meaning.specs.Series.{Series, stepsOf, lastStep, Told, ToldRight}
 
 -- ---- a record and its line
 
