@@ -7,3 +7,4 @@ pub mod Telling
 pub mod Back
 pub mod RowsBack
 pub mod Saved
+pub mod Stored

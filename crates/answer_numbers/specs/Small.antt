@@ -18,6 +18,7 @@ use Rattle.meaning.specs.declared.Refusal.the-variants.{Shape, Coordinate, Unkn
 use Rattle.meaning.specs.declared.ListAnswer.{ListAnswer}
 use Rattle.meaning.specs.declared.TextAnswer.{TextAnswer}
 use Rattle.scenes.specs.Answering.{is-refused, is-past}
+use Rattle.listing.specs.Answering.{IsCount}
 use Rattle.listing.specs.Sizes.{few-pairs}
 use Rattle.lines.specs.Unique.{records-few}
 use Rattle.scene_line.specs.Rendered.{scene-readable}
@@ -62,16 +63,13 @@ pub pairs-few : {s : Scene} → Accepted s → length (pairs s) < upper
 pairs-few {s} a = omega (arith, few-pairs s a)
 
 module _ (s : Scene) where
-  IsCount : ℕ → Type 0
-  IsCount n = n ≡ length (pairs s)
-
-  nothing-carried : {o : Outcome ℕ} {n : ℕ} → o ≡ refused n 0 → toldIn o < upper
+  pub nothing-carried : {o : Outcome ℕ} {n : ℕ} → o ≡ refused n 0 → toldIn o < upper
   unfolding toldIn
   nothing-carried e = rw e (omega arith)
 
   -- where none of the five checks refuses, those after them decide
-  small-after : (more : List Check) (o : Outcome ℕ) → (Accepted s → Answers more IsCount o → toldIn o < upper)
-      → Answers (sceneChecks s ++ more) IsCount o → toldIn o < upper
+  pub small-after : (more : List Check) (o : Outcome ℕ) → (Accepted s → Answers more (IsCount s) o → toldIn o < upper)
+      → Answers (sceneChecks s ++ more) (IsCount s) o → toldIn o < upper
   small-after more o then p =
       step _ _ p (λ e. nothing-carried e) (λ h1 p1.
       step _ _ p1 (λ e. nothing-carried e) (λ h2 p2.
@@ -79,53 +77,49 @@ module _ (s : Scene) where
       step _ _ p3 (λ e. nothing-carried e) (λ h4 p4.
       step _ _ p4 (λ e. nothing-carried e) (λ h5 p5. then (record { shapely = h1; inRange = h2; known = h3; sewnWell = h4; distinct = h5 }) p5)))))
     where
-      step : (k : Check) (ks : List Check) → Answers (k ∷ ks) IsCount o → (o ≡ refused (k .number) (k .carries) → toldIn o < upper)
-          → (k .holds ≡ false → Answers ks IsCount o → toldIn o < upper)
+      step : (k : Check) (ks : List Check) → Answers (k ∷ ks) (IsCount s) o → (o ≡ refused (k .number) (k .carries) → toldIn o < upper)
+          → (k .holds ≡ false → Answers ks (IsCount s) o → toldIn o < upper)
           → toldIn o < upper
       step k ks q f g =
-          holds-or-not (k .holds) (λ h. f (is-refused IsCount k ks o h q)) (λ h. g h (is-past IsCount k ks o h q))
+          holds-or-not (k .holds) (λ h. f (is-refused (IsCount s) k ks o h q)) (λ h. g h (is-past (IsCount s) k ks o h q))
 
-  counted-right : (o : Outcome ℕ) → Accepted s → Answers [] IsCount o → toldIn o < upper
-  unfolding Answers toldIn IsCount
+  pub counted-right : (o : Outcome ℕ) → Accepted s → Answers [] (IsCount s) o → toldIn o < upper
+  unfolding Answers toldIn
   counted-right (given n) a p = omega (arith, pairs-few a)
   counted-right (refused n c) a p = absurd p
 
   pub counted-small : (r : ListAnswer) → Counted s r → toldIn (listSays r) < upper
-  unfolding IsCount
   counted-small r p = small-after [] (listSays r) (counted-right (listSays r)) p
 
-  listed-small : (room : ℕ) (o : Outcome ℕ) → Answers (listChecks s room) IsCount o → toldIn o < upper
-  unfolding IsCount toldIn
+  listed-small : (room : ℕ) (o : Outcome ℕ) → Answers (listChecks s room) (IsCount s) o → toldIn o < upper
+  unfolding toldIn
   listed-small room o =
       small-after _ o (λ a q.
       holds-or-not _
-      (λ h. let e = is-refused IsCount _ [] o h q in rw e (pairs-few a))
-      (λ h. counted-right o a (is-past IsCount _ [] o h q)))
+      (λ h. let e = is-refused (IsCount s) _ [] o h q in rw e (pairs-few a))
+      (λ h. counted-right o a (is-past (IsCount s) _ [] o h q)))
 
-  met-listed-small : (room : ℕ) (o : Outcome ℕ) → Answers (metChecks s room) IsCount o → toldIn o < upper
-  unfolding IsCount toldIn
+  met-listed-small : (room : ℕ) (o : Outcome ℕ) → Answers (metChecks s room) (IsCount s) o → toldIn o < upper
+  unfolding toldIn
   met-listed-small room o =
       small-after _ o (λ a q.
       holds-or-not _
-      (λ h. nothing-carried (is-refused IsCount (rangeCheck s) _ o h q))
-      (λ h. near a (is-past IsCount (rangeCheck s) _ o h q)))
+      (λ h. nothing-carried (is-refused (IsCount s) (rangeCheck s) _ o h q))
+      (λ h. near a (is-past (IsCount s) (rangeCheck s) _ o h q)))
     where
-      near : Accepted s → Answers (roomCheck s room ∷ []) IsCount o → toldIn o < upper
+      near : Accepted s → Answers (roomCheck s room ∷ []) (IsCount s) o → toldIn o < upper
       near a q =
           holds-or-not _
-          (λ h. let e = is-refused IsCount (roomCheck s room) [] o h q in rw e (pairs-few a))
-          (λ h. counted-right o a (is-past IsCount (roomCheck s room) [] o h q))
+          (λ h. let e = is-refused (IsCount s) (roomCheck s room) [] o h q in rw e (pairs-few a))
+          (λ h. counted-right o a (is-past (IsCount s) (roomCheck s room) [] o h q))
 
 pub met-small : {s : Scene} {o o′ b b′ c c′ : List ℕ} {r : ListAnswer} → MetScene s o o′ b b′ c c′ r → toldIn (listSays r) < upper
-unfolding IsCount
 met-small {s} {o} {o′} {b} {b′} {c} {c′} {r} p = met-listed-small s (metRoom o b c) (listSays r) (p .answer)
 
 pub listing-small : {s : Scene} {o o′ : List ℕ} {r : ListAnswer} → Listing s o o′ r → toldIn (listSays r) < upper
-unfolding IsCount
 listing-small {s} {o} {o′} {r} p = listed-small s (roomOf o) (listSays r) (p .answer)
 
 pub judging-small : {s : Scene} {o o′ b b′ : List ℕ} {r : ListAnswer} → SettledScene s o o′ b b′ r → toldIn (listSays r) < upper
-unfolding IsCount
 judging-small {s} {o} {o′} {b} {b′} {r} p = listed-small s (min (roomOf o) (length b)) (listSays r) (p .answer)
 
 -- ---- a text

@@ -41,7 +41,7 @@ holds-or-not false t f = f refl
 
 module _ {A : Type 0} (Right : A → Type 0) where
   -- a number that no check has is never given
-  never-given : (ks : List Check) (o : Outcome A) (n c : ℕ) → absent n ks ≡ true → Answers ks Right o → o ≡ refused n c → ⊥
+  pub never-given : (ks : List Check) (o : Outcome A) (n c : ℕ) → absent n ks ≡ true → Answers ks Right o → o ≡ refused n c → ⊥
   unfolding absent Answers
   never-given [] (given a) n c e p h = let z : _≡_ {A = ℕ} 0 1 = cc in omega arith
   never-given [] (refused m d) n c e p h = p

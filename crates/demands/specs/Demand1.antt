@@ -34,10 +34,10 @@ pub record SceneRows {A : Type 0} (s : Scene) (o : Outcome A) : Type 0 where
   pub no4 : (o ≡ refused 4 0) ↔ ((wrongShape s ≡ false) × ((outOfRange s ≡ false) × ((unknownVertex s ≡ false) × ((brokenSeam s ≡ false) × (repeatedVertex s ≡ true)))))
 
 -- none of the five, and then
-abbrev ThenIs : Scene → Type 0 → Type 0
+abbrev pub ThenIs : Scene → Type 0 → Type 0
 ThenIs s R = (wrongShape s ≡ false) × ((outOfRange s ≡ false) × ((unknownVertex s ≡ false) × ((brokenSeam s ≡ false) × ((repeatedVertex s ≡ false) × R))))
 
-then-accepted : {s : Scene} {R : Type 0} → ThenIs s R ↔ (Accepted s × R)
+pub then-accepted : {s : Scene} {R : Type 0} → ThenIs s R ↔ (Accepted s × R)
 then-accepted = (
   λ h. (record { shapely = h .0; inRange = h .1 .0; known = h .1 .1 .0; sewnWell = h .1 .1 .1 .0; distinct = h .1 .1 .1 .1 .0 }, h .1 .1 .1 .1 .1),
   λ h. (h .0 .shapely, (h .0 .inRange, (h .0 .known, (h .0 .sewnWell, (h .0 .distinct, h .1))))),
@@ -45,13 +45,13 @@ then-accepted = (
 
 module _ {A : Type 0} (Right : A → Type 0) (s : Scene) (more : List Check) (o : Outcome A)
     (d : distinct (sceneChecks s ++ more) ≡ true) (p : Answers (sceneChecks s ++ more) Right o) where
-  scene-rows : SceneRows s o
+  pub scene-rows : SceneRows s o
   unfolding Refuses carriedBy
   scene-rows =
       let row = refused-exactly Right (sceneChecks s ++ more) o d p in
       record { no1 = row 1; no2 = row 2; no3 = row 3; no15 = row 15; no4 = row 4 }
 
-  numbers-only : (n c : ℕ) → o ≡ refused n c → List·Memᴰ n (map (λ k. k .number) (sceneChecks s ++ more))
+  pub numbers-only : (n c : ℕ) → o ≡ refused n c → List·Memᴰ n (map (λ k. k .number) (sceneChecks s ++ more))
   numbers-only = number-known Right (sceneChecks s ++ more) o p
 
 -- ---- a scene

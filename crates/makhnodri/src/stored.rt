@@ -1,0 +1,94 @@
+// A scene that keeps its boxes, for C and for Rust: filled in, a vertex moved, the list made from them.
+
+ghost use Rattle.meaning.specs.Scene.{sceneAtEntry};
+ghost use Rattle.meaning.specs.Runs.{Tested};
+ghost use Rattle.meaning.specs.StoredBoxes.{BoxesFilled, CountedStored, ListedStored, SettledStored};
+ghost use Rattle.meaning.specs.Dragging.{VertexMoved};
+ghost use Rattle.answer_numbers.specs.Numbers.{sceneNumber, listNumber, Told};
+use answer_numbers::list_number;
+use answer_numbers::scene_number;
+
+// The boxes of a scene, in front of a lent buffer.
+#[no_mangle]
+pub extern "C" fn makhnodri_fill_boxes_slices(
+    positions: &[i32],
+    edges: &[u16],
+    triangles: &[u16],
+    seams: &[u16],
+    boxes: &mut [i32],
+) -> u64
+    ensures { λ r. ⌜ Told sceneNumber (BoxesFilled (sceneAtEntry positions edges triangles seams) (now (boxes .entry)) (now (boxes .exit))) r ⌝ }
+{
+    scene_number(dragging::fill_boxes(positions, edges, triangles, seams, boxes))
+}
+
+// A vertex moved: its six coordinates, start and end, and the boxes of the parts that have it.
+#[no_mangle]
+pub extern "C" fn makhnodri_move_vertex_slices(
+    positions: &mut [i32],
+    edges: &[u16],
+    triangles: &[u16],
+    seams: &[u16],
+    boxes: &mut [i32],
+    vertex: usize,
+    coordinates: &[i32; 6],
+) -> u64
+    ensures { λ r. ⌜ Told sceneNumber (VertexMoved (sceneAtEntry positions edges triangles seams) vertex (now (coordinates .entry)) (now (positions .exit)) (now (boxes .entry)) (now (boxes .exit))) r ⌝ }
+{
+    scene_number(dragging::move_vertex(
+        positions,
+        edges,
+        triangles,
+        seams,
+        boxes,
+        vertex,
+        coordinates,
+    ))
+}
+
+// How many pairs are listed, from the stored boxes, and into the lent number how many boxes of the pt part are tested for that.
+#[no_mangle]
+pub extern "C" fn makhnodri_count_stored_slices(
+    positions: &[i32],
+    edges: &[u16],
+    triangles: &[u16],
+    seams: &[u16],
+    boxes: &[i32],
+    tests: &mut [usize; 1],
+) -> u64
+    ensures { λ r. ⌜ Told listNumber (Tested (sceneAtEntry positions edges triangles seams) (CountedStored (sceneAtEntry positions edges triangles seams) (now (boxes .entry))) (now (tests .entry)) (now (tests .exit))) r ⌝ }
+{
+    list_number(stored_listing::count_stored(positions, edges, triangles, seams, boxes, tests))
+}
+
+// The list made from the stored boxes, in front of a lent buffer, and its box tests.
+#[no_mangle]
+pub extern "C" fn makhnodri_list_stored_slices(
+    positions: &[i32],
+    edges: &[u16],
+    triangles: &[u16],
+    seams: &[u16],
+    boxes: &[i32],
+    list: &mut [u32],
+    tests: &mut [usize; 1],
+) -> u64
+    ensures { λ r. ⌜ Told listNumber (Tested (sceneAtEntry positions edges triangles seams) (ListedStored (sceneAtEntry positions edges triangles seams) (now (boxes .entry)) (now (list .entry)) (now (list .exit))) (now (tests .entry)) (now (tests .exit))) r ⌝ }
+{
+    list_number(stored_listing::list_stored(positions, edges, triangles, seams, boxes, list, tests))
+}
+
+// The list, and the word of each listed pair as a byte: hit, miss, touch or apart.
+#[no_mangle]
+pub extern "C" fn makhnodri_settle_stored_slices(
+    positions: &[i32],
+    edges: &[u16],
+    triangles: &[u16],
+    seams: &[u16],
+    boxes: &[i32],
+    list: &mut [u32],
+    words: &mut [u8],
+) -> u64
+    ensures { λ r. ⌜ Told listNumber (SettledStored (sceneAtEntry positions edges triangles seams) (now (boxes .entry)) (now (list .entry)) (now (list .exit)) (now (words .entry)) (now (words .exit))) r ⌝ }
+{
+    list_number(stored_words::settle_stored(positions, edges, triangles, seams, boxes, list, words))
+}
