@@ -2,7 +2,7 @@
  * Answers questions from another program with what the library answers, number for number: one question after the other on
  * standard input, one answer after the other on standard output, until the input ends. compare/raw runs it.
  *
- * A question is `struct question`, then each of the nine buffers in the order of the `enum`: as many numbers as its length
+ * A question is `struct question`, then each of the twelve buffers in the order of the `enum`: as many numbers as its length
  * says, with MARGIN bytes in front of them and MARGIN behind, which are not lent. An answer is the number that the call gave,
  * then all those bytes as the call left them.
  */
@@ -14,8 +14,8 @@
 /* each buffer is aligned for 64-bit numbers, and not for more */
 enum { MARGIN = 24, CAPACITY = 1 << 22 };
 
-enum { POSITIONS, EDGES, TRIANGLES, SEAMS, LIST, WORDS, TEXT, COUNTS, REPORT, CONTACTS, BUFFERS };
-static const size_t size_of[BUFFERS] = {4, 2, 2, 2, 4, 1, 1, sizeof(size_t), 1, 4};
+enum { POSITIONS, EDGES, TRIANGLES, SEAMS, LIST, WORDS, TEXT, COUNTS, REPORT, CONTACTS, BOXES, COORDINATES, BUFFERS };
+static const size_t size_of[BUFFERS] = {4, 2, 2, 2, 4, 1, 1, sizeof(size_t), 1, 4, 4, 4};
 
 struct question {
     uint64_t call, asked[3], length[BUFFERS];
@@ -35,6 +35,7 @@ static void give_up(const char *why) {
 #define THREE lent(POSITIONS), q->length[POSITIONS], lent(EDGES), q->length[EDGES], lent(TRIANGLES), q->length[TRIANGLES]
 #define SCENE THREE, lent(SEAMS), q->length[SEAMS]
 #define PAIR SCENE, q->asked[0], q->asked[1]
+#define STORED SCENE, lent(BOXES), q->length[BOXES]
 
 static uint64_t answer(const struct question *q) {
     switch (q->call) {
@@ -65,6 +66,11 @@ static uint64_t answer(const struct question *q) {
                                              q->length[CONTACTS]);
     case 21: return makhnodri_saved_length_slices(SCENE);
     case 22: return makhnodri_save_scene_slices(SCENE, lent(TEXT), q->length[TEXT]);
+    case 23: return makhnodri_fill_boxes_slices(STORED);
+    case 24: return makhnodri_move_vertex_slices(STORED, q->asked[0], lent(COORDINATES));
+    case 25: return makhnodri_count_stored_slices(STORED, lent(COUNTS));
+    case 26: return makhnodri_list_stored_slices(STORED, lent(LIST), q->length[LIST], lent(COUNTS));
+    case 27: return makhnodri_settle_stored_slices(STORED, lent(LIST), q->length[LIST], lent(WORDS), q->length[WORDS]);
     }
     give_up("no such call");
     return 0;

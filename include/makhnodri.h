@@ -51,6 +51,7 @@ extern "C" {
 #define MAKHNODRI_EDGES_LENGTH 2048     /* 1024 x 2 */
 #define MAKHNODRI_TRIANGLES_LENGTH 1536 /* 512 x 3 */
 #define MAKHNODRI_SEAMS_LENGTH 1024     /* 512 x 2 */
+#define MAKHNODRI_BOXES_LENGTH 12288    /* (512 + 1024 + 512) x 6, of the boxes that a scene keeps */
 
 /* enough stack for any call, in bytes */
 #define MAKHNODRI_STACK 131072
@@ -105,6 +106,9 @@ extern "C" {
  *     contact_scene    86,344      contact_pt, contact_ee       2,976
  *     saved_length      1,464      save_scene                   1,576
  *     settle_list       3,184      contact_list                 3,296
+ *     fill_boxes        1,352      move_vertex                 12,728
+ *     count_stored     53,144      list_stored                 86,080
+ *     settle_stored    86,096
  *
  * ---- An answer ----
  *
@@ -115,7 +119,7 @@ extern "C" {
  */
 typedef uint64_t makhnodri_answer;
 
-/* the refusal's number, 1 to 12, 15 or 16, or 0 where the answer is a value */
+/* the refusal's number, 1 to 17, or 0 where the answer is a value */
 static inline uint32_t makhnodri_refusal(makhnodri_answer answer) { return (uint32_t)(answer >> 32); }
 
 /* the value; of a refusal, the line or the needed count. Look at makhnodri_refusal first: both may be 0 */
@@ -177,6 +181,7 @@ static inline uint32_t makhnodri_entry_second(uint32_t entry) { return entry & 1
  * Of a text: 12, 8, then the first faulty line, and in it 9, 10, 11, 2, 3, 15, 4.
  * Of claims: the scene's, 8, then the first faulty line, and in it 9, 5, 6; 7 last.
  * Of a scene that is saved: the scene's, then 8, then 7.
+ * Of a scene that keeps its boxes: 12, the scene's; then for a move 5, 2 of the new coordinates, 15; for the list 17, then 7.
  */
 enum {
     MAKHNODRI_SHAPE = 1,           /* positions not a multiple of 6 long, edges of 2, triangles of 3, seams of 2, or a count over its size */
@@ -190,9 +195,12 @@ enum {
     MAKHNODRI_BAD_LINE = 9,        /* a line not of the form, or a last line without LF; with the line */
     MAKHNODRI_LATE_RECORD = 10,    /* a record after one of a later kind; with the line */
     MAKHNODRI_TOO_MANY = 11,       /* one record more than its size; with the line */
-    MAKHNODRI_SHORT_BUFFER = 12,   /* a lent scene buffer shorter than 3,072 positions, 2,048 edge, 1,536 triangle or 1,024 seam numbers */
+    MAKHNODRI_SHORT_BUFFER = 12,   /* a lent scene buffer shorter than 3,072 positions, 2,048 edge, 1,536 triangle, 1,024 seam or 12,288 box numbers */
+    MAKHNODRI_BLOCK_LENGTH = 13,   /* a block of a series with more or fewer v lines than there are vertices; with the line */
+    MAKHNODRI_FILES_DIFFER = 14,   /* two OBJ files that differ in vertex count, or in the faces and their order */
     MAKHNODRI_BROKEN_SEAM = 15,    /* a seam that breaks the rules of seams, or whose two positions differ at either time; of a text, with the line */
-    MAKHNODRI_BEYOND_OLD_RANGE = 16 /* a contact asked for in a scene with a coordinate beyond MAKHNODRI_CONTACT_LIMIT in size */
+    MAKHNODRI_BEYOND_OLD_RANGE = 16, /* a contact asked for in a scene with a coordinate beyond MAKHNODRI_CONTACT_LIMIT in size */
+    MAKHNODRI_STALE_BOX = 17       /* a stored box that is not the one worked out from the positions */
 };
 /* A line is counted from 1. */
 
@@ -226,8 +234,11 @@ static inline const char *makhnodri_refusal_words(uint32_t refusal) {
     case MAKHNODRI_LATE_RECORD: return "a record after one of a later kind";
     case MAKHNODRI_TOO_MANY: return "one record more than its size";
     case MAKHNODRI_SHORT_BUFFER: return "a lent scene buffer that is too short";
+    case MAKHNODRI_BLOCK_LENGTH: return "a block of a series has more or fewer v lines than there are vertices";
+    case MAKHNODRI_FILES_DIFFER: return "two OBJ files differ in vertex count, or in the faces and their order";
     case MAKHNODRI_BROKEN_SEAM: return "a seam that breaks the rules of seams, or whose two positions differ";
     case MAKHNODRI_BEYOND_OLD_RANGE: return "a contact asked for in a scene with a coordinate beyond 262,143";
+    case MAKHNODRI_STALE_BOX: return "a stored box that isn't the one worked out";
     default: return "no refusal";
     }
 }
@@ -256,6 +267,40 @@ typedef struct makhnodri_buffers {
     uint16_t triangles[MAKHNODRI_TRIANGLES_LENGTH];
     uint16_t seams[MAKHNODRI_SEAMS_LENGTH];
 } makhnodri_buffers;
+
+/*
+ * A scene that keeps its boxes: the lists of a scene, of which the positions are written by a move, and its boxes. Boxes are six
+ * numbers each, the three lows first, then the three highs, over start and end: of all vertices, then of all edges, then of all
+ * triangles, packed by the counts that the scene has. So vertex v has its box at boxes[6 * v], edge e at boxes[6 * (vertices + e)],
+ * triangle t at boxes[6 * (vertices + edges + t)]. boxes_length is at least MAKHNODRI_BOXES_LENGTH, however many parts there are;
+ * what lies behind the boxes is neither read nor written. What is not set is to be 0, as in makhnodri_scene.
+ */
+typedef struct makhnodri_boxed_scene {
+    int32_t *positions;
+    size_t positions_length;
+    const uint16_t *edges;
+    size_t edges_length;
+    const uint16_t *triangles;
+    size_t triangles_length;
+    const uint16_t *seams;
+    size_t seams_length;
+    int32_t *boxes;
+    size_t boxes_length;
+} makhnodri_boxed_scene;
+
+/* The same scene for every other call; its lists stay where they are, and what a move writes is seen by both. */
+static inline makhnodri_scene makhnodri_scene_of(const makhnodri_boxed_scene *boxed) {
+    makhnodri_scene scene;
+    scene.positions = boxed->positions;
+    scene.positions_length = boxed->positions_length;
+    scene.edges = boxed->edges;
+    scene.edges_length = boxed->edges_length;
+    scene.triangles = boxed->triangles;
+    scene.triangles_length = boxed->triangles_length;
+    scene.seams = boxed->seams;
+    scene.seams_length = boxed->seams_length;
+    return scene;
+}
 
 /*
  * ---- The plain functions ----
@@ -295,11 +340,23 @@ makhnodri_answer makhnodri_save_scene_slices(MAKHNODRI_LISTS, uint8_t *text, siz
 makhnodri_answer makhnodri_read_scene_slices(const uint8_t *text, size_t text_length, int32_t *positions, size_t positions_length,
                                              uint16_t *edges, size_t edges_length, uint16_t *triangles, size_t triangles_length,
                                              uint16_t *seams, size_t seams_length, size_t counts[MAKHNODRI_AT_LEAST(4)]);
+makhnodri_answer makhnodri_fill_boxes_slices(MAKHNODRI_LISTS, int32_t *boxes, size_t boxes_length);
+makhnodri_answer makhnodri_move_vertex_slices(int32_t *positions, size_t positions_length, const uint16_t *edges, size_t edges_length,
+                                              const uint16_t *triangles, size_t triangles_length, const uint16_t *seams,
+                                              size_t seams_length, int32_t *boxes, size_t boxes_length, size_t vertex,
+                                              const int32_t coordinates[MAKHNODRI_AT_LEAST(6)]);
+makhnodri_answer makhnodri_count_stored_slices(MAKHNODRI_LISTS, const int32_t *boxes, size_t boxes_length,
+                                               size_t tests[MAKHNODRI_AT_LEAST(1)]);
+makhnodri_answer makhnodri_list_stored_slices(MAKHNODRI_LISTS, const int32_t *boxes, size_t boxes_length, uint32_t *list,
+                                              size_t list_length, size_t tests[MAKHNODRI_AT_LEAST(1)]);
+makhnodri_answer makhnodri_settle_stored_slices(MAKHNODRI_LISTS, const int32_t *boxes, size_t boxes_length, uint32_t *list,
+                                                size_t list_length, uint8_t *words, size_t words_length);
 
-/* the lists of a struct, as the plain functions take them */
+/* the lists of a struct, as the plain functions take them; of a scene that keeps its boxes, those too */
 #define MAKHNODRI_LISTS_OF(scene)                                                                                                 \
     (scene)->positions, (scene)->positions_length, (scene)->edges, (scene)->edges_length, (scene)->triangles,                     \
         (scene)->triangles_length, (scene)->seams, (scene)->seams_length
+#define MAKHNODRI_BOXED_LISTS_OF(boxed) MAKHNODRI_LISTS_OF(boxed), (boxed)->boxes, (boxed)->boxes_length
 
 /* The vertex that a vertex stands for, by the seams of an accepted scene: another, or itself. Lower and higher go by this number. */
 static inline size_t makhnodri_stands_for(const makhnodri_scene *scene, size_t vertex) {
@@ -476,6 +533,53 @@ static inline makhnodri_answer makhnodri_contact_list(const makhnodri_scene *sce
                                                       uint8_t *words, size_t words_length, uint32_t *contacts,
                                                       size_t contacts_length) {
     return makhnodri_contact_list_slices(MAKHNODRI_LISTS_OF(scene), list, list_length, words, words_length, contacts, contacts_length);
+}
+
+/*
+ * ---- Dragging one vertex, in a scene that keeps its boxes ----
+ *
+ * makhnodri_fill_boxes works all boxes out, once. makhnodri_move_vertex then sets one vertex's six coordinates and works out the boxes
+ * of the parts that have it, and no others; so right boxes stay right, over any number of moves. makhnodri_count_stored,
+ * _list_stored and _settle_stored are makhnodri_count_pairs, _list_pairs and _settle_scene, with the list made from the stored boxes
+ * after one look over all of them. Whoever changes a position in another way fills the boxes anew; else the list is refused with 17.
+ * Every other question is asked of makhnodri_scene_of.
+ *
+ * Each may refuse with 12, where boxes_length is under MAKHNODRI_BOXES_LENGTH, before the scene's 1, 2, 3, 15, 4.
+ */
+
+/* Fills in the boxes of a scene. 0; or a refusal, after which nothing has changed. What lies behind the boxes is unchanged. */
+static inline makhnodri_answer makhnodri_fill_boxes(makhnodri_boxed_scene *boxed) {
+    return makhnodri_fill_boxes_slices(MAKHNODRI_BOXED_LISTS_OF(boxed));
+}
+
+/*
+ * Moves a vertex: its six coordinates are then those given, start x, y, z, end x, y, z, and the boxes of that vertex and of the edges
+ * and triangles that have its number are the ones worked out from the positions. No other number changes, and no stored box is
+ * looked at: one that is not the one worked out stays so. 0; or after the scene's refusals 5 where there is no such vertex, 2 where a
+ * new coordinate is outside its range, 15 where a seam would come apart, whichever of its two vertices is moved; and nothing has
+ * changed. Vertices that are sewn together are moved with boxed->seams_length at 0 meanwhile, each to the same coordinates: boxes do
+ * not go by seams.
+ */
+static inline makhnodri_answer makhnodri_move_vertex(makhnodri_boxed_scene *boxed, size_t vertex,
+                                                     const int32_t coordinates[MAKHNODRI_AT_LEAST(6)]) {
+    return makhnodri_move_vertex_slices(MAKHNODRI_BOXED_LISTS_OF(boxed), vertex, coordinates);
+}
+
+/* As makhnodri_count_pairs; or 17, after the scene's, where a stored box is not the one worked out. The look is no box test. */
+static inline makhnodri_answer makhnodri_count_stored(const makhnodri_boxed_scene *boxed, size_t tests[MAKHNODRI_AT_LEAST(1)]) {
+    return makhnodri_count_stored_slices(MAKHNODRI_BOXED_LISTS_OF(boxed), tests);
+}
+
+/* As makhnodri_list_pairs; 17 comes after the scene's refusals and before 7. */
+static inline makhnodri_answer makhnodri_list_stored(const makhnodri_boxed_scene *boxed, uint32_t *list, size_t list_length,
+                                                     size_t tests[MAKHNODRI_AT_LEAST(1)]) {
+    return makhnodri_list_stored_slices(MAKHNODRI_BOXED_LISTS_OF(boxed), list, list_length, tests);
+}
+
+/* As makhnodri_settle_scene; 17 comes after the scene's refusals and before 7. */
+static inline makhnodri_answer makhnodri_settle_stored(const makhnodri_boxed_scene *boxed, uint32_t *list, size_t list_length,
+                                                       uint8_t *words, size_t words_length) {
+    return makhnodri_settle_stored_slices(MAKHNODRI_BOXED_LISTS_OF(boxed), list, list_length, words, words_length);
 }
 
 /* ---- Texts ---- */

@@ -6,6 +6,7 @@
 #[cfg(feature = "earlier")]
 mod against;
 mod contacts;
+mod dragging;
 #[cfg(feature = "earlier")]
 mod earlier;
 mod errors;
@@ -98,6 +99,7 @@ fn main() {
     bench.contacts();
     bench.reports();
     bench.saving();
+    bench.dragging();
     bench.wrong_answers();
 }
 

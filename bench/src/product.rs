@@ -12,6 +12,11 @@
 //! | makhnodri_settle_list_slices | a scene, list u32, words u8 | an answer; the word of each entry of the list, which is only read |
 //! | makhnodri_contact_scene_slices | a scene, list u32, words u8, contacts u32 | as makhnodri_settle_scene_slices, and five numbers for each hit |
 //! | makhnodri_contact_pt_slices, makhnodri_contact_ee_slices | a scene, two places, five numbers | an answer: the pair's word; the numbers of a hit |
+//! | makhnodri_check_scene_slices | a scene | an answer: 0 |
+//! | makhnodri_fill_boxes_slices | a scene, boxes i32 | an answer: 0; the boxes |
+//! | makhnodri_move_vertex_slices | a scene, boxes i32, a vertex, six coordinates | an answer: 0; the vertex moved, and its parts' boxes |
+//! | makhnodri_list_stored_slices | a scene, boxes i32, list u32, one number | as makhnodri_list_pairs_slices, from the boxes |
+//! | makhnodri_settle_stored_slices | a scene, boxes i32, list u32, words u8 | as makhnodri_settle_scene_slices, from the boxes |
 //! | makhnodri_save_scene_slices | a scene's four lists, text u8 | an answer; the scene's text |
 //! | makhnodri_read_scene_slices | text u8, a scene's four lists of full size, four counts | an answer; the scene and its counts |
 //! | makhnodri_write_report | text u8, 65,536 bytes for the report | the length of the report |
@@ -170,6 +175,63 @@ mod linked {
         fn makhnodri_contact_scene_slices(positions: *const i32, positions_len: usize, edges: *const u16, edges_len: usize, triangles: *const u16, triangles_len: usize, seams: *const u16, seams_len: usize, list: *mut u32, list_len: usize, words: *mut u8, words_len: usize, contacts: *mut u32, contacts_len: usize) -> u64;
         fn makhnodri_contact_pt_slices(positions: *const i32, positions_len: usize, edges: *const u16, edges_len: usize, triangles: *const u16, triangles_len: usize, seams: *const u16, seams_len: usize, vertex: usize, triangle: usize, contact: *mut u32) -> u64;
         fn makhnodri_contact_ee_slices(positions: *const i32, positions_len: usize, edges: *const u16, edges_len: usize, triangles: *const u16, triangles_len: usize, seams: *const u16, seams_len: usize, first: usize, second: usize, contact: *mut u32) -> u64;
+    }
+
+    #[rustfmt::skip]
+    extern "C" {
+        fn makhnodri_check_scene_slices(positions: *const i32, positions_len: usize, edges: *const u16, edges_len: usize, triangles: *const u16, triangles_len: usize, seams: *const u16, seams_len: usize) -> u64;
+        fn makhnodri_fill_boxes_slices(positions: *const i32, positions_len: usize, edges: *const u16, edges_len: usize, triangles: *const u16, triangles_len: usize, seams: *const u16, seams_len: usize, boxes: *mut i32, boxes_len: usize) -> u64;
+        fn makhnodri_move_vertex_slices(positions: *mut i32, positions_len: usize, edges: *const u16, edges_len: usize, triangles: *const u16, triangles_len: usize, seams: *const u16, seams_len: usize, boxes: *mut i32, boxes_len: usize, vertex: usize, coordinates: *const i32) -> u64;
+        fn makhnodri_list_stored_slices(positions: *const i32, positions_len: usize, edges: *const u16, edges_len: usize, triangles: *const u16, triangles_len: usize, seams: *const u16, seams_len: usize, boxes: *const i32, boxes_len: usize, list: *mut u32, list_len: usize, tests: *mut usize) -> u64;
+        fn makhnodri_settle_stored_slices(positions: *const i32, positions_len: usize, edges: *const u16, edges_len: usize, triangles: *const u16, triangles_len: usize, seams: *const u16, seams_len: usize, boxes: *const i32, boxes_len: usize, list: *mut u32, list_len: usize, words: *mut u8, words_len: usize) -> u64;
+    }
+
+    /// A scene that keeps its boxes.
+    impl Product {
+        pub fn check(&self, s: &Slices) -> Answer {
+            // SAFETY: each pointer comes with the length of its own slice
+            answer(unsafe { scene!(makhnodri_check_scene_slices, s) })
+        }
+
+        pub fn fill_boxes(&self, s: &Slices, boxes: &mut [i32]) -> Answer {
+            // SAFETY: as above, and what is written overlaps nothing else
+            answer(unsafe { scene!(makhnodri_fill_boxes_slices, s, boxes.as_mut_ptr(), boxes.len()) })
+        }
+
+        /// The positions are moved; what else the slices hold of them is not.
+        pub fn move_vertex(&self, s: &mut Slices, boxes: &mut [i32], vertex: usize, to: &[i32; 6]) -> Answer {
+            let (p, n) = (s.positions.as_mut_ptr(), s.positions.len());
+            let (e, t, w) = (&s.edges, &s.triangles, &s.seams);
+            // SAFETY: as above, and there are six coordinates
+            answer(unsafe {
+                makhnodri_move_vertex_slices(
+                    p,
+                    n,
+                    e.as_ptr(),
+                    e.len(),
+                    t.as_ptr(),
+                    t.len(),
+                    w.as_ptr(),
+                    w.len(),
+                    boxes.as_mut_ptr(),
+                    boxes.len(),
+                    vertex,
+                    to.as_ptr(),
+                )
+            })
+        }
+
+        pub fn list_stored(&self, s: &Slices, boxes: &[i32], list: &mut [u32], tests: &mut [usize; 1]) -> Answer {
+            let (b, l) = ((boxes.as_ptr(), boxes.len()), (list.as_mut_ptr(), list.len()));
+            // SAFETY: as above, and there is one number
+            answer(unsafe { scene!(makhnodri_list_stored_slices, s, b.0, b.1, l.0, l.1, tests.as_mut_ptr()) })
+        }
+
+        pub fn settle_stored(&self, s: &Slices, boxes: &[i32], list: &mut [u32], words: &mut [u8]) -> Answer {
+            let (b, l) = ((boxes.as_ptr(), boxes.len()), (list.as_mut_ptr(), list.len()));
+            // SAFETY: as above
+            answer(unsafe { scene!(makhnodri_settle_stored_slices, s, b.0, b.1, l.0, l.1, words.as_mut_ptr(), words.len()) })
+        }
     }
 
     /// Contacts.
@@ -381,6 +443,26 @@ mod missing {
         }
 
         pub fn settle(&self, _: &Slices, _: u32) -> Answer {
+            match *self {}
+        }
+
+        pub fn check(&self, _: &Slices) -> Answer {
+            match *self {}
+        }
+
+        pub fn fill_boxes(&self, _: &Slices, _: &mut [i32]) -> Answer {
+            match *self {}
+        }
+
+        pub fn move_vertex(&self, _: &mut Slices, _: &mut [i32], _: usize, _: &[i32; 6]) -> Answer {
+            match *self {}
+        }
+
+        pub fn list_stored(&self, _: &Slices, _: &[i32], _: &mut [u32], _: &mut [usize; 1]) -> Answer {
+            match *self {}
+        }
+
+        pub fn settle_stored(&self, _: &Slices, _: &[i32], _: &mut [u32], _: &mut [u8]) -> Answer {
             match *self {}
         }
 

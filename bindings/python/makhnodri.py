@@ -48,6 +48,7 @@ POSITIONS_LENGTH = 3072
 EDGES_LENGTH = 2048
 TRIANGLES_LENGTH = 1536
 SEAMS_LENGTH = 1024
+BOXES_LENGTH = 12288
 STACK = 131072
 REPORT_LENGTH = 65536
 
@@ -98,8 +99,11 @@ _REFUSALS = (
     ("LATE_RECORD", 10, "a record after one of a later kind"),
     ("TOO_MANY", 11, "one record more than its size"),
     ("SHORT_BUFFER", 12, "a lent scene buffer that is too short"),
+    ("BLOCK_LENGTH", 13, "a block of a series has more or fewer v lines than there are vertices"),
+    ("FILES_DIFFER", 14, "two OBJ files differ in vertex count, or in the faces and their order"),
     ("BROKEN_SEAM", 15, "a seam that breaks the rules of seams, or whose two positions differ"),
     ("BEYOND_OLD_RANGE", 16, "a contact asked for in a scene with a coordinate beyond 262,143"),
+    ("STALE_BOX", 17, "a stored box that isn't the one worked out"),
 )
 globals().update({name: number for name, number, _ in _REFUSALS})
 _WORDS_OF = {number: words for _, number, words in _REFUSALS}
@@ -336,10 +340,16 @@ class _Fixed:
     def words(self, given, lent):
         if given is None and self.optional:
             given = _room(self.numbers, self.length)
-        address, length = lent.lend(self.name, given, self.numbers, True)
+        address, length = lent.lend(self.name, given, self.numbers, self.written)
         if length < self.length:
             raise ValueError(f"{self.name}: {self.length} numbers are wanted, and here are {length}")
         return (address,)
+
+
+class _FixedRead(_Fixed):
+    """The same, and it is only read."""
+
+    written = False
 
 
 class _Place:
@@ -370,6 +380,12 @@ class _Lists:
         return [word for part in self.parts for word in part.words(getattr(given, part.name), lent)]
 
 
+class _MovedLists(_Lists):
+    """A `Scene` whose positions are written."""
+
+    parts = (_Write("positions", _INT32), *_Lists.parts[1:])
+
+
 # what a call gives where it does not refuse
 def _NOTHING(_):
     return None
@@ -382,6 +398,7 @@ _TESTS = _Fixed("tests", _SIZE, 1, optional=True)
 _LIST, _OWN_LIST, _WORDS = _Write("list", _UINT32), _Read("list", _UINT32), _Write("words", _UINT8)
 _CONTACT, _CONTACTS = _Fixed("contact", _UINT32, CONTACT_LENGTH), _Write("contacts", _UINT32)
 _POINT, _EDGES, _PIECE = (_Place("vertex"), _Place("triangle")), (_Place("first"), _Place("second")), _Place("piece")
+_BOXES, _STORED = _Write("boxes", _INT32), _Read("boxes", _INT32)
 _THREE = (_Write("positions", _INT32), _Write("edges", _UINT16), _Write("triangles", _UINT16))
 
 # A row a function of the library: its name there without `makhnodri_`, what it gives, its arguments in the header's order. Here it is called without
@@ -410,6 +427,11 @@ _FUNCTIONS = (
     ("read_scene_slices", _NOTHING, _Read("text", _UINT8), *_THREE, _Write("seams", _UINT16), _Fixed("counts", _SIZE, 4)),
     ("write_report", _COUNT, _Read("text", _UINT8), _Fixed("out", _UINT8, REPORT_LENGTH)),
     ("turn_scene", _NOTHING, *_THREE),
+    ("fill_boxes_slices", _NOTHING, _SCENE, _BOXES),
+    ("move_vertex_slices", _NOTHING, _MovedLists(), _BOXES, _Place("vertex"), _FixedRead("coordinates", _INT32, 6)),
+    ("count_stored_slices", _COUNT, _SCENE, _STORED, _TESTS),
+    ("list_stored_slices", _COUNT, _SCENE, _STORED, _LIST, _TESTS),
+    ("settle_stored_slices", _COUNT, _SCENE, _STORED, _LIST, _WORDS),
 )
 
 
@@ -475,6 +497,13 @@ def _room(numbers, count):
 def _in_a_row(given, numbers):
     """A list or a tuple of Python's has no buffer, and is copied into one that has."""
     return array.array(numbers.code, given) if isinstance(given, (list, tuple)) else given
+
+
+def _copied(given, numbers):
+    """An array of one's own with the numbers of a buffer."""
+    with _Lent() as held:
+        address, length = held.lend("scene", given, numbers, False)
+        return array.array(numbers.code, ctypes.string_at(address, length * numbers.bytes) if length else b"")
 
 
 class Scene:
@@ -547,6 +576,68 @@ class Scene:
     def __repr__(self):
         sizes = ((part.name, getattr(self, part.name)) for part in _Lists.parts)
         return f"<Scene {', '.join(f'{name}: {0 if given is None else memoryview(given).nbytes} bytes' for name, given in sizes)}>"
+
+
+class BoxedScene:
+    """A scene that keeps the boxes of its parts, for a program that drags one vertex after the other. It has its own copy of the scene's lists, and
+    nothing but a move changes them here; a move works out the boxes of the parts that have the vertex, and the list is made from those that are
+    stored. `scene` is the scene as it stands, for every other question; whoever writes into its buffers all the same makes the next list a
+    `Refused` with number 17."""
+
+    __slots__ = ("_scene", "_boxes")
+
+    def __init__(self, scene):
+        self._scene = Scene(*(_copied(getattr(scene, part.name), part.numbers) for part in _Lists.parts))
+        self._boxes = _room(_INT32, BOXES_LENGTH)
+        fill_boxes(self._scene, self._boxes)
+
+    @classmethod
+    def read(cls, text):
+        """Of a text (docs/FORMAT.md), a buffer of bytes."""
+        return cls(Scene.read(text))
+
+    @property
+    def scene(self):
+        return self._scene
+
+    @property
+    def boxes(self):
+        """The boxes of all vertices, then edges, then triangles, six numbers each, the three lows first: a view that may not be written."""
+        scene = self._scene
+        parts = len(scene.positions) // 6 + len(scene.edges) // 2 + len(scene.triangles) // 3
+        return memoryview(self._boxes).toreadonly()[: 6 * parts]
+
+    def move_vertex(self, vertex, coordinates):
+        """Sets one vertex's six coordinates, start x, y, z, end x, y, z. Refused with 5, 2 or 15, and nothing has changed then."""
+        move_vertex(self._scene, self._boxes, vertex, _in_a_row(coordinates, _INT32))
+
+    def move_sewn(self, vertex, coordinates):
+        """Moves a vertex with all that are sewn to it, to the same coordinates, so that no seam comes apart: refused with 5 or 2."""
+        together = [other for other in range(len(self._scene.positions) // 6) if stands_for(self._scene, other) == stands_for(self._scene, vertex)]
+        seams, self._scene.seams = self._scene.seams, None  # boxes do not go by seams
+        try:
+            for other in (vertex, *together):
+                self.move_vertex(other, coordinates)
+        finally:
+            self._scene.seams = seams
+
+    def listed(self):
+        """The listed pairs, in order."""
+        entries = _room(_UINT32, count_stored(self._scene, self._boxes))
+        list_stored(self._scene, self._boxes, entries)
+        return [Pair.of_entry(number) for number in entries]
+
+    def settled(self):
+        """The listed pairs, in order, each with its word of four."""
+        count = count_stored(self._scene, self._boxes)
+        entries, words = _room(_UINT32, count), _room(_UINT8, count)
+        settle_stored(self._scene, self._boxes, entries, words)
+        return [(Pair.of_entry(number), Word(word)) for number, word in zip(entries, words)]
+
+
+def scene_of(boxed):
+    """The scene of one that keeps its boxes, for every other call."""
+    return boxed.scene
 
 
 def stands_for(scene, vertex):

@@ -6,3 +6,6 @@ pub mod expected;
 pub mod harm;
 pub mod question;
 pub mod sorts;
+pub mod stored;
+pub mod stored_damaged;
+pub mod stored_sorts;

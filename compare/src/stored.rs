@@ -9,8 +9,9 @@ use crate::slices::{self, Slices};
 pub const BOX_NUMBERS: usize = 6 * (VERTEX_LIMIT + EDGE_LIMIT + TRIANGLE_LIMIT);
 
 /// The mistakes that the request invites. `None` of them is the right way.
-#[derive(Clone, Copy, Debug, PartialEq, Eq)]
+#[derive(Clone, Copy, Debug, Default, PartialEq, Eq)]
 pub enum Wrong {
+    #[default]
     None,
     /// a move joins stored boxes of vertices, where another may be stale
     JoinsStored,
@@ -110,6 +111,11 @@ pub fn moved(lent: Slices, stored: &[i64], vertex: u64, to: [i64; 6], wrong: Wro
 /// 12, the scene's, 17, 7; else the list.
 pub fn listed(lent: Slices, stored: &[i64], room: usize, wrong: Wrong) -> Result<Vec<Pair>, Refusal> {
     let scene = checked(lent, stored)?;
+    let all_right = || boxes(&scene, Wrong::None).iter().eq(&stored[..6 * parts(&scene).len()]);
+    // a shorter way to the refusal that most questions end with
+    if wrong == Wrong::None && !all_right() {
+        return Err(Refusal::bare(STALE_BOX));
+    }
     let pairs = listing::listed(&scene);
     let looked_at = |part: &[usize]| match wrong {
         Wrong::ListedOnly => pairs.iter().any(|pair| <[_; 2]>::from(pair.parts(&scene)).contains(&part)),

@@ -58,6 +58,42 @@ static void hold_slices(void) {
     hold("turn_scene", makhnodri_turn_scene(NULL, 0, NULL, 0, NULL, 0), 0, 0);
 }
 
+/* a scene that keeps its boxes: no boxes at all are 12, boxes of no scene are not looked at */
+static void hold_boxed_slices(void) {
+    static int32_t boxes[MAKHNODRI_BOXES_LENGTH];
+    static const int32_t to[6] = {0};
+    size_t tests[1] = {7};
+    hold("fill_boxes, no boxes", makhnodri_fill_boxes_slices(NO_SCENE, NULL, 0), MAKHNODRI_SHORT_BUFFER, 0);
+    hold("move_vertex, no boxes", makhnodri_move_vertex_slices(NO_SCENE, NULL, 0, 0, to), MAKHNODRI_SHORT_BUFFER, 0);
+    hold("count_stored, no boxes", makhnodri_count_stored_slices(NO_SCENE, NULL, 0, tests), MAKHNODRI_SHORT_BUFFER, 0);
+    hold("list_stored, no boxes", makhnodri_list_stored_slices(NO_SCENE, NULL, 0, NULL, 0, tests), MAKHNODRI_SHORT_BUFFER, 0);
+    hold("settle_stored, no boxes", makhnodri_settle_stored_slices(NO_SCENE, NULL, 0, NULL, 0, NULL, 0), MAKHNODRI_SHORT_BUFFER, 0);
+    if (tests[0] != 7) wrong = 1, puts("box tests without boxes");
+    for (size_t i = 0; i < MAKHNODRI_BOXES_LENGTH; i++) boxes[i] = 7;
+    hold("fill_boxes", makhnodri_fill_boxes_slices(NO_SCENE, boxes, MAKHNODRI_BOXES_LENGTH), 0, 0);
+    hold("move_vertex", makhnodri_move_vertex_slices(NO_SCENE, boxes, MAKHNODRI_BOXES_LENGTH, 0, to), MAKHNODRI_NOT_THERE, 0);
+    hold("count_stored", makhnodri_count_stored_slices(NO_SCENE, boxes, MAKHNODRI_BOXES_LENGTH, tests), 0, 0);
+    hold("list_stored", makhnodri_list_stored_slices(NO_SCENE, boxes, MAKHNODRI_BOXES_LENGTH, NULL, 0, tests), 0, 0);
+    hold("settle_stored", makhnodri_settle_stored_slices(NO_SCENE, boxes, MAKHNODRI_BOXES_LENGTH, NULL, 0, NULL, 0), 0, 0);
+    if (tests[0]) wrong = 1, puts("box tests of no scene's boxes");
+
+    /* the same by the calls that take a struct */
+    makhnodri_boxed_scene boxed = {0};
+    hold("fill_boxes of a struct", makhnodri_fill_boxes(&boxed), MAKHNODRI_SHORT_BUFFER, 0);
+    boxed.boxes = boxes, boxed.boxes_length = MAKHNODRI_BOXES_LENGTH;
+    hold("fill_boxes of a struct", makhnodri_fill_boxes(&boxed), 0, 0);
+    hold("move_vertex of a struct", makhnodri_move_vertex(&boxed, 0, to), MAKHNODRI_NOT_THERE, 0);
+    tests[0] = 7;
+    hold("count_stored of a struct", makhnodri_count_stored(&boxed, tests), 0, 0);
+    hold("list_stored of a struct", makhnodri_list_stored(&boxed, NULL, 0, tests), 0, 0);
+    hold("settle_stored of a struct", makhnodri_settle_stored(&boxed, NULL, 0, NULL, 0), 0, 0);
+    if (tests[0]) wrong = 1, puts("box tests of an empty struct's boxes");
+    makhnodri_scene scene = makhnodri_scene_of(&boxed);
+    hold("check_scene of a struct with boxes", makhnodri_check_scene(&scene), 0, 0);
+    for (size_t i = 0; i < MAKHNODRI_BOXES_LENGTH; i++)
+        if (boxes[i] != 7) wrong = 1, i = MAKHNODRI_BOXES_LENGTH, puts("a box of no scene");
+}
+
 /* by the calls that take a struct */
 static void hold_scene(const makhnodri_scene *scene) {
     hold("check_scene of a struct", makhnodri_check_scene(scene), 0, 0);
@@ -94,6 +130,7 @@ int main(void) {
     static makhnodri_buffers buffers;
     makhnodri_scene scene = {0};
     hold_slices();
+    hold_boxed_slices();
     hold_scene(&scene);
     hold("read_scene, no text", makhnodri_read_scene(NULL, 0, &buffers, &scene), 0, 0);
     if (scene.positions != buffers.positions || scene.positions_length || scene.edges_length || scene.triangles_length || scene.seams_length)

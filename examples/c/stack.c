@@ -72,6 +72,19 @@ static uint8_t saved[MAKHNODRI_TEXT_LIMIT];
 static void saved_length(void) { makhnodri_saved_length_slices(SCENE); }
 static void save_scene(void) { makhnodri_save_scene_slices(SCENE, saved, sizeof saved); }
 
+/* a vertex is moved to where it stands, which a seam allows too; the boxes are those of the scene by then */
+static int32_t boxes[MAKHNODRI_BOXES_LENGTH];
+#define STORED SCENE, boxes, MAKHNODRI_BOXES_LENGTH
+static void fill_boxes(void) { makhnodri_fill_boxes_slices(STORED); }
+static void move_vertex(void) {
+    int32_t to[6];
+    memcpy(to, positions + 6 * (place % 512), sizeof to);
+    makhnodri_move_vertex_slices(STORED, place % 512, to);
+}
+static void count_stored(void) { makhnodri_count_stored_slices(STORED, tests); }
+static void list_stored(void) { makhnodri_list_stored_slices(STORED, list, sizeof list / sizeof list[0], tests); }
+static void settle_stored(void) { makhnodri_settle_stored_slices(STORED, list, sizeof list / sizeof list[0], words, sizeof words); }
+
 static uint8_t stack[STACK];
 
 static size_t used_by(void (*call)(void)) {
@@ -206,6 +219,11 @@ static const struct {
     {"contact_scene", contact_scene, 4},
     {"settle_list", settle_list, 20},
     {"contact_list", contact_list, 20},
+    {"fill_boxes", fill_boxes, 4},
+    {"move_vertex", move_vertex, 40},
+    {"count_stored", count_stored, 4},
+    {"list_stored", list_stored, 4},
+    {"settle_stored", settle_stored, 4},
 };
 
 enum { SCENES = 20 };
@@ -219,6 +237,7 @@ static size_t most_of(size_t i) {
             write_text((unsigned)run);
             write_claims((unsigned)run);
             write_asked();
+            fill_boxes();
             place = (size_t)run;
             size_t used = used_by(calls[i].call);
             if (most < used) most = used;

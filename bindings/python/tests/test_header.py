@@ -8,8 +8,8 @@ from . import TOP
 
 HEADER = (TOP / "include/makhnodri.h").read_text(encoding="utf-8")
 CODE = re.sub(r"[ \t]+$", "", re.sub(r"/\*.*?\*/", "", HEADER, flags=re.S), flags=re.M)
-NO_NUMBERS = {"H", "AT_LEAST", "LISTS", "LISTS_OF"}  # macros that stand for no number
-STRUCTS = {"scene", "buffers"}  # Scene, and arrays
+NO_NUMBERS = {"H", "AT_LEAST", "LISTS", "LISTS_OF", "BOXED_LISTS_OF"}  # macros that stand for no number
+STRUCTS = {"scene", "buffers", "boxed_scene"}  # Scene, arrays, and BoxedScene
 TYPES = {"int32_t": "_INT32", "uint16_t": "_UINT16", "uint32_t": "_UINT32", "uint8_t": "_UINT8", "size_t": "_SIZE"}
 
 
@@ -35,7 +35,7 @@ def in_c(argument):
         return [f"size_t {argument.name}"]
     spelt = next(name for name, ours in TYPES.items() if argument.numbers is getattr(makhnodri, ours))
     if isinstance(argument, makhnodri._Fixed):
-        return [f"{spelt} {argument.name}[{argument.length}]"]
+        return [f"{'' if argument.written else 'const '}{spelt} {argument.name}[{argument.length}]"]
     return [f"{'' if argument.written else 'const '}{spelt} *{argument.name}", f"size_t {argument.name}_length"]
 
 
@@ -66,7 +66,7 @@ class Header(unittest.TestCase):
         for name, said in words.items():
             number = getattr(makhnodri, name)
             self.assertEqual(makhnodri.word(number) if isinstance(number, makhnodri.Word) else makhnodri.refusal_words(number), said)
-        self.assertEqual((makhnodri.word(5), makhnodri.refusal_words(0), makhnodri.refusal_words(13)), ("no word", "not refused", "no refusal"))
+        self.assertEqual((makhnodri.word(5), makhnodri.refusal_words(0), makhnodri.refusal_words(18)), ("no word", "not refused", "no refusal"))
 
     def test_structs_have_their_stand_ins(self):
         self.assertEqual(set(re.findall(r"^} makhnodri_(\w+);", CODE, re.M)), STRUCTS)

@@ -74,7 +74,8 @@ pub struct Listed {
     pub box_tests: usize,
 }
 
-/// Why a call was refused, in the order of the numbers: 1 to 12, 15 and 16.
+/// Why a call was refused, in the order of the numbers, 1 to 17. [`Refusal::StaleBox`] is given to no call of this wrapper: a
+/// [`BoxedScene`](crate::BoxedScene) keeps its boxes right.
 #[derive(Clone, Copy, Debug, PartialEq, Eq, Hash)]
 pub enum Refusal {
     Shape = 1,
@@ -89,8 +90,11 @@ pub enum Refusal {
     LateRecord,
     TooMany,
     ShortBuffer,
-    BrokenSeam = 15,
-    BeyondOldRange = 16,
+    BlockLength,
+    FilesDiffer,
+    BrokenSeam,
+    BeyondOldRange,
+    StaleBox,
 }
 
 /// Why no list was made.
@@ -146,7 +150,7 @@ pub enum SaveRefusal {
     NoRoom { needed: usize },
 }
 
-const REFUSALS: [(Refusal, &str); 14] = [
+const REFUSALS: [(Refusal, &str); 17] = [
     (Refusal::Shape, "positions not a multiple of 6 long, edges of 2, triangles of 3, seams of 2, or a count over its size"),
     (Refusal::Coordinate, "a coordinate outside its range"),
     (Refusal::UnknownVertex, "a vertex number not below the vertex count"),
@@ -159,8 +163,11 @@ const REFUSALS: [(Refusal, &str); 14] = [
     (Refusal::LateRecord, "a record after one of a later kind"),
     (Refusal::TooMany, "one record more than its size"),
     (Refusal::ShortBuffer, "a lent scene buffer that is too short"),
+    (Refusal::BlockLength, "a block of a series has more or fewer v lines than there are vertices"),
+    (Refusal::FilesDiffer, "two OBJ files differ in vertex count, or in the faces and their order"),
     (Refusal::BrokenSeam, "a seam that breaks the rules of seams, or whose two positions differ"),
     (Refusal::BeyondOldRange, "a contact asked for in a scene with a coordinate beyond 262,143"),
+    (Refusal::StaleBox, "a stored box that isn't the one worked out"),
 ];
 
 impl Refusal {

@@ -38,6 +38,8 @@
 //! [`Contact`]. Each speaks for the space-time pieces of a pair. A miss, and apart too, says nothing of straight motion; only the list
 //! does: a pair that is not listed, and shares no vertex, meets neither in its pieces nor under straight motion.
 //!
+//! A [`BoxedScene`] keeps the boxes of its parts, for a program that drags one vertex after the other.
+//!
 //! A pair's two places are a vertex and a triangle, or two edges, each counted from 0 in its own kind: pt 3 0 is vertex 3 and
 //! triangle 0.
 //!
@@ -45,6 +47,7 @@
 //! [`STACK`] bytes of stack.
 
 mod answers;
+mod boxed;
 mod contacts;
 mod own;
 mod raw;
@@ -54,6 +57,7 @@ mod texts;
 pub use answers::{
     ClaimsRefusal, Kind, ListRefusal, Listed, Pair, Refusal, SaveRefusal, Settled, TextRefusal, TurnRefusal, Verdict,
 };
+pub use boxed::BoxedScene;
 pub use contacts::Contact;
 pub use own::OwnRefusal;
 pub use scenes::{turn_scene, Scene};
@@ -88,6 +92,8 @@ pub const POSITIONS_LENGTH: usize = 6 * VERTEX_LIMIT;
 pub const EDGES_LENGTH: usize = 2 * EDGE_LIMIT;
 pub const TRIANGLES_LENGTH: usize = 3 * TRIANGLE_LIMIT;
 pub const SEAMS_LENGTH: usize = 2 * SEAM_LIMIT;
+/// How long the buffer is that a [`BoxedScene`] keeps its boxes in, in numbers.
+pub const BOXES_LENGTH: usize = 6 * (VERTEX_LIMIT + EDGE_LIMIT + TRIANGLE_LIMIT);
 /// How long the array is that a report is written into, in bytes; every report fits.
 pub const REPORT_LENGTH: usize = 65_536;
 

@@ -19,7 +19,7 @@ fn header() -> BTreeMap<String, i64> {
     text.lines().filter_map(numbered).collect()
 }
 
-const REFUSALS: [(&str, Refusal); 14] = [
+const REFUSALS: [(&str, Refusal); 17] = [
     ("SHAPE", Refusal::Shape),
     ("COORDINATE", Refusal::Coordinate),
     ("UNKNOWN_VERTEX", Refusal::UnknownVertex),
@@ -32,8 +32,11 @@ const REFUSALS: [(&str, Refusal); 14] = [
     ("LATE_RECORD", Refusal::LateRecord),
     ("TOO_MANY", Refusal::TooMany),
     ("SHORT_BUFFER", Refusal::ShortBuffer),
+    ("BLOCK_LENGTH", Refusal::BlockLength),
+    ("FILES_DIFFER", Refusal::FilesDiffer),
     ("BROKEN_SEAM", Refusal::BrokenSeam),
     ("BEYOND_OLD_RANGE", Refusal::BeyondOldRange),
+    ("STALE_BOX", Refusal::StaleBox),
 ];
 
 #[test]
@@ -61,6 +64,7 @@ fn the_header_has_the_same_numbers() {
         ("EDGES_LENGTH", EDGES_LENGTH),
         ("TRIANGLES_LENGTH", TRIANGLES_LENGTH),
         ("SEAMS_LENGTH", SEAMS_LENGTH),
+        ("BOXES_LENGTH", BOXES_LENGTH),
         ("REPORT_LENGTH", REPORT_LENGTH),
         ("STACK", STACK),
         ("HIT", Verdict::Hit as usize),
@@ -96,8 +100,10 @@ fn the_independent_program_has_the_same_sizes() {
     assert_eq!(sizes[..4], wanted);
     assert_eq!(sizes[4..], [independent::TEXT_LIMIT, independent::REPORT_ROOM]);
     assert_eq!([POSITIONS_LENGTH, EDGES_LENGTH, TRIANGLES_LENGTH, SEAMS_LENGTH], compare::text::LENT_LENGTHS);
+    assert_eq!(BOXES_LENGTH, compare::stored::BOX_NUMBERS);
     assert_eq!(WEIGHT_LIMIT, compare::claims::WEIGHT_LIMIT);
     assert_eq!(Refusal::BrokenSeam.number() as u64, compare::refusal::BROKEN_SEAM);
+    assert_eq!(Refusal::StaleBox.number() as u64, compare::refusal::STALE_BOX);
 }
 
 #[test]

@@ -2,6 +2,7 @@
 
 use super::harm::{harm, SCENE_CHECKS};
 use super::question::*;
+use super::stored;
 use crate::affine::Affine;
 use crate::claims::{self, making};
 use crate::contacts::making as contact_scenes;
@@ -16,9 +17,9 @@ use crate::{backwards, box_tests, cases, crossed, generate, listing, trials};
 const MOST_PAIRS: usize = 24;
 const CELLS: usize = 4;
 /// Longer lists are made, and their pairs not judged in one call.
-const LONGEST_JUDGED: usize = 2_500;
+pub const LONGEST_JUDGED: usize = 2_500;
 /// What stands in the number of box tests before a call: no scene has so many.
-const NO_TESTS: u64 = u64::MAX - 5;
+pub const NO_TESTS: u64 = u64::MAX - 5;
 /// A scene of full size comes with one seed in so many.
 const SELDOM: u64 = 40;
 
@@ -33,6 +34,7 @@ pub fn fixed() -> Vec<Question> {
     out.extend(trials::fixed().into_iter().flat_map(|trial| about_text(&mut random, trial.text)));
     out.extend(box_tests::SIZES.into_iter().flat_map(about_runs));
     out.extend(about_long_texts());
+    out.extend(stored::fixed());
     out
 }
 
@@ -40,7 +42,8 @@ pub fn fixed() -> Vec<Question> {
 fn about_runs(triangles: usize) -> Vec<Question> {
     let ask = |scene: Scene| {
         let room = listing::listed(&scene).len();
-        [with_room(Call::CountPairs, &scene, 0, 0), with_room(Call::ListPairs, &scene, room, 0)]
+        let stored = [stored::with_room(Call::CountStored, &scene, 0, 0), stored::with_room(Call::ListStored, &scene, room, 0)];
+        [with_room(Call::CountPairs, &scene, 0, 0), with_room(Call::ListPairs, &scene, room, 0)].into_iter().chain(stored)
     };
     let heap = triangles.min(128);
     [box_tests::strip(triangles), box_tests::heap(heap)].into_iter().flat_map(ask).collect()
@@ -121,7 +124,7 @@ fn fit_to_harm(scene: &Scene) -> bool {
 }
 
 fn scene_calls() -> Vec<Call> {
-    calls().into_iter().filter(|call| call.takes_a_scene()).collect()
+    calls().into_iter().filter(|call| call.takes_a_scene() && !call.takes_boxes()).collect()
 }
 
 /// A call on a scene with room for so many numbers and so many words.
@@ -165,6 +168,7 @@ fn whole(random: &mut Random, scene: &Scene) -> Vec<Question> {
     out.extend(about_contacts(&mut random.clone(), scene));
     out.extend(about_own_lists(&mut random.clone(), scene));
     out.extend(about_saving(&mut random.clone(), scene));
+    out.extend(stored::about(&mut random.clone(), scene));
     out
 }
 
@@ -299,7 +303,7 @@ fn pairs(random: &mut Random, scene: &Scene) -> Vec<Question> {
 }
 
 /// A number that is not below the count, also where a program would look at some of its bits only.
-fn beyond(random: &mut Random, count: usize) -> u64 {
+pub fn beyond(random: &mut Random, count: usize) -> u64 {
     let count = count as u64;
     random.pick(&[count + 1, 1 << 16, 1 << 32, 1 << 63, u64::MAX, (1 << 32) + count.saturating_sub(1)]).max(count)
 }
@@ -372,6 +376,7 @@ fn harmed(random: &mut Random, scene: &Scene) -> Vec<Question> {
             for call in scene_calls() {
                 out.extend(on_harmed(random, call, &lent));
             }
+            out.extend(stored::on_harmed(&mut random.clone(), scene, &lent));
         }
     }
     out

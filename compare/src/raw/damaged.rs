@@ -4,6 +4,7 @@ use super::expected::{self, Expecting};
 use super::harm::{of_asked, of_range, of_scene, SCENE_CHECKS, SCENE_FAULTS};
 use super::question::*;
 use super::sorts::row;
+use super::stored_damaged;
 use crate::backwards;
 use crate::box_tests;
 use crate::contacts::mistakes::{self, Mistake};
@@ -19,7 +20,7 @@ pub struct Damage {
     pub change: Change,
 }
 
-fn damage(name: impl Into<String>, change: impl Fn(&Question, &mut Answer) + 'static) -> Damage {
+pub fn damage(name: impl Into<String>, change: impl Fn(&Question, &mut Answer) + 'static) -> Damage {
     Damage { name: name.into(), change: Box::new(change) }
 }
 
@@ -41,6 +42,7 @@ pub fn all() -> Vec<Damage> {
     out.extend(wrong_contacts());
     out.extend(own_lists());
     out.extend(saving());
+    out.extend(stored_damaged::all());
     out
 }
 

@@ -1,5 +1,5 @@
 //! What each call must answer, and what it must leave in every buffer, by document 01, §12 of document 02, and
-//! docs/DECISIONS.md, D13, D15, D25 and D68.
+//! docs/DECISIONS.md, D13, D15, D25 and D68. Stored boxes are §8's.
 
 use super::question::*;
 use crate::contacts::{self, Contact};
@@ -7,6 +7,7 @@ use crate::refusal::{Refusal, NOT_THERE, NO_ROOM, SHARES_A_VERTEX, TEXT_TOO_LONG
 use crate::scene::*;
 use crate::settled::{self, Settled};
 use crate::slices::{self, Slices};
+use crate::stored::{self, Moved, Wrong};
 use crate::verdict::{self, Verdict};
 use crate::{backwards, box_tests, claims, listing, report, text};
 use std::collections::HashMap;
@@ -17,6 +18,8 @@ pub struct Expecting {
     scene: Scene,
     words: HashMap<Pair, Vec<Settled>>,
     contacts: HashMap<Pair, Option<Contact>>,
+    /// The way in which stored boxes are got wrong, if any.
+    wrong: Wrong,
 }
 
 fn number_of(verdict: Verdict) -> u64 {
@@ -28,6 +31,11 @@ fn number_of(verdict: Verdict) -> u64 {
 }
 
 impl Expecting {
+    /// As a program would answer that gets stored boxes wrong in this way.
+    pub fn going_wrong(wrong: Wrong) -> Expecting {
+        Expecting { wrong, ..Expecting::default() }
+    }
+
     pub fn answer(&mut self, question: &Question) -> Answer {
         let mut lent = question.lent.clone();
         let number = match self.called(question, &mut lent) {
@@ -74,7 +82,45 @@ impl Expecting {
             Call::SettleList | Call::ContactList => self.own_list(question.call, lent),
             Call::SavedLength => Ok(saved(lent)?.len() as u64),
             Call::SaveScene => save(lent),
+            Call::FillBoxes => {
+                let filled = with_boxes(lent, |slices, boxes| stored::filled(slices, boxes, self.wrong))?;
+                lent.boxes = narrow(&filled);
+                Ok(0)
+            }
+            Call::MoveVertex => {
+                let to = std::array::from_fn(|k| lent.coordinates[k] as i64);
+                let vertex = question.asked[0];
+                let Moved { positions, stored } =
+                    with_boxes(lent, |slices, boxes| stored::moved(slices, boxes, vertex, to, self.wrong))?;
+                (lent.positions, lent.boxes) = (narrow(&positions), narrow(&stored));
+                Ok(0)
+            }
+            Call::CountStored => {
+                let pairs = with_boxes(lent, |slices, boxes| stored::listed(slices, boxes, usize::MAX, self.wrong))?;
+                lent.counts = vec![box_tests::of(&scene(lent)?) as u64];
+                Ok(pairs.len() as u64)
+            }
+            Call::ListStored => {
+                let pairs = self.listed_stored(lent, lent.list.len())?;
+                lent.counts = vec![box_tests::of(&scene(lent)?) as u64];
+                Ok(pairs.len() as u64)
+            }
+            Call::SettleStored => {
+                let pairs = self.listed_stored(lent, lent.list.len().min(lent.words.len()))?;
+                let scene = scene(lent)?;
+                for (word, &pair) in lent.words.iter_mut().zip(&pairs) {
+                    *word = settled::joined(self.words(&scene, pair)).byte();
+                }
+                Ok(pairs.len() as u64)
+            }
         }
+    }
+
+    /// The list from the stored boxes, in front of its buffer.
+    fn listed_stored(&self, lent: &mut Lent, room: usize) -> Result<Vec<Pair>, Refusal> {
+        let pairs = with_boxes(lent, |slices, boxes| stored::listed(slices, boxes, room, self.wrong))?;
+        lent.list.iter_mut().zip(&pairs).for_each(|(entry, &pair)| *entry = slices::entry(pair));
+        Ok(pairs)
     }
 
     /// The word, and on a hit the row in what is lent for it.
@@ -154,7 +200,7 @@ impl Expecting {
 
     fn forget_another(&mut self, scene: &Scene) {
         if self.scene != *scene {
-            *self = Expecting { scene: scene.clone(), ..Expecting::default() };
+            *self = Expecting { scene: scene.clone(), ..Expecting::going_wrong(self.wrong) };
         }
     }
 }
@@ -164,6 +210,15 @@ fn with_slices<T>(lent: &Lent, then: impl FnOnce(Slices) -> T) -> T {
     let positions: Vec<i64> = lent.positions.iter().map(|&n| n as i64).collect();
     let [edges, triangles, seams] = [&lent.edges, &lent.triangles, &lent.seams].map(|numbers| wide(numbers));
     then(Slices { positions: &positions, edges: &edges, triangles: &triangles, seams: &seams })
+}
+
+fn with_boxes<T>(lent: &Lent, then: impl FnOnce(Slices, &[i64]) -> T) -> T {
+    let boxes: Vec<i64> = lent.boxes.iter().map(|&n| n as i64).collect();
+    with_slices(lent, |slices| then(slices, &boxes))
+}
+
+fn narrow(numbers: &[i64]) -> Vec<i32> {
+    numbers.iter().map(|&n| n as i32).collect()
 }
 
 /// The pair that an entry asks for, the lower edge first; or 5 or 6.

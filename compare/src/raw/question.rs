@@ -26,6 +26,12 @@ pub enum Call {
     ContactList,
     SavedLength,
     SaveScene,
+    /// A scene that keeps its boxes: filled in, a vertex moved, the list from them.
+    FillBoxes,
+    MoveVertex,
+    CountStored,
+    ListStored,
+    SettleStored,
 }
 
 /// Of a pair, or of a piece of one.
@@ -61,6 +67,9 @@ impl Asked {
     }
 }
 
+/// The calls of a scene that keeps its boxes.
+pub const STORED_CALLS: [Call; 5] = [Call::FillBoxes, Call::MoveVertex, Call::CountStored, Call::ListStored, Call::SettleStored];
+
 pub fn calls() -> Vec<Call> {
     let mut out = vec![Call::CheckScene, Call::CountPairs, Call::ListPairs, Call::SettleScene];
     out.extend(ASKED.map(Call::Judge));
@@ -69,6 +78,7 @@ pub fn calls() -> Vec<Call> {
     out.extend([Call::Contact(Asked::Pt), Call::Contact(Asked::Ee), Call::ContactScene]);
     out.extend([Call::SettleList, Call::ContactList]);
     out.extend([Call::SavedLength, Call::SaveScene]);
+    out.extend(STORED_CALLS);
     out
 }
 
@@ -91,12 +101,22 @@ impl Call {
     }
 
     pub fn lists(self) -> bool {
-        matches!(self, Call::ListPairs | Call::SettleScene | Call::ContactScene)
+        matches!(self, Call::ListPairs | Call::SettleScene | Call::ContactScene | Call::ListStored | Call::SettleStored)
     }
 
     /// Whether it gives words beside the list.
     pub fn settles_a_scene(self) -> bool {
-        matches!(self, Call::SettleScene | Call::ContactScene)
+        matches!(self, Call::SettleScene | Call::ContactScene | Call::SettleStored)
+    }
+
+    /// Whether it takes the boxes that a scene keeps.
+    pub fn takes_boxes(self) -> bool {
+        STORED_CALLS.contains(&self)
+    }
+
+    /// Whether it looks over the boxes for one that isn't the one worked out.
+    pub fn looks_over_boxes(self) -> bool {
+        matches!(self, Call::CountStored | Call::ListStored | Call::SettleStored)
     }
 
     /// Whether it is asked for contacts, so that the old range counts.
@@ -116,7 +136,7 @@ impl Call {
 
     /// Whether it tells its box tests, in a lent number.
     pub fn tells_tests(self) -> bool {
-        matches!(self, Call::CountPairs | Call::ListPairs)
+        matches!(self, Call::CountPairs | Call::ListPairs | Call::CountStored | Call::ListStored)
     }
 
     pub fn name(self) -> String {
@@ -138,6 +158,11 @@ impl Call {
             Call::ContactList => "contact_list".into(),
             Call::SavedLength => "saved_length".into(),
             Call::SaveScene => "save_scene".into(),
+            Call::FillBoxes => "fill_boxes".into(),
+            Call::MoveVertex => "move_vertex".into(),
+            Call::CountStored => "count_stored".into(),
+            Call::ListStored => "list_stored".into(),
+            Call::SettleStored => "settle_stored".into(),
         }
     }
 }
@@ -156,10 +181,13 @@ pub struct Lent {
     pub counts: Vec<u64>,
     pub report: Vec<u8>,
     pub contacts: Vec<u32>,
+    pub boxes: Vec<i32>,
+    /// The six that a vertex is moved to.
+    pub coordinates: Vec<i32>,
 }
 
-pub const BUFFERS: [&str; 10] =
-    ["positions", "edges", "triangles", "seams", "list", "words", "text", "counts", "report", "contacts"];
+pub const BUFFERS: [&str; 12] =
+    ["positions", "edges", "triangles", "seams", "list", "words", "text", "counts", "report", "contacts", "boxes", "coordinates"];
 
 /// The places of some buffers.
 pub const POSITIONS: usize = 0;
@@ -171,6 +199,7 @@ pub const COUNTS: usize = 7;
 pub const TEXT: usize = 6;
 pub const REPORT: usize = 8;
 pub const CONTACTS: usize = 9;
+pub const BOXES: usize = 10;
 /// Numbers of a contact.
 pub const ROW: usize = 5;
 
@@ -202,6 +231,8 @@ impl Lent {
             self.counts.len(),
             self.report.len(),
             self.contacts.len(),
+            self.boxes.len(),
+            self.coordinates.len(),
         ]
     }
 
@@ -219,6 +250,8 @@ impl Lent {
             self.counts.iter().flat_map(|n| n.to_le_bytes()).collect(),
             self.report.clone(),
             self.contacts.iter().flat_map(|n| n.to_le_bytes()).collect(),
+            self.boxes.iter().flat_map(|n| n.to_le_bytes()).collect(),
+            self.coordinates.iter().flat_map(|n| n.to_le_bytes()).collect(),
         ];
         inside.map(|inside| [marks(MARGIN), inside, marks(MARGIN)].concat())
     }
@@ -241,7 +274,7 @@ pub fn marks_of_32(length: usize) -> Vec<u32> {
 #[derive(Clone, Debug)]
 pub struct Question {
     pub call: Call,
-    /// The two places, and the piece.
+    /// The two places, and the piece; or the vertex that is moved.
     pub asked: [u64; 3],
     pub lent: Lent,
 }

@@ -3,6 +3,7 @@
 use super::expected;
 use super::harm::*;
 use super::question::*;
+use super::stored_sorts;
 use crate::box_tests;
 use crate::faults::{self, Cell};
 use crate::listing;
@@ -37,10 +38,13 @@ pub fn none_yet() -> Sorts {
         }
     }
     out.push(LONG_LIST.into());
-    out.extend(["the list too short", "the words too short", "both too short"].map(|which| format!("settle_scene: {which}")));
+    for call in ["settle_scene", "settle_stored"] {
+        out.extend(["the list too short", "the words too short", "both too short"].map(|which| format!("{call}: {which}")));
+    }
     out.extend(of_contact_scenes());
     out.extend([Call::SettleList, Call::ContactList].into_iter().flat_map(of_own_lists));
     out.extend(of_saving_calls());
+    out.extend(stored_sorts::all());
     out.extend(SCENE_FAULTS.map(|(number, fault)| alone(number, fault)));
     out.extend(of_texts());
     out.into_iter().map(|sort| (sort, 0)).collect()
@@ -281,6 +285,15 @@ pub fn of(question: &Question, answer: &Answer) -> Vec<String> {
             out.extend(of_saving(question, answer));
             out
         }
+        call if call.takes_boxes() => {
+            // 12 comes before all that is said of the scene, and 2 and 15 of a move are not the scene's
+            let of_the_scene = [0, NO_ROOM].contains(&answer.refusal()) || !of_scene(&question.lent).is_empty();
+            let mut out = stored_sorts::of(question, answer);
+            if answer.refusal() != LENT_TOO_SHORT && of_the_scene {
+                out.extend(of_slices(question, answer));
+            }
+            out
+        }
         _ => of_slices(question, answer),
     }
 }
@@ -439,11 +452,11 @@ fn of_told(question: &Question, asked: Asked, answer: &Answer) -> Vec<String> {
 fn of_room(question: &Question, count: usize) -> Vec<String> {
     let name = question.call.name();
     let (list, words) = (question.lent.list.len(), question.lent.words.len());
-    let judges = question.call == Call::SettleScene;
+    let judges = matches!(question.call, Call::SettleScene | Call::SettleStored);
     let rows = question.lent.contacts.len() / ROW;
     let room = match question.call {
         Call::ContactScene => list.min(words).min(rows),
-        Call::SettleScene => list.min(words),
+        Call::SettleScene | Call::SettleStored => list.min(words),
         _ => list,
     };
     let mut out = Vec::new();
