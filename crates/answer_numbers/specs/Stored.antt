@@ -1,20 +1,28 @@
--- What an answer about a list made from stored boxes tells or carries stays below 2^32 too.
-use Prim.Native.Nat.{ℕ, _<_, min}
+-- What an answer about a list made from stored boxes, or about a text read with its boxes, tells or carries stays below 2^32 too; and the
+-- steps of such a text's answer to its number.
+use Prim.Native.Nat.{ℕ, _+_, _*_, _<_, min}
 use mathlib.Core.Bool.{true, false}
 use mathlib.Core.List.{List, [], _∷_, _++_}
-use mathlib.Core.Path.{_≡_}
+use mathlib.Core.Path.{_≡_, refl, subst}
+use native.Mathlib.Omega.{arith}
 use lib.IntN.{ℤ}
 use lib.ListN.{length}
 use Rattle.meaning.specs.Scene.{Scene, Accepted}
-use Rattle.meaning.specs.Refusals.{Outcome, Check, Answers, sceneChecks}
+use Rattle.meaning.specs.Refusals.{Outcome, Check, Answers, numberOf, sceneChecks}
 use Rattle.meaning.specs.List.{roomOf, listSays}
-use Rattle.meaning.specs.StoredBoxes.{boxChecks, staleChecks, storedChecks, CountedStored, ListedStored, SettledStored}
+use Rattle.meaning.specs.StoredBoxes.{boxChecks, staleChecks, storedChecks, shortBoxes, CountedStored, ListedStored, SettledStored, BoxedRead}
+use Rattle.meaning.specs.Text.{textSays}
+use Rattle.meaning.specs.declared.Refusal.{Refusal}
+use Rattle.meaning.specs.declared.SceneCounts.{SceneCounts}
+use Rattle.meaning.specs.declared.TextAnswer.{TextAnswer}
+use Rattle.meaning.specs.declared.TextAnswer.the-variants.{Read, Refused}
 use Rattle.meaning.specs.declared.ListAnswer.{ListAnswer}
 use Rattle.scenes.specs.Answering.{is-refused, is-past}
 use Rattle.listing.specs.Answering.{IsCount, roomChecks}
+use Rattle.boxed_text.specs.Using.{boxes-short, as-read}
 use Rattle.demands.specs.Deciding.{holds-or-not}
-use Rattle.answer_numbers.specs.Numbers.{upper}
-use Rattle.answer_numbers.specs.Small.{toldIn, pairs-few, nothing-carried, small-after, counted-right}
+use Rattle.answer_numbers.specs.Numbers.{upper, numberFor, textNumber, countsLeft, Told}
+use Rattle.answer_numbers.specs.Small.{toldIn, pairs-few, nothing-carried, small-after, counted-right, lineIn, line-small}
 
 module _ (s : Scene) (b : List ℤ) (o : Outcome ℕ) where
   -- 12 carries nothing, nor does 17; the scene's own checks and those behind 17 are known
@@ -53,3 +61,32 @@ stored-list-small {s} {b} {o} {o′} {r} p = listed-in s b (listSays r) (roomOf 
 
 pub stored-words-small : {s : Scene} {b : List ℤ} {o o′ w w′ : List ℕ} {r : ListAnswer} → SettledStored s b o o′ w w′ r → toldIn (listSays r) < upper
 stored-words-small {s} {b} {o} {o′} {w} {w′} {r} p = listed-in s b (listSays r) (min (roomOf o) (length w)) (p .answer)
+
+-- ---- a text read with its boxes
+
+-- the four counts in a lent array, as where a text is read without boxes
+pub record BoxedInto (text : List ℕ) (lent left : Scene) (b b′ : List ℤ) (l l′ : List ℕ) (r : TextAnswer) : Type 0 where
+  pub read : BoxedRead text lent left b b′ r
+  pub counts : l′ ≡ countsLeft r l
+
+module _ {text : List ℕ} {lent left : Scene} {b b′ : List ℤ} {a : TextAnswer} (p : BoxedRead text lent left b b′ a) where
+  pub boxed-line-small : lineIn (textSays a) < upper
+  unfolding lineIn
+  boxed-line-small =
+      holds-or-not (shortBoxes b) (λ h. let e = boxes-short p h in rw e (omega arith)) (λ h. line-small (as-read p h))
+
+  pub boxed-line : {x : Refusal} {line : ℕ} → a ≡ Refused x line → line < upper
+  unfolding textSays lineIn
+  boxed-line e = rw e at boxed-line-small
+
+  pub boxed-read : {c : SceneCounts} {l l′ : List ℕ} → a ≡ Read c → l′ ≡ c .vertices ∷ c .edges ∷ c .triangles ∷ c .seams ∷ []
+      → Told textNumber (BoxedInto text lent left b b′ l l′) 0
+  unfolding textNumber textSays numberFor countsLeft
+  boxed-read {c} e h =
+      record { answer = Read c; right = record { read = subst (BoxedRead text lent left b b′) e p; counts = h }; is = refl }
+
+  pub boxed-refused : {x : Refusal} {line r : ℕ} {l : List ℕ} → a ≡ Refused x line → r ≡ numberOf x * upper + line
+      → Told textNumber (BoxedInto text lent left b b′ l l) r
+  unfolding textNumber textSays numberFor countsLeft
+  boxed-refused {x} {line} e h =
+      record { answer = Refused x line; right = record { read = subst (BoxedRead text lent left b b′) e p; counts = refl }; is = h }

@@ -61,7 +61,7 @@ pub record Right (s : Scene) (b : List ℤ) : Type 0 where
   pub boxed : Boxed s b
   pub long : shortBoxes b ≡ false
 
-still-long : (b b′ : List ℤ) → length b′ ≡ length b → shortBoxes b ≡ false → shortBoxes b′ ≡ false
+pub still-long : (b b′ : List ℤ) → length b′ ≡ length b → shortBoxes b ≡ false → shortBoxes b′ ≡ false
 still-long b b′ e h = rw e h
 
 pub moves-stay-right : (s : Scene) (b : List ℤ) (ms : List Move) (b′ : List ℤ) → Right s b → Dragged s b ms b′ → Right (movedAll s ms) b′

@@ -1,7 +1,7 @@
 -- Boxes that are the ones worked out are never refused with 17, and the list made from them is the list of the scene.
-use Prim.Native.Nat.{ℕ, _≤_, _<_}
+use Prim.Native.Nat.{ℕ, _≤_, _<_, min}
 use mathlib.Core.Bool.{Bool, true, false, _||_}
-use mathlib.Core.List.{List, []}
+use mathlib.Core.List.{List, [], _++_}
 use mathlib.Core.Path.{_≡_, refl, sym, ap, _∙_}
 use native.Mathlib.Nat.{zero-add}
 use native.Mathlib.Omega.{arith}
@@ -11,8 +11,9 @@ use borrow.Author.Tests.{le-ltb}
 use Rattle.meaning.specs.Scene.{Scene, Accepted, vertexCount, edgeCount, triangleCount, someBelow, differ}
 use Rattle.meaning.specs.Boxes.{Span}
 use Rattle.meaning.specs.Refusals.{Outcome, given, Answers}
-use Rattle.meaning.specs.List.{pairs, roomOf, listSays, Counted, Listing}
-use Rattle.meaning.specs.StoredBoxes.{Box, boxAt, vertexBox, edgeBox, triangleBox, Boxed, shortBoxes, otherSpan, otherBox, staleVertex, staleEdge, staleTriangle, staleBox, staleChecks, storedChecks, CountedStored, ListedStored}
+use Rattle.meaning.specs.List.{pairs, roomOf, listSays, listChecks, Counted, Listing}
+use Rattle.meaning.specs.SceneWords.{SettledScene}
+use Rattle.meaning.specs.StoredBoxes.{Box, boxAt, vertexBox, edgeBox, triangleBox, Boxed, shortBoxes, otherSpan, otherBox, staleVertex, staleEdge, staleTriangle, staleBox, boxChecks, staleChecks, storedChecks, CountedStored, ListedStored, SettledStored}
 use Rattle.meaning.specs.declared.ListAnswer.{ListAnswer}
 use Rattle.scenes.specs.Answering.{is-past}
 use Rattle.scenes.specs.Accepting.{after-accepted}
@@ -48,12 +49,23 @@ module _ (s : Scene) (b : List ℤ) (a : Accepted s) (long : shortBoxes b ≡ fa
       after-accepted s [] (IsCount s) (listSays r) a
       (is-past (IsCount s) _ [] (listSays r) (right-not-stale s b so) (past-boxed s b (staleChecks s b) (IsCount s) long (listSays r) a p))
 
+  past-stale : (room : ℕ) (r : ListAnswer) → Answers (boxChecks s b ++ storedChecks s b room) (IsCount s) (listSays r)
+      → Answers (listChecks s room) (IsCount s) (listSays r)
+  past-stale room r p =
+      after-accepted s (roomChecks s room) (IsCount s) (listSays r) a
+      (is-past (IsCount s) _ (roomChecks s room) (listSays r) (right-not-stale s b so)
+      (past-boxed s b (storedChecks s b room) (IsCount s) long (listSays r) a p))
+
   pub stored-list : (o o′ : List ℕ) (r : ListAnswer) → ListedStored s b o o′ r → Listing s o o′ r
-  stored-list o o′ r p =
+  stored-list o o′ r p = record { answer = past-stale (roomOf o) r (p .answer); buffer = p .buffer }
+
+  -- and judged as the scene is
+  pub stored-words : (o o′ w w′ : List ℕ) (r : ListAnswer) → SettledStored s b o o′ w w′ r → SettledScene s o o′ w w′ r
+  stored-words o o′ w w′ r p =
       record {
-        answer =
-            after-accepted s (roomChecks s (roomOf o)) (IsCount s) (listSays r) a
-            (is-past (IsCount s) _ (roomChecks s (roomOf o)) (listSays r) (right-not-stale s b so)
-            (past-boxed s b (storedChecks s b (roomOf o)) (IsCount s) long (listSays r) a (p .answer)));
-        buffer = p .buffer;
+        answer = past-stale (min (roomOf o) (length w)) r (p .answer);
+        list = p .list;
+        words = p .words;
+        right = p .right;
+        bytes = p .bytes;
       }

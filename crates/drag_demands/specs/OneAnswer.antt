@@ -1,13 +1,15 @@
 -- Each promise determines its answer and every lent number, refused calls too.
-use Prim.Native.Nat.{ℕ}
-use mathlib.Core.List.{List, [], _++_}
+use Prim.Native.Nat.{ℕ, min}
+use mathlib.Core.List.{List, [], _++_, map}
 use mathlib.Core.Path.{_≡_, refl, sym, ap, subst, _∙_}
 use lib.IntN.{ℤ}
+use lib.ListN.{length}
 use Rattle.meaning.specs.Scene.{Scene}
 use Rattle.meaning.specs.Refusals.{Outcome, given, refused, sceneSays, Answers}
 use Rattle.meaning.specs.List.{pairs, entries, roomOf, listSays, leaves}
 use Rattle.meaning.specs.Runs.{testsLeft, Tested}
-use Rattle.meaning.specs.StoredBoxes.{boxChecks, staleChecks, storedChecks, FillsAfter, BoxesFilled, CountedStored, ListedStored}
+use Rattle.meaning.specs.StoredBoxes.{boxChecks, staleChecks, storedChecks, FillsAfter, BoxesFilled, CountedStored, ListedStored, SettledStored}
+use Rattle.meaning.specs.SceneWords.{byteOf}
 use Rattle.meaning.specs.Dragging.{movedScene, moveChecks, MovesAfter, VertexMoved}
 use Rattle.meaning.specs.declared.SceneAnswer.{SceneAnswer}
 use Rattle.meaning.specs.declared.ListAnswer.{ListAnswer}
@@ -15,6 +17,7 @@ use Rattle.scenes.specs.Answering.{one-answer}
 use Rattle.scenes.specs.Speaking.{scene-says-one}
 use Rattle.boxes.specs.Once.{one-filling}
 use Rattle.boxed_scenes.specs.Once.{one-move}
+use Rattle.demands.specs.OneAnswer.{all-judged-one}
 use Rattle.listing.specs.Once.{list-says-one}
 use Rattle.listing.specs.Answering.{IsCount}
 
@@ -68,4 +71,17 @@ one-stored-listing s b o o′ o″ t t′ t″ r r′ p q =
       same,
       p .list .buffer ∙ ap (λ (a : ListAnswer). leaves (listSays a) (entries (pairs s)) o) same ∙ sym (q .list .buffer),
       p .tests ∙ ap (λ (a : ListAnswer). testsLeft s (listSays a) t) same ∙ sym (q .tests),
+    )
+
+-- ---- and judged
+
+pub one-stored-words : (s : Scene) (b : List ℤ) (o o′ o″ w w′ w″ : List ℕ) (r r′ : ListAnswer) → SettledStored s b o o′ w w′ r
+    → SettledStored s b o o″ w w″ r′ → (r ≡ r′) × (o′ ≡ o″) × (w′ ≡ w″)
+one-stored-words s b o o′ o″ w w′ w″ r r′ p q =
+    let checks = boxChecks s b ++ storedChecks s b (min (roomOf o) (length w)) in
+    let same : r ≡ r′ = list-says-one r r′ (one-answer (IsCount s) (λ x y h k. h ∙ sym k) checks (listSays r) (listSays r′) (p .answer) (q .answer)) in
+    let words : p .words ≡ q .words = all-judged-one s (pairs s) (p .words) (q .words) (p .right) (q .right) in (
+      same,
+      p .list ∙ (λ i. leaves (listSays (same i)) (entries (pairs s)) o) ∙ sym (q .list),
+      p .bytes ∙ (λ i. leaves (listSays (same i)) (map byteOf (words i)) w) ∙ sym (q .bytes),
     )

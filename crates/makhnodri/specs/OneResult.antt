@@ -176,13 +176,13 @@ met-rows-heard s o o′ b b′ c c′ r n p e k below =
 -- ---- and of a text too what the lent buffers then hold
 
 -- a refusal leaves the array of counts
-counts-refused : (a : TextAnswer) (l : List ℕ) (n line : ℕ) → textSays a ≡ refused n line → countsLeft a l ≡ l
+pub counts-refused : (a : TextAnswer) (l : List ℕ) (n line : ℕ) → textSays a ≡ refused n line → countsLeft a l ≡ l
 unfolding textSays countsLeft
 counts-refused (Read c) l n line e = let z : _≡_ {A = ℕ} 0 1 = cc in absurd (omega arith)
 counts-refused (Refused x k) l n line e = refl
 
 -- after success it holds them
-counts-given : (a : TextAnswer) (l : List ℕ) (c : SceneCounts) → textSays a ≡ given c → countsLeft a l ≡ c .vertices ∷ c .edges ∷ c .triangles ∷ c .seams ∷ []
+pub counts-given : (a : TextAnswer) (l : List ℕ) (c : SceneCounts) → textSays a ≡ given c → countsLeft a l ≡ c .vertices ∷ c .edges ∷ c .triangles ∷ c .seams ∷ []
 unfolding textSays countsLeft
 counts-given (Read d) l c e = let same : d ≡ c = cc in ap (λ (k : SceneCounts). k .vertices ∷ k .edges ∷ k .triangles ∷ k .seams ∷ []) same
 counts-given (Refused x k) l c e = let z : _≡_ {A = ℕ} 0 1 = cc in absurd (omega arith)

@@ -40,7 +40,7 @@ use meaning::ROW_NUMBERS;
 use meaning::SceneCounts;
 use meaning::TextAnswer;
 
-fn put_counts(counts: &mut [usize; 4], c: SceneCounts)
+pub(crate) fn put_counts(counts: &mut [usize; 4], c: SceneCounts)
     ensures { λ _. ⌜ now (counts .exit) ≡ c .vertices ∷ c .edges ∷ c .triangles ∷ c .seams ∷ [] ⌝ }
 {
     *counts = [c.vertices, c.edges, c.triangles, c.seams];

@@ -1,12 +1,16 @@
-// A scene that keeps its boxes, for C and for Rust: filled in, a vertex moved, the list made from them.
+// A scene that keeps its boxes, for C and for Rust: filled in, read with a text, a vertex moved, the list made from them.
 
-ghost use Rattle.meaning.specs.Scene.{sceneAtEntry};
+ghost use Rattle.meaning.specs.Scene.{sceneAtEntry, sceneAtExit};
 ghost use Rattle.meaning.specs.Runs.{Tested};
 ghost use Rattle.meaning.specs.StoredBoxes.{BoxesFilled, CountedStored, ListedStored, SettledStored};
 ghost use Rattle.meaning.specs.Dragging.{VertexMoved};
-ghost use Rattle.answer_numbers.specs.Numbers.{sceneNumber, listNumber, Told};
+ghost use Rattle.answer_numbers.specs.Numbers.{sceneNumber, listNumber, textNumber, Told};
+ghost use Rattle.answer_numbers.specs.Stored.{BoxedInto};
+use super::put_counts;
 use answer_numbers::list_number;
+use answer_numbers::refused;
 use answer_numbers::scene_number;
+use meaning::TextAnswer;
 
 // The boxes of a scene, in front of a lent buffer.
 #[no_mangle]
@@ -91,4 +95,26 @@ pub extern "C" fn makhnodri_settle_stored_slices(
     ensures { λ r. ⌜ Told listNumber (SettledStored (sceneAtEntry positions edges triangles seams) (now (boxes .entry)) (now (list .entry)) (now (list .exit)) (now (words .entry)) (now (words .exit))) r ⌝ }
 {
     list_number(stored_words::settle_stored(positions, edges, triangles, seams, boxes, list, words))
+}
+
+// Reads a scene text into the lent buffers, with the boxes of its scene, and its four counts into the lent array.
+#[no_mangle]
+pub extern "C" fn makhnodri_read_boxed_slices(
+    text: &[u8],
+    positions: &mut [i32],
+    edges: &mut [u16],
+    triangles: &mut [u16],
+    seams: &mut [u16],
+    boxes: &mut [i32],
+    counts: &mut [usize; 4],
+) -> u64
+    ensures { λ r. ⌜ Told textNumber (BoxedInto (now (text .entry)) (sceneAtEntry positions edges triangles seams) (sceneAtExit positions edges triangles seams) (now (boxes .entry)) (now (boxes .exit)) (now (counts .entry)) (now (counts .exit))) r ⌝ }
+{
+    match boxed_text::read_boxed(text, positions, edges, triangles, seams, boxes) {
+        TextAnswer::Read(c) => {
+            put_counts(counts, c);
+            0
+        }
+        TextAnswer::Refused(why, line) => refused(why, line),
+    }
 }
