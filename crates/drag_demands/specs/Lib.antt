@@ -5,6 +5,7 @@ pub mod Chain
 pub mod OneAnswer
 pub mod InTwo
 pub mod Demand1
+pub mod Unchanged
 pub mod AfterReading
 pub mod AfterMoves
 pub mod SavedMoves
