@@ -9,3 +9,4 @@ pub mod Unchanged
 pub mod AfterReading
 pub mod AfterMoves
 pub mod SavedMoves
+pub mod Shown
