@@ -71,6 +71,7 @@ static uint64_t answer(const struct question *q) {
     case 25: return makhnodri_count_stored_slices(STORED, lent(COUNTS));
     case 26: return makhnodri_list_stored_slices(STORED, lent(LIST), q->length[LIST], lent(COUNTS));
     case 27: return makhnodri_settle_stored_slices(STORED, lent(LIST), q->length[LIST], lent(WORDS), q->length[WORDS]);
+    case 28: return makhnodri_read_boxed_slices(lent(TEXT), q->length[TEXT], STORED, lent(COUNTS));
     }
     give_up("no such call");
     return 0;

@@ -108,13 +108,13 @@ extern "C" {
  *     settle_list       3,184      contact_list                 3,296
  *     fill_boxes        1,352      move_vertex                 12,728
  *     count_stored     53,144      list_stored                 86,080
- *     settle_stored    86,096
+ *     settle_stored    86,096      read_boxed                  23,288
  *
  * ---- An answer ----
  *
  * One 64-bit number. Below 2^32 it is the value itself. From 2^32 on it is a refusal: the upper 32 bits are its number, the
  * lower 32 bits the line or the needed count that it carries, else 0. No two answers of a function have the same number
- * (makhnodri_read_scene answers 0 for every text that it read, and the scene tells which; a hit's contact is told by its numbers).
+ * (makhnodri_read_scene and _read_boxed answer 0 for every text that they read, and the scene tells which; a hit's contact is told by its numbers).
  * After a refusal no lent byte or number has changed.
  */
 typedef uint64_t makhnodri_answer;
@@ -288,6 +288,12 @@ typedef struct makhnodri_boxed_scene {
     size_t boxes_length;
 } makhnodri_boxed_scene;
 
+/* Room for any scene that is read from a text with its boxes, in 70,656 bytes. */
+typedef struct makhnodri_boxed_buffers {
+    makhnodri_buffers lists;
+    int32_t boxes[MAKHNODRI_BOXES_LENGTH];
+} makhnodri_boxed_buffers;
+
 /* The same scene for every other call; its lists stay where they are, and what a move writes is seen by both. */
 static inline makhnodri_scene makhnodri_scene_of(const makhnodri_boxed_scene *boxed) {
     makhnodri_scene scene;
@@ -351,6 +357,11 @@ makhnodri_answer makhnodri_list_stored_slices(MAKHNODRI_LISTS, const int32_t *bo
                                               size_t list_length, size_t tests[MAKHNODRI_AT_LEAST(1)]);
 makhnodri_answer makhnodri_settle_stored_slices(MAKHNODRI_LISTS, const int32_t *boxes, size_t boxes_length, uint32_t *list,
                                                 size_t list_length, uint8_t *words, size_t words_length);
+
+makhnodri_answer makhnodri_read_boxed_slices(const uint8_t *text, size_t text_length, int32_t *positions, size_t positions_length,
+                                             uint16_t *edges, size_t edges_length, uint16_t *triangles, size_t triangles_length,
+                                             uint16_t *seams, size_t seams_length, int32_t *boxes, size_t boxes_length,
+                                             size_t counts[MAKHNODRI_AT_LEAST(4)]);
 
 /* the lists of a struct, as the plain functions take them; of a scene that keeps its boxes, those too */
 #define MAKHNODRI_LISTS_OF(scene)                                                                                                 \
@@ -538,7 +549,7 @@ static inline makhnodri_answer makhnodri_contact_list(const makhnodri_scene *sce
 /*
  * ---- Dragging one vertex, in a scene that keeps its boxes ----
  *
- * makhnodri_fill_boxes works all boxes out, once. makhnodri_move_vertex then sets one vertex's six coordinates and works out the boxes
+ * makhnodri_fill_boxes works all boxes out, once; makhnodri_read_boxed reads a text with them. makhnodri_move_vertex then sets one vertex's six coordinates and works out the boxes
  * of the parts that have it, and no others; so right boxes stay right, over any number of moves. makhnodri_count_stored,
  * _list_stored and _settle_stored are makhnodri_count_pairs, _list_pairs and _settle_scene, with the list made from the stored boxes
  * after one look over all of them. Whoever changes a position in another way fills the boxes anew; else the list is refused with 17.
@@ -609,6 +620,35 @@ static inline makhnodri_answer makhnodri_read_scene(const uint8_t *text, size_t 
     scene->triangles_length = 3 * counts[2];
     scene->seams = buffers->seams;
     scene->seams_length = 2 * counts[3];
+    return answer;
+}
+
+/*
+ * Reads a scene text into the buffers with the boxes of its scene, and has the boxed scene point to what was read there: as
+ * makhnodri_read_scene and then makhnodri_fill_boxes. 0, or a refusal, 12, 8, 9, 10, 11, 2, 3, 15 or 4, after which neither buffers
+ * nor scene have changed.
+ *
+ * makhnodri_read_boxed_slices takes the four buffers of makhnodri_read_scene_slices and one for the boxes, at least
+ * MAKHNODRI_BOXES_LENGTH long, else 12; what lies behind the boxes is unchanged.
+ */
+static inline makhnodri_answer makhnodri_read_boxed(const uint8_t *text, size_t text_length, makhnodri_boxed_buffers *buffers,
+                                                    makhnodri_boxed_scene *boxed) {
+    size_t counts[4];
+    makhnodri_buffers *lists = &buffers->lists;
+    makhnodri_answer answer = makhnodri_read_boxed_slices(
+        text, text_length, lists->positions, MAKHNODRI_POSITIONS_LENGTH, lists->edges, MAKHNODRI_EDGES_LENGTH, lists->triangles,
+        MAKHNODRI_TRIANGLES_LENGTH, lists->seams, MAKHNODRI_SEAMS_LENGTH, buffers->boxes, MAKHNODRI_BOXES_LENGTH, counts);
+    if (makhnodri_refusal(answer)) return answer;
+    boxed->positions = lists->positions;
+    boxed->positions_length = 6 * counts[0];
+    boxed->edges = lists->edges;
+    boxed->edges_length = 2 * counts[1];
+    boxed->triangles = lists->triangles;
+    boxed->triangles_length = 3 * counts[2];
+    boxed->seams = lists->seams;
+    boxed->seams_length = 2 * counts[3];
+    boxed->boxes = buffers->boxes;
+    boxed->boxes_length = MAKHNODRI_BOXES_LENGTH;
     return answer;
 }
 

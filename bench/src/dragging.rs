@@ -75,15 +75,14 @@ impl Bench {
             Way::new("move", || (0..MOVES).map(|_| dragged.drag(product)).sum()),
             Way::new("fill", || (0..MOVES).map(|_| product.fill_boxes(&slices, &mut boxes).expect("a scene") as u64).sum()),
             Way::new("check", || (0..MOVES).map(|_| product.check(&slices).expect("a scene") as u64).sum()),
-            Way::new("plain", || (0..MOVES).map(|_| plain::Boxes::of(&slices).triangles.len() as u64).sum()),
         ];
         let times = shortest(ways, self.rounds);
         dragged.hold();
-        let [moved, filled, checked, plain] = [0, 1, 2, 3].map(|way| 1e6 * times[way].1 / MOVES as f64);
+        let [moved, filled, checked] = [0, 1, 2].map(|way| 1e6 * times[way].1 / MOVES as f64);
         let name = format!("folds of {fold} columns");
         println!("  {name:<20} a move {moved:>6.2} us   filling all {filled:>6.2} us   a move over it {:>5.2}", moved / filled);
         println!(
-            "  {:<20} the check of the scene {checked:>6.2} us; without it a move over filling {:>5.2}; filling in plain Rust, no check {plain:>6.2} us",
+            "  {:<20} the check of the scene {checked:>6.2} us; without it a move over filling {:>5.2}",
             "",
             (moved - checked) / (filled - checked)
         );

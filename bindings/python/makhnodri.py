@@ -432,6 +432,7 @@ _FUNCTIONS = (
     ("count_stored_slices", _COUNT, _SCENE, _STORED, _TESTS),
     ("list_stored_slices", _COUNT, _SCENE, _STORED, _LIST, _TESTS),
     ("settle_stored_slices", _COUNT, _SCENE, _STORED, _LIST, _WORDS),
+    ("read_boxed_slices", _NOTHING, _Read("text", _UINT8), *_THREE, _Write("seams", _UINT16), _BOXES, _Fixed("counts", _SIZE, 4)),
 )
 
 
@@ -520,11 +521,9 @@ class Scene:
     @classmethod
     def read(cls, text):
         """The scene of a text (docs/FORMAT.md), a buffer of bytes."""
-        sizes, lengths = (6, 2, 3, 2), (POSITIONS_LENGTH, EDGES_LENGTH, TRIANGLES_LENGTH, SEAMS_LENGTH)
-        buffers = [_room(part.numbers, length) for part, length in zip(_Lists.parts, lengths)]
-        counts = _room(_SIZE, 4)
+        buffers, counts = _rooms()
         read_scene(text, *buffers, counts)
-        return cls(*(buffer[: size * count] for buffer, size, count in zip(buffers, sizes, counts)))
+        return cls(*_in_front(buffers, counts))
 
     def listed(self):
         """The listed pairs, in order."""
@@ -578,6 +577,17 @@ class Scene:
         return f"<Scene {', '.join(f'{name}: {0 if given is None else memoryview(given).nbytes} bytes' for name, given in sizes)}>"
 
 
+def _rooms():
+    """What a text is read into: the four lists, and the counts of their parts."""
+    lengths = (POSITIONS_LENGTH, EDGES_LENGTH, TRIANGLES_LENGTH, SEAMS_LENGTH)
+    return [_room(part.numbers, length) for part, length in zip(_Lists.parts, lengths)], _room(_SIZE, 4)
+
+
+def _in_front(buffers, counts):
+    """The lists of the scene that was read into them."""
+    return [buffer[: size * count] for buffer, size, count in zip(buffers, (6, 2, 3, 2), counts)]
+
+
 class BoxedScene:
     """A scene that keeps the boxes of its parts, for a program that drags one vertex after the other. It has its own copy of the scene's lists, and
     nothing but a move changes them here; a move works out the boxes of the parts that have the vertex, and the list is made from those that are
@@ -593,8 +603,12 @@ class BoxedScene:
 
     @classmethod
     def read(cls, text):
-        """Of a text (docs/FORMAT.md), a buffer of bytes."""
-        return cls(Scene.read(text))
+        """Of a text (docs/FORMAT.md), a buffer of bytes, which is read with its boxes."""
+        self, (buffers, counts) = cls.__new__(cls), _rooms()
+        self._boxes = _room(_INT32, BOXES_LENGTH)
+        read_boxed(text, *buffers, self._boxes, counts)
+        self._scene = Scene(*_in_front(buffers, counts))
+        return self
 
     @property
     def scene(self):

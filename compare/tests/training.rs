@@ -4,10 +4,12 @@ use compare::contacts;
 use compare::equations::{meet, Point};
 use compare::explain::explained;
 use compare::kept;
+use compare::listing;
 use compare::mistakes::{self, Right};
 use compare::report::report;
 use compare::scene::{Pair, Scene, REPORT_ROOM};
 use compare::settled::{of_pair, Settled};
+use compare::stored;
 use compare::text::read;
 use compare::verdict::{of_pieces, Verdict};
 
@@ -144,4 +146,21 @@ fn the_two_models() {
         assert_eq!(above(t, 100), 128 * (100 * 100 - 2 * 100 * t + 2 * t * t));
     }
     assert!(of_pieces(&scene, keeps_clear).contains(&Verdict::Hit));
+}
+
+/// The boxes that the page tells of a vertex that is dragged, and what is listed then.
+#[test]
+fn the_boxes_of_a_dragged_vertex() {
+    let scene = read(&text("scenes/printed.scene")).unwrap();
+    let mut dragged = scene.clone();
+    dragged.vertices[3] = [1, 1, 9, 1, 1, 3];
+    let [old, new] = [&scene, &dragged].map(|scene| stored::box_of(scene, &[3]));
+    let grown = std::array::from_fn(|k| if k < 3 { old[k].min(new[k]) } else { old[k].max(new[k]) });
+    let edges = [&scene, &dragged].map(|scene| stored::box_of(scene, &scene.edges[1]));
+    for told in [new, grown, edges[0], edges[1]] {
+        let told = told.map(|number| number.to_string()).join(" ");
+        assert!(page().contains(&told), "{told} is not on the page");
+    }
+    let vertex_3 = |pair: &Pair| *pair == Pair::pt(3, 0);
+    assert!(listing::listed(&scene).iter().any(vertex_3) && !listing::listed(&dragged).iter().any(vertex_3));
 }

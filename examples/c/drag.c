@@ -1,6 +1,6 @@
 /*
  * Drags one vertex of a scene, as a mouse would: at each step the end of vertex VERTEX goes on by X Y Z, and the program prints which hits
- * came and which went. The boxes are filled in once; each move works out those of the parts that have the vertex, and the list is made
+ * came and which went. The boxes are read with the text; each move works out those of the parts that have the vertex, and the list is made
  * from what is stored. A move that is refused is told, and changes nothing.
  *
  *     examples/c/run drag VERTEX X Y Z STEPS < scenes/frozen.scene
@@ -14,8 +14,7 @@
 enum { ROOM = MAKHNODRI_REPORT_ROOM };
 
 static uint8_t text[MAKHNODRI_TEXT_LIMIT + 1]; /* one byte more, so that a text that is too long is seen */
-static makhnodri_buffers buffers;
-static int32_t boxes[MAKHNODRI_BOXES_LENGTH];
+static makhnodri_boxed_buffers buffers;
 static uint32_t list[ROOM], hits[2][ROOM];
 static uint8_t words[ROOM];
 
@@ -62,11 +61,8 @@ int main(int count, char **arguments) {
     }
     long steps = strtol(arguments[5], NULL, 10);
 
-    makhnodri_scene scene = {0};
-    if (refused("read", makhnodri_read_scene(text, fread(text, 1, sizeof text, stdin), &buffers, &scene))) return 1;
-    makhnodri_boxed_scene boxed = {buffers.positions, scene.positions_length, scene.edges, scene.edges_length, scene.triangles,
-                                   scene.triangles_length, scene.seams, scene.seams_length, boxes, MAKHNODRI_BOXES_LENGTH};
-    if (refused("fill", makhnodri_fill_boxes(&boxed))) return 1;
+    makhnodri_boxed_scene boxed = {0};
+    if (refused("read", makhnodri_read_boxed(text, fread(text, 1, sizeof text, stdin), &buffers, &boxed))) return 1;
 
     int now = 0, known = find_hits(&boxed, hits[now]);
     if (known < 0) return 1;

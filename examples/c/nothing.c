@@ -69,6 +69,13 @@ static void hold_boxed_slices(void) {
     hold("list_stored, no boxes", makhnodri_list_stored_slices(NO_SCENE, NULL, 0, NULL, 0, tests), MAKHNODRI_SHORT_BUFFER, 0);
     hold("settle_stored, no boxes", makhnodri_settle_stored_slices(NO_SCENE, NULL, 0, NULL, 0, NULL, 0), MAKHNODRI_SHORT_BUFFER, 0);
     if (tests[0] != 7) wrong = 1, puts("box tests without boxes");
+    size_t counts[4] = {7, 7, 7, 7};
+    hold("read_boxed, no buffers", makhnodri_read_boxed_slices(NULL, 0, NO_SCENE, NULL, 0, counts), MAKHNODRI_SHORT_BUFFER, 0);
+    static makhnodri_boxed_buffers room;
+    makhnodri_boxed_scene of_text = {0};
+    hold("read_boxed, no text", makhnodri_read_boxed(NULL, 0, &room, &of_text), 0, 0);
+    if (of_text.positions != room.lists.positions || of_text.boxes != room.boxes || of_text.positions_length || counts[0] != 7)
+        wrong = 1, puts("the boxed scene of no text");
     for (size_t i = 0; i < MAKHNODRI_BOXES_LENGTH; i++) boxes[i] = 7;
     hold("fill_boxes", makhnodri_fill_boxes_slices(NO_SCENE, boxes, MAKHNODRI_BOXES_LENGTH), 0, 0);
     hold("move_vertex", makhnodri_move_vertex_slices(NO_SCENE, boxes, MAKHNODRI_BOXES_LENGTH, 0, to), MAKHNODRI_NOT_THERE, 0);

@@ -81,6 +81,9 @@ static void move_vertex(void) {
     memcpy(to, positions + 6 * (place % 512), sizeof to);
     makhnodri_move_vertex_slices(STORED, place % 512, to);
 }
+static makhnodri_boxed_buffers own_boxed;
+static makhnodri_boxed_scene boxed;
+static void read_boxed(void) { makhnodri_read_boxed((const uint8_t *)text, text_length, &own_boxed, &boxed); }
 static void count_stored(void) { makhnodri_count_stored_slices(STORED, tests); }
 static void list_stored(void) { makhnodri_list_stored_slices(STORED, list, sizeof list / sizeof list[0], tests); }
 static void settle_stored(void) { makhnodri_settle_stored_slices(STORED, list, sizeof list / sizeof list[0], words, sizeof words); }
@@ -224,6 +227,7 @@ static const struct {
     {"count_stored", count_stored, 4},
     {"list_stored", list_stored, 4},
     {"settle_stored", settle_stored, 4},
+    {"read_boxed", read_boxed, 40},
 };
 
 enum { SCENES = 20 };

@@ -98,6 +98,7 @@ class Refusals(unittest.TestCase):
             (2, 1, v.replace(b"0", b"524288", 1)), (3, 2, v + e), (4, 3, v + v + b"e\t1\t1\n"), (15, 3, v + v + b"w\t0\t1\n"), (8, 0, b"v" * 32769),
         ):
             self.refused(number, line, makhnodri.Scene.read, text)
+            self.refused(number, line, makhnodri.BoxedScene.read, text)
             self.assertEqual(makhnodri.report(text), b"refused\t%d\t%d\n" % (number, line))
 
     def test_of_buffers_that_are_too_short_for_a_text(self):
@@ -105,8 +106,14 @@ class Refusals(unittest.TestCase):
         for place in range(4):
             buffers = [array.array("i" if i == 0 else "H", [7] * (length - (i == place))) for i, length in enumerate(lengths)]
             counts = array.array("Q", [7] * 4)
+            boxes = array.array("i", [7] * 12288)
             self.refused(12, 0, makhnodri.read_scene, b"", *buffers, counts)
-            self.assertTrue(all(number == 7 for buffer in (*buffers, counts) for number in buffer))
+            self.refused(12, 0, makhnodri.read_boxed, b"", *buffers, boxes, counts)
+            self.assertTrue(all(number == 7 for buffer in (*buffers, boxes, counts) for number in buffer))
+        buffers = [array.array("i" if i == 0 else "H", [7] * length) for i, length in enumerate(lengths)]
+        self.refused(12, 0, makhnodri.read_boxed, b"v", *buffers, boxes[:12287], counts)
+        self.refused(9, 1, makhnodri.read_boxed, b"v", *buffers, boxes, counts)
+        self.assertTrue(all(number == 7 for buffer in (*buffers, boxes, counts) for number in buffer))
 
     def test_of_stored_boxes(self):
         lists = triangle_and_point()

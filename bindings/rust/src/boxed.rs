@@ -2,7 +2,8 @@
 
 use crate::answers::{heard, settled};
 use crate::scenes::{ask, bare, list_refusal};
-use crate::{raw, ListRefusal, Listed, Pair, Refusal, Scene, Settled, TextRefusal, BOXES_LENGTH};
+use crate::texts::text_refusal;
+use crate::*;
 
 /// A scene that owns its lists and keeps the boxes of its vertices, edges and triangles beside them. It is made of a scene that is accepted, its
 /// boxes are filled in then, and nothing changes a position but a move, which works out the boxes of the parts that have the vertex. So the
@@ -43,9 +44,23 @@ impl BoxedScene {
         Ok(BoxedScene { scene, boxes })
     }
 
-    /// Of a text.
+    /// Of a text, which is read with its boxes.
     pub fn read(text: &[u8]) -> Result<BoxedScene, TextRefusal> {
-        Scene::read(text).map(|scene| BoxedScene::new(scene).expect("what was read is accepted"))
+        let mut positions = vec![0; POSITIONS_LENGTH];
+        let [mut edges, mut triangles, mut seams] = [EDGES_LENGTH, TRIANGLES_LENGTH, SEAMS_LENGTH].map(|length| vec![0; length]);
+        let (mut boxes, mut counts) = (vec![0; BOXES_LENGTH], [0; 4]);
+        let (p, e, t, s, b) = (positions.len(), edges.len(), triangles.len(), seams.len(), boxes.len());
+        let (ps, es, ts, ss) = (positions.as_mut_ptr(), edges.as_mut_ptr(), triangles.as_mut_ptr(), seams.as_mut_ptr());
+        let (bs, count) = (boxes.as_mut_ptr(), counts.as_mut_ptr());
+        // SAFETY: each pointer goes with the length of its own buffer, and counts has four numbers
+        let answer =
+            unsafe { raw::makhnodri_read_boxed_slices(text.as_ptr(), text.len(), ps, p, es, e, ts, t, ss, s, bs, b, count) };
+        heard(answer).map_err(text_refusal)?;
+        positions.truncate(6 * counts[0]);
+        edges.truncate(2 * counts[1]);
+        triangles.truncate(3 * counts[2]);
+        seams.truncate(2 * counts[3]);
+        Ok(BoxedScene { scene: Scene::new(positions, edges, triangles).sewn(seams), boxes })
     }
 
     /// The scene as it stands, for every other question.

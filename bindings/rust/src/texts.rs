@@ -30,11 +30,15 @@ pub fn read_scene(
     // SAFETY: each pointer goes with the length of its slice, counts has four numbers, and what is written is borrowed by `&mut`
     let answer = unsafe { raw::makhnodri_read_scene_slices(text, length, ps, p, es, e, ts, t, ss, s, count) };
     let [vertices, edges, triangles, seams] = counts;
-    heard(answer).map(|_| Counts { vertices, edges, triangles, seams }).map_err(|(refusal, line)| match refusal {
+    heard(answer).map(|_| Counts { vertices, edges, triangles, seams }).map_err(text_refusal)
+}
+
+pub(crate) fn text_refusal((refusal, line): (Refusal, usize)) -> TextRefusal {
+    match refusal {
         Refusal::ShortBuffer => TextRefusal::ShortBuffer,
         Refusal::LongText => TextRefusal::LongText,
         refusal => TextRefusal::Line { refusal, line },
-    })
+    }
 }
 
 /// Writes the whole report of a text in front of `out`, and returns its length; the rest is unchanged.

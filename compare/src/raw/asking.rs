@@ -452,6 +452,10 @@ fn about_text(random: &mut Random, text: Vec<u8>) -> Vec<Question> {
     };
     let reported = Lent { text: text.clone(), report: marks(65_536), ..Lent::default() };
     let mut out = vec![read(lengths), read(longer), read(short_of), Question::new(Call::WriteReport, reported)];
+    out.extend(stored::about_reading(
+        &mut random.clone(),
+        [read(lengths), read(longer), read(short_of)].map(|question| question.lent),
+    ));
     // and of a text that is a scene: what was read is saved as the same bytes
     if let Ok(scene) = text::read(&text) {
         assert_eq!(write(&scene).as_bytes(), text, "there is one text for a scene");

@@ -167,7 +167,7 @@ fn numbers() -> Vec<Damage> {
         }),
         damage("an accepted scene is 1", |question, answer| answer.number |= (question.call == Call::CheckScene) as u64),
         damage("a text that was read is the count of its vertices", |question, answer| {
-            if question.call == Call::ReadScene && answer.number == 0 {
+            if question.call.reads() && answer.number == 0 {
                 answer.number = answer.buffers[COUNTS][MARGIN] as u64;
             }
         }),
@@ -203,12 +203,12 @@ fn seams() -> Vec<Damage> {
             }
         }),
         damage("a text's seams are not written", |question, answer| {
-            if question.call == Call::ReadScene && answer.number == 0 {
+            if question.call.reads() && answer.number == 0 {
                 answer.buffers[SEAMS] = question.lent.bytes()[SEAMS].clone();
             }
         }),
         damage("15 in a text without its line", |question, answer| {
-            if question.call == Call::ReadScene && answer.refusal() == BROKEN_SEAM {
+            if question.call.reads() && answer.refusal() == BROKEN_SEAM {
                 answer.number = BROKEN_SEAM << 32;
             }
         }),
@@ -710,15 +710,15 @@ fn counts() -> Vec<Damage> {
 }
 
 fn texts() -> Vec<Damage> {
-    let read = |question: &Question, answer: &Answer| question.call == Call::ReadScene && answer.refusal() == 0;
+    let read = |question: &Question, answer: &Answer| question.call.reads() && answer.refusal() == 0;
     vec![
         damage("lines from 0", |question, answer| {
-            if question.call == Call::ReadScene && answer.number as u32 > 0 {
+            if question.call.reads() && answer.number as u32 > 0 {
                 answer.number -= 1;
             }
         }),
         damage("counts are 0 after a refusal", |question, answer| {
-            if question.call == Call::ReadScene && answer.refusal() > 0 {
+            if question.call.reads() && answer.refusal() > 0 {
                 answer.buffers[COUNTS][MARGIN..MARGIN + 32].fill(0);
             }
         }),
@@ -734,7 +734,7 @@ fn texts() -> Vec<Damage> {
             }
         }),
         damage("the first line's numbers stay after a refusal", |question, answer| {
-            if question.call == Call::ReadScene && answer.refusal() > 0 && question.lent.positions.len() > 6 {
+            if question.call.reads() && answer.refusal() > 0 && question.lent.positions.len() > 6 {
                 answer.buffers[POSITIONS][MARGIN..MARGIN + 24].fill(0);
             }
         }),
@@ -745,17 +745,17 @@ fn texts() -> Vec<Damage> {
 fn buffers() -> Vec<Damage> {
     vec![
         damage("8 before 12", |question, answer| {
-            if question.call == Call::ReadScene && question.lent.text.len() > 32_768 {
+            if question.call.reads() && question.lent.text.len() > 32_768 {
                 answer.number = TEXT_TOO_LONG << 32;
             }
         }),
         damage("triangle buffers may be short", |question, answer| {
-            if answer.refusal() == LENT_TOO_SHORT && question.lent.triangles.len() < 1_536 {
+            if question.call.reads() && answer.refusal() == LENT_TOO_SHORT && question.lent.triangles.len() < 1_536 {
                 answer.number = 0;
             }
         }),
         damage("seam buffers may be short", |question, answer| {
-            if answer.refusal() == LENT_TOO_SHORT && question.lent.seams.len() < 1_024 {
+            if question.call.reads() && answer.refusal() == LENT_TOO_SHORT && question.lent.seams.len() < 1_024 {
                 answer.number = 0;
             }
         }),

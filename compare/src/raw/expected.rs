@@ -3,7 +3,7 @@
 
 use super::question::*;
 use crate::contacts::{self, Contact};
-use crate::refusal::{Refusal, NOT_THERE, NO_ROOM, SHARES_A_VERTEX, TEXT_TOO_LONG};
+use crate::refusal::{Refusal, LENT_TOO_SHORT, NOT_THERE, NO_ROOM, SHARES_A_VERTEX, TEXT_TOO_LONG};
 use crate::scene::*;
 use crate::settled::{self, Settled};
 use crate::slices::{self, Slices};
@@ -113,6 +113,7 @@ impl Expecting {
                 }
                 Ok(pairs.len() as u64)
             }
+            Call::ReadBoxed => read_boxed(lent, self.wrong),
         }
     }
 
@@ -267,6 +268,17 @@ fn read(lent: &mut Lent) -> Result<u64, Refusal> {
     let counts = [scene.vertices.len(), scene.edges.len(), scene.triangles.len(), scene.seams.len()];
     lent.counts = counts.map(|count| count as u64).to_vec();
     Ok(0)
+}
+
+/// 12 for the boxes too; then the text, and the boxes of its scene in front.
+fn read_boxed(lent: &mut Lent, wrong: Wrong) -> Result<u64, Refusal> {
+    if lent.boxes.len() < stored::BOX_NUMBERS {
+        return Err(Refusal::bare(LENT_TOO_SHORT));
+    }
+    let answer = read(lent)?;
+    let right = stored::boxes(&text::read(&lent.text)?, wrong);
+    lent.boxes[..right.len()].copy_from_slice(&narrow(&right));
+    Ok(answer)
 }
 
 fn turn(lent: &mut Lent) -> Result<u64, Refusal> {

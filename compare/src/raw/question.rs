@@ -32,6 +32,8 @@ pub enum Call {
     CountStored,
     ListStored,
     SettleStored,
+    /// A text read with the boxes of its scene.
+    ReadBoxed,
 }
 
 /// Of a pair, or of a piece of one.
@@ -79,6 +81,7 @@ pub fn calls() -> Vec<Call> {
     out.extend([Call::SettleList, Call::ContactList]);
     out.extend([Call::SavedLength, Call::SaveScene]);
     out.extend(STORED_CALLS);
+    out.push(Call::ReadBoxed);
     out
 }
 
@@ -92,7 +95,12 @@ impl Call {
 
     /// Whether it takes a scene as slices.
     pub fn takes_a_scene(self) -> bool {
-        !matches!(self, Call::ReadScene | Call::WriteReport)
+        !matches!(self, Call::ReadScene | Call::WriteReport | Call::ReadBoxed)
+    }
+
+    /// Whether it reads a text into lent buffers.
+    pub fn reads(self) -> bool {
+        matches!(self, Call::ReadScene | Call::ReadBoxed)
     }
 
     /// Whether its scene may have seams.
@@ -163,6 +171,7 @@ impl Call {
             Call::CountStored => "count_stored".into(),
             Call::ListStored => "list_stored".into(),
             Call::SettleStored => "settle_stored".into(),
+            Call::ReadBoxed => "read_boxed".into(),
         }
     }
 }

@@ -9,6 +9,7 @@ use crate::faults::{self, Cell};
 use crate::listing;
 use crate::refusal::*;
 use crate::scene::*;
+use crate::stored::BOX_NUMBERS;
 use std::collections::BTreeMap;
 
 pub type Sorts = BTreeMap<String, usize>;
@@ -224,11 +225,13 @@ fn of_saving(question: &Question, answer: &Answer) -> Vec<String> {
 
 /// Each cell of the table of faults in texts, and short buffers.
 fn of_texts() -> Vec<String> {
-    let mut out = vec!["read_scene: answered".into(), "write_report: pairs listed".into(), "read_scene: 12 before 8".into()];
-    out.push("read_scene: answered with seams".into());
-    out.extend(["positions", "edges", "triangles", "seams"].map(|buffer| format!("read_scene: 12, {buffer}")));
-    out.push("read_scene: 12 before a line".into());
-    for call in [Call::ReadScene, Call::WriteReport] {
+    let mut out = vec!["write_report: pairs listed".into(), "read_boxed: 12, boxes".into(), "read_boxed: 12, boxes alone".into()];
+    for call in ["read_scene", "read_boxed"] {
+        let sorts = ["answered", "answered with seams", "12 before 8", "12 before a line"];
+        out.extend(sorts.map(|sort| format!("{call}: {sort}")));
+        out.extend(["positions", "edges", "triangles", "seams"].map(|buffer| format!("{call}: 12, {buffer}")));
+    }
+    for call in [Call::ReadScene, Call::ReadBoxed, Call::WriteReport] {
         out.extend(faults::cells().into_iter().filter(|&cell| can_be_given(call, cell)).map(|cell| in_cell(call, cell)));
     }
     out
@@ -270,7 +273,7 @@ fn can_be_given(call: Call, cell: Cell) -> bool {
 /// The sorts of a question whose right answer this is.
 pub fn of(question: &Question, answer: &Answer) -> Vec<String> {
     match question.call {
-        Call::ReadScene => of_reading(question, answer),
+        Call::ReadScene | Call::ReadBoxed => of_reading(question, answer),
         Call::CheckClaims => of_claims(question, answer),
         Call::WriteReport => {
             let mut out = texts_cells(question);
@@ -346,24 +349,30 @@ fn texts_cells(question: &Question) -> Vec<String> {
 }
 
 fn of_reading(question: &Question, answer: &Answer) -> Vec<String> {
-    let lent = &question.lent;
+    let (lent, name) = (&question.lent, question.call.name());
     if answer.number == 0 {
         let sewn = answer.buffers[COUNTS][MARGIN + 24] > 0;
-        return [Some("read_scene: answered"), sewn.then_some("read_scene: answered with seams")]
-            .into_iter()
-            .flatten()
-            .map(Into::into)
-            .collect();
+        let sorts = [Some("answered"), sewn.then_some("answered with seams")];
+        return sorts.into_iter().flatten().map(|sort| format!("{name}: {sort}")).collect();
     }
     if answer.refusal() != LENT_TOO_SHORT {
         return texts_cells(question);
     }
-    let short = [lent.positions.len() < 3_072, lent.edges.len() < 2_048, lent.triangles.len() < 1_536, lent.seams.len() < 1_024];
-    let short = ["positions", "edges", "triangles", "seams"].into_iter().zip(short).filter(|(_, short)| *short);
-    let mut out: Vec<String> = short.map(|(buffer, _)| format!("read_scene: 12, {buffer}")).collect();
+    let few_boxes = question.call == Call::ReadBoxed && lent.boxes.len() < BOX_NUMBERS;
+    let short = [
+        lent.positions.len() < 3_072,
+        lent.edges.len() < 2_048,
+        lent.triangles.len() < 1_536,
+        lent.seams.len() < 1_024,
+        few_boxes,
+    ];
+    let alone = short == [false, false, false, false, true];
+    let short = ["positions", "edges", "triangles", "seams", "boxes"].into_iter().zip(short).filter(|(_, short)| *short);
+    let mut out: Vec<String> = short.map(|(buffer, _)| format!("{name}: 12, {buffer}")).collect();
+    out.extend(alone.then(|| format!("{name}: 12, boxes alone")));
     match crate::text::read(&lent.text).map_err(|refusal| refusal.number) {
-        Err(TEXT_TOO_LONG) => out.push("read_scene: 12 before 8".into()),
-        Err(_) => out.push("read_scene: 12 before a line".into()),
+        Err(TEXT_TOO_LONG) => out.push(format!("{name}: 12 before 8")),
+        Err(_) => out.push(format!("{name}: 12 before a line")),
         Ok(_) => {}
     }
     out

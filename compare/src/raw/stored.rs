@@ -225,6 +225,21 @@ fn about_stale(random: &mut Random, scene: &Scene) -> Vec<Question> {
     out
 }
 
+/// A text read with its boxes, into what is lent for the text alone: boxes of just the length, longer, too short by one, none.
+pub fn about_reading(random: &mut Random, lent: [Lent; 3]) -> Vec<Question> {
+    let read =
+        |lent: &Lent, length: usize| Question::new(Call::ReadBoxed, Lent { boxes: marks_of_boxes(length), ..lent.clone() });
+    let [just, longer, short] = &lent;
+    let few = random.pick(&[0, BOX_NUMBERS - 1, 6, BOX_NUMBERS - 1]);
+    vec![
+        read(just, BOX_NUMBERS),
+        read(longer, BOX_NUMBERS + random.below(40)),
+        read(short, BOX_NUMBERS),
+        read(just, few),
+        read(short, few),
+    ]
+}
+
 /// A scene that is refused, with boxes that are enough and that are not; and what a call would refuse after it.
 pub fn on_harmed(random: &mut Random, scene: &Scene, harmed: &Lent) -> Vec<Question> {
     let mut out = Vec::new();

@@ -12,7 +12,52 @@ pub fn all() -> Vec<Damage> {
     out.extend(moves());
     out.extend(orders());
     out.extend(buffers());
+    out.extend(reading());
     out
+}
+
+/// A text read with its boxes.
+fn reading() -> Vec<Damage> {
+    let read = |question: &Question, answer: &Answer| question.call == Call::ReadBoxed && answer.refusal() == 0;
+    let few = |question: &Question| question.call == Call::ReadBoxed && question.lent.boxes.len() < BOX_NUMBERS;
+    vec![
+        damage("a text is read without its boxes", move |question, answer| {
+            if read(question, answer) {
+                answer.buffers[BOXES] = question.lent.bytes()[BOXES].clone();
+            }
+        }),
+        damage("zeros behind the boxes of a text", move |question, answer| {
+            if read(question, answer) {
+                let length = question.lent.boxes.len();
+                numbers(answer, BOXES, length - 1, 1).fill(0);
+            }
+        }),
+        damage("a refused text leaves a box", |question, answer| {
+            if question.call == Call::ReadBoxed && answer.refusal() > 0 && question.lent.boxes.len() >= 6 {
+                numbers(answer, BOXES, 0, 6).fill(0);
+            }
+        }),
+        damage("a text's boxes may be short", move |question, answer| {
+            if few(question) {
+                answer.number = 0;
+            }
+        }),
+        damage("8 before 12 for boxes", move |question, answer| {
+            if few(question) && question.lent.text.len() > crate::scene::TEXT_LIMIT {
+                answer.number = TEXT_TOO_LONG << 32;
+            }
+        }),
+        damage("a line before 12 for boxes", move |question, answer| {
+            if let (true, Err(refusal)) = (few(question), crate::text::read(&question.lent.text)) {
+                answer.number = (refusal.number << 32) + refusal.third;
+            }
+        }),
+        damage("a text's highs first", move |question, answer| {
+            if read(question, answer) {
+                *answer = Expecting::going_wrong(stored::Wrong::HighsFirst).answer(question);
+            }
+        }),
+    ]
 }
 
 /// The answer that a program gives which goes wrong in this way.

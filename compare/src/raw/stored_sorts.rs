@@ -86,7 +86,9 @@ pub fn of(question: &Question, answer: &Answer) -> Vec<String> {
     let refused_scene = SCENE_CHECKS.contains(&given) && !faults.is_empty();
     if call.looks_over_boxes() {
         add(refused_scene && first_is_stale(lent), format!("{given} before 17"));
-        out.extend((given == STALE_BOX).then(|| of_stale(question)).unwrap_or_default());
+        if given == STALE_BOX {
+            out.extend(of_stale(question));
+        }
     }
     let no_room = call.lists() && (lent.list.is_empty() || (call.settles_a_scene() && lent.words.is_empty()));
     let mut add = |holds: bool, sort: String| out.extend(holds.then(|| format!("{}: {sort}", call.name())));
