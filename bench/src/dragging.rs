@@ -120,23 +120,30 @@ impl Bench {
         );
     }
 
-    /// The list from the boxes, with the look over all of them, over the list that works them out.
+    /// The list from the boxes, with the look over all of them, over the list that works them out; and the look alone, which is what is left of
+    /// the check of the scene where the last number of the last box is stale.
     fn lists_from_boxes(&self, product: &Product, scene: &Scene) {
         let Dragged { slices, boxes, .. } = Dragged::new(product, scene);
+        let mut stale = boxes.clone();
+        stale[BOX_NUMBERS - 1] += 1;
         let count = plain::list(&slices, &mut []);
-        let (mut ours, mut stored, mut tests) = (vec![0; count], vec![0; count], [[0; 1]; 2]);
-        let [ours_tests, stored_tests] = &mut tests;
+        let (mut ours, mut stored, mut none, mut tests) = (vec![0; count], vec![0; count], vec![0; count], [[0; 1]; 3]);
+        let [ours_tests, stored_tests, no_tests] = &mut tests;
         let ways = vec![
             Way::new("stored", || product.list_stored(&slices, &boxes, &mut stored, stored_tests).expect("right boxes") as u64),
             Way::new("listed", || product.list(&slices, &mut ours, ours_tests).expect("there is room") as u64),
+            Way::new("looked", || product.list_stored(&slices, &stale, &mut none, no_tests).expect_err("a stale box")),
+            Way::new("checked", || product.check(&slices).expect("a scene") as u64),
         ];
         let times = shortest(ways, self.rounds);
         assert!(ours == stored && tests[0] == tests[1], "the list from the boxes is the list");
-        let [stored, listed] = [0, 1].map(|way| 1e6 * times[way].1);
+        let [stored, listed, looked, checked] = [0, 1, 2, 3].map(|way| 1e6 * times[way].1);
         println!(
-            "  {:<20} the list from its boxes {stored:>6.2} us   the list {listed:>6.2} us   over it {:>5.2}",
+            "  {:<20} the list from its boxes {stored:>6.2} us   the list {listed:>6.2} us   over it {:>5.2}; the look {:>6.2} us, over the list {:>5.2}",
             "",
-            stored / listed
+            stored / listed,
+            looked - checked,
+            (looked - checked) / listed
         );
     }
 }
