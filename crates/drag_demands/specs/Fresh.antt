@@ -21,7 +21,7 @@ use Rattle.scenes.specs.Below.{none-below}
 use Rattle.boxed_scenes.specs.Checks.{past-boxed}
 use Rattle.listing.specs.Answering.{IsCount, roomChecks}
 
-no-other : (z : ℤ) → differ z z ≡ false
+pub no-other : (z : ℤ) → differ z z ≡ false
 no-other (pos n) = rw (le-ltb n n (omega arith))
 no-other (negsuc n) = rw (le-ltb n n (omega arith))
 

@@ -10,3 +10,5 @@ pub mod AfterReading
 pub mod AfterMoves
 pub mod SavedMoves
 pub mod Shown
+pub mod SewnMoves
+pub mod SewnTogether
