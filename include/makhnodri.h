@@ -94,8 +94,8 @@ extern "C" {
  * None of these calls itself, and none calls back. Inside, one search does: where a piece is degenerate, two steps leave out a
  * corner, in turn of the one simplex and of the other, and call each other on the rest. A piece has six corners to leave out, and
  * with the same corners left each step is asked once at most, so that the calls are never more than 14 deep.
- * MAKHNODRI_STACK bytes of stack are enough for any call. As measured by `examples/c/run stack` on x86-64, in bytes, and on aarch64 it
- * was less for each:
+ * MAKHNODRI_STACK bytes of stack are enough for any call. As measured by `examples/c/run stack` on x86-64, in bytes; on aarch64 it
+ * was less for each but those with boxes, the last three rows, which were not measured there:
  *
  *     check_scene       1,288      judge_pt, judge_pt_piece     1,792
  *     count_pairs      53,240      judge_ee, judge_ee_piece     1,824
