@@ -3,7 +3,7 @@
 use compare::scene::{self, all_pairs};
 use compare::slices::{self, Slices};
 use compare::{settled, verdict};
-use makhnodri::{turn_scene, Kind, ListRefusal, Refusal, Scene, Settled, TextRefusal, Verdict};
+use makhnodri::{turn_scene, BoxedScene, Kind, ListRefusal, Refusal, Scene, Settled, TextRefusal, Verdict};
 
 /// A value, or a refusal's number with the line, the needed count, or 0.
 pub type Answer<T> = Result<T, (u64, u64)>;
@@ -122,6 +122,7 @@ pub fn every_answer(flat: &Flat) -> Vec<(&'static str, Answer<()>)> {
         ("count", scene.count_pairs().map(drop).map_err(bare)),
         ("list", listed(flat, 40).map(drop)),
         ("settle", settled(flat, 40, 50).map(drop)),
+        ("boxes", BoxedScene::new(flat.scene()).map(drop).map_err(bare)),
     ];
     // a scene with seams is not played backwards
     out.extend(flat.seams.is_empty().then(|| ("turn", turned(flat).map(drop))));

@@ -1,7 +1,7 @@
 //! What is only lent to be read is never written, calls at the same time do not disturb each other, and a small stack is enough.
 
 use compare::generate;
-use makhnodri::{report, STACK};
+use makhnodri::{report, BoxedScene, STACK};
 use makhnodri_tests::*;
 
 #[test]
@@ -28,7 +28,10 @@ fn threads_at_once_on_small_stacks() {
         let scene = generate::scene(seed);
         (Flat::of(&scene), compare::text::write(&scene).into_bytes())
     };
-    let work = |(flat, text): (Flat, Vec<u8>)| (flat.scene().settled(), report(&text));
+    let work = |(flat, text): (Flat, Vec<u8>)| {
+        let boxed = BoxedScene::new(flat.scene()).map(|boxed| boxed.settled());
+        (flat.scene().settled(), report(&text), boxed)
+    };
     let alone: Vec<_> = (0..26).map(lent).map(work).collect();
     let thread = |lent| std::thread::Builder::new().stack_size(STACK + OWN).spawn(move || work(lent)).unwrap();
     let threads: Vec<_> = (0..26).map(lent).map(thread).collect();
