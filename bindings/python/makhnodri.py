@@ -27,7 +27,7 @@ import pathlib
 import platform
 import sys
 
-VERSION_MAJOR, VERSION_MINOR, VERSION_PATCH = 0, 5, 0
+VERSION_MAJOR, VERSION_MINOR, VERSION_PATCH = 0, 6, 0
 VERSION = f"{VERSION_MAJOR}.{VERSION_MINOR}.{VERSION_PATCH}"
 
 # ---- Sizes, as the header has them
@@ -48,6 +48,7 @@ POSITIONS_LENGTH = 3072
 EDGES_LENGTH = 2048
 TRIANGLES_LENGTH = 1536
 SEAMS_LENGTH = 1024
+BOXES_LENGTH = 12288
 STACK = 131072
 REPORT_LENGTH = 65536
 
@@ -84,6 +85,9 @@ PT, EE = Kind
 
 NO, YES = 0, 1
 
+# the file that a refusal of an import is about
+NO_FILE, START_FILE, END_FILE = 0, 1, 2
+
 # the table of refusals: the header's name, the number, and the words
 _REFUSALS = (
     ("SHAPE", 1, "positions not a multiple of 6 long, edges of 2, triangles of 3, seams of 2, or a count over its size"),
@@ -98,6 +102,7 @@ _REFUSALS = (
     ("LATE_RECORD", 10, "a record after one of a later kind"),
     ("TOO_MANY", 11, "one record more than its size"),
     ("SHORT_BUFFER", 12, "a lent scene buffer that is too short"),
+    ("FILES_DIFFER", 14, "two OBJ files differ in vertex count, or in the faces and their order"),
     ("BROKEN_SEAM", 15, "a seam that breaks the rules of seams, or whose two positions differ"),
     ("BEYOND_OLD_RANGE", 16, "a contact asked for in a scene with a coordinate beyond 262,143"),
 )
@@ -107,18 +112,19 @@ _WORDS_OF = {number: words for _, number, words in _REFUSALS}
 
 class Refused(ValueError):
     """A refusal of the library. `number` is that of the table and `words` what it says; `line` is the line of a text, counted from 1, and `count`
-    the room that was needed, each None where the refusal carries no such number; `carried` is the number itself, or 0."""
+    the room that was needed, each None where the refusal carries no such number; `carried` is the number itself, or 0. `file` is "start" or "end"
+    where one of two OBJ files is refused, else None."""
 
-    def __init__(self, number, carried=0):
-        self.number, self.carried = number, carried
+    def __init__(self, number, carried=0, file=None):
+        self.number, self.carried, self.file = number, carried, file
         self.count = carried if number == 7 else None
         self.line = carried if number != 7 and carried else None
         self.words = refusal_words(number)
         where = f", line {carried}" if self.line else f", {carried} needed" if number == 7 else ""
-        super().__init__(f"refused {number}{where}: {self.words}")
+        super().__init__(f"refused {number}{f', the {file} file' if file else ''}{where}: {self.words}")
 
     def __reduce__(self):
-        return Refused, (self.number, self.carried)
+        return Refused, (self.number, self.carried, self.file)
 
 
 def refusal(answer):
@@ -129,6 +135,16 @@ def refusal(answer):
 def value(answer):
     """The value of an answer; of a refusal, the line or count."""
     return answer & 0xFFFFFFFF
+
+
+def import_file(answer):
+    """The file that a refusal of an import is about: START_FILE, END_FILE or NO_FILE."""
+    return value(answer) >> 30
+
+
+def import_line(answer):
+    """The line of that file, counted from 1, or 0."""
+    return value(answer) & 0x3FFFFFFF
 
 
 def refusal_words(number):
@@ -375,6 +391,11 @@ def _NOTHING(_):
     return None
 
 
+# the same, and what its refusal carries has a file in its two upper bits
+def _IMPORTED(_):
+    return None
+
+
 _COUNT, _WORD = int, Word
 
 _SCENE = _Lists()
@@ -408,6 +429,10 @@ _FUNCTIONS = (
     ("save_scene_slices", _COUNT, _SCENE, _Write("text", _UINT8)),
     ("check_claims_slices", _COUNT, _SCENE, _Read("claims", _UINT8), _Write("answers", _UINT8)),
     ("read_scene_slices", _NOTHING, _Read("text", _UINT8), *_THREE, _Write("seams", _UINT16), _Fixed("counts", _SIZE, 4)),
+    (
+        "import_scene_slices", _IMPORTED, _Read("start", _UINT8), _Read("end", _UINT8), *_THREE, _Write("seams", _UINT16), _Write("boxes", _INT32),
+        _Fixed("counts", _SIZE, 4),
+    ),
     ("write_report", _COUNT, _Read("text", _UINT8), _Fixed("out", _UINT8, REPORT_LENGTH)),
     ("turn_scene", _NOTHING, *_THREE),
 )
@@ -447,6 +472,8 @@ def _made(symbol, given, arguments):
         with _Lent() as held:
             words = [word for argument, one in zip(arguments, lent) for word in argument.words(one, held)]
             answer = _functions[symbol](*words)
+        if answer >> 32 and given is _IMPORTED:
+            raise Refused(refusal(answer), import_line(answer), (None, "start", "end")[import_file(answer)])
         if answer >> 32:
             raise Refused(refusal(answer), value(answer))
         return given(answer)
@@ -488,14 +515,20 @@ class Scene:
         for part, given in zip(_Lists.parts, (positions, edges, triangles, seams)):
             setattr(self, part.name, _in_a_row(given, part.numbers))
 
-    @classmethod
-    def read(cls, text):
+    @staticmethod
+    def read(text):
         """The scene of a text (docs/FORMAT.md), a buffer of bytes."""
-        sizes, lengths = (6, 2, 3, 2), (POSITIONS_LENGTH, EDGES_LENGTH, TRIANGLES_LENGTH, SEAMS_LENGTH)
-        buffers = [_room(part.numbers, length) for part, length in zip(_Lists.parts, lengths)]
-        counts = _room(_SIZE, 4)
+        buffers, counts = _scene_buffers(), _room(_SIZE, 4)
         read_scene(text, *buffers, counts)
-        return cls(*(buffer[: size * count] for buffer, size, count in zip(buffers, sizes, counts)))
+        return scene_in(buffers, counts)
+
+    @staticmethod
+    def import_obj(start, end):
+        """The scene of two OBJ files (docs/FORMAT.md), one for the start and one for the end, buffers of bytes; in hundredths of their unit. A Refused
+        tells the file and its line."""
+        buffers, counts = _scene_buffers(), _room(_SIZE, 4)
+        import_scene(start, end, *buffers, _room(_INT32, BOXES_LENGTH), counts)
+        return scene_in(buffers, counts)
 
     def listed(self):
         """The listed pairs, in order."""
@@ -547,6 +580,16 @@ class Scene:
     def __repr__(self):
         sizes = ((part.name, getattr(self, part.name)) for part in _Lists.parts)
         return f"<Scene {', '.join(f'{name}: {0 if given is None else memoryview(given).nbytes} bytes' for name, given in sizes)}>"
+
+
+def _scene_buffers():
+    """Room for any scene that is read."""
+    return [_room(part.numbers, length) for part, length in zip(_Lists.parts, (POSITIONS_LENGTH, EDGES_LENGTH, TRIANGLES_LENGTH, SEAMS_LENGTH))]
+
+
+def scene_in(buffers, counts):
+    """The scene that stands in front of four arrays, with these counts; its lists are copies."""
+    return Scene(*(buffer[: size * count] for buffer, size, count in zip(buffers, (6, 2, 3, 2), counts)))
 
 
 def stands_for(scene, vertex):

@@ -129,6 +129,39 @@ fn each_mistake_is_told_apart() {
     }
 }
 
+/// What docs/FORMAT.md says of decimals, and the scene that it shows, is what is read.
+#[test]
+fn the_page_tells_of_decimals_and_of_a_scene() {
+    let page = std::fs::read_to_string(kept::folder().join("../docs/FORMAT.md")).unwrap();
+    let part = page.split("## Two OBJ files").nth(1).unwrap().split("\n## ").next().unwrap();
+    let mut held = 0;
+    for row in part.split("| decimal | in the scene |\n").nth(1).unwrap().lines().skip(1).take_while(|row| row.starts_with('|')) {
+        let cells: Vec<&str> = row.trim_matches('|').split(" | ").map(str::trim).collect();
+        for field in cells[0].split("`, `").map(|field| field.trim_matches('`')) {
+            let file = format!("v {field} 0 0\n");
+            let given = match import(file.as_bytes(), file.as_bytes()) {
+                Ok(scene) => scene.vertices[0][0].to_string(),
+                Err(Refused { number, .. }) => (if number == 9 { "none: 9" } else { "too far: 2" }).into(),
+            };
+            assert_eq!(given, cells[1], "{field}");
+            held += 1;
+        }
+    }
+    assert_eq!(held, 19);
+    let indented: Vec<&str> = part.lines().filter_map(|line| line.strip_prefix("    ")).collect();
+    let shown = |front: &'static str| indented.iter().filter(move |line| line.starts_with(front));
+    let two = shown("v ").chain(shown("f ")).filter_map(|line| line.split_once("  "));
+    let (mut start, mut end) = (String::new(), String::new());
+    for (first, second) in two {
+        start += &format!("{}\n", first.trim());
+        end += &format!("{}\n", second.trim());
+    }
+    assert_eq!(start.lines().count(), 6);
+    let scene: String =
+        ["v\t", "e\t", "t\t"].into_iter().flat_map(|front| shown(front).map(|line| format!("{line}\n"))).collect();
+    assert_eq!(saved(&import(start.as_bytes(), end.as_bytes())), scene);
+}
+
 /// The pairs in scenes/obj have their reports and their scenes, and the page tells of each.
 #[test]
 fn the_example_files_have_their_reports() {

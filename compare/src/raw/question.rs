@@ -26,6 +26,8 @@ pub enum Call {
     ContactList,
     SavedLength,
     SaveScene,
+    /// Two OBJ files.
+    ImportScene,
 }
 
 /// Of a pair, or of a piece of one.
@@ -68,7 +70,7 @@ pub fn calls() -> Vec<Call> {
     out.extend([Call::ReadScene, Call::WriteReport, Call::TurnScene, Call::CheckClaims]);
     out.extend([Call::Contact(Asked::Pt), Call::Contact(Asked::Ee), Call::ContactScene]);
     out.extend([Call::SettleList, Call::ContactList]);
-    out.extend([Call::SavedLength, Call::SaveScene]);
+    out.extend([Call::SavedLength, Call::SaveScene, Call::ImportScene]);
     out
 }
 
@@ -82,7 +84,7 @@ impl Call {
 
     /// Whether it takes a scene as slices.
     pub fn takes_a_scene(self) -> bool {
-        !matches!(self, Call::ReadScene | Call::WriteReport)
+        !matches!(self, Call::ReadScene | Call::WriteReport | Call::ImportScene)
     }
 
     /// Whether its scene may have seams.
@@ -138,6 +140,7 @@ impl Call {
             Call::ContactList => "contact_list".into(),
             Call::SavedLength => "saved_length".into(),
             Call::SaveScene => "save_scene".into(),
+            Call::ImportScene => "import_scene".into(),
         }
     }
 }
@@ -156,10 +159,13 @@ pub struct Lent {
     pub counts: Vec<u64>,
     pub report: Vec<u8>,
     pub contacts: Vec<u32>,
+    pub boxes: Vec<i32>,
+    /// The end file of two; the start file is the text.
+    pub ending: Vec<u8>,
 }
 
-pub const BUFFERS: [&str; 10] =
-    ["positions", "edges", "triangles", "seams", "list", "words", "text", "counts", "report", "contacts"];
+pub const BUFFERS: [&str; 12] =
+    ["positions", "edges", "triangles", "seams", "list", "words", "text", "counts", "report", "contacts", "boxes", "ending"];
 
 /// The places of some buffers.
 pub const POSITIONS: usize = 0;
@@ -171,6 +177,7 @@ pub const COUNTS: usize = 7;
 pub const TEXT: usize = 6;
 pub const REPORT: usize = 8;
 pub const CONTACTS: usize = 9;
+pub const BOXES: usize = 10;
 /// Numbers of a contact.
 pub const ROW: usize = 5;
 
@@ -202,6 +209,8 @@ impl Lent {
             self.counts.len(),
             self.report.len(),
             self.contacts.len(),
+            self.boxes.len(),
+            self.ending.len(),
         ]
     }
 
@@ -219,6 +228,8 @@ impl Lent {
             self.counts.iter().flat_map(|n| n.to_le_bytes()).collect(),
             self.report.clone(),
             self.contacts.iter().flat_map(|n| n.to_le_bytes()).collect(),
+            self.boxes.iter().flat_map(|n| n.to_le_bytes()).collect(),
+            self.ending.clone(),
         ];
         inside.map(|inside| [marks(MARGIN), inside, marks(MARGIN)].concat())
     }
