@@ -14,6 +14,11 @@ fn trials() -> impl Iterator<Item = Trial> {
     fixed().into_iter().chain((0..SEEDS).flat_map(seeded))
 }
 
+/// Fewer, where each is read in every way.
+fn some_trials() -> impl Iterator<Item = Trial> {
+    fixed().into_iter().chain((0..42).flat_map(seeded))
+}
+
 /// What crates/obj_cases must print of the same pairs was written by hand.
 #[test]
 fn the_cases_of_the_proved_reader() {
@@ -116,7 +121,7 @@ fn each_fault_and_each_two_are_tried() {
 fn each_mistake_is_told_apart() {
     let mut unlike: BTreeSet<(usize, usize)> = BTreeSet::new();
     let ways: Vec<Wrong> = WRONG.into_iter().chain([Wrong::Nothing]).collect();
-    for trial in trials() {
+    for trial in some_trials() {
         let outcomes: Vec<_> = ways.iter().map(|&wrong| import_with(&trial.start, &trial.end, wrong)).collect();
         for i in 0..ways.len() {
             unlike.extend((i + 1..ways.len()).filter(|&j| outcomes[i] != outcomes[j]).map(|j| (i, j)));

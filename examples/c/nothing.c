@@ -111,6 +111,9 @@ int main(void) {
     hold("import_scene, no files", makhnodri_import_scene(NULL, 0, NULL, 0, &buffers, boxes, &scene), 0, 0);
     if (scene.positions != buffers.positions || scene.positions_length || scene.edges_length || scene.triangles_length || scene.seams_length || boxes[0] != 7)
         wrong = 1, puts("the scene of no files");
+    static const size_t none[4];
+    makhnodri_scene_in(&buffers, none, &scene);
+    hold_scene(&scene);
 
     static const char nothing[] = "total\t0\t0\t0\t0\t0\n";
     size_t length = makhnodri_write_report(NULL, 0, out);
