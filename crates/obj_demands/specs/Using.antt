@@ -26,19 +26,19 @@ use Rattle.obj_demands.specs.AcceptedImport.{imports-accepted}
 
 -- ---- which outcome an answer tells
 
-outcome-read : {c : SceneCounts} (o : ImportOutcome) → counts c ≡ importTold o → (s : Scene) × (o ≡ read s) × (c ≡ countsOf s)
+pub outcome-read : {c : SceneCounts} (o : ImportOutcome) → counts c ≡ importTold o → (s : Scene) × (o ≡ read s) × (c ≡ countsOf s)
 unfolding importTold
 outcome-read (read s) e = (s, refl, cc)
 outcome-read (refused n) e = let z : _≡_ {A = ℕ} 0 1 = cc in absurd (omega arith)
 outcome-read (refusedIn f n line) e = let z : _≡_ {A = ℕ} 0 1 = cc in absurd (omega arith)
 
-outcome-refused : {n : ℕ} (o : ImportOutcome) → number n ≡ importTold o → o ≡ refused n
+pub outcome-refused : {n : ℕ} (o : ImportOutcome) → number n ≡ importTold o → o ≡ refused n
 unfolding importTold
 outcome-refused (read s) e = let z : _≡_ {A = ℕ} 0 1 = cc in absurd (omega arith)
 outcome-refused (refused n) e = cc
 outcome-refused (refusedIn f n line) e = let z : _≡_ {A = ℕ} 0 1 = cc in absurd (omega arith)
 
-outcome-refused-in : {f : WhichFile} {n line : ℕ} (o : ImportOutcome) → numberIn f n line ≡ importTold o → o ≡ refusedIn f n line
+pub outcome-refused-in : {f : WhichFile} {n line : ℕ} (o : ImportOutcome) → numberIn f n line ≡ importTold o → o ≡ refusedIn f n line
 unfolding importTold
 outcome-refused-in (read s) e = let z : _≡_ {A = ℕ} 0 1 = cc in absurd (omega arith)
 outcome-refused-in (refused n) e = let z : _≡_ {A = ℕ} 0 1 = cc in absurd (omega arith)
