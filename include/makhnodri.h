@@ -112,7 +112,8 @@ extern "C" {
  *
  * One 64-bit number. Below 2^32 it is the value itself. From 2^32 on it is a refusal: the upper 32 bits are its number, the
  * lower 32 bits the line or the needed count that it carries, else 0. No two answers of a function have the same number
- * (makhnodri_read_scene answers 0 for every text that it read, and the scene tells which; a hit's contact is told by its numbers).
+ * (makhnodri_read_scene answers 0 for every text that it read, makhnodri_import_scene for every two files, and the scene tells which; a
+ * hit's contact is told by its numbers). A refusal of an import carries the file beside the line; makhnodri_import_file tells it.
  * After a refusal no lent byte or number has changed.
  */
 typedef uint64_t makhnodri_answer;
