@@ -14,8 +14,8 @@
 /* each buffer is aligned for 64-bit numbers, and not for more */
 enum { MARGIN = 24, CAPACITY = 1 << 22 };
 
-enum { POSITIONS, EDGES, TRIANGLES, SEAMS, LIST, WORDS, TEXT, COUNTS, REPORT, CONTACTS, BOXES, COORDINATES, BUFFERS };
-static const size_t size_of[BUFFERS] = {4, 2, 2, 2, 4, 1, 1, sizeof(size_t), 1, 4, 4, 4};
+enum { POSITIONS, EDGES, TRIANGLES, SEAMS, LIST, WORDS, TEXT, COUNTS, REPORT, CONTACTS, BOXES, COORDINATES, ENDING, BUFFERS };
+static const size_t size_of[BUFFERS] = {4, 2, 2, 2, 4, 1, 1, sizeof(size_t), 1, 4, 4, 4, 1};
 
 struct question {
     uint64_t call, asked[3], length[BUFFERS];
@@ -72,6 +72,8 @@ static uint64_t answer(const struct question *q) {
     case 26: return makhnodri_list_stored_slices(STORED, lent(LIST), q->length[LIST], lent(COUNTS));
     case 27: return makhnodri_settle_stored_slices(STORED, lent(LIST), q->length[LIST], lent(WORDS), q->length[WORDS]);
     case 28: return makhnodri_read_boxed_slices(lent(TEXT), q->length[TEXT], STORED, lent(COUNTS));
+    case 29:
+        return makhnodri_import_scene_slices(lent(TEXT), q->length[TEXT], lent(ENDING), q->length[ENDING], STORED, lent(COUNTS));
     }
     give_up("no such call");
     return 0;

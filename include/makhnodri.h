@@ -36,7 +36,7 @@ extern "C" {
 #define MAKHNODRI_EDGE_LIMIT 1024
 #define MAKHNODRI_TRIANGLE_LIMIT 512
 #define MAKHNODRI_SEAM_LIMIT 512
-#define MAKHNODRI_TEXT_LIMIT 32768 /* bytes of a scene text */
+#define MAKHNODRI_TEXT_LIMIT 32768 /* bytes of a scene text, and of an OBJ file */
 #define MAKHNODRI_REPORT_ROOM 3072 /* pairs that a report has room for */
 #define MAKHNODRI_PAIR_LIMIT 785920 /* no scene lists more: 512 x 512 of points and triangles, 1024 x 1023 / 2 of edges */
 
@@ -109,12 +109,14 @@ extern "C" {
  *     fill_boxes        1,352      move_vertex                 12,728
  *     count_stored     53,144      list_stored                 86,080
  *     settle_stored    86,096      read_boxed                  23,288
+ *     import_scene     39,560
  *
  * ---- An answer ----
  *
  * One 64-bit number. Below 2^32 it is the value itself. From 2^32 on it is a refusal: the upper 32 bits are its number, the
  * lower 32 bits the line or the needed count that it carries, else 0. No two answers of a function have the same number
- * (makhnodri_read_scene and _read_boxed answer 0 for every text that they read, and the scene tells which; a hit's contact is told by its numbers).
+ * (makhnodri_read_scene and _read_boxed answer 0 for every text that they read, makhnodri_import_scene for every two files, and the scene
+ * tells which; a hit's contact is told by its numbers). A refusal of an import carries the file beside the line; makhnodri_import_file tells it.
  * After a refusal no lent byte or number has changed.
  */
 typedef uint64_t makhnodri_answer;
@@ -182,6 +184,8 @@ static inline uint32_t makhnodri_entry_second(uint32_t entry) { return entry & 1
  * Of claims: the scene's, 8, then the first faulty line, and in it 9, 5, 6; 7 last.
  * Of a scene that is saved: the scene's, then 8, then 7.
  * Of a scene that keeps its boxes: 12, the scene's; then for a move 5, 2 of the new coordinates, 15; for the list 17, then 7.
+ * Of two OBJ files: 12, 8 for the start file, 8 for the end file, then the first faulty line of the start file and then of the end file,
+ * in it 9, 10, 11, 2, 3, 4, and 11 again for edge 1,025; 14 last.
  */
 enum {
     MAKHNODRI_SHAPE = 1,           /* positions not a multiple of 6 long, edges of 2, triangles of 3, seams of 2, or a count over its size */
@@ -194,8 +198,8 @@ enum {
     MAKHNODRI_LONG_TEXT = 8,       /* a text over 32,768 bytes, read or to be written */
     MAKHNODRI_BAD_LINE = 9,        /* a line not of the form, or a last line without LF; with the line */
     MAKHNODRI_LATE_RECORD = 10,    /* a record after one of a later kind; with the line */
-    MAKHNODRI_TOO_MANY = 11,       /* one record more than its size; with the line */
-    MAKHNODRI_SHORT_BUFFER = 12,   /* a lent scene buffer shorter than 3,072 positions, 2,048 edge, 1,536 triangle, 1,024 seam or 12,288 box numbers */
+    MAKHNODRI_TOO_MANY = 11,       /* one record more than its size, or a face that brings edge 1,025; with the line */
+    MAKHNODRI_SHORT_BUFFER = 12,   /* a lent buffer shorter than 3,072 positions, 2,048 edge, 1,536 triangle, 1,024 seam or 12,288 box numbers */
     MAKHNODRI_BLOCK_LENGTH = 13,   /* a block of a series with more or fewer v lines than there are vertices; with the line */
     MAKHNODRI_FILES_DIFFER = 14,   /* two OBJ files that differ in vertex count, or in the faces and their order */
     MAKHNODRI_BROKEN_SEAM = 15,    /* a seam that breaks the rules of seams, or whose two positions differ at either time; of a text, with the line */
@@ -357,6 +361,10 @@ makhnodri_answer makhnodri_list_stored_slices(MAKHNODRI_LISTS, const int32_t *bo
                                               size_t list_length, size_t tests[MAKHNODRI_AT_LEAST(1)]);
 makhnodri_answer makhnodri_settle_stored_slices(MAKHNODRI_LISTS, const int32_t *boxes, size_t boxes_length, uint32_t *list,
                                                 size_t list_length, uint8_t *words, size_t words_length);
+makhnodri_answer makhnodri_import_scene_slices(const uint8_t *start, size_t start_length, const uint8_t *end, size_t end_length,
+                                               int32_t *positions, size_t positions_length, uint16_t *edges, size_t edges_length,
+                                               uint16_t *triangles, size_t triangles_length, uint16_t *seams, size_t seams_length,
+                                               int32_t *boxes, size_t boxes_length, size_t counts[MAKHNODRI_AT_LEAST(4)]);
 
 makhnodri_answer makhnodri_read_boxed_slices(const uint8_t *text, size_t text_length, int32_t *positions, size_t positions_length,
                                              uint16_t *edges, size_t edges_length, uint16_t *triangles, size_t triangles_length,
@@ -595,6 +603,18 @@ static inline makhnodri_answer makhnodri_settle_stored(const makhnodri_boxed_sce
 
 /* ---- Texts ---- */
 
+/* has the scene point to the lists that stand in front of the buffers, with these counts */
+static inline void makhnodri_scene_in(makhnodri_buffers *buffers, const size_t counts[MAKHNODRI_AT_LEAST(4)], makhnodri_scene *scene) {
+    scene->positions = buffers->positions;
+    scene->positions_length = 6 * counts[0];
+    scene->edges = buffers->edges;
+    scene->edges_length = 2 * counts[1];
+    scene->triangles = buffers->triangles;
+    scene->triangles_length = 3 * counts[2];
+    scene->seams = buffers->seams;
+    scene->seams_length = 2 * counts[3];
+}
+
 /*
  * Reads a scene text (docs/FORMAT.md) into the buffers, and has the scene point to what was read there. The answer is 0; or a
  * refusal, 12, 8, 9, 10, 11, 2, 3, 15 or 4, after which neither buffers nor scene have changed. A scene that was read is accepted by
@@ -611,15 +631,7 @@ static inline makhnodri_answer makhnodri_read_scene(const uint8_t *text, size_t 
     makhnodri_answer answer = makhnodri_read_scene_slices(
         text, text_length, buffers->positions, MAKHNODRI_POSITIONS_LENGTH, buffers->edges, MAKHNODRI_EDGES_LENGTH, buffers->triangles,
         MAKHNODRI_TRIANGLES_LENGTH, buffers->seams, MAKHNODRI_SEAMS_LENGTH, counts);
-    if (makhnodri_refusal(answer)) return answer;
-    scene->positions = buffers->positions;
-    scene->positions_length = 6 * counts[0];
-    scene->edges = buffers->edges;
-    scene->edges_length = 2 * counts[1];
-    scene->triangles = buffers->triangles;
-    scene->triangles_length = 3 * counts[2];
-    scene->seams = buffers->seams;
-    scene->seams_length = 2 * counts[3];
+    if (!makhnodri_refusal(answer)) makhnodri_scene_in(buffers, counts, scene);
     return answer;
 }
 
@@ -651,6 +663,41 @@ static inline makhnodri_answer makhnodri_read_boxed(const uint8_t *text, size_t 
     boxed->boxes_length = MAKHNODRI_BOXES_LENGTH;
     return answer;
 }
+
+
+/*
+ * ---- Two OBJ files ----
+ *
+ * Brings in two Wavefront OBJ files (docs/FORMAT.md), one for the start and one for the end: has the scene point to what they give, in the
+ * buffers, without seams, and writes the box of each vertex, then of each edge, then of each triangle into boxes: six numbers each, the
+ * three lows first, and what lies behind is unchanged. A coordinate is in hundredths of the files' unit; an edge stands once, as it first
+ * appears. The answer is 0; or a refusal, after which nothing has changed. What a refusal of an import carries is told by
+ * makhnodri_import_file and makhnodri_import_line, in the place of makhnodri_value.
+ *
+ * makhnodri_import_scene_slices brings them into buffers of the caller's, as long as those of makhnodri_read_scene_slices, and boxes of
+ * at least MAKHNODRI_BOXES_LENGTH, else 12; and the counts into the four numbers of counts, of which the last is 0.
+ */
+static inline makhnodri_answer makhnodri_import_scene(const uint8_t *start, size_t start_length, const uint8_t *end, size_t end_length,
+                                                      makhnodri_buffers *buffers, int32_t boxes[MAKHNODRI_AT_LEAST(MAKHNODRI_BOXES_LENGTH)],
+                                                      makhnodri_scene *scene) {
+    size_t counts[4];
+    makhnodri_answer answer = makhnodri_import_scene_slices(
+        start, start_length, end, end_length, buffers->positions, MAKHNODRI_POSITIONS_LENGTH, buffers->edges, MAKHNODRI_EDGES_LENGTH,
+        buffers->triangles, MAKHNODRI_TRIANGLES_LENGTH, buffers->seams, MAKHNODRI_SEAMS_LENGTH, boxes, MAKHNODRI_BOXES_LENGTH, counts);
+    if (!makhnodri_refusal(answer)) makhnodri_scene_in(buffers, counts, scene);
+    return answer;
+}
+
+/* The file that a refusal of an import is about. */
+enum {
+    MAKHNODRI_NO_FILE = 0, /* 12 and 14 are about neither alone */
+    MAKHNODRI_START_FILE = 1,
+    MAKHNODRI_END_FILE = 2
+};
+static inline uint32_t makhnodri_import_file(makhnodri_answer answer) { return makhnodri_value(answer) >> 30; }
+
+/* the line of that file, counted from 1, skipped lines too; or 0, where the file is too long or there is none */
+static inline uint32_t makhnodri_import_line(makhnodri_answer answer) { return makhnodri_value(answer) & 0x3fffffff; }
 
 /*
  * Writes the whole report of a text, as the program prints it, into the MAKHNODRI_REPORT_LENGTH bytes of out: the lines of the

@@ -13,6 +13,7 @@ mod errors;
 mod floor;
 mod plain;
 mod plain_contacts;
+mod plain_import;
 mod plain_report;
 mod plain_rest;
 mod plain_saving;
@@ -100,6 +101,7 @@ fn main() {
     bench.reports();
     bench.saving();
     bench.dragging();
+    bench.importing();
     bench.wrong_answers();
 }
 
@@ -303,6 +305,37 @@ impl Bench {
         let times = shortest(ways, self.rounds);
         assert!(plain == text && formatted == text && (self.product.is_none() || ours == text), "each way writes the same bytes");
         table(&format!("saving, {name} ({} bytes)", text.len()), ("us", 1e6), &times);
+    }
+
+    /// The largest pair of OBJ files.
+    fn importing(&self) {
+        let [start, end] = plain_import::largest();
+        let [mut searched, mut found] = [0, 1].map(|_| plain_import::Room::new());
+        let (mut ours, mut boxes, mut counts) = (Slices::with_room(), vec![0; searched.boxes.len()], [0; 4]);
+        let plain = |table: bool, room: &mut plain_import::Room| {
+            plain_import::import(&start, &end, table, room).expect("a scene");
+            room.counts[1] as u64
+        };
+        let mut ways = vec![
+            Way::new("plain Rust, edges looked for one by one", || plain(false, &mut searched)),
+            Way::new("plain Rust, edges found by a table", || plain(true, &mut found)),
+        ];
+        if let Some(product) = &self.product {
+            ways.push(Way::new(OURS, || {
+                product.import(&start, &end, &mut ours, &mut boxes, &mut counts).expect("a scene");
+                counts[1] as u64
+            }));
+        }
+        let times = shortest(ways, self.rounds);
+        let same = searched.positions == ours.positions && searched.edges == ours.edges && searched.triangles == ours.triangles;
+        assert!(self.product.is_none() || (same && searched.boxes == boxes), "the library imports what plain Rust imports");
+        assert!(searched.edges == found.edges && searched.boxes == found.boxes, "each way finds the same edges");
+        let [vertices, edges, triangles] = searched.counts;
+        let title = format!(
+            "importing, the largest pair of OBJ files (twice {} bytes; {vertices} vertices, {edges} edges, {triangles} faces)",
+            start.len()
+        );
+        table(&title, ("us", 1e6), &times);
     }
 
     fn report(&self, name: &str, text: &[u8]) {

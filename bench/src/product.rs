@@ -18,6 +18,7 @@
 //! | makhnodri_list_stored_slices | a scene, boxes i32, list u32, one number | as makhnodri_list_pairs_slices, from the boxes |
 //! | makhnodri_settle_stored_slices | a scene, boxes i32, list u32, words u8 | as makhnodri_settle_scene_slices, from the boxes |
 //! | makhnodri_save_scene_slices | a scene's four lists, text u8 | an answer; the scene's text |
+//! | makhnodri_import_scene_slices | two files u8, a scene's four lists and its boxes i32, all of full size, four counts | an answer; the scene, its boxes and its counts |
 //! | makhnodri_read_scene_slices | text u8, a scene's four lists of full size, four counts | an answer; the scene and its counts |
 //! | makhnodri_write_report | text u8, 65,536 bytes for the report | the length of the report |
 //!
@@ -173,6 +174,7 @@ mod linked {
     #[rustfmt::skip]
     extern "C" {
         fn makhnodri_contact_scene_slices(positions: *const i32, positions_len: usize, edges: *const u16, edges_len: usize, triangles: *const u16, triangles_len: usize, seams: *const u16, seams_len: usize, list: *mut u32, list_len: usize, words: *mut u8, words_len: usize, contacts: *mut u32, contacts_len: usize) -> u64;
+        fn makhnodri_import_scene_slices(start: *const u8, start_len: usize, end: *const u8, end_len: usize, positions: *mut i32, positions_len: usize, edges: *mut u16, edges_len: usize, triangles: *mut u16, triangles_len: usize, seams: *mut u16, seams_len: usize, boxes: *mut i32, boxes_len: usize, counts: *mut usize) -> u64;
         fn makhnodri_contact_pt_slices(positions: *const i32, positions_len: usize, edges: *const u16, edges_len: usize, triangles: *const u16, triangles_len: usize, seams: *const u16, seams_len: usize, vertex: usize, triangle: usize, contact: *mut u32) -> u64;
         fn makhnodri_contact_ee_slices(positions: *const i32, positions_len: usize, edges: *const u16, edges_len: usize, triangles: *const u16, triangles_len: usize, seams: *const u16, seams_len: usize, first: usize, second: usize, contact: *mut u32) -> u64;
     }
@@ -391,6 +393,19 @@ mod linked {
             })
         }
 
+        /// The scene of two OBJ files stands in front of the buffers, and its boxes in front of theirs.
+        pub fn import(&self, start: &[u8], end: &[u8], s: &mut Slices, boxes: &mut [i32], counts: &mut [usize; 4]) -> Answer {
+            let (from, to, b) = (start.as_ptr(), end.as_ptr(), boxes.len());
+            let (boxes, counts) = (boxes.as_mut_ptr(), counts.as_mut_ptr());
+            let (p, e, t, w) = (s.positions.len(), s.edges.len(), s.triangles.len(), s.seams.len());
+            let (ps, es, ts, ws) =
+                (s.positions.as_mut_ptr(), s.edges.as_mut_ptr(), s.triangles.as_mut_ptr(), s.seams.as_mut_ptr());
+            // SAFETY: as above, and there are four counts
+            answer(unsafe {
+                makhnodri_import_scene_slices(from, start.len(), to, end.len(), ps, p, es, e, ts, t, ws, w, boxes, b, counts)
+            })
+        }
+
         /// The scene's text stands in front of the buffer.
         pub fn save(&self, s: &Slices, text: &mut [u8]) -> Answer {
             // SAFETY: as above
@@ -439,6 +454,10 @@ mod missing {
         }
 
         pub fn save(&self, _: &Slices, _: &mut [u8]) -> Answer {
+            match *self {}
+        }
+
+        pub fn import(&self, _: &[u8], _: &[u8], _: &mut Slices, _: &mut [i32], _: &mut [usize; 4]) -> Answer {
             match *self {}
         }
 

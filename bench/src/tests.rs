@@ -3,7 +3,7 @@
 use crate::errors::{self, Kind, Set, Source};
 use crate::scenes;
 use crate::slices::Slices;
-use crate::{plain, plain_contacts, plain_report, plain_rest, plain_saving, sweep, wide};
+use crate::{plain, plain_contacts, plain_import, plain_report, plain_rest, plain_saving, sweep, wide};
 use compare::box_tests;
 use compare::contacts::{self, making};
 use compare::generate;
@@ -135,4 +135,34 @@ fn plain_saving_is_the_exact_one() {
         assert_eq!(plain_saving::formatted(&slices, &mut saved).ok(), Some(right.len()));
         assert_eq!(saved[..right.len()], right);
     }
+}
+
+/// On every pair of files of the comparison: the scene and its boxes, or the refusal; by search and by a table.
+#[test]
+fn plain_importing_is_the_exact_one() {
+    use compare::obj::making::{fixed, seeded};
+    let [start, end] = plain_import::largest();
+    assert_eq!((start.len(), end.len()), (32_768, 32_768));
+    let largest = compare::obj::making::Trial { name: "the largest".into(), start, end };
+    for trial in fixed().into_iter().chain((0..40).flat_map(seeded)).chain([largest]) {
+        let right = compare::obj::import(&trial.start, &trial.end);
+        for table in [false, true] {
+            let mut room = plain_import::Room::new();
+            let given = plain_import::import(&trial.start, &trial.end, table, &mut room);
+            let Ok(scene) = &right else {
+                assert_eq!(given.err(), right.clone().err(), "{}", trial.name);
+                continue;
+            };
+            assert_eq!(given, Ok(()), "{}", trial.name);
+            let slices = Slices::of(scene);
+            let boxes: Vec<i32> =
+                compare::stored::boxes(scene, compare::stored::Wrong::None).into_iter().map(|n| n as i32).collect();
+            assert_eq!(room.positions[..slices.positions.len()], slices.positions, "{}", trial.name);
+            assert_eq!(room.edges[..slices.edges.len()], slices.edges, "{}", trial.name);
+            assert_eq!(room.triangles[..slices.triangles.len()], slices.triangles, "{}", trial.name);
+            assert_eq!(room.boxes[..boxes.len()], boxes, "{}", trial.name);
+        }
+    }
+    let sizes = compare::obj::import(&plain_import::largest()[0], &plain_import::largest()[1]).unwrap();
+    assert_eq!((sizes.vertices.len(), sizes.edges.len(), sizes.triangles.len()), (512, 1_024, 512));
 }

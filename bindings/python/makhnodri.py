@@ -85,6 +85,9 @@ PT, EE = Kind
 
 NO, YES = 0, 1
 
+# the file that a refusal of an import is about
+NO_FILE, START_FILE, END_FILE = 0, 1, 2
+
 # the table of refusals: the header's name, the number, and the words
 _REFUSALS = (
     ("SHAPE", 1, "positions not a multiple of 6 long, edges of 2, triangles of 3, seams of 2, or a count over its size"),
@@ -111,18 +114,19 @@ _WORDS_OF = {number: words for _, number, words in _REFUSALS}
 
 class Refused(ValueError):
     """A refusal of the library. `number` is that of the table and `words` what it says; `line` is the line of a text, counted from 1, and `count`
-    the room that was needed, each None where the refusal carries no such number; `carried` is the number itself, or 0."""
+    the room that was needed, each None where the refusal carries no such number; `carried` is the number itself, or 0. `file` is "start" or "end"
+    where one of two OBJ files is refused, else None."""
 
-    def __init__(self, number, carried=0):
-        self.number, self.carried = number, carried
+    def __init__(self, number, carried=0, file=None):
+        self.number, self.carried, self.file = number, carried, file
         self.count = carried if number == 7 else None
         self.line = carried if number != 7 and carried else None
         self.words = refusal_words(number)
         where = f", line {carried}" if self.line else f", {carried} needed" if number == 7 else ""
-        super().__init__(f"refused {number}{where}: {self.words}")
+        super().__init__(f"refused {number}{f', the {file} file' if file else ''}{where}: {self.words}")
 
     def __reduce__(self):
-        return Refused, (self.number, self.carried)
+        return Refused, (self.number, self.carried, self.file)
 
 
 def refusal(answer):
@@ -133,6 +137,16 @@ def refusal(answer):
 def value(answer):
     """The value of an answer; of a refusal, the line or count."""
     return answer & 0xFFFFFFFF
+
+
+def import_file(answer):
+    """The file that a refusal of an import is about: START_FILE, END_FILE or NO_FILE."""
+    return value(answer) >> 30
+
+
+def import_line(answer):
+    """The line of that file, counted from 1, or 0."""
+    return value(answer) & 0x3FFFFFFF
 
 
 def refusal_words(number):
@@ -391,6 +405,11 @@ def _NOTHING(_):
     return None
 
 
+# the same, and what its refusal carries has a file in its two upper bits
+def _IMPORTED(_):
+    return None
+
+
 _COUNT, _WORD = int, Word
 
 _SCENE = _Lists()
@@ -425,6 +444,10 @@ _FUNCTIONS = (
     ("save_scene_slices", _COUNT, _SCENE, _Write("text", _UINT8)),
     ("check_claims_slices", _COUNT, _SCENE, _Read("claims", _UINT8), _Write("answers", _UINT8)),
     ("read_scene_slices", _NOTHING, _Read("text", _UINT8), *_THREE, _Write("seams", _UINT16), _Fixed("counts", _SIZE, 4)),
+    (
+        "import_scene_slices", _IMPORTED, _Read("start", _UINT8), _Read("end", _UINT8), *_THREE, _Write("seams", _UINT16), _Write("boxes", _INT32),
+        _Fixed("counts", _SIZE, 4),
+    ),
     ("write_report", _COUNT, _Read("text", _UINT8), _Fixed("out", _UINT8, REPORT_LENGTH)),
     ("turn_scene", _NOTHING, *_THREE),
     ("fill_boxes_slices", _NOTHING, _SCENE, _BOXES),
@@ -470,6 +493,8 @@ def _made(symbol, given, arguments):
         with _Lent() as held:
             words = [word for argument, one in zip(arguments, lent) for word in argument.words(one, held)]
             answer = _functions[symbol](*words)
+        if answer >> 32 and given is _IMPORTED:
+            raise Refused(refusal(answer), import_line(answer), (None, "start", "end")[import_file(answer)])
         if answer >> 32:
             raise Refused(refusal(answer), value(answer))
         return given(answer)
@@ -523,6 +548,14 @@ class Scene:
         """The scene of a text (docs/FORMAT.md), a buffer of bytes."""
         buffers, counts = _rooms()
         read_scene(text, *buffers, counts)
+        return cls(*_in_front(buffers, counts))
+
+    @classmethod
+    def import_obj(cls, start, end):
+        """The scene of two OBJ files (docs/FORMAT.md), one for the start and one for the end, buffers of bytes; in hundredths of their unit. A Refused
+        tells the file and its line."""
+        buffers, counts = _rooms()
+        import_scene(start, end, *buffers, _room(_INT32, BOXES_LENGTH), counts)
         return cls(*_in_front(buffers, counts))
 
     def listed(self):

@@ -1,4 +1,4 @@
-//! Document 01, and §1, §5, §6, §8, §10, §11, §12 and §13 of document 02, a second time, written from their text alone, so that the proved program has something to be held
+//! Document 01, and §1, §3, §5, §6, §8, §10, §11, §12 and §13 of document 02, a second time, written from their text alone, so that the proved program has something to be held
 //! against. Where the proved program takes signs of 3 by 3 determinants of differences, this one sets up the six
 //! equations as they are written and solves them; where those are singular, it eliminates bounds, and leaves no corner
 //! out. Nothing here is meant to be fast.
@@ -23,6 +23,7 @@ pub mod kept;
 pub mod listing;
 pub mod looks;
 pub mod mistakes;
+pub mod obj;
 pub mod pieces;
 pub mod random;
 pub mod raw;

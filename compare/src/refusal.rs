@@ -12,6 +12,8 @@ pub const BAD_LINE: u64 = 9;
 pub const OUT_OF_ORDER: u64 = 10;
 pub const ONE_TOO_MANY: u64 = 11;
 pub const LENT_TOO_SHORT: u64 = 12;
+/// Document 02, §3: two OBJ files that differ in vertex count, or in the faces and their order.
+pub const FILES_DIFFER: u64 = 14;
 pub const BROKEN_SEAM: u64 = 15;
 /// Document 02, §13: a contact asked for in a scene beyond the old range.
 pub const BEYOND_OLD_RANGE: u64 = 16;

@@ -6,6 +6,7 @@ use compare::explain::explained;
 use compare::kept;
 use compare::listing;
 use compare::mistakes::{self, Right};
+use compare::obj;
 use compare::report::report;
 use compare::scene::{Pair, Scene, REPORT_ROOM};
 use compare::settled::{of_pair, Settled};
@@ -32,6 +33,9 @@ fn wrong(key: &str, room: usize, text: &[u8]) -> String {
 /// What a command of the page prints: a program, a scene, and at times only the first or the last lines.
 fn printed(command: &str) -> String {
     let (command, cut) = command.split_once(" | ").unwrap_or((command, ""));
+    if let Some(whole) = of_two_files(command) {
+        return shortened(whole, cut);
+    }
     let (program, scene) = command.split_once(" < ").unwrap_or_else(|| panic!("no scene: {command}"));
     let text = text(scene);
     let room = |word: Option<&&str>| word.map_or(REPORT_ROOM, |word| word.parse().unwrap());
@@ -48,6 +52,25 @@ fn printed(command: &str) -> String {
         ["compare/show", "why"] => explained(&read(&text).unwrap()),
         _ => panic!("no such command: {command}"),
     };
+    shortened(whole, cut)
+}
+
+/// What a command prints that takes two OBJ files.
+fn of_two_files(command: &str) -> Option<String> {
+    let words: Vec<&str> = command.split(' ').collect();
+    let (key, files) = match words[..] {
+        ["./makhnodri", "obj", start, end] => ("Nothing", [start, end]),
+        ["compare/obj", "--wrong", key, start, end] => (key, [start, end]),
+        _ => return None,
+    };
+    let ways = obj::WRONG.into_iter().chain([obj::Wrong::Nothing]);
+    let wrong =
+        ways.into_iter().find(|wrong| format!("{wrong:?}") == key).unwrap_or_else(|| panic!("no mistake is called {key}"));
+    Some(obj::reported(&obj::import_with(&text(files[0]), &text(files[1]), wrong)))
+}
+
+/// Only the first or the last lines.
+fn shortened(whole: String, cut: &str) -> String {
     let lines: Vec<&str> = whole.split_inclusive('\n').collect();
     match cut.split(' ').collect::<Vec<&str>>()[..] {
         ["head", "-n", count] => lines[..count.parse().unwrap()].concat(),

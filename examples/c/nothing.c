@@ -55,6 +55,12 @@ static void hold_slices(void) {
                                      room.triangles, MAKHNODRI_TRIANGLES_LENGTH, NULL, 0, counts),
          MAKHNODRI_SHORT_BUFFER, 0);
     if (counts[0] != 7 || counts[3] != 7) wrong = 1, puts("counts of a refused text");
+    hold("import_scene, no buffers", makhnodri_import_scene_slices(NULL, 0, NULL, 0, NO_SCENE, NULL, 0, counts), MAKHNODRI_SHORT_BUFFER, 0);
+    hold("import_scene, no boxes' buffer",
+         makhnodri_import_scene_slices(NULL, 0, NULL, 0, room.positions, MAKHNODRI_POSITIONS_LENGTH, room.edges, MAKHNODRI_EDGES_LENGTH,
+                                       room.triangles, MAKHNODRI_TRIANGLES_LENGTH, room.seams, MAKHNODRI_SEAMS_LENGTH, NULL, 0, counts),
+         MAKHNODRI_SHORT_BUFFER, 0);
+    if (counts[0] != 7 || counts[3] != 7) wrong = 1, puts("counts of a refused import");
     hold("turn_scene", makhnodri_turn_scene(NULL, 0, NULL, 0, NULL, 0), 0, 0);
 }
 
@@ -142,6 +148,15 @@ int main(void) {
     hold("read_scene, no text", makhnodri_read_scene(NULL, 0, &buffers, &scene), 0, 0);
     if (scene.positions != buffers.positions || scene.positions_length || scene.edges_length || scene.triangles_length || scene.seams_length)
         wrong = 1, puts("the scene of no text");
+    hold_scene(&scene);
+
+    static int32_t boxes[MAKHNODRI_BOXES_LENGTH];
+    boxes[0] = 7;
+    hold("import_scene, no files", makhnodri_import_scene(NULL, 0, NULL, 0, &buffers, boxes, &scene), 0, 0);
+    if (scene.positions != buffers.positions || scene.positions_length || scene.edges_length || scene.triangles_length || scene.seams_length || boxes[0] != 7)
+        wrong = 1, puts("the scene of no files");
+    static const size_t none[4];
+    makhnodri_scene_in(&buffers, none, &scene);
     hold_scene(&scene);
 
     static const char nothing[] = "total\t0\t0\t0\t0\t0\n";

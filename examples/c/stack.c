@@ -88,6 +88,14 @@ static void count_stored(void) { makhnodri_count_stored_slices(STORED, tests); }
 static void list_stored(void) { makhnodri_list_stored_slices(STORED, list, sizeof list / sizeof list[0], tests); }
 static void settle_stored(void) { makhnodri_settle_stored_slices(STORED, list, sizeof list / sizeof list[0], words, sizeof words); }
 
+static char files[2][MAKHNODRI_TEXT_LIMIT];
+static size_t files_length[2];
+static void import_scene(void) {
+    makhnodri_import_scene_slices((const uint8_t *)files[0], files_length[0], (const uint8_t *)files[1], files_length[1], own.positions,
+                                  MAKHNODRI_POSITIONS_LENGTH, own.edges, MAKHNODRI_EDGES_LENGTH, own.triangles, MAKHNODRI_TRIANGLES_LENGTH,
+                                  own.seams, MAKHNODRI_SEAMS_LENGTH, own_boxed.boxes, MAKHNODRI_BOXES_LENGTH, counts);
+}
+
 static uint8_t stack[STACK];
 
 static size_t used_by(void (*call)(void)) {
@@ -181,6 +189,23 @@ static void write_claims(unsigned seed) {
     claims_length = (size_t)at;
 }
 
+/* two OBJ files of all vertices and of a strip of faces, with skipped lines; some have a fault at the end of either, or faces that differ */
+static void write_files(unsigned seed) {
+    for (int f = 0; f < 2; f++) {
+        int at = 0;
+        for (size_t i = 0; i < 512; i++) {
+            if (i % 9 == 0) at += sprintf(files[f] + at, "# %zu\nvt 0 0\n\n", i);
+            at += sprintf(files[f] + at, "v");
+            for (size_t k = 0; k < 3; k++) at += sprintf(files[f] + at, i % 2 ? " %d.0%d" : " %d.%d", (int)positions[6 * i + k], (int)(i + k) % 9);
+            at += sprintf(files[f] + at, "\n");
+        }
+        for (int i = 1; i < 400; i++) at += sprintf(files[f] + at, "f %d %d %d\n", i, i + 1, i + 2);
+        if (seed % 7 == (unsigned)f + 4) at += sprintf(files[f] + at, "f 1 2\n");
+        if (seed % 7 == 6) at += sprintf(files[f] + at, "f %d 2 3\n", f + 4);
+        files_length[f] = (size_t)at;
+    }
+}
+
 /* a list of one's own: pairs that share no vertex, of both kinds */
 static void write_asked(void) {
     asked_length = 0;
@@ -228,6 +253,7 @@ static const struct {
     {"list_stored", list_stored, 4},
     {"settle_stored", settle_stored, 4},
     {"read_boxed", read_boxed, 40},
+    {"import_scene", import_scene, 20},
 };
 
 enum { SCENES = 20 };
@@ -242,6 +268,7 @@ static size_t most_of(size_t i) {
             write_claims((unsigned)run);
             write_asked();
             fill_boxes();
+            write_files((unsigned)run);
             place = (size_t)run;
             size_t used = used_by(calls[i].call);
             if (most < used) most = used;

@@ -125,6 +125,40 @@ class Files(unittest.TestCase):
             self.assertEqual(printed, file.with_suffix(".answers").read_bytes(), file)
 
 
+class ObjFiles(unittest.TestCase):
+    def test_every_pair_has_its_scene(self):
+        starts = sorted((TOP / "scenes/obj").glob("*-start.obj"))
+        self.assertGreater(len(starts), 3)
+        for start in starts:
+            name = start.name.removesuffix("-start.obj")
+            end, report = (start.with_name(name + ending) for ending in ("-end.obj", ".report"))
+            try:
+                scene = Scene.import_obj(start.read_bytes(), end.read_bytes())
+            except makhnodri.Refused as refused:
+                told = (b"refused", b"%d" % refused.number, b"%d" % refused.carried) + ((refused.file.encode(),) if refused.file else ())
+                self.assertEqual(b"\t".join(told) + b"\n", report.read_bytes(), name)
+            else:
+                self.assertEqual(scene.saved(), start.with_name(name + ".scene").read_bytes(), name)
+                self.assertEqual(makhnodri.report(scene.saved()), report.read_bytes(), name)
+
+    def test_boxes(self):
+        files = [(TOP / f"scenes/obj/cuff-{which}.obj").read_bytes() for which in ("start", "end")]
+        buffers = [array.array(code, [7]) * length for code, length in zip("iHHHi", (3072, 2048, 1536, 1024, 12290))]
+        counts = array.array("Q", [7] * 4)
+        makhnodri.import_scene(*files, *buffers, counts)
+        positions, edges, triangles, seams, boxes = buffers
+        vertices, sides, faces, sewn = counts
+        self.assertEqual((vertices, sides, faces, sewn), (7, 8, 3, 0))
+        parts = [(vertex,) for vertex in range(vertices)]
+        parts += [tuple(edges[2 * i : 2 * i + 2]) for i in range(sides)] + [tuple(triangles[3 * i : 3 * i + 3]) for i in range(faces)]
+        wanted = []
+        for part in parts:
+            places = [[positions[6 * v + at + axis] for v in part for at in (0, 3)] for axis in range(3)]
+            wanted += [min(places[axis]) for axis in range(3)] + [max(places[axis]) for axis in range(3)]
+        self.assertEqual(list(boxes), wanted + [7] * (12290 - len(wanted)))
+        self.assertEqual(list(seams), [7] * 1024)
+
+
 class Seeds(unittest.TestCase):
     def test_reports(self):
         words = collections.Counter()

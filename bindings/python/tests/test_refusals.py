@@ -18,17 +18,17 @@ def change(place, numbers):
 
 
 class Refusals(unittest.TestCase):
-    def refused(self, number, carried, call, *given):
+    def refused(self, number, carried, call, *given, file=None):
         with self.assertRaises(makhnodri.Refused) as told:
             call(*given)
         said = told.exception
-        self.assertEqual((said.number, said.carried), (number, carried))
+        self.assertEqual((said.number, said.carried, said.file), (number, carried, file))
         self.assertEqual(said.count, carried if number == 7 else None)
         self.assertEqual(said.line, carried if carried and number != 7 else None)
         self.assertEqual(said.words, makhnodri.refusal_words(number))
         self.assertIn(said.words, str(said))
         again = pickle.loads(pickle.dumps(said))
-        self.assertEqual((again.number, again.carried, str(again)), (number, carried, str(said)))
+        self.assertEqual((again.number, again.carried, again.file, str(again)), (number, carried, file, str(said)))
         MET.add(number)
 
     def test_of_a_scene(self):
@@ -133,6 +133,24 @@ class Refusals(unittest.TestCase):
         self.refused(7, 1, makhnodri.list_stored, scene, boxes, None, tests)
         self.refused(7, 1, makhnodri.settle_stored, scene, boxes, found, None)
         self.assertEqual((bytes(words), set(found), tests[0]), (b"\x07" * 9, {7}, 7))
+
+    def test_of_two_files(self):
+        v, three, good = b"v 0 0 0\n", b"v 0 0 0\nv 1 0 0\nv 0 1 0\n", b"v 0 0 0\nv 1 0 0\nv 0 1 0\nf 1 2 3\n"
+        for number, line, file in (
+            (9, 2, v + b"o a\n"), (9, 1, v[:-1]), (10, 5, good + v), (11, 514, b"# a\n" + v * 513), (2, 2, b"\nv 0 0 -5242.88\n"), (3, 4, three + b"f 1 2 4\n"),
+            (4, 4, three + b"f 1 2 1\n"), (8, 0, b"\n" * 32769),
+        ):
+            self.refused(number, line, makhnodri.Scene.import_obj, file, good, file="start")
+            self.refused(number, line, makhnodri.Scene.import_obj, good, file, file="end")
+            self.refused(number, line, makhnodri.Scene.import_obj, file, file, file="start")
+        for other in (three, v + good, three + b"f 2 3 1\n", b""):
+            self.refused(14, 0, makhnodri.Scene.import_obj, good, other)
+        lengths = (3072, 2048, 1536, 1024, 12288)
+        for place in range(5):
+            buffers = [array.array("i" if i in (0, 4) else "H", [7] * (length - (i == place))) for i, length in enumerate(lengths)]
+            counts = array.array("Q", [7] * 4)
+            self.refused(12, 0, makhnodri.import_scene, b"x", b"", *buffers, counts)
+            self.assertTrue(all(number == 7 for buffer in (*buffers, counts) for number in buffer))
 
     def test_of_claims(self):
         scene = makhnodri.Scene.read((TOP / "scenes/printed.scene").read_bytes())

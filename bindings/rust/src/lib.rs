@@ -49,6 +49,7 @@
 mod answers;
 mod boxed;
 mod contacts;
+mod importing;
 mod own;
 mod raw;
 mod scenes;
@@ -59,6 +60,7 @@ pub use answers::{
 };
 pub use boxed::BoxedScene;
 pub use contacts::Contact;
+pub use importing::{import_scene, ImportRefusal, ObjFile};
 pub use own::OwnRefusal;
 pub use scenes::{turn_scene, Scene};
 pub use texts::{read_scene, report, write_report, Counts};
@@ -72,7 +74,7 @@ pub const VERTEX_LIMIT: usize = 512;
 pub const EDGE_LIMIT: usize = 1_024;
 pub const TRIANGLE_LIMIT: usize = 512;
 pub const SEAM_LIMIT: usize = 512;
-/// Bytes of a scene text.
+/// Bytes of a scene text, and of an OBJ file.
 pub const TEXT_LIMIT: usize = 32_768;
 /// Pairs that a report has room for.
 pub const REPORT_ROOM: usize = 3_072;
@@ -92,7 +94,7 @@ pub const POSITIONS_LENGTH: usize = 6 * VERTEX_LIMIT;
 pub const EDGES_LENGTH: usize = 2 * EDGE_LIMIT;
 pub const TRIANGLES_LENGTH: usize = 3 * TRIANGLE_LIMIT;
 pub const SEAMS_LENGTH: usize = 2 * SEAM_LIMIT;
-/// How long the buffer is that a [`BoxedScene`] keeps its boxes in, in numbers.
+/// How long a buffer of boxes is, in numbers: six for each vertex, edge and triangle that a scene can have.
 pub const BOXES_LENGTH: usize = 6 * (VERTEX_LIMIT + EDGE_LIMIT + TRIANGLE_LIMIT);
 /// How long the array is that a report is written into, in bytes; every report fits.
 pub const REPORT_LENGTH: usize = 65_536;

@@ -62,11 +62,22 @@ impl Scene<'static> {
         let mut positions = vec![0; POSITIONS_LENGTH];
         let [mut edges, mut triangles, mut seams] = [EDGES_LENGTH, TRIANGLES_LENGTH, SEAMS_LENGTH].map(|length| vec![0; length]);
         let counts = read_scene(text, &mut positions, &mut edges, &mut triangles, &mut seams)?;
+        Ok(Scene::in_front(counts, positions, edges, triangles, seams))
+    }
+
+    /// The scene that stands in front of these lists.
+    pub(crate) fn in_front(
+        counts: Counts,
+        mut positions: Vec<i32>,
+        mut edges: Vec<u16>,
+        mut triangles: Vec<u16>,
+        mut seams: Vec<u16>,
+    ) -> Scene<'static> {
         positions.truncate(6 * counts.vertices);
         edges.truncate(2 * counts.edges);
         triangles.truncate(3 * counts.triangles);
         seams.truncate(2 * counts.seams);
-        Ok(Scene::new(positions, edges, triangles).sewn(seams))
+        Scene::new(positions, edges, triangles).sewn(seams)
     }
 }
 

@@ -65,6 +65,9 @@ fn the_header_has_the_same_numbers() {
         ("TRIANGLES_LENGTH", TRIANGLES_LENGTH),
         ("SEAMS_LENGTH", SEAMS_LENGTH),
         ("BOXES_LENGTH", BOXES_LENGTH),
+        ("NO_FILE", 0),
+        ("START_FILE", ObjFile::Start as usize),
+        ("END_FILE", ObjFile::End as usize),
         ("REPORT_LENGTH", REPORT_LENGTH),
         ("STACK", STACK),
         ("HIT", Verdict::Hit as usize),
@@ -102,6 +105,8 @@ fn the_independent_program_has_the_same_sizes() {
     assert_eq!([POSITIONS_LENGTH, EDGES_LENGTH, TRIANGLES_LENGTH, SEAMS_LENGTH], compare::text::LENT_LENGTHS);
     assert_eq!(BOXES_LENGTH, compare::stored::BOX_NUMBERS);
     assert_eq!(WEIGHT_LIMIT, compare::claims::WEIGHT_LIMIT);
+    assert_eq!(BOXES_LENGTH, compare::stored::BOX_NUMBERS);
+    assert_eq!(Refusal::FilesDiffer.number() as u64, compare::refusal::FILES_DIFFER);
     assert_eq!(Refusal::BrokenSeam.number() as u64, compare::refusal::BROKEN_SEAM);
     assert_eq!(Refusal::StaleBox.number() as u64, compare::refusal::STALE_BOX);
 }

@@ -8,8 +8,10 @@ use crate::claims::{self, making};
 use crate::contacts::making as contact_scenes;
 use crate::damage::damaged;
 use crate::faults::cells;
+use crate::obj::making as obj_files;
 use crate::random::Random;
 use crate::scene::*;
+use crate::stored::BOX_NUMBERS;
 use crate::text::{self, write};
 use crate::{backwards, box_tests, cases, crossed, generate, listing, trials};
 
@@ -35,6 +37,7 @@ pub fn fixed() -> Vec<Question> {
     out.extend(box_tests::SIZES.into_iter().flat_map(about_runs));
     out.extend(about_long_texts());
     out.extend(stored::fixed());
+    out.extend(obj_files::fixed().into_iter().flat_map(|trial| about_files(&mut random, trial)));
     out
 }
 
@@ -64,6 +67,7 @@ pub fn seeded(seed: u64) -> Vec<Question> {
         out.extend(pairs(&mut random, &full));
     }
     out.extend(scenes_for_contacts(seed));
+    out.extend(obj_files::seeded(seed).into_iter().flat_map(|trial| about_files(&mut random, trial)));
     out
 }
 
@@ -460,6 +464,34 @@ fn about_text(random: &mut Random, text: Vec<u8>) -> Vec<Question> {
     if let Ok(scene) = text::read(&text) {
         assert_eq!(write(&scene).as_bytes(), text, "there is one text for a scene");
         out.extend(about_saving(&mut random.clone(), &scene));
+    }
+    out
+}
+
+/// Two files, brought into buffers of just the length or longer ones; at times into one that is too short by one number, or empty.
+fn about_files(random: &mut Random, trial: obj_files::Trial) -> Vec<Question> {
+    let [p, e, t, s] = text::LENT_LENGTHS;
+    let lengths = [p, e, t, s, BOX_NUMBERS];
+    let ask = |[positions, edges, triangles, seams, boxes]: [usize; 5]| {
+        let lent = Lent {
+            positions: marks_of_16(positions).into_iter().map(|n| n as i32 * 30_011).collect(),
+            edges: marks_of_16(edges),
+            triangles: marks_of_16(triangles),
+            seams: marks_of_16(seams),
+            text: trial.start.clone(),
+            ending: trial.end.clone(),
+            boxes: marks_of_16(boxes).into_iter().map(|n| n as i32 * -20_011).collect(),
+            counts: vec![3, u64::MAX, 1 << 40, 8],
+            ..Lent::default()
+        };
+        Question::new(Call::ImportScene, lent)
+    };
+    let mut out = vec![ask(if random.chance(2) { lengths } else { lengths.map(|length| length + random.below(40)) })];
+    if random.chance(4) {
+        let mut short = lengths.map(|length| length + random.below(9));
+        let at = random.below(short.len());
+        short[at] = random.pick(&[lengths[at] - 1, lengths[at] - 1, 0]);
+        out.push(ask(short));
     }
     out
 }

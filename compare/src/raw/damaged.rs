@@ -9,6 +9,7 @@ use crate::backwards;
 use crate::box_tests;
 use crate::contacts::mistakes::{self, Mistake};
 use crate::listing;
+use crate::obj;
 use crate::refusal::*;
 use crate::scene::{Kind, Pair, Scene, COORDINATE_LIMIT, FIRST_COORDINATE_LIMIT};
 
@@ -43,6 +44,7 @@ pub fn all() -> Vec<Damage> {
     out.extend(own_lists());
     out.extend(saving());
     out.extend(stored_damaged::all());
+    out.extend(importing());
     out
 }
 
@@ -119,6 +121,96 @@ fn saving() -> Vec<Damage> {
             }
         }),
     ]
+}
+
+/// What an import gets wrong: the file of a refusal, the boxes, numbers behind, and each mistake of a reader.
+fn importing() -> Vec<Damage> {
+    let in_a_file = |answer: &Answer| answer.refusal() > 0 && answer.number as u32 >> 30 > 0;
+    let imports = |question: &Question, answer: &Answer| question.call == Call::ImportScene && answer.number == 0;
+    let parts = |answer: &Answer| {
+        let count = |place: usize| u64::from_le_bytes(answer.buffers[COUNTS][MARGIN + 8 * place..][..8].try_into().unwrap());
+        [count(0), count(1), count(2)].map(|count| count as usize)
+    };
+    let mut out = vec![
+        damage("a refusal of a file without the file", move |question, answer| {
+            if question.call == Call::ImportScene && in_a_file(answer) {
+                answer.number &= !(3 << 30);
+            }
+        }),
+        damage("the files of a refusal exchanged", move |question, answer| {
+            if question.call == Call::ImportScene && in_a_file(answer) {
+                answer.number ^= 3 << 30;
+            }
+        }),
+        damage("14 told of the end file", |question, answer| {
+            answer.number |= ((question.call == Call::ImportScene && answer.refusal() == FILES_DIFFER) as u64) << 31;
+        }),
+        damage("12 told of the start file", |question, answer| {
+            answer.number |= ((question.call == Call::ImportScene && answer.refusal() == LENT_TOO_SHORT) as u64) << 30;
+        }),
+        damage("an import leaves the boxes", move |question, answer| {
+            if imports(question, answer) {
+                answer.buffers[BOXES] = question.lent.bytes()[BOXES].clone();
+            }
+        }),
+        damage("an import clears what is behind the boxes", move |question, answer| {
+            if imports(question, answer) {
+                let [vertices, edges, triangles] = parts(answer);
+                let end = answer.buffers[BOXES].len() - MARGIN;
+                answer.buffers[BOXES][MARGIN + 24 * (vertices + edges + triangles)..end].fill(0);
+            }
+        }),
+        damage("an import clears the seam buffer", move |question, answer| {
+            if imports(question, answer) {
+                let end = answer.buffers[SEAMS].len() - MARGIN;
+                answer.buffers[SEAMS][MARGIN..end].fill(0);
+            }
+        }),
+        damage("boxes of edges and triangles at their places in the largest scene", move |question, answer| {
+            if imports(question, answer) {
+                let [vertices, edges, _] = parts(answer);
+                let own = answer.buffers[BOXES].clone();
+                let from = MARGIN + 24 * vertices;
+                answer.buffers[BOXES][MARGIN + 24 * 512..][..24 * edges].copy_from_slice(&own[from..][..24 * edges]);
+            }
+        }),
+        damage("a refused import leaves counts of 0", |question, answer| {
+            if question.call == Call::ImportScene && answer.refusal() > 0 {
+                answer.buffers[COUNTS][MARGIN..MARGIN + 32].fill(0);
+            }
+        }),
+        damage("a short box buffer is taken where it is long enough for the scene", |question, answer| {
+            let short = question.call == Call::ImportScene && question.lent.boxes.len() < 12_288;
+            if short && obj::import(&question.lent.text, &question.lent.ending).is_ok() {
+                answer.number = 0;
+            }
+        }),
+    ];
+    out.extend(obj::WRONG.into_iter().map(|wrong| damage(format!("import: {wrong:?}"), by_mistake(wrong))));
+    out
+}
+
+/// The answer of a reader that makes this mistake. A scene that it takes and should not, or another one, shows in the first position.
+fn by_mistake(wrong: obj::Wrong) -> impl Fn(&Question, &mut Answer) {
+    move |question, answer| {
+        let (start, end) = (&question.lent.text, &question.lent.ending);
+        if question.call != Call::ImportScene || answer.refusal() == LENT_TOO_SHORT {
+            return;
+        }
+        let given = obj::import_with(start, end, wrong);
+        if given == obj::import(start, end) {
+            return;
+        }
+        answer.buffers = question.lent.bytes();
+        answer.number = match given {
+            Ok(_) => 0,
+            Err(obj::Refused { number, third, file }) => {
+                let which = file.map_or(0, |file| if file == obj::File::Start { 1 << 30 } else { 1 << 31 });
+                (number << 32) + which + third
+            }
+        };
+        answer.buffers[POSITIONS][MARGIN] ^= (answer.number == 0) as u8;
+    }
 }
 
 /// Lists of one's own.

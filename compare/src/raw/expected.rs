@@ -1,5 +1,5 @@
-//! What each call must answer, and what it must leave in every buffer, by document 01, §12 of document 02, and
-//! docs/DECISIONS.md, D13, D15, D25 and D68. Stored boxes are §8's.
+//! What each call must answer, and what it must leave in every buffer, by document 01, §3, §8 and §12 of document 02, and
+//! docs/DECISIONS.md, D13, D15, D25 and D68.
 
 use super::question::*;
 use crate::contacts::{self, Contact};
@@ -9,7 +9,7 @@ use crate::settled::{self, Settled};
 use crate::slices::{self, Slices};
 use crate::stored::{self, Moved, Wrong};
 use crate::verdict::{self, Verdict};
-use crate::{backwards, box_tests, claims, listing, report, text};
+use crate::{backwards, box_tests, claims, listing, obj, report, text};
 use std::collections::HashMap;
 
 /// Remembers the words of the last scene's pieces, which take their time.
@@ -114,6 +114,7 @@ impl Expecting {
                 Ok(pairs.len() as u64)
             }
             Call::ReadBoxed => read_boxed(lent, self.wrong),
+            Call::ImportScene => import(lent),
         }
     }
 
@@ -260,13 +261,34 @@ fn listed(lent: &mut Lent, room: usize) -> Result<(Scene, Vec<Pair>), Refusal> {
 fn read(lent: &mut Lent) -> Result<u64, Refusal> {
     let lengths = [lent.positions.len(), lent.edges.len(), lent.triangles.len(), lent.seams.len()];
     let scene = text::read_lent(&lent.text, lengths)?;
-    let read = Lent::of_scene(&scene);
+    put_scene(lent, &scene);
+    Ok(0)
+}
+
+/// The scene in front of the four buffers, and its counts.
+fn put_scene(lent: &mut Lent, scene: &Scene) {
+    let read = Lent::of_scene(scene);
     lent.positions[..read.positions.len()].copy_from_slice(&read.positions);
     lent.edges[..read.edges.len()].copy_from_slice(&read.edges);
     lent.triangles[..read.triangles.len()].copy_from_slice(&read.triangles);
     lent.seams[..read.seams.len()].copy_from_slice(&read.seams);
     let counts = [scene.vertices.len(), scene.edges.len(), scene.triangles.len(), scene.seams.len()];
     lent.counts = counts.map(|count| count as u64).to_vec();
+}
+
+/// The scene of two files in front of its buffers, and its boxes in front of theirs. A refusal that is about a file says so in the two upper bits of
+/// what it carries.
+fn import(lent: &mut Lent) -> Result<u64, Refusal> {
+    let lengths = [lent.positions.len(), lent.edges.len(), lent.triangles.len(), lent.seams.len()];
+    let imported = obj::import_lent(&lent.text, &lent.ending, lengths, lent.boxes.len());
+    let scene = imported.map_err(|obj::Refused { number, third, file }| {
+        let which = file.map_or(0, |file| if file == obj::File::Start { 1 << 30 } else { 1 << 31 });
+        Refusal::new(number, third + which)
+    })?;
+    put_scene(lent, &scene);
+    for (number, worked_out) in lent.boxes.iter_mut().zip(stored::boxes(&scene, Wrong::None)) {
+        *number = worked_out as i32;
+    }
     Ok(0)
 }
 

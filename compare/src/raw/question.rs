@@ -34,6 +34,8 @@ pub enum Call {
     SettleStored,
     /// A text read with the boxes of its scene.
     ReadBoxed,
+    /// Two OBJ files.
+    ImportScene,
 }
 
 /// Of a pair, or of a piece of one.
@@ -81,7 +83,7 @@ pub fn calls() -> Vec<Call> {
     out.extend([Call::SettleList, Call::ContactList]);
     out.extend([Call::SavedLength, Call::SaveScene]);
     out.extend(STORED_CALLS);
-    out.push(Call::ReadBoxed);
+    out.extend([Call::ReadBoxed, Call::ImportScene]);
     out
 }
 
@@ -95,7 +97,7 @@ impl Call {
 
     /// Whether it takes a scene as slices.
     pub fn takes_a_scene(self) -> bool {
-        !matches!(self, Call::ReadScene | Call::WriteReport | Call::ReadBoxed)
+        !matches!(self, Call::ReadScene | Call::WriteReport | Call::ReadBoxed | Call::ImportScene)
     }
 
     /// Whether it reads a text into lent buffers.
@@ -172,6 +174,7 @@ impl Call {
             Call::ListStored => "list_stored".into(),
             Call::SettleStored => "settle_stored".into(),
             Call::ReadBoxed => "read_boxed".into(),
+            Call::ImportScene => "import_scene".into(),
         }
     }
 }
@@ -193,10 +196,25 @@ pub struct Lent {
     pub boxes: Vec<i32>,
     /// The six that a vertex is moved to.
     pub coordinates: Vec<i32>,
+    /// The end file of two; the start file is the text.
+    pub ending: Vec<u8>,
 }
 
-pub const BUFFERS: [&str; 12] =
-    ["positions", "edges", "triangles", "seams", "list", "words", "text", "counts", "report", "contacts", "boxes", "coordinates"];
+pub const BUFFERS: [&str; 13] = [
+    "positions",
+    "edges",
+    "triangles",
+    "seams",
+    "list",
+    "words",
+    "text",
+    "counts",
+    "report",
+    "contacts",
+    "boxes",
+    "coordinates",
+    "ending",
+];
 
 /// The places of some buffers.
 pub const POSITIONS: usize = 0;
@@ -242,6 +260,7 @@ impl Lent {
             self.contacts.len(),
             self.boxes.len(),
             self.coordinates.len(),
+            self.ending.len(),
         ]
     }
 
@@ -261,6 +280,7 @@ impl Lent {
             self.contacts.iter().flat_map(|n| n.to_le_bytes()).collect(),
             self.boxes.iter().flat_map(|n| n.to_le_bytes()).collect(),
             self.coordinates.iter().flat_map(|n| n.to_le_bytes()).collect(),
+            self.ending.clone(),
         ];
         inside.map(|inside| [marks(MARGIN), inside, marks(MARGIN)].concat())
     }

@@ -7,6 +7,7 @@ use super::stored_sorts;
 use crate::box_tests;
 use crate::faults::{self, Cell};
 use crate::listing;
+use crate::obj;
 use crate::refusal::*;
 use crate::scene::*;
 use crate::stored::BOX_NUMBERS;
@@ -48,6 +49,7 @@ pub fn none_yet() -> Sorts {
     out.extend(stored_sorts::all());
     out.extend(SCENE_FAULTS.map(|(number, fault)| alone(number, fault)));
     out.extend(of_texts());
+    out.extend(of_imports());
     out.into_iter().map(|sort| (sort, 0)).collect()
 }
 
@@ -237,6 +239,37 @@ fn of_texts() -> Vec<String> {
     out
 }
 
+/// Two files: each cell of their table, and short buffers before all of it.
+fn of_imports() -> Vec<String> {
+    let mut out: Vec<String> = obj::faults::cells().into_iter().map(|cell| format!("import_scene: {cell:?}")).collect();
+    out.extend(["positions", "edges", "triangles", "seams", "boxes"].map(|buffer| format!("import_scene: 12, {buffer}")));
+    out.extend(["12 before 8", "12 before a line", "12 before 14"].map(|sort| format!("import_scene: {sort}")));
+    out.extend(["room left over behind the boxes", "no room left over"].map(|sort| format!("import_scene: {sort}")));
+    out
+}
+
+fn of_importing(question: &Question, answer: &Answer) -> Vec<String> {
+    let lent = &question.lent;
+    let mut out = Vec::new();
+    let mut add = |holds: bool, sort: &str| out.extend(holds.then(|| format!("import_scene: {sort}")));
+    if answer.refusal() != LENT_TOO_SHORT {
+        add(answer.number == 0 && lent.boxes.len() > crate::stored::BOX_NUMBERS, "room left over behind the boxes");
+        add(answer.number == 0 && lent.boxes.len() == crate::stored::BOX_NUMBERS, "no room left over");
+        let cells = obj::faults::reached(&lent.text, &lent.ending);
+        out.extend(cells.into_iter().map(|cell| format!("import_scene: {cell:?}")));
+        return out;
+    }
+    let lengths = [lent.positions.len(), lent.edges.len(), lent.triangles.len(), lent.seams.len(), lent.boxes.len()];
+    let short = lengths.into_iter().zip([3_072, 2_048, 1_536, 1_024, 12_288]).map(|(length, least)| length < least);
+    let named = ["positions", "edges", "triangles", "seams", "boxes"].into_iter().zip(short).filter(|(_, short)| *short);
+    named.for_each(|(buffer, _)| add(true, &format!("12, {buffer}")));
+    let otherwise = obj::import(&lent.text, &lent.ending).err().map(|refused| refused.number);
+    add(otherwise == Some(TEXT_TOO_LONG), "12 before 8");
+    add(otherwise == Some(FILES_DIFFER), "12 before 14");
+    add(otherwise.is_some_and(|number| ![TEXT_TOO_LONG, FILES_DIFFER].contains(&number)), "12 before a line");
+    out
+}
+
 /// Walked twice by the library.
 const LONG_LIST: &str = "list_pairs: more pairs than one pass has room for";
 
@@ -275,6 +308,7 @@ pub fn of(question: &Question, answer: &Answer) -> Vec<String> {
     match question.call {
         Call::ReadScene | Call::ReadBoxed => of_reading(question, answer),
         Call::CheckClaims => of_claims(question, answer),
+        Call::ImportScene => of_importing(question, answer),
         Call::WriteReport => {
             let mut out = texts_cells(question);
             let report = &answer.buffers[REPORT][MARGIN..];

@@ -1,44 +1,10 @@
 // The program of claims: two files by name, the text of a scene and a text of claims; a line `yes` or `no` for each claim on standard output.
-ghost use Prim.Native.Nat.{_≤_};
-ghost use lib.ListN.{length};
-ghost use Rattle.claims.specs.Files.{ReadInto};
 use claim_report::ANSWERS_BYTES;
 use libc::STDERR_FILENO;
 use libc::STDOUT_FILENO;
 use meaning::TEXT_LIMIT;
-
-// What reading a file gives: how many of its bytes are in front of the buffer, or nothing.
-enum FileRead {
-    Bytes(usize),
-    Failed,
-}
-
-// Whether a file was read to its end. `read_full` stops at the end and at a read that fails; one more read tells the two apart.
-fn is_at_end(fd: i32) -> bool {
-    let mut more = [0u8; 1];
-    let got = libc::read(fd, &mut more);
-    (got <= 0) & (got >= 0)
-}
-
-// The file that an argument names, into a buffer that is one byte longer than a text may be: a full one decides refusal 8.
-fn read_file(place: usize, text: &mut [u8]) -> FileRead
-    ensures { λ r. ⌜ ReadInto (now (text .exit)) r ⌝ }
-{
-    let mut name = io::buffer();
-    let length = os::arg(place, &mut name);
-    let fd = os::open_read(&name[..length]);
-    if fd < 0 {
-        return FileRead::Failed;
-    }
-    let count = io::read_full(fd, text);
-    let whole = (count == text.len()) || is_at_end(fd);
-    libc::close(fd);
-    if whole {
-        FileRead::Bytes(count)
-    } else {
-        FileRead::Failed
-    }
-}
+use named_files::FileRead;
+use named_files::read_file;
 
 fn main() {
     if os::arg_count() != 3 {

@@ -2,3 +2,4 @@
 pub mod OneResult
 pub mod OneOwn
 pub mod OneStored
+pub mod OneImporting

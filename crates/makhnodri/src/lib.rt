@@ -2,6 +2,7 @@
 
 pub mod own; // own.rt: a list of one's own
 pub mod stored; // stored.rt: a scene that keeps its boxes
+pub mod importing; // importing.rt: two OBJ files
 
 ghost use mathlib.Core.List.{[], _∷_};
 ghost use mathlib.Core.Path.{_≡_};

@@ -17,6 +17,7 @@ pub mod Text
 pub mod StoredBoxes
 pub mod Dragging
 pub mod Report
+pub mod SceneLines
 pub mod Contacts
 pub mod Meetings
 pub mod ContactLines
@@ -29,6 +30,8 @@ pub mod ObjFile
 pub mod ObjPair
 pub mod ObjShown
 pub mod Saved
+pub mod ObjBoxes
+pub mod ObjPrinted
 pub mod Series
 pub mod SeriesText
 pub mod FirstFault

@@ -65,12 +65,14 @@ FilesAre start end (refused n) = BothRead start end true × (n ≡ 14)
 FilesAre start end (refusedIn Start n line) = FaultyAt objLines none start n line
 FilesAre start end (refusedIn End n line) = ((s : Scene) × FileRead start s) × FaultyAt objLines none end n line
 
--- 12, then 8 for either file
+-- 8 for either file, then the lines
+abbrev pub PairOutcome : List ℕ → List ℕ → ImportOutcome → Type 0
+PairOutcome start end o =
+    cond (longText start) (o ≡ refusedIn Start 8 0) (cond (longText end) (o ≡ refusedIn End 8 0) (FilesAre start end o))
+
+-- 12 first
 abbrev pub ImportIs : List ℕ → List ℕ → Scene → ImportOutcome → Type 0
-ImportIs start end lent o =
-    cond (shortBuffer lent) (o ≡ refused 12)
-    (cond (longText start) (o ≡ refusedIn Start 8 0)
-    (cond (longText end) (o ≡ refusedIn End 8 0) (FilesAre start end o)))
+ImportIs start end lent o = cond (shortBuffer lent) (o ≡ refused 12) (PairOutcome start end o)
 
 -- ---- what is answered, and what is left
 

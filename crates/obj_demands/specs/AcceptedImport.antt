@@ -102,10 +102,12 @@ unfolding Lines.Sound afterAll
 lines-fine s [] below f h = f
 lines-fine s (r ∷ rs) below f h = lines-fine (sceneAfter s (says r)) rs below (line-fine s (says r) f (h .1)) (h .2)
 
+-- the scene of lines none of which is at fault
+pub sound-fine : (rs : List (List ℕ)) (below : List ℕ) → Lines.Sound objLines none rs below → Fine (afterAll objLines none rs)
+sound-fine rs below h = lines-fine none rs below (record { tally = noCounts; above = above-none; seamless = refl }) h
+
 pub file-fine : {text : List ℕ} {s : Scene} → FileRead text s → Fine s
-file-fine {s = s} r =
-    subst Fine (sym (r .scene))
-    (lines-fine none (r .lines) [] (record { tally = noCounts; above = above-none; seamless = refl }) (r .sound .sound))
+file-fine {s = s} r = subst Fine (sym (r .scene)) (sound-fine (r .lines) [] (r .sound .sound))
 
 -- a file that is read is a scene at rest that every call accepts
 pub file-accepted : {text : List ℕ} {s : Scene} → FileRead text s → Accepted s

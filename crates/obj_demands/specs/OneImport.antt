@@ -9,7 +9,7 @@ use Rattle.meaning.specs.Refusals.{numberOf}
 use Rattle.meaning.specs.Lines.{afterAll}
 use Rattle.meaning.specs.Text.{none, shortBuffer, longText}
 use Rattle.meaning.specs.ObjFile.{objLines}
-use Rattle.meaning.specs.ObjPair.{differing, imported, ImportOutcome, read, refused, refusedIn, FileRead, BothRead, FilesAre, ImportIs, ImportSaid, counts, number, numberIn, importSays, importTold, importLeft, Imported}
+use Rattle.meaning.specs.ObjPair.{differing, imported, ImportOutcome, read, refused, refusedIn, FileRead, BothRead, FilesAre, PairOutcome, ImportSaid, counts, number, numberIn, importSays, importTold, importLeft, Imported}
 use Rattle.meaning.specs.declared.WhichFile.{WhichFile}
 use Rattle.meaning.specs.declared.WhichFile.the-variants.{Start, End}
 use Rattle.meaning.specs.declared.ImportAnswer.{ImportAnswer}
@@ -56,19 +56,24 @@ module _ (start end : List ℕ) where
       let (a, b) = faulty-unique obj-readable (h .1) (k .1) in
       λ i. refusedIn End (a i) (b i)
 
-  import-one : (lent : Scene) (o o′ : ImportOutcome) → ImportIs start end lent o → ImportIs start end lent o′ → o ≡ o′
-  import-one lent o o′ = go (shortBuffer lent) (longText start) (longText end)
+  -- the files' own outcome, and the one behind 12, whichever buffers 12 asks for
+  pub pair-one : (o o′ : ImportOutcome) → PairOutcome start end o → PairOutcome start end o′ → o ≡ o′
+  pair-one o o′ = go (longText start) (longText end)
     where
-      go : (a b c : Bool)
-          → cond a (o ≡ refused 12) (cond b (o ≡ refusedIn Start 8 0) (cond c (o ≡ refusedIn End 8 0) (FilesAre start end o)))
-          → cond a (o′ ≡ refused 12) (cond b (o′ ≡ refusedIn Start 8 0) (cond c (o′ ≡ refusedIn End 8 0) (FilesAre start end o′)))
+      go : (b c : Bool) → cond b (o ≡ refusedIn Start 8 0) (cond c (o ≡ refusedIn End 8 0) (FilesAre start end o))
+          → cond b (o′ ≡ refusedIn Start 8 0) (cond c (o′ ≡ refusedIn End 8 0) (FilesAre start end o′))
           → o ≡ o′
-      go true b c h k = h ∙ sym k
-      go false true c h k = h ∙ sym k
-      go false false true h k = h ∙ sym k
-      go false false false h k = files-one o o′ h k
+      go true c h k = h ∙ sym k
+      go false true h k = h ∙ sym k
+      go false false h k = files-one o o′ h k
 
-  said-one : (r r′ : ImportAnswer) → importSays r ≡ importSays r′ → r ≡ r′
+  pub behind-twelve : (short : Bool) (o o′ : ImportOutcome) → cond short (o ≡ refused 12) (PairOutcome start end o)
+      → cond short (o′ ≡ refused 12) (PairOutcome start end o′)
+      → o ≡ o′
+  behind-twelve true o o′ h k = h ∙ sym k
+  behind-twelve false o o′ h k = pair-one o o′ h k
+
+  pub said-one : (r r′ : ImportAnswer) → importSays r ≡ importSays r′ → r ≡ r′
   unfolding importSays
   said-one (Read c) (Read d) e = ap Read (cc)
   said-one (Read c) (Refused y) e = cc
@@ -86,7 +91,7 @@ module _ (start end : List ℕ) where
 
   pub one-imported : (lent l l′ : Scene) (r r′ : ImportAnswer) → Imported start end lent l r → Imported start end lent l′ r′ → (r ≡ r′) × (l ≡ l′)
   one-imported lent l l′ r r′ h k =
-      let same : h .outcome ≡ k .outcome = import-one lent (h .outcome) (k .outcome) (h .right) (k .right) in (
+      let same : h .outcome ≡ k .outcome = behind-twelve (shortBuffer lent) (h .outcome) (k .outcome) (h .right) (k .right) in (
         said-one r r′ (h .says ∙ ap importTold same ∙ sym (k .says)),
         h .leaves ∙ ap (λ (o : ImportOutcome). importLeft o lent) same ∙ sym (k .leaves),
       )

@@ -14,17 +14,13 @@ use Rattle.meaning.specs.List.{Pair, pairs}
 use Rattle.meaning.specs.Text.{Holds}
 use Rattle.meaning.specs.SceneWords.{AllSettled}
 use Rattle.meaning.specs.Report.{pairLine, pairLines, totalLine, refusedLine, ReportOf, Reported}
+use Rattle.meaning.specs.SceneLines.{SceneReport, noRoom, judged}
 use Rattle.meaning.specs.declared.Settled.{Settled}
 use Rattle.meaning.specs.declared.Settled.the-variants.{Hit}
 use Rattle.entries.specs.Entries.{pairAt}
 use Rattle.scene_words.specs.Listed.{ListStands, wordOfPair, wordsOf, bytesOf, all-judged, noPair, word-of-its-byte, byte-in-front}
 use Rattle.wording.specs.Lines.{wrote-as}
 use Rattle.summary.specs.Rendered.{verdictAt, lineAt, verdictsIn, gather-is, lines-are}
-
--- what is printed for a scene that was read: 7 with the count needed, or the pairs and the totals
-pub data SceneReport (s : Scene) : List ℕ → Type 0 where
-  noRoom : reportRoom < length (pairs s) → SceneReport s (refusedLine 7 (length (pairs s)))
-  judged : (vs : List Settled) → length (pairs s) ≤ reportRoom → AllSettled s (pairs s) vs → SceneReport s (pairLines (pairs s) vs ++ totalLine vs)
 
 pub record SceneReported (s : Scene) (o o′ : List ℕ) (n : ℕ) : Type 0 where
   pub report : List ℕ

@@ -56,7 +56,7 @@ fn tabled_report(
 }
 
 // The report of a scene that is accepted.
-fn scene_report(
+pub fn scene_report(
     positions: &[i32],
     edges: &[u16],
     triangles: &[u16],

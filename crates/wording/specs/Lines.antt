@@ -10,6 +10,9 @@ use Rattle.sequences.specs.Wrote.{Wrote}
 use Rattle.meaning.specs.Text.{tab, lineFeed, further}
 use Rattle.meaning.specs.List.{Pair}
 use Rattle.meaning.specs.Report.{kindWord, verdictWord, reportLine, pairLine}
+use Rattle.meaning.specs.ObjPrinted.{fileWord}
+use Rattle.meaning.specs.declared.WhichFile.{WhichFile}
+use Rattle.meaning.specs.declared.WhichFile.the-variants.{Start, End}
 use Rattle.meaning.specs.declared.Kind.{Kind}
 use Rattle.meaning.specs.declared.Kind.the-variants.{PointTriangle, EdgeEdge}
 use Rattle.meaning.specs.declared.Settled.{Settled}
@@ -57,6 +60,11 @@ verdict-short Hit = omega arith
 verdict-short Miss = omega arith
 verdict-short Touch = omega arith
 verdict-short Apart = omega arith
+
+pub file-short : (f : WhichFile) → length (fileWord f) ≤ 5
+unfolding fileWord
+file-short Start = omega arith
+file-short End = omega arith
 
 -- a pair's line, where the places fit 16 bits
 pub pair-line-short : (p : Pair) (v : Settled) → p .first < 2 ^ 16 → p .second < 2 ^ 16 → length (pairLine p v) ≤ 21

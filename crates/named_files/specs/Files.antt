@@ -3,8 +3,8 @@ use Prim.Native.Nat.{ℕ, _≤_}
 use mathlib.Core.List.{List}
 use mathlib.Core.Path.{_≡_}
 use lib.ListN.{length}
-use Rattle.claims.specs.declared.FileRead.{FileRead}
-use Rattle.claims.specs.declared.FileRead.the-variants.{Bytes, Failed}
+use Rattle.named_files.specs.declared.FileRead.{FileRead}
+use Rattle.named_files.specs.declared.FileRead.the-variants.{Bytes, Failed}
 
 unfoldable pub ReadInto : List ℕ → FileRead → Type 0
 ReadInto text (Bytes n) = n ≤ length text

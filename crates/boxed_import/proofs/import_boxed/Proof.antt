@@ -1,0 +1,48 @@
+-- 12 for the box buffer, then what the import answers, with the boxes of the scene that it left in front.
+use borrow.Author.Needs.{needs}
+use borrow.Author.Tests.{lt-ltb, le-ltb}
+use Rattle.boxed_import.specs.Boxing.{boxed-short, boxed-refused, boxed-refused-in, in-front, boxed-read}
+use Rattle.boxed_import.proofs.import_boxed.Statement.{statement}
+use Rattle.boxed_import.proofs.import_boxed.Tie as tie
+
+returns : tie.Need-returns
+returns c = boxed-short _ _ _ _ (lt-ltb _ _ (c .if1 .taken))
+
+fill-front-requires : tie.Need-fill-front-requires
+fill-front-requires c κs = in-front _ _ _ _ (le-ltb _ _ (c .before .before .before .before .before .before .before .before .before .before .before .before .before .before .before .before .before .before .before .if1 .left)) (c .before .before .before .before .before .before .before .before .before .before .before .before .before .before .import-scene .ensures) (c .before .before .before .before .before .c .given .1) (c .before .before .before .before .before .before .before .before .before .before .before .before .before .before .before .before .before .before .before .if1 .left)
+
+returns-2 : tie.Need-returns-2
+returns-2 c = boxed-read _ _ _ _ (le-ltb _ _ (c .before .before .before .before .before .before .before .before .before .before .before .before .before .before .before .before .before .before .before .before .before .if1 .left)) (c .before .before .before .before .before .before .before .before .before .before .before .before .before .before .before .before .import-scene .ensures) (c .before .before .before .before .before .before .before .c .given .1) (c .before .fill-front .ensures)
+
+returns-3 : tie.Need-returns-3
+returns-3 c = boxed-refused _ _ _ _ (le-ltb _ _ (c .before .before .before .before .before .before .before .before .before .before .before .before .before .before .before .if1 .left)) (c .before .before .before .before .before .before .before .before .before .before .import-scene .ensures) (c .before .why .given .1)
+
+returns-4 : tie.Need-returns-4
+returns-4 c = boxed-refused-in _ _ _ _ (le-ltb _ _ (c .before .before .before .before .before .before .before .before .before .before .before .before .before .before .before .if1 .left)) (c .before .before .before .before .before .before .before .before .before .before .import-scene .ensures) (c .before .file .given .1)
+
+pub import-boxed-spec : {M : Type 1} → statement M
+import-boxed-spec =
+    tie.close
+    (tie.spec
+    returns
+    (λ c κs. search needs)
+    (λ c. search needs)
+    fill-front-requires
+    (λ c. search needs)
+    (λ c. search needs)
+    (λ c. search needs)
+    (λ c. search needs)
+    (λ c. search needs)
+    (λ c. search needs)
+    (λ c. search needs)
+    returns-2
+    (λ c. search needs)
+    (λ c. search needs)
+    (λ c. search needs)
+    (λ c. search needs)
+    returns-3
+    (λ c. search needs)
+    (λ c. search needs)
+    (λ c. search needs)
+    (λ c. search needs)
+    returns-4)

@@ -1,0 +1,2 @@
+-- A move, then a save, then a read.
+pub mod Kept

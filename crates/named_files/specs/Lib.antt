@@ -1,0 +1,2 @@
+-- What is said of a file that was read.
+pub mod Files

@@ -1,0 +1,110 @@
+// What two OBJ files print, as bytes: the report of their scene, or its text; or the one line of a refusal, with its file where it has one.
+
+ghost use mathlib.Core.Path.{_≡_};
+ghost use lib.ListN.{length};
+ghost use Rattle.meaning.specs.Scene.{sceneIn, sceneAtEntry, Accepted};
+ghost use Rattle.meaning.specs.SceneLines.{SceneReport};
+ghost use Rattle.meaning.specs.ObjPrinted.{SceneText, PairPrinted};
+ghost use Rattle.summary.specs.Sizes.{reportLength};
+ghost use Rattle.obj_report.specs.Asking.{shownFor, Shown};
+use meaning::EDGE_NUMBERS;
+use meaning::ImportAnswer;
+use meaning::POSITION_NUMBERS;
+use meaning::REPORT_BYTES;
+use meaning::SEAM_NUMBERS;
+use meaning::SaveAnswer;
+use meaning::TRIANGLE_NUMBERS;
+use obj_pair::import_scene;
+use wording::file_lines::file_line;
+use wording::lines::refused_line;
+use wording::number_of;
+
+// What is asked for of the scene.
+enum Asked {
+    Report,
+    Text,
+}
+
+// The text of a scene that is accepted, or 8. The buffer is longer than a text may be, so that there is always room.
+fn text_shown(
+    positions: &[i32],
+    edges: &[u16],
+    triangles: &[u16],
+    seams: &[u16],
+    out: &mut [u8],
+) -> usize
+    requires { ⌜ Accepted (sceneIn positions edges triangles seams) × (length (now out) ≡ reportLength) ⌝ }
+    ensures { λ r. ⌜ Shown (SceneText (sceneAtEntry positions edges triangles seams)) (now (out .entry)) (now (out .exit)) r ⌝ }
+{
+    match scene_saved::save_scene(positions, edges, triangles, seams, out) {
+        SaveAnswer::Bytes(count) => count,
+        SaveAnswer::Refused(_, _) => refused_line(out, 0, 8, 0),
+    }
+}
+
+fn scene_shown(
+    asked: Asked,
+    positions: &[i32],
+    edges: &[u16],
+    triangles: &[u16],
+    seams: &[u16],
+    out: &mut [u8],
+) -> usize
+    requires { ⌜ Accepted (sceneIn positions edges triangles seams) × (length (now out) ≡ reportLength) ⌝ }
+    ensures { λ r. ⌜ Shown (shownFor asked (sceneAtEntry positions edges triangles seams)) (now (out .entry)) (now (out .exit)) r ⌝ }
+{
+    match asked {
+        Asked::Report => summary::scene_report(positions, edges, triangles, seams, out),
+        Asked::Text => text_shown(positions, edges, triangles, seams, out),
+    }
+}
+
+fn pair_shown(asked: Asked, start: &[u8], end: &[u8], out: &mut [u8; REPORT_BYTES]) -> usize
+    ensures { λ r. ⌜ PairPrinted (shownFor asked) (now (start .entry)) (now (end .entry)) (now (out .entry)) (now (out .exit)) r ⌝ }
+{
+    let mut positions = [0i32; POSITION_NUMBERS];
+    let mut edges = [0u16; EDGE_NUMBERS];
+    let mut triangles = [0u16; TRIANGLE_NUMBERS];
+    let mut seams = [0u16; SEAM_NUMBERS];
+    match import_scene(
+        start,
+        end,
+        &mut positions,
+        &mut edges,
+        &mut triangles,
+        &mut seams,
+    ) {
+        ImportAnswer::Read(counts) => {
+            let p = 6 * counts.vertices;
+            let e = 2 * counts.edges;
+            let t = 3 * counts.triangles;
+            let w = 2 * counts.seams;
+            scene_shown(
+                asked,
+                &positions[..p],
+                &edges[..e],
+                &triangles[..t],
+                &seams[..w],
+                out,
+            )
+        }
+        ImportAnswer::Refused(why) => refused_line(out, 0, number_of(why), 0),
+        ImportAnswer::RefusedIn(file, why, line) => {
+            file_line(out, 0, file, number_of(why), line as u64)
+        }
+    }
+}
+
+// The report of the scene of two files, in front of the lent array; its length is returned.
+pub fn write_obj_report(start: &[u8], end: &[u8], out: &mut [u8; REPORT_BYTES]) -> usize
+    ensures { λ r. ⌜ PairPrinted SceneReport (now (start .entry)) (now (end .entry)) (now (out .entry)) (now (out .exit)) r ⌝ }
+{
+    pair_shown(Asked::Report, start, end, out)
+}
+
+// The text of the scene of two files, likewise.
+pub fn write_import_text(start: &[u8], end: &[u8], out: &mut [u8; REPORT_BYTES]) -> usize
+    ensures { λ r. ⌜ PairPrinted SceneText (now (start .entry)) (now (end .entry)) (now (out .entry)) (now (out .exit)) r ⌝ }
+{
+    pair_shown(Asked::Text, start, end, out)
+}
