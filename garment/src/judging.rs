@@ -1,15 +1,85 @@
-//! A pair alone, asked of the library: the one place that calls it for a word or for a contact.
+//! Pairs asked of the library: the one place that calls it for a word or for a contact.
 //!
 //! A pair is judged by its own four vertices, so a scene of these is enough, as long as it keeps what the pieces of a pair go by: the order
 //! of its vertices, by the vertex that each stands for, and which of two edges is the lower. A pair that is listed shares no vertex, so its
 //! four stand for four, and the scene needs no seam. Words and contacts are asked of the same scene, `Alone::asked`. That it speaks for the
 //! mesh is proved: crates/parts_of_meshes/specs/Alone.antt, `settled-alone` and `contact-alone`.
+//!
+//! A call for each pair costs more than the pair. So as many pairs as a scene has room for stand in it side by side, each with four vertices
+//! of its own, and one call is asked for all: `Packed`. What else stands in a scene changes nothing of a pair: crates/parts_of_meshes/specs/Packed.antt,
+//! `packed-words` and `packed-contacts`.
 
 use crate::mesh::Mesh;
 use crate::pairs::{Kind, Pair};
-use makhnodri::{Contact, Refusal, Scene, Settled, Verdict};
+use makhnodri::{Contact, OwnRefusal, Refusal, Scene, Settled, Verdict, VERTEX_LIMIT};
 
-/// The word of a pair.
+/// So many pairs fill a scene; of edges and triangles it has room for more.
+pub const TOGETHER: usize = VERTEX_LIMIT / 4;
+
+/// Room for the scene of many pairs, to be used again and again.
+pub struct Packed {
+    positions: [[i32; 24]; TOGETHER],
+    /// The ends of both edges of a pair, one pair behind the other.
+    edges: [[u16; 4]; TOGETHER],
+    triangles: [[u16; 3]; TOGETHER],
+    asked: [makhnodri::Pair; TOGETHER],
+}
+
+impl Default for Packed {
+    fn default() -> Packed {
+        let asked = makhnodri::Pair { kind: makhnodri::Kind::PointTriangle, first: 0, second: 0 };
+        Packed {
+            positions: [[0; 24]; TOGETHER],
+            edges: [[0; 4]; TOGETHER],
+            triangles: [[0; 3]; TOGETHER],
+            asked: [asked; TOGETHER],
+        }
+    }
+}
+
+impl Packed {
+    /// The words of at most `TOGETHER` pairs, in their order.
+    pub fn settle(&mut self, mesh: &Mesh, pairs: &[Pair]) -> Result<impl Iterator<Item = Settled>, OwnRefusal> {
+        let (scene, asked) = self.pack(mesh, pairs);
+        scene.settle_pairs(asked)
+    }
+
+    /// Their contacts, as `contact` gives each.
+    pub fn contact(&mut self, mesh: &Mesh, pairs: &[Pair]) -> Result<impl Iterator<Item = Contact> + '_, OwnRefusal> {
+        let (scene, asked) = self.pack(mesh, pairs);
+        scene.contact_pairs(asked)
+    }
+
+    /// Each pair alone, behind those before it, and the pairs in the numbers of the scene.
+    fn pack(&mut self, mesh: &Mesh, pairs: &[Pair]) -> (Scene<'_>, &[makhnodri::Pair]) {
+        assert!(pairs.len() <= TOGETHER, "more pairs than a scene has room for");
+        let (mut twos, mut triangles) = (0, 0);
+        let rows = self.positions.iter_mut().zip(&mut self.asked);
+        for ((&pair, (positions, asked)), before) in pairs.iter().zip(rows).zip((0..).step_by(4)) {
+            let alone = Alone::of(mesh, pair);
+            *positions = alone.positions;
+            let [first, corners @ ..] = alone.places.map(|place| before + place);
+            *asked = match pair.kind {
+                Kind::PointTriangle => {
+                    self.triangles[triangles] = corners;
+                    triangles += 1;
+                    makhnodri::Pair { kind: makhnodri::Kind::PointTriangle, first: first as usize, second: triangles - 1 }
+                }
+                Kind::EdgeEdge => {
+                    let [second, third, fourth] = corners;
+                    self.edges[twos] = [first, second, third, fourth];
+                    twos += 1;
+                    makhnodri::Pair { kind: makhnodri::Kind::EdgeEdge, first: 2 * twos - 2, second: 2 * twos - 1 }
+                }
+            };
+        }
+        let positions = self.positions[..pairs.len()].as_flattened();
+        let scene = Scene::new(positions, self.edges[..twos].as_flattened(), self.triangles[..triangles].as_flattened());
+        (scene, &self.asked[..pairs.len()])
+    }
+}
+
+/// The word of a pair, asked for alone.
 pub fn settle(mesh: &Mesh, pair: Pair) -> Result<Settled, Refusal> {
     Alone::of(mesh, pair).settle()
 }

@@ -10,4 +10,5 @@ pub mod Sorted
 pub mod Alone
 pub mod Joined
 pub mod EachAlone
+pub mod Packed
 pub mod Needed
