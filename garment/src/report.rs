@@ -1,7 +1,7 @@
 //! Lines of a report or of contacts and their totals, as docs/FORMAT.md has them, or the same as JSON.
 
 use crate::pairs::{Kind, Pair};
-use makhnodri::{Contact, Settled, CONTACT_LENGTH};
+use makhnodri::{Settled, CONTACT_LENGTH};
 use std::io::Write;
 
 /// The four words, in the order in which the totals name them.
@@ -69,15 +69,6 @@ pub fn row_length(kind: Kind) -> usize {
     match kind {
         Kind::PointTriangle => 5,
         Kind::EdgeEdge => 4,
-    }
-}
-
-/// Those of a hit; nothing of any other word.
-pub fn row_of(contact: Contact) -> Option<Row> {
-    match contact {
-        Contact::PointHit { piece, k, shares: [low, middle, high], .. } => Some([piece as u32, k, low, middle, high]),
-        Contact::EdgeHit { piece, k, shares: [first, second], .. } => Some([piece as u32, k, first, second, 0]),
-        Contact::Miss | Contact::Touch | Contact::Apart => None,
     }
 }
 

@@ -20,7 +20,14 @@ use std::path::Path;
 pub const INDEX: &str = "index";
 
 /// Writes the scenes, and the index last: a folder without one was not written whole. Where contacts are wanted, the whole mesh is in their range.
-pub fn split(mesh: &Mesh, about: About, for_contacts: bool, folder: &Path, threads: usize, bar: &mut Bar) -> Result<Index, Fault> {
+pub fn split(
+    mesh: &Mesh,
+    about: About,
+    for_contacts: bool,
+    folder: &Path,
+    threads: usize,
+    bar: &mut Bar,
+) -> Result<Index, Fault> {
     make_folder(folder)?;
     let finder = Finder::new(mesh);
     let mut pairs = listed(&finder, threads, bar);

@@ -6,7 +6,7 @@ use crate::judging::{Packed, TOGETHER};
 use crate::mesh::Mesh;
 use crate::pairs::Pair;
 use crate::progress::Bar;
-use crate::report::{row_of, About, Form, Tally, Writer};
+use crate::report::{About, Form, Tally, Writer};
 use crate::work::in_order;
 use makhnodri::{OwnRefusal, Settled};
 use std::io::{self, Write};
@@ -65,10 +65,10 @@ fn judged(mesh: &Mesh, finder: &Finder, rows: Range<usize>, form: &Form) -> Resu
     let (mut lines, mut tally, mut packed) = (Vec::new(), Tally::default(), Packed::default());
     for some in pairs.chunks(TOGETHER) {
         if form.contacts {
-            for (&pair, contact) in some.iter().zip(packed.contact(mesh, some).map_err(|refusal| refused(some, refusal))?) {
-                tally.add(contact.word());
-                if contact.word() == Settled::Hit {
-                    form.contact(pair, row_of(contact).ok_or_else(|| without_contact(pair))?, &mut lines);
+            for (&pair, (word, row)) in some.iter().zip(packed.contact(mesh, some).map_err(|refusal| refused(some, refusal))?) {
+                tally.add(word);
+                if word == Settled::Hit {
+                    form.contact(pair, row, &mut lines);
                 }
             }
         } else {
@@ -106,11 +106,6 @@ fn refused(pairs: &[Pair], refusal: OwnRefusal) -> Fault {
         "{} {first} {second}: the library refused {what} ({refusal}): this is a fault of the program",
         kind.letters()
     ))
-}
-
-fn without_contact(pair: Pair) -> Fault {
-    let Pair { kind, first, second } = pair;
-    Fault::new(format!("{} {first} {second}: the pair is hit and has no contact: this is a fault of the library", kind.letters()))
 }
 
 pub fn unwritten(error: io::Error) -> Fault {

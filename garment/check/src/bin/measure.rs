@@ -97,7 +97,12 @@ fn both_ways(mesh: &Mesh, pairs: &[Pair]) -> (f64, f64) {
     let (mut library, mut doubles, mut packed) = (f64::MAX, f64::MAX, Packed::default());
     for _ in 0..ROUNDS {
         let began = taken();
-        black_box(pairs.chunks(TOGETHER).map(|some| packed.settle(mesh, some).expect("words").map(|word| word as u64).sum::<u64>()).sum::<u64>());
+        black_box(
+            pairs
+                .chunks(TOGETHER)
+                .map(|some| packed.settle(mesh, some).expect("words").map(|word| word as u64).sum::<u64>())
+                .sum::<u64>(),
+        );
         let between = taken();
         black_box(pairs.iter().map(|&pair| by_cubic(mesh, &moving, pair) as u64).sum::<u64>());
         library = library.min((between - began).as_secs_f64());

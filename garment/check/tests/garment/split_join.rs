@@ -153,7 +153,7 @@ fn contacts_of_one_process() {
 
 #[test]
 fn contacts_that_are_not_there_are_told_by_name() {
-    let mesh = mesh_within(CONTACT_LIMIT, &cloth(KINDS[2], 1_500, 13).objs(), None, false).expect("a mesh");
+    let mesh = mesh_within(CONTACT_LIMIT, &cloth(KINDS[1], 1_500, 13).objs(), None, false).expect("a mesh");
     let spoiled: [(fn(String) -> Option<String>, &str); 7] = [
         (|_| None, "part-00002: there is no contacts"),
         (|_| Some("refused\t16\t0\n".into()), "part-00002: its scene was refused: refused\\t16\\t0"),
@@ -163,17 +163,18 @@ fn contacts_that_are_not_there_are_told_by_name() {
         (|text| Some(text.replacen("pt\t", "pt\tx", 1)), "part-00002: line 1 of its contacts is no line of a contact"),
         (|text| Some(format!("{}\n{text}", text.lines().next()?)), "part-00002: line 2 of its contacts is no line of a contact"),
     ];
-    for (i, (spoil, words)) in spoiled.into_iter().enumerate() {
-        let folder = Folder::new(&format!("spoiled-contacts-{i}"));
-        let index = split_for_contacts(&mesh, &folder);
-        met(&folder.0, &index);
+    let folder = Folder::new("spoiled-contacts");
+    let index = split_for_contacts(&mesh, &folder);
+    met(&folder.0, &index);
+    let path = at(&folder, &format!("{}.contacts", index.parts[1].name));
+    let whole = fs::read_to_string(&path).expect("contacts");
+    assert!(whole.starts_with("pt\t"), "{whole}");
+    for (spoil, words) in spoiled {
+        fs::write(&path, &whole).expect("written");
         assert!(join::gather_contacts(&folder.0).is_ok());
-        let path = at(&folder, &format!("{}.contacts", index.parts[1].name));
-        let text = fs::read_to_string(&path).expect("contacts");
-        assert!(text.starts_with("pt\t"), "{text}");
-        match spoil(text) {
-            Some(text) => fs::write(path, text).expect("written"),
-            None => fs::remove_file(path).expect("removed"),
+        match spoil(whole.clone()) {
+            Some(text) => fs::write(&path, text).expect("written"),
+            None => fs::remove_file(&path).expect("removed"),
         }
         let faults = join::gather_contacts(&folder.0).expect_err(words);
         assert!(faults.len() == 1 && faults[0].words.contains(words), "{words}: {faults:?}");

@@ -7,7 +7,7 @@ use garment::cells::{cell_of, cells_of, Cells};
 use garment::judging::{contact, settle, Alone, Packed, TOGETHER};
 use garment::mesh::Mesh;
 use garment::pairs::{Kind, Pair};
-use garment::report::row_of;
+use garment::report::Row;
 use garment::scene_text;
 use garment_check::cloth::{cloth, KINDS};
 use garment_check::exact;
@@ -89,8 +89,11 @@ fn pairs_together_are_pairs_alone() {
         let some = &pairs[from..from + count];
         let words: Vec<Settled> = some.iter().map(|&pair| settle(&mesh, pair).expect("a word")).collect();
         assert_eq!(packed.settle(&mesh, some).expect("words").collect::<Vec<Settled>>(), words);
-        let contacts: Vec<Contact> = some.iter().map(|&pair| contact(&mesh, pair).expect("a contact")).collect();
-        assert_eq!(packed.contact(&mesh, some).expect("contacts").collect::<Vec<Contact>>(), contacts);
+        let contacts: Vec<Option<Row>> = some.iter().map(|&pair| row_of(contact(&mesh, pair).expect("a contact"))).collect();
+        let given = packed.contact(&mesh, some).expect("contacts");
+        let (given, rows): (Vec<Settled>, Vec<Option<Row>>) =
+            given.map(|(word, row)| (word, (word == Settled::Hit).then_some(row))).unzip();
+        assert_eq!((given, rows), (words, contacts));
     }
 }
 
@@ -117,6 +120,15 @@ fn contacts_changed(meshes: &[Mesh], wrong: impl Fn(&Mesh, Pair) -> Alone) -> [u
         }
     }
     counts
+}
+
+/// The numbers of a hit; nothing of any other word.
+fn row_of(contact: Contact) -> Option<Row> {
+    match contact {
+        Contact::PointHit { piece, k, shares: [low, middle, high], .. } => Some([piece as u32, k, low, middle, high]),
+        Contact::EdgeHit { piece, k, shares: [first, second], .. } => Some([piece as u32, k, first, second, 0]),
+        Contact::Miss | Contact::Touch | Contact::Apart => None,
+    }
 }
 
 #[test]
