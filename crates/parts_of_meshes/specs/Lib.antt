@@ -11,4 +11,5 @@ pub mod Alone
 pub mod Joined
 pub mod EachAlone
 pub mod Packed
+pub mod Beside
 pub mod Needed
