@@ -6,8 +6,9 @@
 //! mesh is proved: crates/parts_of_meshes/specs/Alone.antt, `settled-alone` and `contact-alone`.
 //!
 //! A call for each pair costs more than the pair. So as many pairs as a scene has room for stand in it side by side, each with four vertices
-//! of its own, and one call is asked for all: `Packed`. What else stands in a scene changes nothing of a pair: crates/parts_of_meshes/specs/Packed.antt,
-//! `packed-words` and `packed-contacts`.
+//! of its own, and one call is asked for all: `Packed`. That scene and its entries are `together` and `entriesOf` of
+//! crates/parts_of_meshes/specs/Together.antt, where it is proved that the call gives what the pairs have in the mesh: `words-together` and
+//! `contacts-together`.
 
 use crate::mesh::Mesh;
 use crate::pairs::{Kind, Pair};

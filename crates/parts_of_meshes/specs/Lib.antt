@@ -12,4 +12,5 @@ pub mod Joined
 pub mod EachAlone
 pub mod Packed
 pub mod Beside
+pub mod Together
 pub mod Needed
