@@ -151,10 +151,13 @@ fn contacts_of_one_process() {
     assert!(lines > 1_000, "{lines} contacts");
 }
 
+/// Another text in the place of a file's, or no file.
+type Damage = fn(String) -> Option<String>;
+
 #[test]
 fn contacts_that_are_not_there_are_told_by_name() {
     let mesh = mesh_within(CONTACT_LIMIT, &cloth(KINDS[1], 1_500, 13).objs(), None, false).expect("a mesh");
-    let spoiled: [(fn(String) -> Option<String>, &str); 7] = [
+    let spoiled: [(Damage, &str); 7] = [
         (|_| None, "part-00002: there is no contacts"),
         (|_| Some("refused\t16\t0\n".into()), "part-00002: its scene was refused: refused\\t16\\t0"),
         (|text| Some(text[..text.len() - 1].into()), "part-00002: its report is not there to the end"),
