@@ -13,4 +13,5 @@ pub mod EachAlone
 pub mod Packed
 pub mod Beside
 pub mod Together
+pub mod Answered
 pub mod Needed

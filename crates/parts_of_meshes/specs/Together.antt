@@ -25,13 +25,13 @@ use Rattle.parts_of_meshes.specs.Alone.{Apart, alone, aloneFirst, aloneS
 use Rattle.parts_of_meshes.specs.Packed.{Holds, AllHeld, ownPair, packed-words, packed-contacts}
 use Rattle.parts_of_meshes.specs.Beside.{Around, Before, movedUp, held-amid}
 
-abbrev aloneOf : Scene → Pair → Scene
+abbrev pub aloneOf : Scene → Pair → Scene
 aloneOf s x = alone s (x .kind) (x .first) (x .second)
 
-abbrev edgesIn : Pair → ℕ
+abbrev pub edgesIn : Pair → ℕ
 edgesIn x = length (edgesOf (x .kind) (x .first) (x .second))
 
-abbrev trianglesIn : Pair → ℕ
+abbrev pub trianglesIn : Pair → ℕ
 trianglesIn x = length (trianglesOf (x .kind) (x .first) (x .second))
 
 -- ---- the scene
