@@ -66,19 +66,25 @@ fn scene(files: &[String; 2], options: &Options) -> Result<(), Vec<Fault>> {
 fn split_into(folder: &str, files: &[String; 2], options: &Options) -> Result<(), Vec<Fault>> {
     let (mesh, about) = read(files, options)?;
     let mut bar = Bar::new("finding", !options.quiet);
-    let index = split::split(&mesh, about, Path::new(folder), options.threads, &mut bar).map_err(alone)?;
+    let index = split::split(&mesh, about, options.form.contacts, Path::new(folder), options.threads, &mut bar).map_err(alone)?;
     drop(bar);
     options.note(|| format!("{} pairs in {} parts", index.pairs(), index.parts.len()));
     Ok(())
 }
 
 fn joined(folder: &str, options: &Options) -> Result<Tally, Vec<Fault>> {
-    let (index, words) = join::gather(Path::new(folder)).map_err(|mut faults| {
+    let nothing = |mut faults: Vec<Fault>| {
         faults.push(Fault::new("nothing is joined"));
         faults
-    })?;
-    let tally = join::write(&index, &words, &options.form, buffered()).map_err(alone)?;
-    options.note(|| format!("{} pairs of {} parts", tally.listed(), index.parts.len()));
+    };
+    let (tally, parts) = if options.form.contacts {
+        let (index, hits) = join::gather_contacts(Path::new(folder)).map_err(nothing)?;
+        (join::write_contacts(&index, &hits, &options.form, buffered()).map_err(alone)?, index.parts.len())
+    } else {
+        let (index, words) = join::gather(Path::new(folder)).map_err(nothing)?;
+        (join::write(&index, &words, &options.form, buffered()).map_err(alone)?, index.parts.len())
+    };
+    options.note(|| format!("{} pairs of {parts} parts", tally.listed()));
     Ok(tally)
 }
 

@@ -1,8 +1,8 @@
 //! The index of a split garment: which scenes there are, how many lines each report has, and which pair of the mesh a line speaks of.
 //!
-//! Lines of fields that are parted by tabs, as the scenes' own: `garment` and the form's number; `mesh` and its counts; for each scene `part`,
-//! its name and the lines of its report, and below it a line for each pair that it gives, in the report's order: kind, the mesh's two places,
-//! the scene's two; last `end` with the counts of parts and of pairs.
+//! Lines of fields that are parted by tabs, as the scenes' own: `garment`, the form's number, and what the scenes are for, `words` or `contacts`;
+//! `mesh` and its counts; for each scene `part`, its name and the lines of its report, and below it a line for each pair that it gives, in the
+//! report's order: kind, the mesh's two places, the scene's two; last `end` with the counts of parts and of pairs.
 
 use crate::fault::Fault;
 use crate::mesh::Mesh;
@@ -11,11 +11,14 @@ use crate::pairs::{Kind, Pair};
 use crate::report::About;
 use std::fmt::Write;
 
-const FORM: &str = "garment\t1";
+const WORDS: &str = "garment\t2\twords";
+const CONTACTS: &str = "garment\t2\tcontacts";
 
 #[derive(Debug, PartialEq)]
 pub struct Index {
     pub about: About,
+    /// Whether the whole mesh is in the range of contacts, so that those of its scenes are its own.
+    pub for_contacts: bool,
     pub parts: Vec<Entry>,
 }
 
@@ -48,7 +51,8 @@ impl Index {
 
     pub fn text(&self) -> String {
         let About { vertices, edges, triangles, seams, step } = &self.about;
-        let mut text = format!("{FORM}\nmesh\t{vertices}\t{edges}\t{triangles}\t{seams}\t{step}\n");
+        let form = if self.for_contacts { CONTACTS } else { WORDS };
+        let mut text = format!("{form}\nmesh\t{vertices}\t{edges}\t{triangles}\t{seams}\t{step}\n");
         let mut line = |words: std::fmt::Arguments| text.write_fmt(words).expect("a string takes all");
         for part in &self.parts {
             line(format_args!("part\t{}\t{}\n", part.name, part.listed));
@@ -69,12 +73,14 @@ impl Index {
     pub fn read(name: &str, text: &str) -> Result<Index, Fault> {
         let mut lines = text.lines().zip(1..);
         let mut next = || lines.next().unwrap_or(("", 0));
-        if next().0 != FORM {
-            return Err(Fault::in_line(name, 1, "this is no index that `garment split` wrote"));
-        }
+        let for_contacts = match next().0 {
+            WORDS => false,
+            CONTACTS => true,
+            _ => return Err(Fault::in_line(name, 1, "this is no index that `garment split` wrote")),
+        };
         let about =
             next().0.strip_prefix("mesh\t").and_then(about_of).ok_or_else(|| Fault::in_line(name, 2, "no line of a mesh"))?;
-        let mut index = Index { about, parts: Vec::new() };
+        let mut index = Index { about, for_contacts, parts: Vec::new() };
         for (line, number) in lines {
             if line.starts_with("end\t") && line == index.end() {
                 return Ok(index);

@@ -1,15 +1,122 @@
-//! A pair alone, asked of the library: the one place that calls it for a word or for a contact.
+//! Pairs asked of the library: the one place that calls it for a word or for a contact.
 //!
 //! A pair is judged by its own four vertices, so a scene of these is enough, as long as it keeps what the pieces of a pair go by: the order
 //! of its vertices, by the vertex that each stands for, and which of two edges is the lower. A pair that is listed shares no vertex, so its
 //! four stand for four, and the scene needs no seam. Words and contacts are asked of the same scene, `Alone::asked`. That it speaks for the
 //! mesh is proved: crates/parts_of_meshes/specs/Alone.antt, `settled-alone` and `contact-alone`.
+//!
+//! A call for each pair costs more than the pair. So as many pairs as a scene has room for stand in it side by side, each with four vertices
+//! of its own, and one call is asked for all: `Packed`. That scene and its entries are `together` and `entriesOf` of
+//! crates/parts_of_meshes/specs/Together.antt, where it is proved that the call gives what the pairs have in the mesh: `words-together` and
+//! `contacts-together`.
 
 use crate::mesh::Mesh;
 use crate::pairs::{Kind, Pair};
-use makhnodri::{Contact, Refusal, Scene, Settled, Verdict};
+use crate::report::Row;
+use makhnodri::{Contact, OwnRefusal, Refusal, Scene, Settled, Verdict, CONTACT_LENGTH, VERTEX_LIMIT};
 
-/// The word of a pair.
+/// So many pairs fill a scene; of edges and triangles it has room for more.
+pub const TOGETHER: usize = VERTEX_LIMIT / 4;
+
+/// Room for the scene of many pairs and for what the library says of them, to be used again and again.
+pub struct Packed {
+    /// Four vertices of each pair.
+    positions: [[[i32; 6]; 4]; TOGETHER],
+    /// The ends of both edges of a pair, one pair behind the other.
+    edges: [[u16; 4]; TOGETHER],
+    triangles: [[u16; 3]; TOGETHER],
+    list: [u32; TOGETHER],
+    words: [u8; TOGETHER],
+    contacts: [Row; TOGETHER],
+}
+
+impl Default for Packed {
+    fn default() -> Packed {
+        Packed {
+            positions: [[[0; 6]; 4]; TOGETHER],
+            edges: [[0; 4]; TOGETHER],
+            triangles: [[0; 3]; TOGETHER],
+            list: [0; TOGETHER],
+            words: [0; TOGETHER],
+            contacts: [[0; CONTACT_LENGTH]; TOGETHER],
+        }
+    }
+}
+
+impl Packed {
+    /// The words of at most `TOGETHER` pairs, in their order.
+    pub fn settle(&mut self, mesh: &Mesh, pairs: &[Pair]) -> Result<impl Iterator<Item = Settled> + '_, OwnRefusal> {
+        let parts = self.pack(mesh, pairs);
+        let scene = scene_of(&self.positions[..pairs.len()], &self.edges[..parts.0], &self.triangles[..parts.1]);
+        let count = scene.settle_list(&self.list[..pairs.len()], &mut self.words)?;
+        Ok(self.words[..count].iter().map(|&byte| word_of(byte)))
+    }
+
+    /// The same, and of each that is hit the numbers of its contact; of any other word they say nothing. The range of the mesh is for the caller
+    /// to see to, as for `contact`.
+    pub fn contact(&mut self, mesh: &Mesh, pairs: &[Pair]) -> Result<impl Iterator<Item = (Settled, Row)> + '_, OwnRefusal> {
+        let parts = self.pack(mesh, pairs);
+        let scene = scene_of(&self.positions[..pairs.len()], &self.edges[..parts.0], &self.triangles[..parts.1]);
+        let contacts = self.contacts.as_flattened_mut();
+        let count = scene.contact_list(&self.list[..pairs.len()], &mut self.words, contacts)?;
+        Ok(self.words[..count].iter().zip(self.contacts).map(|(&byte, row)| (word_of(byte), row)))
+    }
+
+    /// Each pair alone, behind those before it, and its entry in the numbers of the scene. Hands back how many pairs are of edges, and how many of
+    /// a point and a triangle.
+    #[inline(always)]
+    fn pack(&mut self, mesh: &Mesh, pairs: &[Pair]) -> (usize, usize) {
+        assert!(pairs.len() <= TOGETHER, "more pairs than a scene has room for");
+        let (mut of_edges, mut of_points) = (0, 0);
+        let rows = self.positions.iter_mut().zip(&mut self.list);
+        for ((&pair, (positions, entry)), before) in pairs.iter().zip(rows).zip((0..).step_by(4)) {
+            let vertices = vertices_of(mesh, pair);
+            let places = in_rising_order(vertices);
+            for (vertex, place) in vertices.into_iter().zip(places) {
+                // a place is below 4; said so, nothing is asked at run time
+                positions[place as usize & 3] = mesh.positions[vertex as usize];
+            }
+            let [first, corners @ ..] = places.map(|place| before + place);
+            *entry = match pair.kind {
+                Kind::PointTriangle => {
+                    self.triangles[of_points] = corners;
+                    of_points += 1;
+                    entry_of(makhnodri::Kind::PointTriangle, first as usize, of_points - 1)
+                }
+                Kind::EdgeEdge => {
+                    let [second, third, fourth] = corners;
+                    self.edges[of_edges] = [first, second, third, fourth];
+                    of_edges += 1;
+                    entry_of(makhnodri::Kind::EdgeEdge, 2 * of_edges - 2, 2 * of_edges - 1)
+                }
+            };
+        }
+        (of_edges, of_points)
+    }
+}
+
+fn scene_of<'a>(positions: &'a [[[i32; 6]; 4]], edges: &'a [[u16; 4]], triangles: &'a [[u16; 3]]) -> Scene<'a> {
+    Scene::new(positions.as_flattened().as_flattened(), edges.as_flattened(), triangles.as_flattened())
+}
+
+#[inline(always)]
+fn entry_of(kind: makhnodri::Kind, first: usize, second: usize) -> u32 {
+    makhnodri::Pair { kind, first, second }.entry()
+}
+
+/// 2 is degenerate's, and no word of these.
+#[inline(always)]
+fn word_of(byte: u8) -> Settled {
+    match byte {
+        0 => Settled::Hit,
+        1 => Settled::Miss,
+        3 => Settled::Touch,
+        4 => Settled::Apart,
+        other => unreachable!("{other} stands for no word"),
+    }
+}
+
+/// The word of a pair, asked for alone.
 pub fn settle(mesh: &Mesh, pair: Pair) -> Result<Settled, Refusal> {
     Alone::of(mesh, pair).settle()
 }
@@ -33,16 +140,7 @@ pub struct Alone {
 impl Alone {
     #[inline(always)]
     pub fn of(mesh: &Mesh, pair: Pair) -> Alone {
-        let vertices = match pair.kind {
-            Kind::PointTriangle => {
-                let [a, b, c] = mesh.corners(pair.second);
-                [mesh.stood(pair.first), a, b, c]
-            }
-            Kind::EdgeEdge => {
-                let ([a, b], [c, d]) = (mesh.ends(pair.first), mesh.ends(pair.second));
-                [a, b, c, d]
-            }
-        };
+        let vertices = vertices_of(mesh, pair);
         let places = in_rising_order(vertices);
         let mut rising = [0; 4];
         for (vertex, place) in vertices.into_iter().zip(places) {
@@ -76,6 +174,21 @@ impl Alone {
         match self.kind {
             Kind::PointTriangle => (makhnodri::Kind::PointTriangle, Scene::new(positions, &[], corners), [*first as usize, 0]),
             Kind::EdgeEdge => (makhnodri::Kind::EdgeEdge, Scene::new(positions, &self.places, &[]), [0, 1]),
+        }
+    }
+}
+
+/// The four that it goes by: the point and the corners, or the ends of the first edge and then of the second.
+#[inline(always)]
+fn vertices_of(mesh: &Mesh, pair: Pair) -> [u32; 4] {
+    match pair.kind {
+        Kind::PointTriangle => {
+            let [a, b, c] = mesh.corners(pair.second);
+            [mesh.stood(pair.first), a, b, c]
+        }
+        Kind::EdgeEdge => {
+            let ([a, b], [c, d]) = (mesh.ends(pair.first), mesh.ends(pair.second));
+            [a, b, c, d]
         }
     }
 }

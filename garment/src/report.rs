@@ -1,7 +1,7 @@
 //! Lines of a report or of contacts and their totals, as docs/FORMAT.md has them, or the same as JSON.
 
-use crate::pairs::Pair;
-use makhnodri::{Contact, Settled};
+use crate::pairs::{Kind, Pair};
+use makhnodri::{Settled, CONTACT_LENGTH};
 use std::io::Write;
 
 /// The four words, in the order in which the totals name them.
@@ -33,15 +33,23 @@ fn place(word: Settled) -> usize {
 #[derive(Clone, Copy, Debug, Default, PartialEq, Eq)]
 pub struct Tally {
     counts: [u64; 4],
+    /// Pairs of which it is known that they are not hit, and not which word they have.
+    not_hit: u64,
 }
 
 impl Tally {
+    /// Of lines of contacts, which tell hits alone.
+    pub fn of_hits(listed: u64, hits: u64) -> Tally {
+        Tally { counts: [hits, 0, 0, 0], not_hit: listed.saturating_sub(hits) }
+    }
+
     pub fn add(&mut self, word: Settled) {
         self.counts[place(word)] += 1;
     }
 
     pub fn join(&mut self, other: Tally) {
         self.counts.iter_mut().zip(other.counts).for_each(|(mine, others)| *mine += others);
+        self.not_hit += other.not_hit;
     }
 
     pub fn of(&self, word: Settled) -> u64 {
@@ -49,7 +57,18 @@ impl Tally {
     }
 
     pub fn listed(&self) -> u64 {
-        self.counts.iter().sum()
+        self.counts.iter().sum::<u64>() + self.not_hit
+    }
+}
+
+/// The numbers of a contact: piece, k and the shares, of which two edges have two.
+pub type Row = [u32; CONTACT_LENGTH];
+
+/// How many of them a line has.
+pub fn row_length(kind: Kind) -> usize {
+    match kind {
+        Kind::PointTriangle => 5,
+        Kind::EdgeEdge => 4,
     }
 }
 
@@ -110,14 +129,10 @@ impl Form {
         out.push(b'\n');
     }
 
-    /// The line of a hit pair's contact, behind what is there; or nothing, where there is no contact.
-    pub fn contact(&self, pair: Pair, contact: Contact, out: &mut Vec<u8>) -> Option<()> {
-        let (piece, k, shares): (usize, u32, &[u32]) = match &contact {
-            Contact::PointHit { piece, k, shares, .. } => (*piece, *k, shares),
-            Contact::EdgeHit { piece, k, shares, .. } => (*piece, *k, shares),
-            Contact::Miss | Contact::Touch | Contact::Apart => return None,
-        };
+    /// The line of a hit pair's contact, behind what is there.
+    pub fn contact(&self, pair: Pair, row: Row, out: &mut Vec<u8>) {
         let Pair { kind, first, second } = pair;
+        let [piece, k, shares @ ..] = &row[..row_length(kind)] else { return };
         let kind = kind.letters();
         if self.json {
             let shares = shares.iter().map(u32::to_string).collect::<Vec<String>>().join(",");
@@ -125,12 +140,11 @@ impl Form {
                 ",\n{{\"kind\":\"{kind}\",\"first\":{first},\"second\":{second},\"piece\":{piece},\"k\":{k},\"shares\":[{shares}]}}"
             );
             out.extend_from_slice(line.as_bytes());
-            return Some(());
+            return;
         }
         out.extend_from_slice(kind.as_bytes());
-        [first, second, piece as u32, k].iter().chain(shares).for_each(|&number| tab_and_number(number, out));
+        [first, second, *piece, *k].iter().chain(shares).for_each(|&number| tab_and_number(number, out));
         out.push(b'\n');
-        Some(())
     }
 
     pub fn foot(&self, tally: Tally) -> String {

@@ -1,4 +1,5 @@
-//! A garment as scenes in a folder, for a farm: each is a text that the report program takes, and the index says what their reports are of.
+//! A garment as scenes in a folder, for a farm: each is a text that the programs for reports and for contacts take, and the index says what these
+//! are of.
 
 use crate::candidates::Finder;
 use crate::curve;
@@ -18,8 +19,15 @@ use std::path::Path;
 
 pub const INDEX: &str = "index";
 
-/// Writes the scenes, and the index last: a folder without one was not written whole.
-pub fn split(mesh: &Mesh, about: About, folder: &Path, threads: usize, bar: &mut Bar) -> Result<Index, Fault> {
+/// Writes the scenes, and the index last: a folder without one was not written whole. Where contacts are wanted, the whole mesh is in their range.
+pub fn split(
+    mesh: &Mesh,
+    about: About,
+    for_contacts: bool,
+    folder: &Path,
+    threads: usize,
+    bar: &mut Bar,
+) -> Result<Index, Fault> {
     make_folder(folder)?;
     let finder = Finder::new(mesh);
     let mut pairs = listed(&finder, threads, bar);
@@ -31,7 +39,7 @@ pub fn split(mesh: &Mesh, about: About, folder: &Path, threads: usize, bar: &mut
         write(&folder.join(format!("{}.scene", entry.name)), &text)?;
         parts.push(entry);
     }
-    let index = Index { about, parts };
+    let index = Index { about, for_contacts, parts };
     if index.pairs() != pairs.len() as u64 {
         let words = format!("{} pairs were found and {} packed: this is a fault of the program", pairs.len(), index.pairs());
         return Err(Fault::new(words));

@@ -2,13 +2,13 @@
 
 use crate::candidates::Finder;
 use crate::fault::Fault;
-use crate::judging;
+use crate::judging::{Packed, TOGETHER};
 use crate::mesh::Mesh;
 use crate::pairs::Pair;
 use crate::progress::Bar;
 use crate::report::{About, Form, Tally, Writer};
 use crate::work::in_order;
-use makhnodri::Settled;
+use makhnodri::{OwnRefusal, Settled};
 use std::io::{self, Write};
 use std::ops::Range;
 
@@ -62,15 +62,20 @@ pub fn report(mesh: &Mesh, about: &About, form: &Form, threads: usize, bar: &mut
 
 fn judged(mesh: &Mesh, finder: &Finder, rows: Range<usize>, form: &Form) -> Result<Judged, Fault> {
     let pairs = finder.in_rows(rows);
-    let (mut lines, mut tally) = (Vec::new(), Tally::default());
-    for &pair in &pairs {
-        let word = judging::settle(mesh, pair).map_err(|refusal| refused(pair, &refusal))?;
-        tally.add(word);
-        if !form.contacts {
-            form.line(pair, word, &mut lines);
-        } else if word == Settled::Hit {
-            let contact = judging::contact(mesh, pair).map_err(|refusal| refused(pair, &refusal))?;
-            form.contact(pair, contact, &mut lines).ok_or_else(|| without_contact(pair))?;
+    let (mut lines, mut tally, mut packed) = (Vec::new(), Tally::default(), Packed::default());
+    for some in pairs.chunks(TOGETHER) {
+        if form.contacts {
+            for (&pair, (word, row)) in some.iter().zip(packed.contact(mesh, some).map_err(|refusal| refused(some, refusal))?) {
+                tally.add(word);
+                if word == Settled::Hit {
+                    form.contact(pair, row, &mut lines);
+                }
+            }
+        } else {
+            for (&pair, word) in some.iter().zip(packed.settle(mesh, some).map_err(|refusal| refused(some, refusal))?) {
+                tally.add(word);
+                form.line(pair, word, &mut lines);
+            }
         }
     }
     Ok(Judged { lines, found: pairs.len() as u64, tally })
@@ -90,17 +95,17 @@ pub fn listed(finder: &Finder, threads: usize, bar: &mut Bar) -> Vec<Pair> {
     pairs
 }
 
-fn refused(pair: Pair, refusal: &makhnodri::Refusal) -> Fault {
-    let Pair { kind, first, second } = pair;
+/// Pairs that were asked for in one call, by the first of them, or the one among them that is at fault.
+fn refused(pairs: &[Pair], refusal: OwnRefusal) -> Fault {
+    let (at, what) = match refusal {
+        OwnRefusal::Entry { number, .. } => (number - 1, "the pair"),
+        _ => (0, "this pair and those behind it"),
+    };
+    let Pair { kind, first, second } = pairs[at];
     Fault::new(format!(
-        "{} {first} {second}: the library refused the pair ({refusal}): this is a fault of the program",
+        "{} {first} {second}: the library refused {what} ({refusal}): this is a fault of the program",
         kind.letters()
     ))
-}
-
-fn without_contact(pair: Pair) -> Fault {
-    let Pair { kind, first, second } = pair;
-    Fault::new(format!("{} {first} {second}: the pair is hit and has no contact: this is a fault of the library", kind.letters()))
 }
 
 pub fn unwritten(error: io::Error) -> Fault {

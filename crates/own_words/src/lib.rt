@@ -12,6 +12,7 @@ ghost use Rattle.scenes.specs.Checking.{Stitched};
 ghost use Rattle.meaning.specs.OwnList.{entryMissing, entryShared, ownLimit, OwnSettled};
 ghost use Rattle.own_words.specs.Faults.{FaultFound};
 ghost use Rattle.own_words.specs.Answering.{OwnJudged};
+use meaning::Kind;
 use meaning::ListAnswer;
 use meaning::Made;
 use meaning::Refusal;
@@ -39,7 +40,7 @@ fn entry_missing(positions: &[i32], edges: &[u16], triangles: &[u16], entry: u32
     (NO_NUMBER <= entry) | missing
 }
 
-// 6 of an entry.
+// 6 of an entry. Every entry is looked at, so its kind is told here: a call that takes both kinds would be lent all four slices for each.
 fn entry_shared(
     positions: &[i32],
     edges: &[u16],
@@ -50,10 +51,12 @@ fn entry_shared(
     requires { ⌜ entryMissing (tabledIn positions edges triangles stands) entry ≡ false ⌝ }
     ensures { λ r. ⌜ r ≡ entryShared (tabledAtEntry positions edges triangles stands) entry ⌝ }
 {
-    let kind = entries::kind_of(entry);
     let first = entries::first_of(entry);
     let second = entries::second_of(entry);
-    three_words::accepted::shares_vertex(positions, edges, triangles, stands, kind, first, second)
+    match entries::kind_of(entry) {
+        Kind::PointTriangle => scenes::parts::shares_pt(triangles, stands, first, second),
+        Kind::EdgeEdge => scenes::parts::shares_ee(edges, stands, first, second),
+    }
 }
 
 // The first entry at fault, counted from 1, in it 5 before 6; or how many entries there are.

@@ -108,7 +108,7 @@ unfolding firstPart secondPart
 four-long s PointTriangle i j = refl
 four-long s EdgeEdge i j = refl
 
-few-parts : (kind : Kind) (i j : ℕ) → (length (edgesOf kind i j) ≤ 2) × (length (trianglesOf kind i j) ≤ 1)
+pub few-parts : (kind : Kind) (i j : ℕ) → (length (edgesOf kind i j) ≤ 2) × (length (trianglesOf kind i j) ≤ 1)
 unfolding edgesOf trianglesOf
 few-parts PointTriangle i j = (omega arith, omega arith)
 few-parts EdgeEdge i j = (omega arith, omega arith)
@@ -175,6 +175,12 @@ module _ {s : Scene} (mesh : Mesh s) where
   unfolding secondPlace aloneSecond edgesOf trianglesOf
   second-back PointTriangle i j = refl
   second-back EdgeEdge i j = refl
+
+  -- the point is one of the four
+  pub own-first-below : (i j : ℕ) → aloneFirst s PointTriangle i j < 4
+  unfolding aloneFirst firstPart secondPart
+  own-first-below i j =
+      omega (arith, place-there (fourOf s PointTriangle i j) i (among-four PointTriangle i j i first) .0, as-long (in-order-moved s (verticesOf s PointTriangle i j)), four-long s PointTriangle i j)
 
   pub alone-there : (kind : Kind) (i j : ℕ) → notThere (alone s kind i j) kind (aloneFirst s kind i j) (aloneSecond kind) ≡ false
   unfolding notThere aloneFirst aloneSecond edgesOf trianglesOf firstPart secondPart

@@ -90,13 +90,13 @@ module _ (s : Scene) (vs es ts : List ℕ) where
 
   -- ---- its numbers
 
-  positions-long : length (cut .positions) ≡ 6 * length vs
+  pub positions-long : length (cut .positions) ≡ 6 * length vs
   positions-long = omega (arith, gather-wide (λ a. coordinates (startOf s (getD vs a 0)) (endOf s (getD vs a 0))) 6 (λ a. refl) 0 (length vs))
 
-  edges-long : length (cut .edges) ≡ 2 * length es
+  pub edges-long : length (cut .edges) ≡ 2 * length es
   edges-long = omega (arith, gather-wide (λ j. map (placeIn vs) (endsWritten s (getD es j 0))) 2 (λ j. refl) 0 (length es))
 
-  triangles-long : length (cut .triangles) ≡ 3 * length ts
+  pub triangles-long : length (cut .triangles) ≡ 3 * length ts
   triangles-long = omega (arith, gather-wide (λ j. map (placeIn vs) (cornersWritten s (getD ts j 0))) 3 (λ j. refl) 0 (length ts))
 
   pub vertices-many : vertexCount cut ≡ length vs

@@ -10,4 +10,8 @@ pub mod Sorted
 pub mod Alone
 pub mod Joined
 pub mod EachAlone
+pub mod Packed
+pub mod Beside
+pub mod Together
+pub mod Answered
 pub mod Needed

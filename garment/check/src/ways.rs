@@ -10,7 +10,7 @@ use garment::progress::Bar;
 use garment::report::{About, Form, Tally};
 use garment::rounding::onto_grid;
 use garment::whole;
-use makhnodri::COORDINATE_LIMIT;
+use makhnodri::{Contact, Kind, Scene, COORDINATE_LIMIT};
 
 pub const NAMES: [&str; 2] = ["start.obj", "end.obj"];
 
@@ -50,6 +50,24 @@ pub fn report(mesh: &Mesh, form: &Form, threads: usize) -> (String, Tally) {
 
 pub fn no_bar() -> Bar {
     Bar::new("", false)
+}
+
+/// The lines of the program `contacts`, as the library's own contacts of a scene make them; nothing where it is refused.
+pub fn contact_lines(scene: &Scene) -> Option<String> {
+    let listed = scene.contacts().ok()?;
+    let (mut text, mut hits) = (String::new(), 0);
+    for (pair, contact) in &listed {
+        let kind = if pair.kind == Kind::PointTriangle { "pt" } else { "ee" };
+        let (piece, k, shares) = match contact {
+            Contact::PointHit { piece, k, shares, .. } => (piece, k, shares.to_vec()),
+            Contact::EdgeHit { piece, k, shares, .. } => (piece, k, shares.to_vec()),
+            _ => continue,
+        };
+        let shares: String = shares.iter().map(|share| format!("\t{share}")).collect();
+        text += &format!("{kind}\t{}\t{}\t{piece}\t{k}{shares}\n", pair.first, pair.second);
+        hits += 1;
+    }
+    Some(text + &format!("total\t{}\t{hits}\n", listed.len()))
 }
 
 /// A scene's vertices and triangles as two OBJ files, faces written as exporters do; its edges are left out, since a mesh has those of its faces.

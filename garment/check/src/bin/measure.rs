@@ -4,7 +4,7 @@
 
 use compare::cubic::{self, Moving};
 use garment::candidates::Finder;
-use garment::judging::settle;
+use garment::judging::{settle, Packed, TOGETHER};
 use garment::mesh::{self, Mesh};
 use garment::obj;
 use garment::pairs::{Kind, Pair};
@@ -94,10 +94,15 @@ fn parts_of(kind: ClothKind, size: usize) {
 /// Judging all pairs by the library and by the cubic, in turns. The cubic has its doubles ready made.
 fn both_ways(mesh: &Mesh, pairs: &[Pair]) -> (f64, f64) {
     let moving: Vec<Moving> = mesh.positions.iter().map(|p| [0, 3].map(|at| [0, 1, 2].map(|axis| p[at + axis] as f64))).collect();
-    let (mut library, mut doubles) = (f64::MAX, f64::MAX);
+    let (mut library, mut doubles, mut packed) = (f64::MAX, f64::MAX, Packed::default());
     for _ in 0..ROUNDS {
         let began = taken();
-        black_box(pairs.iter().map(|&pair| settle(mesh, pair).expect("a word") as u64).sum::<u64>());
+        black_box(
+            pairs
+                .chunks(TOGETHER)
+                .map(|some| packed.settle(mesh, some).expect("words").map(|word| word as u64).sum::<u64>())
+                .sum::<u64>(),
+        );
         let between = taken();
         black_box(pairs.iter().map(|&pair| by_cubic(mesh, &moving, pair) as u64).sum::<u64>());
         library = library.min((between - began).as_secs_f64());

@@ -6,8 +6,8 @@ use garment::report::Form;
 use garment::rounding::least_step_for;
 use garment_check::cloth::{cloth, KINDS};
 use garment_check::exact;
-use garment_check::ways::{as_it_is, mesh_within, report};
-use makhnodri::{Contact, Kind, Scene, CONTACT_LIMIT};
+use garment_check::ways::{as_it_is, contact_lines, mesh_within, report};
+use makhnodri::{Scene, CONTACT_LIMIT};
 
 fn contacts(mesh: &Mesh, threads: usize) -> String {
     report(mesh, &Form { contacts: true, ..Form::default() }, threads).0
@@ -20,20 +20,7 @@ fn library(mesh: &Mesh) -> Option<String> {
     let edges: Vec<u16> = mesh.edges.concat().into_iter().map(numbers).collect();
     let triangles: Vec<u16> = mesh.triangles.concat().into_iter().map(numbers).collect();
     let seams: Vec<u16> = mesh.sewn().flatten().map(numbers).collect();
-    let listed = Scene::new(positions, edges, triangles).sewn(seams).contacts().ok()?;
-    let (mut text, mut hits) = (String::new(), 0);
-    for (pair, contact) in &listed {
-        let kind = if pair.kind == Kind::PointTriangle { "pt" } else { "ee" };
-        let (piece, k, shares) = match contact {
-            Contact::PointHit { piece, k, shares, .. } => (piece, k, shares.to_vec()),
-            Contact::EdgeHit { piece, k, shares, .. } => (piece, k, shares.to_vec()),
-            _ => continue,
-        };
-        let shares: String = shares.iter().map(|share| format!("\t{share}")).collect();
-        text += &format!("{kind}\t{}\t{}\t{piece}\t{k}{shares}\n", pair.first, pair.second);
-        hits += 1;
-    }
-    Some(text + &format!("total\t{}\t{hits}\n", listed.len()))
+    contact_lines(&Scene::new(positions, edges, triangles).sewn(seams))
 }
 
 #[test]

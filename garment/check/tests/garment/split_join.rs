@@ -6,8 +6,8 @@ use garment::mesh::Mesh;
 use garment::report::Form;
 use garment::split::{split, INDEX};
 use garment_check::cloth::{cloth, KINDS};
-use garment_check::ways::{about, as_it_is, made, mesh_of, no_bar, report};
-use makhnodri::Settled;
+use garment_check::ways::{about, as_it_is, contact_lines, made, mesh_of, mesh_within, no_bar, report};
+use makhnodri::{Scene, Settled, CONTACT_LIMIT};
 use std::fs;
 use std::path::{Path, PathBuf};
 
@@ -29,7 +29,11 @@ impl Drop for Folder {
 }
 
 fn split_into(mesh: &Mesh, folder: &Folder) -> Index {
-    split(mesh, about(mesh), &folder.0, 2, &mut no_bar()).expect("it is split")
+    split(mesh, about(mesh), false, &folder.0, 2, &mut no_bar()).expect("it is split")
+}
+
+fn split_for_contacts(mesh: &Mesh, folder: &Folder) -> Index {
+    split(mesh, about(mesh), true, &folder.0, 2, &mut no_bar()).expect("it is split")
 }
 
 fn at(folder: &Folder, name: &str) -> PathBuf {
@@ -44,7 +48,22 @@ fn reported(folder: &Path, index: &Index) {
     }
 }
 
+/// The same for contacts.
+fn met(folder: &Path, index: &Index) {
+    for part in &index.parts {
+        let scene = fs::read(folder.join(format!("{}.scene", part.name))).expect("a scene");
+        let lines = contact_lines(&Scene::read(&scene).expect("it is read")).expect("it is in range");
+        fs::write(folder.join(format!("{}.contacts", part.name)), lines).expect("contacts");
+    }
+}
+
 fn joined(folder: &Folder, form: &Form) -> String {
+    if form.contacts {
+        let (index, hits) = join::gather_contacts(&folder.0).unwrap_or_else(|faults| panic!("{faults:?}"));
+        let mut out = Vec::new();
+        join::write_contacts(&index, &hits, form, &mut out).expect("it is written");
+        return String::from_utf8(out).expect("plain letters");
+    }
     let (index, words) = join::gather(&folder.0).unwrap_or_else(|faults| panic!("{faults:?}"));
     let mut out = Vec::new();
     join::write(&index, &words, form, &mut out).expect("it is written");
@@ -98,6 +117,77 @@ fn scenes_from_seeds() {
         reported(&folder.0, &index);
         assert_eq!(joined(&folder, &Form::default()), report(&mesh, &Form::default(), 1).0, "seed {seed}");
     }
+}
+
+/// Contacts of the parts are those of one process; words of the same parts too.
+#[test]
+fn contacts_of_one_process() {
+    let contacts = Form { contacts: true, ..Form::default() };
+    let forms = [contacts.clone(), Form { json: true, ..contacts.clone() }, Form::default()];
+    let mut lines = 0;
+    for kind in KINDS {
+        let mesh = mesh_within(CONTACT_LIMIT, &cloth(kind, 2_000, 13).objs(), None, false).expect("a mesh");
+        let folder = Folder::new(&format!("contacts-{}", kind.name));
+        let index = split_for_contacts(&mesh, &folder);
+        assert!(index.parts.len() > 2, "{}", kind.name);
+        reported(&folder.0, &index);
+        met(&folder.0, &index);
+        for form in &forms {
+            assert_eq!(joined(&folder, form), report(&mesh, form, 2).0, "{}", kind.name);
+        }
+        lines += joined(&folder, &contacts).lines().count() - 1;
+    }
+    for (seed, scene) in (0..60).map(|seed| (seed, compare::generate::scene(seed))) {
+        if !compare::contacts::in_old_range(&scene) {
+            continue;
+        }
+        let (mesh, folder) = (as_it_is(&scene), Folder::new(&format!("contacts-{seed}")));
+        let index = split_for_contacts(&mesh, &folder);
+        met(&folder.0, &index);
+        let whole = report(&mesh, &contacts, 1).0;
+        assert_eq!(joined(&folder, &contacts), whole, "seed {seed}");
+        lines += whole.lines().count() - 1;
+    }
+    assert!(lines > 1_000, "{lines} contacts");
+}
+
+/// Another text in the place of a file's, or no file.
+type Damage = fn(String) -> Option<String>;
+
+#[test]
+fn contacts_that_are_not_there_are_told_by_name() {
+    let mesh = mesh_within(CONTACT_LIMIT, &cloth(KINDS[1], 1_500, 13).objs(), None, false).expect("a mesh");
+    let spoiled: [(Damage, &str); 7] = [
+        (|_| None, "part-00002: there is no contacts"),
+        (|_| Some("refused\t16\t0\n".into()), "part-00002: its scene was refused: refused\\t16\\t0"),
+        (|text| Some(text[..text.len() - 1].into()), "part-00002: its report is not there to the end"),
+        (|text| text.split_once('\n').map(|(_, rest)| rest.into()), "part-00002: its contacts do not end with the count"),
+        (|text| Some(text.replacen("total\t", "total\t1", 1)), "part-00002: its contacts do not end with the count"),
+        (|text| Some(text.replacen("pt\t", "pt\tx", 1)), "part-00002: line 1 of its contacts is no line of a contact"),
+        (|text| Some(format!("{}\n{text}", text.lines().next()?)), "part-00002: line 2 of its contacts is no line of a contact"),
+    ];
+    let folder = Folder::new("spoiled-contacts");
+    let index = split_for_contacts(&mesh, &folder);
+    met(&folder.0, &index);
+    let path = at(&folder, &format!("{}.contacts", index.parts[1].name));
+    let whole = fs::read_to_string(&path).expect("contacts");
+    assert!(whole.starts_with("pt\t"), "{whole}");
+    for (spoil, words) in spoiled {
+        fs::write(&path, &whole).expect("written");
+        assert!(join::gather_contacts(&folder.0).is_ok());
+        match spoil(whole.clone()) {
+            Some(text) => fs::write(&path, text).expect("written"),
+            None => fs::remove_file(&path).expect("removed"),
+        }
+        let faults = join::gather_contacts(&folder.0).expect_err(words);
+        assert!(faults.len() == 1 && faults[0].words.contains(words), "{words}: {faults:?}");
+    }
+    // a part may be in a range that the mesh is not
+    let folder = Folder::new("for-words");
+    let index = split_into(&mesh, &folder);
+    met(&folder.0, &index);
+    let faults = join::gather_contacts(&folder.0).expect_err("it was split for words");
+    assert!(faults[0].words.ends_with("was not split with --contacts"), "{faults:?}");
 }
 
 #[test]
@@ -162,7 +252,7 @@ fn all_that_is_missing_is_told() {
     let folder = Folder::new("missing");
     let index = split_into(&mesh, &folder);
     assert_eq!(join::gather(&folder.0).expect_err("no report is there").len(), index.parts.len());
-    let again = split(&mesh, about(&mesh), &folder.0, 1, &mut no_bar()).expect_err("it is not empty");
+    let again = split(&mesh, about(&mesh), false, &folder.0, 1, &mut no_bar()).expect_err("it is not empty");
     assert!(again.words.ends_with("is not empty: take a new folder"), "{again}");
 }
 

@@ -4,14 +4,15 @@ use compare::generate;
 use compare::scene::{Scene as ExactScene, REPORT_ROOM};
 use garment::boxes::{of_parts, of_vertices, Swept};
 use garment::cells::{cell_of, cells_of, Cells};
-use garment::judging::{settle, Alone};
+use garment::judging::{contact, settle, Alone, Packed, TOGETHER};
 use garment::mesh::Mesh;
 use garment::pairs::{Kind, Pair};
+use garment::report::Row;
 use garment::scene_text;
 use garment_check::cloth::{cloth, KINDS};
 use garment_check::exact;
-use garment_check::ways::{as_it_is, made};
-use makhnodri::{Contact, Settled};
+use garment_check::ways::{as_it_is, made, mesh_within};
+use makhnodri::{Contact, OwnRefusal, Refusal, Settled, CONTACT_LIMIT};
 
 /// Meshes from seeds, with what the independent program says of each of their pairs.
 fn judged() -> Vec<(Mesh, Vec<(Pair, Settled)>)> {
@@ -73,6 +74,39 @@ fn what_a_pair_alone_must_keep() {
     assert!(exchanged > 50, "{exchanged}");
 }
 
+/// Pairs side by side in one scene have the words and contacts that each has alone, in their order: of each count up to a full scene, and in an order
+/// in which kinds take turns.
+#[test]
+fn pairs_together_are_pairs_alone() {
+    let mesh = mesh_within(CONTACT_LIMIT, &cloth(KINDS[1], 600, 1).objs(), None, false).expect("a mesh");
+    let mut pairs = exact::listed(&mesh);
+    pairs.sort_by_key(|pair| (pair.first, pair.second));
+    let kinds = pairs.windows(2).filter(|two| two[0].kind != two[1].kind).count();
+    assert!(pairs.len() > 3 * TOGETHER && kinds > TOGETHER, "{} pairs, {kinds} changes of kind", pairs.len());
+    let mut packed = Packed::default();
+    for (count, from) in (0..=TOGETHER).zip((0..).step_by(7)) {
+        let from = from % (pairs.len() - TOGETHER);
+        let some = &pairs[from..from + count];
+        let words: Vec<Settled> = some.iter().map(|&pair| settle(&mesh, pair).expect("a word")).collect();
+        assert_eq!(packed.settle(&mesh, some).expect("words").collect::<Vec<Settled>>(), words);
+        let contacts: Vec<Option<Row>> = some.iter().map(|&pair| row_of(contact(&mesh, pair).expect("a contact"))).collect();
+        let given = packed.contact(&mesh, some).expect("contacts");
+        let (given, rows): (Vec<Settled>, Vec<Option<Row>>) =
+            given.map(|(word, row)| (word, (word == Settled::Hit).then_some(row))).unzip();
+        assert_eq!((given, rows), (words, contacts));
+    }
+}
+
+/// What the library refuses of pairs together is told: 2 of the whole scene.
+#[test]
+fn a_refusal_of_pairs_together_is_told() {
+    let mut mesh = made(&cloth(KINDS[1], 300, 1));
+    let pairs = exact::listed(&mesh);
+    mesh.positions[pairs[3].first as usize][0] = 524_288;
+    let refusal = Packed::default().settle(&mesh, &pairs[..9]).err();
+    assert_eq!(refusal, Some(OwnRefusal::Scene(Refusal::Coordinate)));
+}
+
 /// How many contacts another way to make a pair's own scene changes, of each kind.
 fn contacts_changed(meshes: &[Mesh], wrong: impl Fn(&Mesh, Pair) -> Alone) -> [usize; 2] {
     let mut counts = [0; 2];
@@ -81,18 +115,19 @@ fn contacts_changed(meshes: &[Mesh], wrong: impl Fn(&Mesh, Pair) -> Alone) -> [u
         for pair in exact::listed(mesh) {
             if let Some(contact) = exact::contact(&scene, pair) {
                 let given = wrong(mesh, pair).contact().expect("it is in range");
-                counts[pair.kind as usize] += (numbers_of(given) != Some(contact.row())) as usize;
+                counts[pair.kind as usize] += (row_of(given) != Some(contact.row())) as usize;
             }
         }
     }
     counts
 }
 
-fn numbers_of(contact: Contact) -> Option<[u32; 5]> {
+/// The numbers of a hit; nothing of any other word.
+fn row_of(contact: Contact) -> Option<Row> {
     match contact {
-        Contact::PointHit { piece, k, shares: [a, b, c], .. } => Some([piece as u32, k, a, b, c]),
-        Contact::EdgeHit { piece, k, shares: [a, b], .. } => Some([piece as u32, k, a, b, 0]),
-        _ => None,
+        Contact::PointHit { piece, k, shares: [low, middle, high], .. } => Some([piece as u32, k, low, middle, high]),
+        Contact::EdgeHit { piece, k, shares: [first, second], .. } => Some([piece as u32, k, first, second, 0]),
+        Contact::Miss | Contact::Touch | Contact::Apart => None,
     }
 }
 
