@@ -8,7 +8,7 @@ import makhnodri
 from . import TOP, triangle_and_point
 
 MET = set()
-OF_OTHER_FILES = {13, 14}  # of a series and of two OBJ files, which no function here reads
+OF_OTHER_FILES = {13}  # of a series, which no function here reads
 
 
 def change(place, numbers):

@@ -201,18 +201,7 @@ pub struct Lent {
 }
 
 pub const BUFFERS: [&str; 13] = [
-    "positions",
-    "edges",
-    "triangles",
-    "seams",
-    "list",
-    "words",
-    "text",
-    "counts",
-    "report",
-    "contacts",
-    "boxes",
-    "coordinates",
+    "positions", "edges", "triangles", "seams", "list", "words", "text", "counts", "report", "contacts", "boxes", "coordinates",
     "ending",
 ];
 
