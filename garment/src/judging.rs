@@ -7,8 +7,8 @@
 //!
 //! A call for each pair costs more than the pair. So as many pairs as a scene has room for stand in it side by side, each with four vertices
 //! of its own, and one call is asked for all: `Packed`. That scene and its entries are `together` and `entriesOf` of
-//! crates/parts_of_meshes/specs/Together.antt, where it is proved that the call gives what the pairs have in the mesh: `words-together` and
-//! `contacts-together`.
+//! crates/parts_of_meshes/specs/Together.antt, and it is proved that the call gives what the pairs have in the mesh: `settled-together` in Given.antt
+//! beside it, and `contacts-together`.
 
 use crate::mesh::Mesh;
 use crate::pairs::{Kind, Pair};

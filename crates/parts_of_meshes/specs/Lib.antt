@@ -14,4 +14,5 @@ pub mod Packed
 pub mod Beside
 pub mod Together
 pub mod Answered
+pub mod Given
 pub mod Needed

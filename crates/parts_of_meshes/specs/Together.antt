@@ -78,7 +78,7 @@ unfolding firstPlace secondPlace aloneSecond
 narrow-by-kind s mesh v e t few fewEdges fewTriangles PointTriangle i j = (omega (arith, own-first-below mesh i j), omega arith)
 narrow-by-kind s mesh v e t few fewEdges fewTriangles EdgeEdge i j = (omega (arith, first-edge-first s i j), omega arith)
 
-narrow : (s : Scene) → Mesh s → (x : Pair) → (v e t : ℕ) → v + 4 ≤ 1_024 → e + 2 ≤ 1_024 → t + 1 ≤ 1_024 → Narrow (inWhole (movedUp v e t) (ownPair s x))
+pub narrow : (s : Scene) → Mesh s → (x : Pair) → (v e t : ℕ) → v + 4 ≤ 1_024 → e + 2 ≤ 1_024 → t + 1 ≤ 1_024 → Narrow (inWhole (movedUp v e t) (ownPair s x))
 narrow s mesh x v e t few fewEdges fewTriangles =
     let both = narrow-by-kind s mesh v e t few fewEdges fewTriangles (x .kind) (x .first) (x .second) in
     record { firstNarrow = both .0; secondNarrow = both .1 }
