@@ -3,3 +3,4 @@ pub mod OneTold
 pub mod Demand2
 pub mod Demand3
 pub mod OneSeries
+pub mod OnePrinted
