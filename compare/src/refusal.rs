@@ -12,6 +12,8 @@ pub const BAD_LINE: u64 = 9;
 pub const OUT_OF_ORDER: u64 = 10;
 pub const ONE_TOO_MANY: u64 = 11;
 pub const LENT_TOO_SHORT: u64 = 12;
+/// Document 02, §2: a block with more or fewer `v` lines than vertices.
+pub const WRONG_BLOCK: u64 = 13;
 pub const BROKEN_SEAM: u64 = 15;
 /// Document 02, §13: a contact asked for in a scene beyond the old range.
 pub const BEYOND_OLD_RANGE: u64 = 16;
