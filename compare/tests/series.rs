@@ -7,7 +7,7 @@ use compare::random::Random;
 use compare::refusal::*;
 use compare::report;
 use compare::scene::*;
-use compare::series::faults::{cells, of_lines, reached, LINE_CHECKS};
+use compare::series::faults::{cells, of_lines, reaches, LINE_CHECKS};
 use compare::series::making::{
     everywhere, falling, fixed, heaps, own, seeded, sent, series, shown, small, up_and_down, with_cell, Trial, CELL,
 };
@@ -253,12 +253,7 @@ fn a_text_for_each_cell_reaches_it() {
     for cell in cells() {
         for seed in 0..3 {
             let text = with_cell(&mut Random::new(seed), cell);
-            assert!(
-                reached(&text).contains(&cell),
-                "{cell:?}, seed {seed}: {:?}\n{}",
-                reached(&text),
-                String::from_utf8_lossy(&text)
-            );
+            assert!(reaches(&text, cell), "{cell:?}, seed {seed}:\n{}", String::from_utf8_lossy(&text));
         }
     }
 }

@@ -117,27 +117,28 @@ pub fn cells() -> Vec<Cell> {
     out
 }
 
-/// The cells that a text reaches, once each.
-pub fn reached(text: &[u8]) -> Vec<Cell> {
-    let room = |steps: &[Scene]| {
-        let lists = steps.iter().map(|step| listing::list(step, REPORT_ROOM).map(drop));
-        lists.collect::<Result<Vec<()>, Refusal>>()
-    };
-    let Err(Refusal { number: given, third }) = read(text).and_then(|series| room(&series.steps())) else { return Vec::new() };
-    let lines = of_lines(text);
-    let mut out = vec![Cell::Given(given)];
-    if LINE_CHECKS.contains(&given) {
-        let at = third as usize - 1;
-        out.extend(lines[at].iter().filter(|&&other| other != given).map(|&other| Cell::InOneLine(given, other)));
-        out.extend(lines[at + 1..].iter().flatten().map(|&other| Cell::InTwoLines(given, other)));
+/// Whether a text reaches a cell: it is refused with the cell's number, and has the other one too.
+pub fn reaches(text: &[u8], cell: Cell) -> bool {
+    let Some(Refusal { number: given, third }) = refusal(text) else { return false };
+    let at = if LINE_CHECKS.contains(&given) { third as usize } else { 0 };
+    match cell {
+        Cell::Given(number) => number == given,
+        Cell::InOneLine(number, other) => number == given && at > 0 && of_lines(text)[at - 1].contains(&other),
+        Cell::InTwoLines(number, other) => {
+            number == given && at > 0 && of_lines(text)[at..].iter().flatten().any(|&n| n == other)
+        }
+        Cell::InTheWhole(number, NO_ROOM) => number == given && any_without_room(&faultless(text)),
+        Cell::InTheWhole(number, other) => number == given && of_lines(text).iter().flatten().any(|&n| n == other),
     }
-    if given == TEXT_TOO_LONG {
-        out.extend(lines.iter().flatten().map(|&other| Cell::InTheWhole(given, other)));
+}
+
+fn refusal(text: &[u8]) -> Option<Refusal> {
+    match read(text) {
+        Err(refusal) => Some(refusal),
+        Ok(series) => series.steps().iter().find_map(|step| listing::list(step, REPORT_ROOM).err()),
     }
-    if given != NO_ROOM && room(&faultless(text)).is_err() {
-        out.push(Cell::InTheWhole(given, NO_ROOM));
-    }
-    out.sort();
-    out.dedup();
-    out
+}
+
+fn any_without_room(steps: &[Scene]) -> bool {
+    steps.iter().any(|step| listing::list(step, REPORT_ROOM).is_err())
 }
