@@ -5,3 +5,4 @@ pub mod Demand3
 pub mod OneSeries
 pub mod Demand1
 pub mod OnePrinted
+pub mod Printed

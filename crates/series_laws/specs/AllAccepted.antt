@@ -1,11 +1,10 @@
 -- Every step of a series that was read from a text is accepted: nobody checks it twice.
 use Prim.Native.Nat.{ℕ, zero, suc, _+_, _-_}
-use mathlib.Core.Bool.{Bool, true, false, cond, not, _||_, _&&_, true≢false}
+use mathlib.Core.Bool.{Bool, true, false, cond, not, _&&_, true≢false}
 use mathlib.Core.List.{List, [], _∷_, _++_, flatMap, List·Memᴰ, List·Memᴰ·head, List·Memᴰ·tail, List·Memᴰ·append-cases, List·Memᴰ·eq-of-singleton}
 use mathlib.Core.Logic.{⊎-elim}
 use mathlib.Core.Path.{_≡_, refl, sym, ap, _∙_, subst}
 use native.Mathlib.Omega.{arith}
-use lib.Dec.{leb}
 use lib.IntN.{ℤ, pos}
 use lib.ListN.{length, getD, List·getD-append}
 use lib.Seq.{getD-append-add}
@@ -17,7 +16,7 @@ use Rattle.meaning.specs.Scene.{Scene, sceneOf, vertexCount, outside, brokenSea
 use Rattle.meaning.specs.Refusals.{given}
 use Rattle.meaning.specs.Lines as Lines
 use Rattle.meaning.specs.Lines.{nothing, afterAll, RecordJudged}
-use Rattle.meaning.specs.Text.{Entry, none, sceneWith}
+use Rattle.meaning.specs.Text.{Entry}
 use Rattle.meaning.specs.Series.{Series, stepAfter, stepsFrom, lastFrom, stepsOf, lastStep}
 use Rattle.meaning.specs.SeriesText.{Item, of, ends, next, threeOf, SoFar, nothingYet, blocksSoFar, seriesSoFar, withItem, ItemFormed, blockFull, blockShort, wrongLength, farEnd, comesApartNow, itemChecks, seriesLines, HoldsSeries}
 use Rattle.meaning.specs.declared.SceneCounts.{SceneCounts}

@@ -1,5 +1,5 @@
 -- A line is its parts, one behind the other, and no line is long; the lines of a log are those of its entries, one by one.
-use Prim.Native.Nat.{ℕ, _+_, _*_, _≤_, _<_, _^_, min}
+use Prim.Native.Nat.{ℕ, _+_, _≤_, _<_, _^_, min}
 use mathlib.Core.List.{List, [], _∷_, _++_, map, append-assoc, append-nil}
 use mathlib.Core.Path.{_≡_, refl, sym, ap, _∙_}
 use mathlib.Core.Logic.{⊎-elim}
@@ -14,7 +14,6 @@ use Rattle.meaning.specs.Text.{tab, lineFeed, further}
 use Rattle.meaning.specs.List.{Pair}
 use Rattle.meaning.specs.Report.{kindWord, verdictWord, reportLine}
 use Rattle.meaning.specs.Series.{HitAt, logLimit, Told}
-use Rattle.meaning.specs.declared.Settled.the-variants.{Hit}
 use Rattle.wording.specs.Lines.{kind-short}
 use Rattle.first_causes.specs.Kept.{hitOf}
 use Rattle.first_causes.specs.declared.StepHit.{StepHit}
