@@ -35,10 +35,11 @@ use Rattle.first_causes.specs.declared.SeriesOutcome as Outcomes
 use Rattle.first_causes.specs.declared.SeriesOutcome.{SeriesOutcome}
 use Rattle.first_causes.specs.declared.SeriesAnswer.{SeriesAnswer}
 use Rattle.words_told.specs.Telling.{nothingTold}
+use Rattle.series_told.specs.declared.SeriesListed.{SeriesListed}
 use Rattle.steps_told.specs.Telling.{firstOver, over-gives}
 use Rattle.scene_draft.specs.Reading.{total}
 use Rattle.steps_told.specs.Reading.{FirstStep, LastTold, StepsAre}
-use Rattle.series_told.specs.Called.{toldPart, countsPart, countsSaid, FillsLast, SeriesCalled}
+use Rattle.series_told.specs.Called.{toldPart, countsPart, countsSaid, FillsLast, lastCount, SeriesCalled, SeriesCounted}
 use Rattle.series_told.specs.Leaving.{frontOf, LeaveReady, LastLeft}
 
 abbrev pub refusedWith : Refusal → ℕ → SeriesAnswer
@@ -56,7 +57,7 @@ DraftTold text room own c r =
     StepsAre text room (frontOf c own .positions) (frontOf c own .edges) (frontOf c own .triangles) (frontOf c own .seams) c (r .outcome) (r .told)
 
 -- as SeriesCalled, past 12 and 8
-pub record TextTold (text : List ℕ) (lent left : Scene) (b b′ : List ℤ) (l l′ : List ℕ) (r : SeriesAnswer) : Type 0 where
+pub record TextTold (text : List ℕ) (lent left : Scene) (b b′ : List ℤ) (l l′ : List ℕ) (r : SeriesAnswer) (k : ℕ) : Type 0 where
   pub outcome : Outcome Ended
   pub right : SeriesIs text (roomOf l) outcome
   pub says : outcomeSays (r .outcome) (toldSays (r .told)) ≡ toldPart outcome
@@ -64,39 +65,46 @@ pub record TextTold (text : List ℕ) (lent left : Scene) (b b′ : List ℤ) (l
   pub leaves : left ≡ sceneLeft outcome lent
   pub boxes : FillsLast outcome b b′
   pub list : l′ ≡ listLeft outcome l
+  pub count : k ≡ lastCount outcome
 
 -- ---- refused
 
 module _ (text : List ℕ) (lent : Scene) (b : List ℤ) (l : List ℕ) where
   pub text-refused : (f : Refusal) (n : ℕ) (told : SeriesTold) → SeriesIs text (roomOf l) (refused (numberOf f) n)
-      → TextTold text lent lent b b l l (record { outcome = Outcomes.the-variants.Refused f n; told = told })
-  unfolding outcomeSays toldPart countsPart countsSaid sceneLeft listLeft FillsLast
+      → TextTold text lent lent b b l l (record { outcome = Outcomes.the-variants.Refused f n; told = told }) 0
+  unfolding outcomeSays toldPart countsPart countsSaid sceneLeft listLeft FillsLast lastCount
   text-refused f n told right =
-      record { outcome = refused (numberOf f) n; right = right; says = refl; counts = refl; leaves = refl; boxes = refl; list = refl }
+      record { outcome = refused (numberOf f) n; right = right; says = refl; counts = refl; leaves = refl; boxes = refl; list = refl; count = refl }
 
   pub front-refused : (own : Scene) (table : List ℕ) {r : FrontAnswer} {f : Refusal} {n : ℕ} → FrontIs text own table r
-      → r ≡ Fronts.the-variants.Refused f n → TextTold text lent lent b b l l (refusedWith f n)
+      → r ≡ Fronts.the-variants.Refused f n → TextTold text lent lent b b l l (refusedWith f n) 0
   unfolding FrontIs
   front-refused own table {r} {f} {n} d e =
       text-refused f n nothingTold (faulty (numberOf f) n refl (rw e at d))
 
-  pub called-short : shortBoxes b || shortBuffer lent ≡ true → SeriesCalled text lent lent b b l l (refusedWith ShortBuffer 0)
-  unfolding outcomeSays toldPart countsPart countsSaid sceneLeft listLeft FillsLast numberOf
+  pub called-short : shortBoxes b || shortBuffer lent ≡ true → SeriesCounted text lent lent b b l l (record { answer = refusedWith ShortBuffer 0; count = 0 })
+  unfolding outcomeSays toldPart countsPart countsSaid sceneLeft listLeft FillsLast lastCount numberOf
   called-short h =
-      record { outcome = refused 12 0; right = rw h refl; says = refl; counts = refl; leaves = refl; boxes = refl; list = refl }
+      record {
+        called = record { outcome = refused 12 0; right = rw h refl; says = refl; counts = refl; leaves = refl; boxes = refl; list = refl };
+        count = refl;
+      }
 
   module _ (wide : shortBoxes b || shortBuffer lent ≡ false) where
-    pub called-long : textLimit < length text → SeriesCalled text lent lent b b l l (refusedWith LongText 0)
-    unfolding outcomeSays toldPart countsPart countsSaid sceneLeft listLeft FillsLast numberOf
+    pub called-long : textLimit < length text → SeriesCounted text lent lent b b l l (record { answer = refusedWith LongText 0; count = 0 })
+    unfolding outcomeSays toldPart countsPart countsSaid sceneLeft listLeft FillsLast lastCount numberOf
     called-long h =
         record {
-          outcome = refused 8 0;
-          right = rw (wide, lt-ltb textLimit (length text) h) refl;
-          says = refl;
-          counts = refl;
-          leaves = refl;
-          boxes = refl;
-          list = refl;
+          called = record {
+            outcome = refused 8 0;
+            right = rw (wide, lt-ltb textLimit (length text) h) refl;
+            says = refl;
+            counts = refl;
+            leaves = refl;
+            boxes = refl;
+            list = refl;
+          };
+          count = refl;
         }
 
     pub all-lent : length text ≤ textLimit → AllLent text lent b
@@ -107,17 +115,20 @@ module _ (text : List ℕ) (lent : Scene) (b : List ℤ) (l : List ℕ) where
           boxes = ltb-false _ _ (or-left (shortBoxes b) (shortBuffer lent) wide);
         }
 
-    pub called : length text ≤ textLimit → {left : Scene} {b′ : List ℤ} {l′ : List ℕ} {r : SeriesAnswer} → TextTold text lent left b b′ l l′ r
-        → SeriesCalled text lent left b b′ l l′ r
-    called brief t =
+    pub called : length text ≤ textLimit → {left : Scene} {b′ : List ℤ} {l′ : List ℕ} (r : SeriesListed) → TextTold text lent left b b′ l l′ (r .answer) (r .count)
+        → SeriesCounted text lent left b b′ l l′ r
+    called brief r t =
         record {
-          outcome = t .outcome;
-          right = rw (wide, le-ltb textLimit (length text) brief) (t .right);
-          says = t .says;
-          counts = t .counts;
-          leaves = t .leaves;
-          boxes = t .boxes;
-          list = t .list;
+          called = record {
+            outcome = t .outcome;
+            right = rw (wide, le-ltb textLimit (length text) brief) (t .right);
+            says = t .says;
+            counts = t .counts;
+            leaves = t .leaves;
+            boxes = t .boxes;
+            list = t .list;
+          };
+          count = t .count;
         }
 
 -- ---- told
@@ -204,10 +215,10 @@ module _ {text : List ℕ} {at : ℕ} {c : SceneCounts} {before own : Scene} {ta
         fits = subst (λ (s : Scene). length (pairs s) ≤ roomOf l) (h .last) (last-fits (roomOf l) (h .series .scene) (h .series .blocks) (h .roomy));
       }
 
-  pub text-given : {lent left : Scene} {b b′ : List ℤ} {l′ : List ℕ} {c′ : SceneCounts} → r .outcome ≡ Outcomes.the-variants.Told c′
-      → LastLeft c own lent left b b′ l l′ → TextTold text lent left b b′ l l′ r
-  unfolding outcomeSays toldPart countsPart countsSaid sceneLeft listLeft FillsLast
-  text-given {lent} {left} {b} {b′} {l′} {c′} e k =
+  pub text-given : {lent left : Scene} {b b′ : List ℤ} {l′ : List ℕ} {n : ℕ} {c′ : SceneCounts} → r .outcome ≡ Outcomes.the-variants.Told c′
+      → LastLeft c own lent left b b′ l l′ n → TextTold text lent left b b′ l l′ r n
+  unfolding outcomeSays toldPart countsPart countsSaid sceneLeft listLeft FillsLast lastCount
+  text-given {lent} {left} {b} {b′} {l′} {n} {c′} e k =
       let (same-counts, h) = draft-last text (roomOf l) own c r d e in
       let x : Series = h .series in
       let ended : Ended = record { series = x; told = toldSays (r .told) } in
@@ -224,10 +235,11 @@ module _ {text : List ℕ} {at : ℕ} {c : SceneCounts} {before own : Scene} {ta
             ∙ ap (λ (s : Scene). sceneOf (written (s .positions) (lent .positions)) (written (s .edges) (lent .edges)) (written (s .triangles) (lent .triangles)) (written (s .seams) (lent .seams))) last;
         boxes = subst (λ (s : Scene). Filled s b b′) last (k .filled);
         list = k .listed ∙ ap (λ (s : Scene). written (entries (pairs s)) l) last;
+        count = k .counts ∙ ap (λ (s : Scene). length (pairs s)) last;
       }
 
-  pub text-not-given : (lent : Scene) (b : List ℤ) {g : Refusal} {n : ℕ} → r .outcome ≡ Outcomes.the-variants.Refused g n → TextTold text lent lent b b l l r
-  unfolding outcomeSays toldPart countsPart countsSaid sceneLeft listLeft FillsLast
+  pub text-not-given : (lent : Scene) (b : List ℤ) {g : Refusal} {n : ℕ} → r .outcome ≡ Outcomes.the-variants.Refused g n → TextTold text lent lent b b l l r 0
+  unfolding outcomeSays toldPart countsPart countsSaid sceneLeft listLeft FillsLast lastCount
   text-not-given lent b {g} {n} e =
       record {
         outcome = refused (numberOf g) n;
@@ -237,4 +249,5 @@ module _ {text : List ℕ} {at : ℕ} {c : SceneCounts} {before own : Scene} {ta
         leaves = refl;
         boxes = refl;
         list = refl;
+        count = refl;
       }

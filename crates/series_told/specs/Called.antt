@@ -7,7 +7,7 @@ use lib.IntN.{ℤ}
 use lib.ListN.{length}
 use Rattle.meaning.specs.Scene.{Scene}
 use Rattle.meaning.specs.Refusals.{Outcome, given, refused, numberOf}
-use Rattle.meaning.specs.List.{roomOf}
+use Rattle.meaning.specs.List.{pairs, roomOf}
 use Rattle.meaning.specs.Text.{shortBuffer, longText, countsOf}
 use Rattle.meaning.specs.StoredBoxes.{shortBoxes, Filled}
 use Rattle.meaning.specs.Series.{Told, lastStep}
@@ -17,6 +17,7 @@ use Rattle.first_causes.specs.Told.{answerSays}
 use Rattle.first_causes.specs.declared.SeriesOutcome as Outcomes
 use Rattle.first_causes.specs.declared.SeriesOutcome.{SeriesOutcome}
 use Rattle.first_causes.specs.declared.SeriesAnswer.{SeriesAnswer}
+use Rattle.series_told.specs.declared.SeriesListed.{SeriesListed}
 
 -- 12 for any of the lent buffers, 8, then the text
 abbrev pub BoxedSeries : List ℕ → Scene → List ℤ → ℕ → Outcome Ended → Type 0
@@ -49,3 +50,12 @@ pub record SeriesCalled (text : List ℕ) (lent left : Scene) (b b′ : List ℤ
   pub leaves : left ≡ sceneLeft outcome lent
   pub boxes : FillsLast outcome b b′
   pub list : l′ ≡ listLeft outcome l
+
+-- how many pairs the last step lists; nothing after a refusal
+unfoldable pub lastCount : Outcome Ended → ℕ
+lastCount (given e) = length (pairs (lastStep (e .series)))
+lastCount (refused n c) = 0
+
+pub record SeriesCounted (text : List ℕ) (lent left : Scene) (b b′ : List ℤ) (l l′ : List ℕ) (r : SeriesListed) : Type 0 where
+  pub called : SeriesCalled text lent left b b′ l l′ (r .answer)
+  pub count : r .count ≡ lastCount (called .outcome)

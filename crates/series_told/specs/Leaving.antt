@@ -17,7 +17,7 @@ use Rattle.meaning.specs.declared.ListAnswer as ListAnswers
 use Rattle.meaning.specs.declared.ListAnswer.{ListAnswer}
 use Rattle.scenes.specs.Alone.{tabled}
 use Rattle.scenes.specs.Table.{seamsOf}
-use Rattle.scenes.specs.Answering.{is-past}
+use Rattle.scenes.specs.Answering.{is-past, is-given}
 use Rattle.boxes.specs.Parts.{Drawn, accepted-drawn}
 use borrow.Author.Tests.{le-ltb}
 use Rattle.listing.specs.Answering.{roomChecks, IsCount, ListedIn}
@@ -38,19 +38,26 @@ pub record LeaveReady (c : SceneCounts) (own : Scene) (table : List ℕ) (lent :
   pub boxes : boxNumbers ≤ length b
   pub fits : length (pairs (frontOf c own)) ≤ roomOf l
 
-pub record LastLeft (c : SceneCounts) (own lent left : Scene) (b b′ : List ℤ) (l l′ : List ℕ) : Type 0 where
+unfoldable pub countOf : ListAnswer → ℕ
+countOf (ListAnswers.the-variants.Listed m) = m .count
+countOf (ListAnswers.the-variants.Refused x n) = n
+
+-- n pairs are listed
+pub record LastLeft (c : SceneCounts) (own lent left : Scene) (b b′ : List ℤ) (l l′ : List ℕ) (n : ℕ) : Type 0 where
   pub scene : Copied c own lent left
   pub filled : Filled (frontOf c own) b b′
   pub listed : l′ ≡ written (entries (pairs (frontOf c own))) l
+  pub counts : n ≡ length (pairs (frontOf c own))
 
 -- where there is room, the list is made
-made-where-room : {s : Scene} {room : ℕ} {o o′ : List ℕ} {r : ListAnswer} → length (pairs s) ≤ room → ListedIn s room o o′ r → o′ ≡ written (entries (pairs s)) o
-unfolding listSays leaves Answers
+made-where-room : {s : Scene} {room : ℕ} {o o′ : List ℕ} {r : ListAnswer} → length (pairs s) ≤ room → ListedIn s room o o′ r
+    → (o′ ≡ written (entries (pairs s)) o) × (countOf r ≡ length (pairs s))
+unfolding countOf listSays leaves Answers
 made-where-room {s} {room} {o} {o′} {r} h p = by-answer r (p .answer) (p .buffer)
   where
     by-answer : (r : ListAnswer) → Answers (roomChecks s room) (IsCount s) (listSays r) → o′ ≡ leaves (listSays r) (entries (pairs s)) o
-        → o′ ≡ written (entries (pairs s)) o
-    by-answer (ListAnswers.the-variants.Listed m) a e = e
+        → (o′ ≡ written (entries (pairs s)) o) × (countOf r ≡ length (pairs s))
+    by-answer (ListAnswers.the-variants.Listed m) a e = (e, is-given (IsCount s) (record { number = 7; holds = ltb room (length (pairs s)); carries = length (pairs s) }) [] (m .count) a .1)
     by-answer (ListAnswers.the-variants.Refused x n) a e =
         absurd (is-past (IsCount s) (record { number = 7; holds = ltb room (length (pairs s)); carries = length (pairs s) }) [] (refused (numberOf x) n) (le-ltb room (length (pairs s)) h) a)
 
@@ -66,7 +73,7 @@ module _ {c : SceneCounts} {own lent : Scene} {table : List ℕ} {b : List ℤ} 
 
   pub front-listed : {l′ t t′ : List ℕ} {r : ListAnswer} {room : ℕ} → room ≡ roomOf l
       → Tested (tabled (frontOf c own .positions) (frontOf c own .edges) (frontOf c own .triangles) table) (ListedIn (tabled (frontOf c own .positions) (frontOf c own .edges) (frontOf c own .triangles) table) room l l′) t t′ r
-      → l′ ≡ written (entries (pairs (frontOf c own))) l
+      → (l′ ≡ written (entries (pairs (frontOf c own))) l) × (countOf r ≡ length (pairs (frontOf c own)))
   front-listed {l′} {t} {t′} {r} {room} e p =
       made-where-room (omega (arith, d .fits))
       (subst (λ (s : Scene). ListedIn s room l l′ r) table-front (p .list))

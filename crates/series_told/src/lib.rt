@@ -10,7 +10,7 @@ ghost use Rattle.meaning.specs.Limits.{textLimit};
 ghost use Rattle.meaning.specs.Scene.{sceneIn, sceneAtEntry, sceneAtExit};
 ghost use Rattle.scene_draft.specs.Putting.{Roomy};
 ghost use Rattle.series_front.specs.Fronts.{FrontRead};
-ghost use Rattle.series_told.specs.Called.{SeriesCalled};
+ghost use Rattle.series_told.specs.Called.{SeriesCalled, SeriesCounted};
 ghost use Rattle.series_told.specs.Answering.{refusedWith, AllLent, DraftTold, TextTold};
 use first_causes::SeriesAnswer;
 use first_causes::SeriesOutcome;
@@ -29,13 +29,23 @@ use series_front::draft_front;
 use steps_told::tell_steps;
 use words_told::nothing_told;
 
+// The answer for a series, and how many pairs its last step lists: 0 after a refusal.
+pub struct SeriesListed {
+    pub answer: SeriesAnswer,
+    pub count: usize,
+}
+
 // A refusal, with its line or count; nothing is told.
-fn refused(refusal: Refusal, number: usize) -> SeriesAnswer
-    ensures { λ r. ⌜ r ≡ refusedWith refusal number ⌝ }
+fn refused(refusal: Refusal, number: usize) -> SeriesListed
+    ensures { λ r. ⌜ r ≡ record { answer = refusedWith refusal number; count = 0 } ⌝ }
 {
-    SeriesAnswer {
+    let answer = SeriesAnswer {
         outcome: SeriesOutcome::Refused(refusal, number),
         told: nothing_told(),
+    };
+    SeriesListed {
+        answer: answer,
+        count: 0,
     }
 }
 
@@ -82,9 +92,9 @@ fn tell_text(
     seams: &mut [u16],
     boxes: &mut [i32],
     list: &mut [u32],
-) -> SeriesAnswer
+) -> SeriesListed
     requires { ⌜ AllLent (now text) (sceneIn positions edges triangles seams) (now boxes) ⌝ }
-    ensures { λ r. ⌜ TextTold (now (text .entry)) (sceneAtEntry positions edges triangles seams) (sceneAtExit positions edges triangles seams) (now (boxes .entry)) (now (boxes .exit)) (now (list .entry)) (now (list .exit)) r ⌝ }
+    ensures { λ r. ⌜ TextTold (now (text .entry)) (sceneAtEntry positions edges triangles seams) (sceneAtExit positions edges triangles seams) (now (boxes .entry)) (now (boxes .exit)) (now (list .entry)) (now (list .exit)) (r .answer) (r .count) ⌝ }
 {
     let mut p = [0i32; POSITION_NUMBERS];
     let mut e = [0u16; EDGE_NUMBERS];
@@ -98,9 +108,12 @@ fn tell_text(
             let answer = tell_draft(text, at, c, &mut p, &e, &t, &w, &stands, room);
             let outcome = answer.outcome;
             if let SeriesOutcome::Refused(_, _) = outcome {
-                return answer;
+                return SeriesListed {
+                    answer: answer,
+                    count: 0,
+                };
             }
-            leave_last(
+            let count = leave_last(
                 c,
                 &p,
                 &e,
@@ -114,13 +127,39 @@ fn tell_text(
                 boxes,
                 list,
             );
-            answer
+            SeriesListed {
+                answer: answer,
+                count: count,
+            }
         }
     }
 }
 
 // Tells a series. The answer is what is told and the counts of the last step, which the lent buffers then hold with its boxes and its list; or
-// the refusal with its line or the count needed, and then none of them has changed.
+// the refusal with its line or the count needed, and then none of them has changed. Beside it stands how many pairs the last step lists.
+pub fn list_series(
+    text: &[u8],
+    positions: &mut [i32],
+    edges: &mut [u16],
+    triangles: &mut [u16],
+    seams: &mut [u16],
+    boxes: &mut [i32],
+    list: &mut [u32],
+) -> SeriesListed
+    ensures { λ r. ⌜ SeriesCounted (now (text .entry)) (sceneAtEntry positions edges triangles seams) (sceneAtExit positions edges triangles seams) (now (boxes .entry)) (now (boxes .exit)) (now (list .entry)) (now (list .exit)) r ⌝ }
+{
+    let few = (positions.len() < POSITION_NUMBERS) | (edges.len() < EDGE_NUMBERS);
+    let short = few | (triangles.len() < TRIANGLE_NUMBERS) | (seams.len() < SEAM_NUMBERS);
+    if (boxes.len() < BOX_NUMBERS) | short {
+        return refused(Refusal::ShortBuffer, 0);
+    }
+    if TEXT_LIMIT < text.len() {
+        return refused(Refusal::LongText, 0);
+    }
+    tell_text(text, positions, edges, triangles, seams, boxes, list)
+}
+
+// The same without that count.
 pub fn tell_series(
     text: &[u8],
     positions: &mut [i32],
@@ -132,13 +171,7 @@ pub fn tell_series(
 ) -> SeriesAnswer
     ensures { λ r. ⌜ SeriesCalled (now (text .entry)) (sceneAtEntry positions edges triangles seams) (sceneAtExit positions edges triangles seams) (now (boxes .entry)) (now (boxes .exit)) (now (list .entry)) (now (list .exit)) r ⌝ }
 {
-    let few = (positions.len() < POSITION_NUMBERS) | (edges.len() < EDGE_NUMBERS);
-    let short = few | (triangles.len() < TRIANGLE_NUMBERS) | (seams.len() < SEAM_NUMBERS);
-    if (boxes.len() < BOX_NUMBERS) | short {
-        return refused(Refusal::ShortBuffer, 0);
-    }
-    if TEXT_LIMIT < text.len() {
-        return refused(Refusal::LongText, 0);
-    }
-    tell_text(text, positions, edges, triangles, seams, boxes, list)
+    let all = list_series(text, positions, edges, triangles, seams, boxes, list);
+    let answer = all.answer;
+    answer
 }

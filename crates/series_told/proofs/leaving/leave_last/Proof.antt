@@ -1,7 +1,7 @@
 -- `leaving::leave_last`: copied, its boxes filled in, and listed.
 use borrow.Author.Needs.{needs}
 use native.Mathlib.Omega.{arith}
-use mathlib.Core.Path.{refl, sym}
+use mathlib.Core.Path.{refl, sym, _∙_}
 use lib.Seq.{length-take-le}
 use Rattle.meaning.specs.Scene.{sceneIn}
 use Rattle.series_told.specs.Leaving.{frontOf, front-drawn, front-accepted, front-listed}
@@ -34,11 +34,13 @@ list-accepted-requires c κs = (front-accepted (c .before .before .before .befor
 
 returns : tie.Need-returns
 returns c =
-    let a = c .before .before .before .before .before .before .before .before .before .before .before .before .before .before .before .before .before .before .before .before .before .before .before .before .before .before .before .before .before .before .before .before .before .before .before .before .before .args in
+    let a = c .before .before .before .before .before .before .before .before .before .before .before .before .before .before .before .before .before .before .before .before .before .before .before .before .before .before .before .before .before .before .before .before .before .before .before .before .before .before .args in
+    let made = front-listed (c .before .before .before .before .before .before .before .before .before .before .before .before .before .before .before .before .before .before .before .before .before .before .before .before .before .before .before .before .before .before .before .before .before .before .before .before .before .before .pre) refl (c .before .before .before .list-accepted .ensures) in
     record {
-      scene = c .before .before .before .before .before .before .before .before .before .before .before .before .before .before .before .before .before .before .before .before .before .before .before .before .copy-scene .ensures;
-      filled = c .before .before .before .before .before .before .before .before .before .fill .ensures (frontOf (a .c) (sceneIn (a .p) (a .e) (a .t) (a .w)) .seams);
-      listed = front-listed (c .before .before .before .before .before .before .before .before .before .before .before .before .before .before .before .before .before .before .before .before .before .before .before .before .before .before .before .before .before .before .before .before .before .before .before .before .before .pre) refl (c .before .before .list-accepted .ensures);
+      scene = c .before .before .before .before .before .before .before .before .before .before .before .before .before .before .before .before .before .before .before .before .before .before .before .before .before .copy-scene .ensures;
+      filled = c .before .before .before .before .before .before .before .before .before .before .fill .ensures (frontOf (a .c) (sceneIn (a .p) (a .e) (a .t) (a .w)) .seams);
+      listed = made .0;
+      counts = c .count-of .ensures ∙ made .1;
     }
 
 pub leave-last-spec : {M : Type 1} → statement M
@@ -57,6 +59,7 @@ leave-last-spec =
     slice-aggregate-list-accepted-2
     slice-aggregate-list-accepted-3
     list-accepted-requires
+    (λ c κs. search needs)
     (λ c. search needs)
     (λ c. search needs)
     (λ c. search needs)
