@@ -1,4 +1,5 @@
 -- What is told of a series, as lines.
-pub mod SeriesLines
 pub mod Sizes
 pub mod Lines
+pub mod Whole
+pub mod FromCall

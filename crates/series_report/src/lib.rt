@@ -1,24 +1,37 @@
 // What is told of a series as bytes: a line for each entry of the log, the count of later hits, the totals over all steps, and last the first step
-// with a hit.
+// with a hit; or the one line of a refusal.
 
 mod lines; // lines.rt: one line
 
-ghost use Prim.Native.Nat.{_+_, _*_, _≤_, min};
+ghost use Prim.Native.Nat.{_+_, _*_, _≤_, _<_, min};
 ghost use mathlib.Core.Path.{_≡_};
 ghost use lib.ListN.{length};
 ghost use Rattle.sequences.specs.Wrote.{Wrote};
+ghost use Rattle.meaning.specs.Limits.{textLimit};
 ghost use Rattle.meaning.specs.Series.{logLimit};
 ghost use Rattle.first_causes.specs.Kept.{hitOf, entriesOf};
-ghost use Rattle.first_causes.specs.Told.{toldSays};
-ghost use Rattle.series_report.specs.SeriesLines.{hitLine, hitLines, toldLines};
+ghost use Rattle.first_causes.specs.Told.{toldSays, outcomeSays};
+ghost use Rattle.series_laws.specs.SeriesLines.{hitLine, hitLines, toldLines, SeriesReported, SeriesRead};
 ghost use Rattle.series_report.specs.Sizes.{seriesLength};
+ghost use Rattle.series_report.specs.Whole.{answerLines};
 use first_causes::LOG_ROOM;
 use first_causes::Log;
+use first_causes::SeriesOutcome;
 use first_causes::SeriesTold;
 use first_causes::StepHit;
 use lines::hit_line;
 use lines::number_line;
+use meaning::BOX_NUMBERS;
+use meaning::EDGE_NUMBERS;
+use meaning::POSITION_NUMBERS;
+use meaning::REPORT_ROOM;
+use meaning::SEAM_NUMBERS;
+use meaning::TRIANGLE_NUMBERS;
+use series_told::tell_series;
+use summary::READ_BYTES;
+use wording::lines::refused_line;
 use wording::lines::total_line;
+use wording::number_of;
 
 // The bytes that hold the lines of any series: 64 of at most 70, and 256 for those behind them.
 pub const SERIES_BYTES: usize = 70 * LOG_ROOM + 256;
@@ -82,9 +95,58 @@ fn told_lines(told: SeriesTold, out: &mut [u8]) -> usize
     number_line(out, next, b"first", told.first as u64)
 }
 
-// The same in an array.
-pub fn write_told(told: SeriesTold, out: &mut [u8; SERIES_BYTES]) -> usize
-    ensures { λ r. ⌜ Wrote (now (out .entry)) 0 (toldLines (toldSays told)) (now (out .exit)) r ⌝ }
+// The lines of an answer: what is told, or the one line of a refusal.
+fn answer_lines(outcome: SeriesOutcome, told: SeriesTold, out: &mut [u8]) -> usize
+    requires { ⌜ length (now out) ≡ seriesLength ⌝ }
+    ensures { λ r. ⌜ Wrote (now (out .entry)) 0 (answerLines (outcomeSays outcome (toldSays told))) (now (out .exit)) r ⌝ }
 {
-    told_lines(told, out)
+    match outcome {
+        SeriesOutcome::Told(_) => told_lines(told, out),
+        SeriesOutcome::Refused(refusal, third) => {
+            refused_line(out, 0, number_of(refusal), third as u64)
+        }
+    }
+}
+
+// What is printed for the text of a series: what is told of it, or its refusal.
+pub fn write_series(text: &[u8], out: &mut [u8; SERIES_BYTES]) -> usize
+    ensures { λ r. ⌜ SeriesReported (now (text .entry)) (now (out .entry)) (now (out .exit)) r ⌝ }
+{
+    let mut positions = [0i32; POSITION_NUMBERS];
+    let mut edges = [0u16; EDGE_NUMBERS];
+    let mut triangles = [0u16; TRIANGLE_NUMBERS];
+    let mut seams = [0u16; SEAM_NUMBERS];
+    let mut boxes = [0i32; BOX_NUMBERS];
+    let mut list = [0u32; REPORT_ROOM];
+    let answer = tell_series(
+        text,
+        &mut positions,
+        &mut edges,
+        &mut triangles,
+        &mut seams,
+        &mut boxes,
+        &mut list,
+    );
+    let outcome = answer.outcome;
+    let told = answer.told;
+    answer_lines(outcome, told, out)
+}
+
+// The same for what was read of a text into a buffer that is longer than a text may be. Where it fills the buffer, the text is too long however it
+// goes on; else it is the text.
+fn front_series(read: &[u8], count: usize, out: &mut [u8; SERIES_BYTES]) -> usize
+    requires { ⌜ textLimit < length (now read) ⌝ }
+    ensures { λ r. ⌜ SeriesRead (now (read .entry)) count (now (out .entry)) (now (out .exit)) r ⌝ }
+{
+    if count < read.len() {
+        return write_series(&read[..count], out);
+    }
+    refused_line(out, 0, 8, 0)
+}
+
+// The same for what a program read: the first `count` bytes of its buffer.
+pub fn series_read(read: &[u8; READ_BYTES], count: usize, out: &mut [u8; SERIES_BYTES]) -> usize
+    ensures { λ r. ⌜ SeriesRead (now (read .entry)) count (now (out .entry)) (now (out .exit)) r ⌝ }
+{
+    front_series(read, count, out)
 }
