@@ -1,4 +1,4 @@
-//! Document 01, and §1, §3, §5, §6, §8, §10, §11, §12 and §13 of document 02, a second time, written from their text alone, so that the proved program has something to be held
+//! Document 01, and §1 to §3, §5, §6, §8, §10 to §13 of document 02, a second time, written from their text alone, so that the proved program has something to be held
 //! against. Where the proved program takes signs of 3 by 3 determinants of differences, this one sets up the six
 //! equations as they are written and solves them; where those are singular, it eliminates bounds, and leaves no corner
 //! out. Nothing here is meant to be fast.
@@ -32,6 +32,7 @@ pub mod report;
 pub mod running;
 pub mod scene;
 pub mod search;
+pub mod series;
 pub mod settled;
 pub mod sewing;
 pub mod signs;

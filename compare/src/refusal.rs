@@ -12,6 +12,8 @@ pub const BAD_LINE: u64 = 9;
 pub const OUT_OF_ORDER: u64 = 10;
 pub const ONE_TOO_MANY: u64 = 11;
 pub const LENT_TOO_SHORT: u64 = 12;
+/// Document 02, §2: a block with more or fewer `v` lines than vertices.
+pub const WRONG_BLOCK: u64 = 13;
 /// Document 02, §3: two OBJ files that differ in vertex count, or in the faces and their order.
 pub const FILES_DIFFER: u64 = 14;
 pub const BROKEN_SEAM: u64 = 15;

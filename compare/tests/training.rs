@@ -9,6 +9,7 @@ use compare::mistakes::{self, Right};
 use compare::obj;
 use compare::report::report;
 use compare::scene::{Pair, Scene, REPORT_ROOM};
+use compare::series;
 use compare::settled::{of_pair, Settled};
 use compare::stored;
 use compare::text::read;
@@ -48,6 +49,11 @@ fn printed(command: &str) -> String {
         ["compare/contacts", "--wrong", key] => {
             let mistake = contacts::mistakes::find(key).unwrap_or_else(|| panic!("no mistake is called {key}"));
             contacts::mistakes::printed(mistake, &text, REPORT_ROOM)
+        }
+        ["compare/series", "--exact"] => series::printed(&text, REPORT_ROOM),
+        ["compare/series", "--wrong", key] => {
+            let mistake = series::mistakes::find(key).unwrap_or_else(|| panic!("no mistake is called {key}"));
+            mistake.outcome(&series::mistakes::Right::of(&text)).printed
         }
         ["compare/show", "why"] => explained(&read(&text).unwrap()),
         _ => panic!("no such command: {command}"),
@@ -186,4 +192,23 @@ fn the_boxes_of_a_dragged_vertex() {
     }
     let vertex_3 = |pair: &Pair| *pair == Pair::pt(3, 0);
     assert!(listing::listed(&scene).iter().any(vertex_3) && !listing::listed(&dragged).iter().any(vertex_3));
+}
+
+/// What the page says of the sleeve: when nothing happens, what goes through, and what a log that goes round has lost.
+#[test]
+fn the_log_of_the_sleeve() {
+    let page = page();
+    let drawn = series::read(&text("scenes/series/sleeve.series")).unwrap();
+    let judged: Vec<series::Judged> = drawn.steps().iter().map(series::judged).collect();
+    let hits = series::hits(&judged);
+    let first = hits[0];
+    assert_eq!((judged.len(), hits.len(), first), (36, 186, series::HitAt { step: 12, pair: Pair::pt(30, 11) }));
+    let lost = &hits[..hits.len() - series::LOG_LIMIT];
+    let in_step = |step: u64| lost.iter().filter(|hit| hit.step == step).count();
+    assert_eq!((lost.len() - in_step(28), in_step(28), lost.last().unwrap().step), (121, 1, 28));
+    assert!(hits[lost.len()..].iter().all(|hit| hit.pair != first.pair));
+    for words in ["in 36 steps. For eleven of them nothing happens", "In step 12 its corner, vertex 30", "186 in all"] {
+        assert!(page.contains(words), "{words}");
+    }
+    assert!(page.contains("All 121 hits of steps 12 to 27 are gone, and one of step 28."));
 }

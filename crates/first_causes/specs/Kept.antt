@@ -37,7 +37,7 @@ pub log-starts : LogOf [] emptyLog
 log-starts = record { room = refl; held = refl; entries = refl; later = refl }
 
 -- a count that is one more
-count-more : (n : ℕ) → oneMore (counted n) ≡ counted (n + 1)
+pub count-more : (n : ℕ) → oneMore (counted n) ≡ counted (n + 1)
 count-more n =
     ⊎-elim
     (λ few. let e : counted n ≡ n = omega arith in rw (e, lt-ltb n largest (omega arith)) (omega arith))

@@ -1,3 +1,4 @@
 -- The log that keeps the first cause.
 pub mod Logged
 pub mod Kept
+pub mod Told

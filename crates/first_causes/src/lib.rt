@@ -3,6 +3,8 @@
 ghost use mathlib.Core.Path.{_≡_};
 ghost use Rattle.first_causes.specs.Logged.{oneMore, emptyLog, logged};
 use meaning::Kind;
+use meaning::Refusal;
+use meaning::SceneCounts;
 
 // The entries of a log.
 pub const LOG_ROOM: usize = 64;
@@ -20,6 +22,29 @@ pub struct Log {
     pub hits: [StepHit; LOG_ROOM],
     pub held: usize,
     pub later: u64,
+}
+
+// What is told of a series: its log, the totals over all steps, and the first step with a hit, counted from 1, or 0 where there is none.
+pub struct SeriesTold {
+    pub log: Log,
+    pub listed: u64,
+    pub hits: u64,
+    pub misses: u64,
+    pub touches: u64,
+    pub aparts: u64,
+    pub first: usize,
+}
+
+// The counts of the last step, or the refusal with its line or the count needed.
+pub enum SeriesOutcome {
+    Told(SceneCounts),
+    Refused(Refusal, usize),
+}
+
+// What is told means nothing after a refusal.
+pub struct SeriesAnswer {
+    pub outcome: SeriesOutcome,
+    pub told: SeriesTold,
 }
 
 // One more, but a count at its largest value stays there.

@@ -32,7 +32,7 @@ fn copy_numbers(own: &[u16], lent: &mut [u16], count: usize)
 }
 
 // The scene with these counts, from the four buffers of a draft to the four that are lent.
-pub(crate) fn copy_scene(
+pub fn copy_scene(
     c: SceneCounts,
     p: &[i32],
     e: &[u16],

@@ -4,7 +4,7 @@ ghost use mathlib.Core.Path.{_≡_};
 ghost use Rattle.meaning.specs.Scene.{sceneAtEntry, sceneAtExit};
 ghost use Rattle.meaning.specs.Text.{TextRead};
 
-mod copying; // copying.rt: from the draft to the lent buffers
+pub mod copying; // copying.rt: from the draft to the lent buffers
 
 use copying::copy_scene;
 use meaning::EDGE_NUMBERS;

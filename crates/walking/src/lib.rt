@@ -2,7 +2,7 @@
 // that misses the joint box of a run of second parts misses all of them, so the run is skipped.
 
 pub mod skipping; // skipping.rt: boxes and runs prepared, and whether a first part meets a run
-mod steps; // steps.rt: a pair, a run, a row, the rows
+pub mod steps; // steps.rt: a pair, a run, a row, the rows
 
 ghost use Prim.Native.Nat.{_≤_};
 ghost use mathlib.Core.Path.{_≡_};

@@ -139,7 +139,7 @@ fn walk_run(
     }
 }
 
-fn walk_row(
+pub fn walk_row(
     positions: &[i32],
     edges: &[u16],
     triangles: &[u16],

@@ -1,0 +1,4 @@
+-- A series in one call.
+pub mod Called
+pub mod Leaving
+pub mod Answering

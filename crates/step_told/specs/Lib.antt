@@ -1,0 +1,2 @@
+-- What is told of a step.
+pub mod Rows

@@ -1,0 +1,3 @@
+-- Steps told one behind the other.
+pub mod Telling
+pub mod Reading

@@ -1,0 +1,137 @@
+// The steps of a series, told one behind the other as their blocks are read. All of it stands in arrays of the caller's own.
+
+ghost use Prim.Native.Nat.{_≤_};
+ghost use mathlib.Core.Path.{_≡_};
+ghost use Rattle.meaning.specs.Scene.{Accepted};
+ghost use Rattle.meaning.specs.Refusals.{numberOf};
+ghost use Rattle.scenes.specs.Alone.{tabledIn, tabledAtEntry};
+ghost use Rattle.block_draft.specs.Taking.{faultNumber};
+ghost use Rattle.steps_told.specs.Telling.{StepAdded, refusedAt, RoomAnswer};
+ghost use Rattle.steps_told.specs.Reading.{FirstStep, StepsAre};
+use block_draft::BlockAnswer;
+use block_draft::BlockFault;
+use block_draft::read_block;
+use first_causes::SeriesAnswer;
+use first_causes::SeriesOutcome;
+use first_causes::SeriesTold;
+use meaning::Refusal;
+use meaning::SceneCounts;
+use step_told::tell_step;
+use words_told::nothing_told;
+
+// What is told so far, and 0, or the count of the first step whose list has no room. Once there is such a step, nothing more is told.
+pub struct Telling {
+    pub told: SeriesTold,
+    pub needed: usize,
+}
+
+// The refusal of a fault in a block.
+fn refusal_of(fault: BlockFault) -> Refusal
+    ensures { λ r. ⌜ numberOf r ≡ faultNumber fault ⌝ }
+{
+    match fault {
+        BlockFault::Form => Refusal::BadLine,
+        BlockFault::Late => Refusal::LateRecord,
+        BlockFault::Length => Refusal::BlockLength,
+        BlockFault::Far => Refusal::Coordinate,
+        BlockFault::Apart => Refusal::BrokenSeam,
+    }
+}
+
+// The step of this number goes behind those that were told.
+fn tell_next(
+    positions: &[i32],
+    edges: &[u16],
+    triangles: &[u16],
+    stands: &[u16],
+    step: usize,
+    room: usize,
+    past: Telling,
+) -> Telling
+    requires { ⌜ Accepted (tabledIn positions edges triangles stands) ⌝ }
+    ensures { λ r. ⌜ StepAdded room step (tabledAtEntry positions edges triangles stands) past r ⌝ }
+{
+    if 0 < past.needed {
+        return past;
+    }
+    let next = tell_step(positions, edges, triangles, stands, step, past.told);
+    let told = next.told;
+    if room < next.count {
+        return Telling {
+            told: told,
+            needed: next.count,
+        };
+    }
+    Telling {
+        told: told,
+        needed: 0,
+    }
+}
+
+// A faulty line: what was told of the steps above it means nothing.
+fn refused(refusal: Refusal, line: usize, past: Telling) -> SeriesAnswer
+    ensures { λ r. ⌜ r ≡ refusedAt refusal line past ⌝ }
+{
+    let told = past.told;
+    SeriesAnswer {
+        outcome: SeriesOutcome::Refused(refusal, line),
+        told: told,
+    }
+}
+
+// After the last step: 7 where a step had no room, else what is told.
+fn room_answer(c: SceneCounts, all: Telling) -> SeriesAnswer
+    ensures { λ r. ⌜ r ≡ RoomAnswer c all ⌝ }
+{
+    let told = all.told;
+    if 0 < all.needed {
+        return SeriesAnswer {
+            outcome: SeriesOutcome::Refused(Refusal::NoRoom, all.needed),
+            told: told,
+        };
+    }
+    SeriesAnswer {
+        outcome: SeriesOutcome::Told(c),
+        told: told,
+    }
+}
+
+// From the scene of a series, whose lines end at a place, to its last step, which the positions then hold; or the first faulty line; or 7.
+pub fn tell_steps(
+    text: &[u8],
+    at: usize,
+    line: usize,
+    c: SceneCounts,
+    positions: &mut [i32],
+    edges: &[u16],
+    triangles: &[u16],
+    seams: &[u16],
+    stands: &[u16],
+    room: usize,
+) -> SeriesAnswer
+    requires { ⌜ FirstStep (now text) at line (now positions) (now edges) (now triangles) (now seams) (now stands) ⌝ }
+    ensures { λ r. ⌜ StepsAre (now (text .entry)) room (now (positions .exit)) (now (edges .entry)) (now (triangles .entry)) (now (seams .entry)) c (r .outcome) (r .told) ⌝ }
+{
+    let none = Telling {
+        told: nothing_told(),
+        needed: 0,
+    };
+    let mut past = tell_next(positions, edges, triangles, stands, 1, room, none);
+    let mut step = 1;
+    let mut next = at;
+    let mut read = line;
+    while next < text.len() {
+        match read_block(text, next, read + 1, positions, seams) {
+            BlockAnswer::Fault(fault, faulty) => {
+                return refused(refusal_of(fault), faulty, past);
+            }
+            BlockAnswer::Whole(after, last) => {
+                step += 1;
+                next = after;
+                read = last;
+                past = tell_next(positions, edges, triangles, stands, step, room, past);
+            }
+        }
+    }
+    room_answer(c, past)
+}

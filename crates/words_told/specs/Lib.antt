@@ -1,0 +1,2 @@
+-- What is told of further words of a series.
+pub mod Telling

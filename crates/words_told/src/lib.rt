@@ -1,0 +1,129 @@
+// The words of some pairs of a step go into what is told of a series: the log takes each hit, and the totals each word.
+
+ghost use Prim.Native.Nat.{_≤_};
+ghost use mathlib.Core.Path.{_≡_};
+ghost use lib.ListN.{length};
+ghost use Rattle.entries.specs.Entries.{pairOf};
+ghost use Rattle.meaning.specs.Series.{hitAt};
+ghost use Rattle.scene_words.specs.Listed.{wordOfByte, pairsIn};
+ghost use Rattle.first_causes.specs.Kept.{hitOf};
+ghost use Rattle.words_told.specs.Telling.{wordsIn, LogGoes, TallyGoes, FirstIs, nothingTold, Further};
+use first_causes::Log;
+use first_causes::SeriesTold;
+use first_causes::StepHit;
+use meaning::Settled;
+use scene_words::ByteAnswer;
+use scene_words::byte_of;
+use wording::tally::Tally;
+
+// The word that a byte stands for; where it stands for none, the last.
+fn word_in(byte: u8) -> Settled
+    ensures { λ r. ⌜ r ≡ wordOfByte byte ⌝ }
+{
+    match scene_words::word_of(byte) {
+        ByteAnswer::Word(word) => word,
+        ByteAnswer::NoWord => Settled::Apart,
+    }
+}
+
+// The pair of an entry, hit in a step.
+fn hit_of(step: usize, entry: u32) -> StepHit
+    ensures { λ r. ⌜ hitOf r ≡ hitAt step (pairOf entry) ⌝ }
+{
+    StepHit {
+        step: step,
+        kind: entries::kind_of(entry),
+        first: entries::first_of(entry),
+        second: entries::second_of(entry),
+    }
+}
+
+// The log takes each of the first `count` entries whose byte says hit.
+fn log_hits(list: &[u32], bytes: &[u8], count: usize, step: usize, log: Log) -> Log
+    requires { ⌜ (count ≤ length (now list)) × (count ≤ length (now bytes)) ⌝ }
+    ensures { λ r. ⌜ LogGoes step (pairsIn count (now (list .entry))) (wordsIn count (now (bytes .entry))) log r ⌝ }
+{
+    let hit = byte_of(Settled::Hit);
+    let mut next = log;
+    let mut k = 0;
+    while k < count {
+        let at = k;
+        k += 1;
+        if bytes[at] == hit {
+            next = next.add(hit_of(step, list[at]));
+        }
+    }
+    next
+}
+
+// The tally takes each of the first `count` words.
+fn tally_words(bytes: &[u8], count: usize, tally: Tally) -> Tally
+    requires { ⌜ count ≤ length (now bytes) ⌝ }
+    ensures { λ r. ⌜ TallyGoes (wordsIn count (now (bytes .entry))) tally r ⌝ }
+{
+    let mut next = tally;
+    let mut k = 0;
+    while k < count {
+        next = next.add(word_in(bytes[k]));
+        k += 1;
+    }
+    next
+}
+
+// The step of the oldest entry, or 0 where there is none.
+fn first_in(log: Log) -> usize
+    ensures { λ r. ⌜ FirstIs log r ⌝ }
+{
+    if log.held == 0 {
+        return 0;
+    }
+    let oldest = log.hits[0];
+    oldest.step
+}
+
+// What is told before the first step.
+pub fn nothing_told() -> SeriesTold
+    ensures { λ r. ⌜ r ≡ nothingTold ⌝ }
+{
+    SeriesTold {
+        log: Log::empty(),
+        listed: 0,
+        hits: 0,
+        misses: 0,
+        touches: 0,
+        aparts: 0,
+        first: 0,
+    }
+}
+
+// The first `count` pairs of a list, with their words as bytes, are told behind what was told.
+pub fn tell_words(
+    list: &[u32],
+    bytes: &[u8],
+    count: usize,
+    step: usize,
+    told: SeriesTold,
+) -> SeriesTold
+    requires { ⌜ (count ≤ length (now list)) × (count ≤ length (now bytes)) ⌝ }
+    ensures { λ r. ⌜ Further step (pairsIn count (now (list .entry))) (wordsIn count (now (bytes .entry))) told r ⌝ }
+{
+    let before = Tally {
+        listed: told.listed,
+        hits: told.hits,
+        misses: told.misses,
+        touches: told.touches,
+        aparts: told.aparts,
+    };
+    let tally = tally_words(bytes, count, before);
+    let log = log_hits(list, bytes, count, step, told.log);
+    let first = first_in(log);
+    SeriesTold {
+        log: log,
+        listed: tally.listed,
+        hits: tally.hits,
+        misses: tally.misses,
+        touches: tally.touches,
+        aparts: tally.aparts,
+        first: first,
+    }
+}
