@@ -215,7 +215,9 @@ pub fn own() -> Vec<Trial> {
     }
     let hits: [&[usize]; 9] =
         [&[1; 63], &[1; 64], &[1; 65], &[1; 130], &[5; 30], &[63, 1, 1], &[60, 5, 3], &[70, 0, 1], &[0, 0, 2, 0, 66]];
-    out.extend(hits.iter().map(|points| trial(format!("{} hits in {} steps", points.iter().sum::<usize>(), points.len()), write(&up_and_down(points)))));
+    out.extend(hits.iter().map(|points| {
+        trial(format!("{} hits in {} steps", points.iter().sum::<usize>(), points.len()), write(&up_and_down(points)))
+    }));
     for line in ["n\t", "n\t0", "n ", " n", "n\r", "N", "nn", "n\0", "v\t0\t0\t0", "vn"] {
         out.push(trial(format!("a line {line:?}"), format!("v\t0\t0\t0\t0\t0\t0\n{line}\nv\t0\t0\t0\n")));
         out.push(trial(format!("two lines {line:?}"), format!("v\t0\t0\t0\t0\t0\t0\nn\nv\t0\t0\t0\n{line}\nv\t0\t0\t0\n")));

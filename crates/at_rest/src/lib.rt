@@ -6,7 +6,7 @@ ghost use Prim.Native.Nat.{_+_, _/_, _<_};
 ghost use lib.ListN.{length};
 ghost use Rattle.meaning.specs.Scene.{Accepted};
 ghost use Rattle.meaning.specs.Refusals.{notThere};
-ghost use Rattle.scenes.specs.Alone.{tabledIn, tabledAtEntry};
+ghost use Rattle.seam_table.specs.Alone.{tabledIn, tabledAtEntry};
 ghost use Rattle.three_words.specs.Ready.{PointReady, EdgesReady};
 ghost use Rattle.at_rest.specs.Rests.{sameAt, rests, pointRests, edgesRest, pairRests};
 use meaning::Corners;
@@ -66,15 +66,11 @@ pub fn pair_rests(
 {
     match kind {
         Kind::PointTriangle => {
-            point_rests(
-                positions,
-                i,
-                scenes::parts::corners_of(triangles, stands, j),
-            )
+            point_rests(positions, i, scene_parts::corners_of(triangles, stands, j))
         }
         Kind::EdgeEdge => {
-            let first = scenes::parts::ends_of(edges, stands, smaller(i, j));
-            let second = scenes::parts::ends_of(edges, stands, larger(i, j));
+            let first = scene_parts::ends_of(edges, stands, smaller(i, j));
+            let second = scene_parts::ends_of(edges, stands, larger(i, j));
             edges_rest(positions, first, second)
         }
     }

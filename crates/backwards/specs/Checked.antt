@@ -14,7 +14,7 @@ use Rattle.meaning.specs.Limits.{vertexLimit, edgeLimit, triangleLimit, seamLim
 use Rattle.meaning.specs.Scene.{Scene, sceneOf, Accepted, vertexCount, edgeCount, triangleCount, edgeEnd, corner, same, someBelow, wrongShape, outside, outOfRange, unknownIn, unknownVertex, brokenSeam, twiceInEdge, twiceInTriangle, repeatedVertex}
 use Rattle.meaning.specs.Refusals.{Check, sceneChecks}
 use Rattle.meaning.specs.Backwards.{fromLast, turnedRound}
-use Rattle.scenes.specs.Below.{Found, found-below, none-passes, none-below, some-passes}
+use Rattle.seam_table.specs.Below.{Found, found-below, none-passes, none-below, some-passes}
 use Rattle.backwards.specs.Numbers.{mapped-at, number-unknown, number-same}
 use Rattle.backwards.specs.Turned.{source, source-below, source-behind, source-twice, as-long, coordinate, turns-round}
 use Rattle.backwards.specs.Unsewn.{counts-itself}

@@ -22,9 +22,9 @@ use Rattle.meaning.specs.Refusals.{Outcome, given, refused, Check, Answers}
 use Rattle.meaning.specs.Lines.{Fault, misplaced, nothing, RecordJudged}
 use Rattle.meaning.specs.Text.{coordinates}
 use Rattle.scenes.specs.Answering.{refuses, is-refused, is-past, is-given, lets-pass}
-use Rattle.scenes.specs.Below.{or-left, or-rest}
+use Rattle.seam_table.specs.Below.{or-left, or-rest}
 use Rattle.scenes.specs.Checking.{sewable}
-use Rattle.scenes.specs.Sewing.{seamsAlone, Sewable, blank-table}
+use Rattle.seam_table.specs.Sewing.{seamsAlone, Sewable, blank-table}
 use Rattle.scene_draft.specs.Putting.{pointFrom, signedAt, signed-at}
 use Rattle.meaning.specs.Series.{lastFrom, stepAfter, lastStep}
 use Rattle.meaning.specs.SeriesText.{Item, ends, next, threeOf, itemLine, SoFar, blocksSoFar, seriesSoFar, withItem, ItemFormed, blockFull, blockShort, wrongLength, farEnd, comesApartNow, itemChecks, seriesLines}

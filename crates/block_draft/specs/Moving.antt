@@ -11,11 +11,11 @@ use borrow.Author.Tests.{ltb-false, leb-false}
 use lib.Seq.{getD-set-other}
 use Rattle.sequences.specs.Wrote.{Wrote, wrote-three, patched, wrote-is, wrote-then, wrote-patched}
 use Rattle.scenes.specs.Answering.{refuses, lets-pass, gives}
-use Rattle.scenes.specs.Below.{or-left, or-rest}
+use Rattle.seam_table.specs.Below.{or-left, or-rest}
 use Rattle.meaning.specs.Limits.{coordinateLimit, vertexLimit}
 use Rattle.meaning.specs.Scene.{brokenSeam}
 use Rattle.meaning.specs.Refusals.{Outcome, given, refused, Check, Answers}
-use Rattle.scenes.specs.Sewing.{seamsAlone, Sewable}
+use Rattle.seam_table.specs.Sewing.{seamsAlone, Sewable}
 use Rattle.scene_draft.specs.Putting.{pointFrom, Near}
 use Rattle.block_draft.specs.declared.moving.EndTaken.{EndTaken}
 use Rattle.block_draft.specs.declared.moving.EndTaken.the-variants.{Good, Length, Far, Apart}

@@ -16,8 +16,8 @@ use Rattle.meaning.specs.Scene.{Scene, vertexCount, brokenSeam, Accepted}
 use Rattle.meaning.specs.Refusals.{Outcome, given, refused, Check, Answers}
 use Rattle.meaning.specs.Lines.{Fault, misplaced, nothing, RecordJudged, FaultyAt}
 use Rattle.scenes.specs.Answering.{refuses, lets-pass, gives, is-given}
-use Rattle.scenes.specs.Below.{or-left, or-rest}
-use Rattle.scenes.specs.Sewing.{seamsAlone}
+use Rattle.seam_table.specs.Below.{or-left, or-rest}
+use Rattle.seam_table.specs.Sewing.{seamsAlone}
 use Rattle.lines.specs.Going.{Reached, reached-next, reached-longer, reached-fault}
 use Rattle.meaning.specs.Series.{lastFrom, stepAfter, lastStep}
 use Rattle.meaning.specs.SeriesText.{Item, ends, next, threeOf, itemLine, SoFar, nothingYet, blocksSoFar, seriesSoFar, withItem, ItemFormed, blockFull, blockShort, wrongLength, itemChecks, seriesLines}

@@ -6,13 +6,13 @@ ghost use mathlib.Core.Path.{_≡_};
 ghost use Rattle.sequences.specs.Wrote.{Wrote};
 ghost use Rattle.meaning.specs.Limits.{vertexLimit};
 ghost use Rattle.meaning.specs.Scene.{brokenSeam};
-ghost use Rattle.scenes.specs.Sewing.{seamsAlone, Sewable};
+ghost use Rattle.seam_table.specs.Sewing.{seamsAlone, Sewable};
 ghost use Rattle.scene_draft.specs.Putting.{Near};
 ghost use Rattle.block_draft.specs.Moving.{threeAt, movedOn, farThree, wrongHere, lastHere, EndReady, EndIs};
 use meaning::COORDINATE_LIMIT;
 use meaning::VERTEX_LIMIT;
 use scene_draft::place::put_point;
-use scenes::table::sew_all;
+use seam_table::sew_all;
 
 // The largest size of a coordinate, as sizes are held.
 const LARGEST: u64 = COORDINATE_LIMIT as u64;

@@ -7,7 +7,7 @@ use native.Mathlib.Omega.{arith}
 use lib.IntN.{ℤ}
 use lib.ListN.{length, take, length-append, length-drop}
 use borrow.Author.Tests.{ltb-false}
-use Rattle.scenes.specs.Below.{or-left, or-rest}
+use Rattle.seam_table.specs.Below.{or-left, or-rest}
 use Rattle.meaning.specs.Scene.{Scene, sceneOf}
 use Rattle.meaning.specs.Refusals.{given, numberOf}
 use Rattle.meaning.specs.Text.{shortBuffer, countsOf, filled}

@@ -17,7 +17,7 @@ use Rattle.meaning.specs.Scene.{Scene, sceneOf, Accepted, vertexCount, edgeCoun
 use Rattle.meaning.specs.Boxes.{Axis, vertexSpan, joint}
 use Rattle.meaning.specs.StoredBoxes.{Box, boxOf, boxAt, vertexBox, edgeBox, triangleBox, edgePlace, trianglePlace, Boxed}
 use Rattle.meaning.specs.Dragging.{placed, movedScene, newOutside, tearsSeam, edgeHas, triangleHas, BoxesMoved}
-use Rattle.scenes.specs.Below.{or-left, none-passes, none-below}
+use Rattle.seam_table.specs.Below.{or-left, none-passes, none-below}
 use Rattle.scenes.specs.Facts.{accepted-coordinate}
 use Rattle.boxes.specs.Kept.{jointBox, between}
 use Rattle.boxed_scenes.specs.Placed.{placed-length, placed-here, placed-other, placed-elsewhere}

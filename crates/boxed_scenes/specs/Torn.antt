@@ -12,9 +12,9 @@ use lib.Signed.{ltZ}
 use borrow.Author.Tests.{leb-false}
 use Rattle.meaning.specs.Scene.{Scene, Accepted, vertexCount, seamCount, sewn, onto, someBelow, differ, comesApart, notRising, replaced, wrongSeam}
 use Rattle.meaning.specs.Dragging.{placed, movedScene}
-use Rattle.scenes.specs.Below.{or-left, or-rest, none-passes, some-alike}
+use Rattle.seam_table.specs.Below.{or-left, or-rest, none-passes, some-alike}
 use Rattle.scenes.specs.Facts.{known-inside, accepted-sized}
-use Rattle.scenes.specs.Sewing.{seamsAlone}
+use Rattle.seam_table.specs.Sewing.{seamsAlone}
 use Rattle.boxed_scenes.specs.Placed.{placed-here, placed-elsewhere}
 
 -- vertex u is not at the six coordinates c

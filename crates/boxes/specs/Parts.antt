@@ -8,7 +8,7 @@ use native.Mathlib.Omega.{arith}
 use lib.IntN.{ℤ}
 use lib.ListN.{length}
 use Rattle.meaning.specs.Scene.{Scene, Accepted, vertexCount, edgeCount, triangleCount, edgeEnd, corner, unknownIn}
-use Rattle.scenes.specs.Below.{or-left, or-rest}
+use Rattle.seam_table.specs.Below.{or-left, or-rest}
 use Rattle.scenes.specs.Facts.{known-inside, edge-inside, triangle-inside, accepted-sized}
 use Rattle.meaning.specs.StoredBoxes.{Box, boxNumbers, boxAt, vertexBox, edgeBox, triangleBox, VerticesIn}
 use Rattle.boxes.specs.Kept.{jointBox}

@@ -6,18 +6,18 @@ ghost use mathlib.Core.Bool.{false};
 ghost use mathlib.Core.Path.{_≡_};
 ghost use lib.ListN.{length};
 ghost use Rattle.meaning.specs.Scene.{sceneOf, vertexCount, edgeCount, triangleCount, unknownIn};
-ghost use Rattle.scenes.specs.Alone.{onlyPositions, onlyEdges, onlyTriangles, unsewnIn, unsewnAtEntry};
+ghost use Rattle.seam_table.specs.Alone.{onlyPositions, onlyEdges, onlyTriangles, unsewnIn, unsewnAtEntry};
 ghost use Rattle.meaning.specs.StoredBoxes.{edgePlace, trianglePlace, edgeBox, triangleBox, VerticesIn, EdgesIn, boxNumbers};
 ghost use Rattle.boxes.specs.Storing.{BoxStored};
 ghost use Rattle.boxes.specs.Parts.{Ready, Drawn};
 ghost use Rattle.meaning.specs.StoredBoxes.{KeptBehind, Filled};
 use super::kept::store_joint_box;
 use super::kept::store_vertex;
-use scenes::parts::edge_count;
-use scenes::parts::triangle_count;
-use scenes::parts::vertex_count;
-use scenes::written::corner;
-use scenes::written::edge_end;
+use scene_parts::edge_count;
+use scene_parts::triangle_count;
+use scene_parts::vertex_count;
+use scene_parts::written::corner;
+use scene_parts::written::edge_end;
 
 fn fill_vertices(positions: &[i32], boxes: &mut [i32])
     requires { ⌜ 6 * vertexCount (onlyPositions (now positions)) ≤ length (now boxes) ⌝ }

@@ -4,7 +4,7 @@ ghost use Prim.Native.Nat.{_+_, _*_, _<_};
 ghost use mathlib.Core.Path.{_≡_};
 ghost use lib.ListN.{length};
 ghost use Rattle.meaning.specs.Scene.{vertexCount};
-ghost use Rattle.scenes.specs.Alone.{onlyPositions};
+ghost use Rattle.seam_table.specs.Alone.{onlyPositions};
 ghost use Rattle.meaning.specs.StoredBoxes.{boxAt, vertexBox};
 ghost use Rattle.boxes.specs.Kept.{jointBox, meetBoxes};
 ghost use Rattle.boxes.specs.Storing.{BoxStored};

@@ -3,18 +3,18 @@
 ghost use Prim.Native.Nat.{_<_};
 ghost use mathlib.Core.Path.{_≡_};
 ghost use Rattle.meaning.specs.Scene.{vertexCount, edgeCount, triangleCount};
-ghost use Rattle.scenes.specs.Alone.{tabledIn, tabledAtEntry};
+ghost use Rattle.seam_table.specs.Alone.{tabledIn, tabledAtEntry};
 ghost use Rattle.meaning.specs.Boxes.{listed};
 ghost use Rattle.meaning.specs.declared.Kind.the-variants.{PointTriangle, EdgeEdge};
 ghost use Rattle.meaning.specs.StoredBoxes.{Boxed};
 ghost use Rattle.candidates.specs.Rows.{firstCount, secondCount, secondFrom};
 use boxes::kept::boxes_meet;
 use meaning::Kind;
-use scenes::parts::edge_count;
-use scenes::parts::shares_ee;
-use scenes::parts::shares_pt;
-use scenes::parts::triangle_count;
-use scenes::parts::vertex_count;
+use scene_parts::edge_count;
+use scene_parts::shares_ee;
+use scene_parts::shares_pt;
+use scene_parts::triangle_count;
+use scene_parts::vertex_count;
 
 // The boxes are tested first: most pairs are apart on an axis.
 fn listed_pt(

@@ -8,7 +8,7 @@ use lib.Dec.{ltb}
 use lib.ListN.{length}
 use borrow.Author.Tests.{lt-ltb, le-ltb, ltb-false}
 use Rattle.scenes.specs.Answering.{refuses, lets-pass, gives, is-given, one-answer}
-use Rattle.scenes.specs.Alone.{tabled}
+use Rattle.seam_table.specs.Alone.{tabled}
 use Rattle.scenes.specs.Checking.{Stitched, from-table}
 use Rattle.scenes.specs.Accepting.{after-accepted, after-refused}
 use Rattle.scenes.specs.Speaking.{one-number}

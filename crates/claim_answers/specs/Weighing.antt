@@ -8,7 +8,7 @@ use native.Mathlib.Omega.{arith}
 use lib.Dec.{leb}
 use lib.IntN.{ℤ, pos, natAbs}
 use lib.ListN.{length, getD, List·getD-map}
-use Rattle.scenes.specs.Below.{or-left}
+use Rattle.seam_table.specs.Below.{or-left}
 use Rattle.scenes.specs.Answering.{is-given}
 use Rattle.fields.specs.Tabbed.{sized-at}
 use Rattle.meaning.specs.Scene.{Scene, Accepted}

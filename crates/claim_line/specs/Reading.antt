@@ -14,7 +14,7 @@ use Rattle.sequences.specs.Stands.{Stands, stands-one, stands-then, stands-apar
 use Rattle.decimals.specs.Byte.{byteAt, byte-inside}
 use Rattle.decimals.specs.Digits.{digits}
 use Rattle.decimals.specs.Value.{digits-length, digits-below}
-use Rattle.scenes.specs.Below.{or-left, or-rest}
+use Rattle.seam_table.specs.Below.{or-left, or-rest}
 use Rattle.fields.specs.Field.{Allowed, front-byte}
 use Rattle.fields.specs.Rows.{EachAllowed, rowOf, RowStands, row-cancel}
 use Rattle.fields.specs.Ended.{RowEnded, LineStands, InFront, row-ended, row-unended}

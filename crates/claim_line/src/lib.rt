@@ -2,7 +2,7 @@
 ghost use Prim.Native.Nat.{_≤_, _<_};
 ghost use lib.ListN.{length};
 ghost use mathlib.Core.Path.{_≡_};
-ghost use Rattle.scenes.specs.Alone.{tabledAtEntry};
+ghost use Rattle.seam_table.specs.Alone.{tabledAtEntry};
 ghost use Rattle.claim_line.specs.Reading.{wideIn, NumbersRead, lineEnded, LineRead};
 ghost use Rattle.claim_line.specs.Stepping.{judgedSays, AskedIs, Stepped};
 use fields::Ending;

@@ -10,7 +10,7 @@ ghost use Rattle.meaning.specs.Scene.{AcceptedWithin};
 ghost use Rattle.meaning.specs.List.{pairs};
 ghost use Rattle.meaning.specs.ContactLines.{contactLine, contactLines, contactTotal};
 ghost use Rattle.entries.specs.Entries.{pairOf};
-ghost use Rattle.scenes.specs.Alone.{tabledIn, tabledAtEntry};
+ghost use Rattle.seam_table.specs.Alone.{tabledIn, tabledAtEntry};
 ghost use Rattle.scene_words.specs.Listed.{ListStands};
 ghost use Rattle.scene_contacts.specs.Listed.{meetingsOf};
 ghost use Rattle.contact_report.specs.Sizes.{contactsLength};

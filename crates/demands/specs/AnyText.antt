@@ -28,7 +28,7 @@ use Rattle.theory.specs.Rewritten.{Rewritten, rewritten-back}
 use Rattle.lines.specs.Feed.{NoFeed, first-line, no-line}
 use Rattle.scene_line.specs.Rendered.{line-is, line-cancel, scene-bodies}
 use Rattle.scene_text.specs.Accepted.{text-accepted}
-use Rattle.scenes.specs.Below.{or-left, or-rest}
+use Rattle.seam_table.specs.Below.{or-left, or-rest}
 use Rattle.scenes.specs.Facts.{none-over}
 use Rattle.demands.specs.StillAccepted.{every-rearranged, range-alike, known-in-whole, sewn-alike, repeated-alike}
 use Rattle.demands.specs.AnyWriting.{rewritten-list, words-as-written}

@@ -25,7 +25,7 @@ use Rattle.meaning.specs.declared.PairAnswer.{PairAnswer}
 use Rattle.meaning.specs.declared.SettledAnswer.{SettledAnswer}
 use Rattle.meaning.specs.declared.ListAnswer.{ListAnswer}
 use Rattle.theory.specs.Rewritten.{Rewritten, PartsThere, WellMade, rewritten-notThere, rewritten-shares, rewritten-meet, rewritten-keeps-pieces, rewritten-keeps-pairs, rewritten-keeps-words, rewritten-keeps-pair-words}
-use Rattle.scenes.specs.Below.{or-left}
+use Rattle.seam_table.specs.Below.{or-left}
 use Rattle.scenes.specs.Speaking.{scene-says-one, pair-says-one}
 use Rattle.listing.specs.InOrder.{ToList, are-there, list-is, list-only}
 use Rattle.listing.specs.Once.{list-says-one}

@@ -33,7 +33,7 @@ use Rattle.corner_laws.specs.Filled.{slot, next}
 use Rattle.corner_leaf.specs.Answer.{baseIn, judgedIn, turnOf, otherwise, leafOf}
 use Rattle.corner_search.specs.Sixes.{pointSix, edgesSix, sixOf}
 use Rattle.corner_search.specs.Decided.{byLeaf, touching, settledBy, verdictOfWord, pieceWord, isTouch, pairWord, piece-word-is, word-verdict, some-hit, pair-word-is}
-use Rattle.scenes.specs.Below.{or-left, or-rest, none-passes}
+use Rattle.seam_table.specs.Below.{or-left, or-rest, none-passes}
 use Rattle.demands.specs.Standing.{stands-is}
 use Rattle.demands.specs.Table.{Case, cases, numbered, StandsIf, IsRight}
 

@@ -36,7 +36,7 @@ use Rattle.backwards.specs.Turned.{turns-round, turned-twice}
 use Rattle.backwards.specs.Pieces.{piece-there, piece-turned, turned-keeps-pieces, turned-keeps-words, turned-keeps-pairs, turned-keeps-pair-words}
 use Rattle.backwards.specs.Checked.{vertices-turned, edges-turned, triangles-turned, shape-turned, range-turned, unknown-turned, broken-turned, repeated-turned, checks-turned, accepted-turned}
 use Rattle.backwards.specs.Listed.{Asked, shares-turned, boxes-turned, listed-turned, pairs-turned}
-use Rattle.scenes.specs.Below.{or-left}
+use Rattle.seam_table.specs.Below.{or-left}
 use Rattle.scenes.specs.Speaking.{pair-says-one}
 use Rattle.listing.specs.InOrder.{ToList, FirstBelow, are-there, list-is}
 use Rattle.listing.specs.Once.{list-says-one}

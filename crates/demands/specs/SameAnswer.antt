@@ -18,7 +18,7 @@ use Rattle.meaning.specs.declared.PairAnswer.{PairAnswer}
 use Rattle.meaning.specs.declared.SettledAnswer.{SettledAnswer}
 use Rattle.theory.specs.EitherOrder.{answer-either-order, piece-answer-either-order, settled-either-order, piece-settled-either-order}
 use Rattle.theory.specs.Moved.{Moves}
-use Rattle.scenes.specs.Below.{or-left}
+use Rattle.seam_table.specs.Below.{or-left}
 use Rattle.scenes.specs.Speaking.{pair-says-one}
 use Rattle.demands.specs.Deciding.{holds-or-not}
 use Rattle.demands.specs.Demand1.{AskedTable, demand1-pair, demand1-piece, demand1-settled-pair, demand1-settled-piece}

@@ -20,7 +20,7 @@ use Rattle.meaning.specs.declared.ListAnswer.{ListAnswer}
 use Rattle.meaning.specs.declared.SceneAnswer.{SceneAnswer}
 use Rattle.meaning.specs.declared.TextAnswer.{TextAnswer}
 use Rattle.entries.specs.Entries.{entries-length}
-use Rattle.scenes.specs.Below.{or-left, or-rest}
+use Rattle.seam_table.specs.Below.{or-left, or-rest}
 use Rattle.scenes.specs.Facts.{accepted-sized}
 use Rattle.scene_text.specs.Accepted.{text-accepted}
 use Rattle.demands.specs.Demand1.{demand1-listing}

@@ -17,7 +17,7 @@ use Rattle.meaning.specs.StoredBoxes.{Box, boxAt, vertexBox, edgeBox, triangleB
 use Rattle.meaning.specs.declared.ListAnswer.{ListAnswer}
 use Rattle.scenes.specs.Answering.{is-past}
 use Rattle.scenes.specs.Accepting.{after-accepted}
-use Rattle.scenes.specs.Below.{none-below}
+use Rattle.seam_table.specs.Below.{none-below}
 use Rattle.boxed_scenes.specs.Checks.{past-boxed}
 use Rattle.listing.specs.Answering.{IsCount, roomChecks}
 

@@ -18,7 +18,7 @@ use Rattle.meaning.specs.StoredBoxes.{Boxed, shortBoxes}
 use Rattle.meaning.specs.Dragging.{placed, movedScene, newOutside, tearsSeam, VertexMoved}
 use Rattle.meaning.specs.declared.SceneAnswer as SceneAnswers
 use Rattle.meaning.specs.declared.SceneAnswer.{SceneAnswer}
-use Rattle.scenes.specs.Below.{or-left, or-rest, none-passes, none-below}
+use Rattle.seam_table.specs.Below.{or-left, or-rest, none-passes, none-below}
 use Rattle.scenes.specs.Speaking.{scene-says-one}
 use Rattle.boxed_scenes.specs.Placed.{placed-length, placed-here, placed-elsewhere}
 use Rattle.boxed_scenes.specs.Torn.{together}

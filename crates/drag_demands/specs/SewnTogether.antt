@@ -12,7 +12,7 @@ use lib.ListN.{length, getD}
 use borrow.Author.Tests.{eq-eqb, ne-eqb, leb-false, lt-ltb}
 use Rattle.sequences.specs.Range.{le-or-lt}
 use Rattle.meaning.specs.Scene.{Scene, sceneOf, Accepted, vertexCount, seamCount, sewn, onto, stoodFor, countsAs, notRising, replaced, comesApart, wrongSeam}
-use Rattle.scenes.specs.Below.{or-left, or-rest, none-passes}
+use Rattle.seam_table.specs.Below.{or-left, or-rest, none-passes}
 use Rattle.boxed_scenes.specs.Torn.{together}
 use Rattle.drag_demands.specs.Chain.{Dragged, Right}
 use Rattle.drag_demands.specs.SewnMoves.{unsewn, toOnePlace, placedAll, has, Whole, seam-dragged}

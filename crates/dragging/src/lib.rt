@@ -8,16 +8,16 @@ ghost use lib.ListN.{length};
 ghost use Rattle.meaning.specs.Scene.{sceneAtEntry, vertexCount};
 ghost use Rattle.meaning.specs.StoredBoxes.{BoxesFilled};
 ghost use Rattle.meaning.specs.Dragging.{placed, newOutside, VertexMoved};
-ghost use Rattle.scenes.specs.Alone.{onlyPositions};
+ghost use Rattle.seam_table.specs.Alone.{onlyPositions};
 ghost use Rattle.boxed_scenes.specs.Placed.{threePlaced};
 use boxes::filling::fill;
 use meaning::BOX_NUMBERS;
 use meaning::Refusal;
 use meaning::SceneAnswer;
 use mending::mend;
+use scene_parts::vertex_count;
 use scenes::check_scene;
 use scenes::faults::out_of_range;
-use scenes::parts::vertex_count;
 use tearing::tears_seam;
 
 // The boxes of a scene, in front of a lent buffer.

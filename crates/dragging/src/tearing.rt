@@ -6,10 +6,10 @@ ghost use lib.IntN.{pos};
 ghost use lib.ListN.{length, getD};
 ghost use Rattle.meaning.specs.Scene.{vertexCount, seamCount, sewn, onto, differ, comesApart};
 ghost use Rattle.meaning.specs.Dragging.{movedScene, tearsSeam};
-ghost use Rattle.scenes.specs.Alone.{onlyPositions};
-ghost use Rattle.scenes.specs.Sewing.{seamsAlone};
+ghost use Rattle.seam_table.specs.Alone.{onlyPositions};
+ghost use Rattle.seam_table.specs.Sewing.{seamsAlone};
 ghost use Rattle.boxed_scenes.specs.Torn.{apartFrom, Together};
-use scenes::written::wide;
+use seam_table::wide;
 
 // Whether two numbers, each of its own list, differ.
 fn unequal(list: &[i32], i: usize, other: &[i32], j: usize) -> bool

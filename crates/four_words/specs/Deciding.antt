@@ -16,7 +16,7 @@ use Rattle.meaning.specs.declared.Settled.{Settled}
 use Rattle.meaning.specs.declared.PairAnswer.{PairAnswer}
 use Rattle.meaning.specs.declared.PairAnswer.the-variants.{Judged, Refused}
 use Rattle.meaning.specs.declared.SettledAnswer.{SettledAnswer}
-use Rattle.scenes.specs.Below.{or-left}
+use Rattle.seam_table.specs.Below.{or-left}
 use Rattle.scenes.specs.Answering.{is-given, gives, refused-before, given-before}
 use Rattle.three_words.specs.Asked.{askedChecks}
 

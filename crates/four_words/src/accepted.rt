@@ -7,7 +7,7 @@ ghost use Rattle.meaning.specs.Pieces.{pieceOf};
 ghost use Rattle.meaning.specs.Refusals.{notThere};
 ghost use Rattle.meaning.specs.Verdicts.{PieceIs, PairIs};
 ghost use Rattle.meaning.specs.Resting.{PieceSettled, PairSettled};
-ghost use Rattle.scenes.specs.Alone.{tabledIn, tabledAtEntry};
+ghost use Rattle.seam_table.specs.Alone.{tabledIn, tabledAtEntry};
 ghost use Rattle.meaning.specs.declared.Verdict.the-variants.{Degenerate};
 ghost use Rattle.four_words.specs.Words.{TouchSaid, isSingular, plainWord};
 use super::six::six_of;

@@ -5,7 +5,7 @@ pub mod accepted; // accepted.rt: pieces and pairs of a scene that was checked a
 
 ghost use Rattle.meaning.specs.Scene.{sceneAtEntry};
 ghost use Rattle.meaning.specs.Resting.{PairDecided, PieceDecided};
-ghost use Rattle.scenes.specs.Sewing.{Blank};
+ghost use Rattle.seam_table.specs.Sewing.{Blank};
 ghost use Rattle.scenes.specs.Checking.{Stitched};
 use meaning::Kind;
 use meaning::PairAnswer;

@@ -9,7 +9,7 @@ ghost use Rattle.meaning.specs.Limits.{vertexLimit};
 ghost use Rattle.meaning.specs.Scene.{Accepted};
 ghost use Rattle.meaning.specs.Refusals.{notThere};
 ghost use Rattle.corner_search.specs.Sixes.{pointSix, edgesSix, sixOf};
-ghost use Rattle.scenes.specs.Alone.{tabledIn, tabledAtEntry};
+ghost use Rattle.seam_table.specs.Alone.{tabledIn, tabledAtEntry};
 ghost use Rattle.four_words.specs.Six.{between, PointFew, EdgesFew};
 use corner_leaf::SixPoints;
 use meaning::Corners;
@@ -73,10 +73,10 @@ pub fn six_of(
     ensures { λ r. ⌜ r ≡ sixOf (tabledAtEntry positions edges triangles stands) kind i j k ⌝ }
 {
     match kind {
-        Kind::PointTriangle => point_six(i, scenes::parts::corners_of(triangles, stands, j), k),
+        Kind::PointTriangle => point_six(i, scene_parts::corners_of(triangles, stands, j), k),
         Kind::EdgeEdge => {
-            let first = scenes::parts::ends_of(edges, stands, smaller(i, j));
-            let second = scenes::parts::ends_of(edges, stands, larger(i, j));
+            let first = scene_parts::ends_of(edges, stands, smaller(i, j));
+            let second = scene_parts::ends_of(edges, stands, larger(i, j));
             edges_six(first, k / 2, second, k % 2)
         }
     }

@@ -15,7 +15,7 @@ use Rattle.meaning.specs.Scene.{Scene, vertexCount, edgeCount, triangleCount}
 use Rattle.meaning.specs.Refusals.{notThere, shares}
 use Rattle.meaning.specs.Boxes.{boxesMeet, listed}
 use Rattle.meaning.specs.List.{Pair, pair, pairs, kindPart}
-use Rattle.scenes.specs.Below.{or-left, or-rest}
+use Rattle.seam_table.specs.Below.{or-left, or-rest}
 use Rattle.meaning.specs.declared.Kind.{Kind}
 use Rattle.meaning.specs.declared.Kind.the-variants.{PointTriangle, EdgeEdge}
 

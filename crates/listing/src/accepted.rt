@@ -6,7 +6,7 @@ ghost use mathlib.Core.Path.{_≡_};
 ghost use lib.ListN.{length, take};
 ghost use Rattle.sequences.specs.Wrote.{written};
 ghost use Rattle.meaning.specs.Scene.{Accepted};
-ghost use Rattle.scenes.specs.Alone.{tabledIn, tabledAtEntry};
+ghost use Rattle.seam_table.specs.Alone.{tabledIn, tabledAtEntry};
 ghost use Rattle.meaning.specs.List.{pairs, entries, roomOf};
 ghost use Rattle.meaning.specs.Runs.{boxTests, Tested};
 ghost use Rattle.walking.specs.Skipping.{Prepared};

@@ -5,7 +5,7 @@ pub mod accepted; // accepted.rt: the list of a scene that is accepted
 ghost use Rattle.meaning.specs.Scene.{sceneAtEntry};
 ghost use Rattle.meaning.specs.List.{Counted, Listing};
 ghost use Rattle.meaning.specs.Runs.{Tested};
-ghost use Rattle.scenes.specs.Sewing.{Blank};
+ghost use Rattle.seam_table.specs.Sewing.{Blank};
 ghost use Rattle.scenes.specs.Checking.{Stitched};
 use accepted::count_accepted;
 use accepted::list_accepted;

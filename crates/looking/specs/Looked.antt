@@ -10,7 +10,7 @@ use lib.ListN.{length, getD}
 use Rattle.sequences.specs.Pick.{neither}
 use Rattle.meaning.specs.Scene.{Scene, vertexCount, edgeCount, triangleCount, edgeEnd, corner, someBelow}
 use Rattle.meaning.specs.StoredBoxes.{spanAt, boxAt, vertexBox, edgeBox, triangleBox, edgePlace, trianglePlace, VerticesIn, Boxed, otherSpan, otherBox, staleVertex, staleEdge, staleTriangle, staleBox}
-use Rattle.scenes.specs.Below.{none-passes}
+use Rattle.seam_table.specs.Below.{none-passes}
 use Rattle.boxes.specs.Kept.{between, numbersBetween, jointBox}
 use Rattle.boxes.specs.Parts.{Ready, end-known, corner-known}
 use Rattle.looking.specs.Telling.{same-box}

@@ -9,7 +9,7 @@ ghost use mathlib.Core.Path.{_≡_};
 ghost use Rattle.meaning.specs.Scene.{sceneAtEntry, sceneAtExit};
 ghost use Rattle.meaning.specs.Refusals.{SceneChecked, PairJudged, PieceJudged};
 ghost use Rattle.meaning.specs.Backwards.{Turning};
-ghost use Rattle.scenes.specs.Alone.{unsewnAtEntry};
+ghost use Rattle.seam_table.specs.Alone.{unsewnAtEntry};
 ghost use Rattle.turning.specs.Scene.{unsewnAtExit};
 ghost use Rattle.meaning.specs.Resting.{PairDecided, PieceDecided};
 ghost use Rattle.meaning.specs.List.{Counted, Listing};

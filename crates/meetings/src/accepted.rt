@@ -8,7 +8,7 @@ ghost use Rattle.meaning.specs.Refusals.{notThere};
 ghost use Rattle.meaning.specs.Resting.{PairSettled};
 ghost use Rattle.meaning.specs.Meetings.{MomentIs, MeetingIs};
 ghost use Rattle.meaning.specs.declared.Settled.the-variants.{Hit};
-ghost use Rattle.scenes.specs.Alone.{tabledIn, tabledAtEntry};
+ghost use Rattle.seam_table.specs.Alone.{tabledIn, tabledAtEntry};
 use hit_times::edges_moment;
 use hit_times::point_moment;
 use meaning::Kind;
@@ -33,15 +33,11 @@ fn moment(
 {
     match kind {
         Kind::PointTriangle => {
-            point_moment(
-                positions,
-                i,
-                scenes::parts::corners_of(triangles, stands, j),
-            )
+            point_moment(positions, i, scene_parts::corners_of(triangles, stands, j))
         }
         Kind::EdgeEdge => {
-            let first = scenes::parts::ends_of(edges, stands, smaller(i, j));
-            let second = scenes::parts::ends_of(edges, stands, larger(i, j));
+            let first = scene_parts::ends_of(edges, stands, smaller(i, j));
+            let second = scene_parts::ends_of(edges, stands, larger(i, j));
             edges_moment(positions, first, second)
         }
     }

@@ -10,7 +10,7 @@ ghost use Rattle.meaning.specs.Limits.{vertexLimit};
 ghost use Rattle.meaning.specs.Scene.{sceneOf, vertexCount, edgeCount, triangleCount};
 ghost use Rattle.meaning.specs.StoredBoxes.{spanAt, boxAt, vertexBox, edgeBox, triangleBox, edgePlace, trianglePlace, boxNumbers};
 ghost use Rattle.meaning.specs.Dragging.{edgeHas, triangleHas, BoxesMoved};
-ghost use Rattle.scenes.specs.Alone.{onlyPositions, onlyEdges, onlyTriangles, unsewnIn, unsewnAtEntry};
+ghost use Rattle.seam_table.specs.Alone.{onlyPositions, onlyEdges, onlyTriangles, unsewnIn, unsewnAtEntry};
 ghost use Rattle.boxes.specs.Kept.{jointBox};
 ghost use Rattle.boxes.specs.Storing.{BoxStored, withSpan};
 ghost use Rattle.boxes.specs.Parts.{Drawn};
@@ -18,11 +18,11 @@ ghost use Rattle.mending.specs.Mending.{workNumbers, WorkedOut, Workable
 use boxes::kept::store_joint_box;
 use boxes::kept::store_vertex;
 use meaning::VERTEX_LIMIT;
-use scenes::parts::edge_count;
-use scenes::parts::triangle_count;
-use scenes::parts::vertex_count;
-use scenes::written::corner;
-use scenes::written::edge_end;
+use scene_parts::edge_count;
+use scene_parts::triangle_count;
+use scene_parts::vertex_count;
+use scene_parts::written::corner;
+use scene_parts::written::edge_end;
 
 // Room to work a box out: one for each vertex, and one more.
 const WORK_NUMBERS: usize = 6 * (VERTEX_LIMIT + 1);

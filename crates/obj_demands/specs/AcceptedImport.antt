@@ -11,7 +11,7 @@ use borrow.Author.Tests.{eq-eqb, eqb-true, not-false, leb-false, eqb-false, ltb-
 use Rattle.sequences.specs.Gather.{gather, gather-first, gather-none}
 use Rattle.sequences.specs.Range.{towards}
 use Rattle.scenes.specs.Answering.{is-given}
-use Rattle.scenes.specs.Below.{or-left, or-rest, none-passes}
+use Rattle.seam_table.specs.Below.{or-left, or-rest, none-passes}
 use Rattle.meaning.specs.Limits.{coordinateLimit, vertexLimit, edgeLimit, triangleLimit, seamLimit}
 use Rattle.meaning.specs.Lines as Lines
 use Rattle.meaning.specs.Lines.{afterAll}

@@ -8,7 +8,7 @@ use native.Mathlib.Omega.{arith}
 use borrow.Author.Tests.{ltb-false}
 use lib.ListN.{length, take, drop, length-append}
 use lib.Seq.{take-append-seam}
-use Rattle.scenes.specs.Below.{or-left, or-rest}
+use Rattle.seam_table.specs.Below.{or-left, or-rest}
 use Rattle.scenes.specs.Facts.{Sized, accepted-sized}
 use Rattle.meaning.specs.Limits.{seamLimit}
 use Rattle.meaning.specs.Scene.{Scene, Accepted, seamCount, wrongShape}

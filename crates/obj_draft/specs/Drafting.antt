@@ -11,7 +11,7 @@ use lib.ListN.{length, take, drop, length-drop}
 use borrow.Author.Tests.{lt-ltb, leb-false, eqb-false}
 use Rattle.sequences.specs.Stands.{Stands}
 use Rattle.scenes.specs.Answering.{refuses, lets-pass, gives, refused-before, given-before}
-use Rattle.scenes.specs.Below.{or-left, or-rest}
+use Rattle.seam_table.specs.Below.{or-left, or-rest}
 use Rattle.meaning.specs.Limits.{vertexLimit, edgeLimit, triangleLimit, seamLimit}
 use Rattle.meaning.specs.Lines as Lines
 use Rattle.meaning.specs.Lines.{nothing, RecordJudged}

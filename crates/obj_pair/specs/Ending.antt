@@ -9,7 +9,7 @@ use lib.IntN.{ℤ, pos}
 use lib.ListN.{length, take, getD}
 use lib.Seq.{getD-take}
 use borrow.Author.Tests.{eqb-true, not-false}
-use Rattle.scenes.specs.Below.{or-left, or-rest}
+use Rattle.seam_table.specs.Below.{or-left, or-rest}
 use Rattle.sequences.specs.Gather.{gather, gather-same}
 use Rattle.sequences.specs.Wrote.{written}
 use Rattle.meaning.specs.Limits.{vertexLimit, edgeLimit, triangleLimit}

@@ -9,7 +9,7 @@ use lib.IntN.{ℤ, pos}
 use lib.ListN.{length, replicate, length-replicate}
 use borrow.Author.Tests.{lt-ltb, le-ltb, ltb-false}
 use Rattle.sequences.specs.Wrote.{written}
-use Rattle.scenes.specs.Below.{or-left, or-rest}
+use Rattle.seam_table.specs.Below.{or-left, or-rest}
 use Rattle.meaning.specs.Limits.{textLimit, vertexLimit, edgeLimit, triangleLimit}
 use Rattle.meaning.specs.Lines.{FaultyAt}
 use Rattle.meaning.specs.Refusals.{given, numberOf}

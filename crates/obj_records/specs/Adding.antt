@@ -11,7 +11,7 @@ use lib.ListN.{length, take}
 use lib.Seq.{length-take-le}
 use borrow.Author.Tests.{leb-false, ltb-false}
 use Rattle.sequences.specs.Wrote.{Wrote, wrote-then}
-use Rattle.scenes.specs.Below.{or-left, or-rest}
+use Rattle.seam_table.specs.Below.{or-left, or-rest}
 use Rattle.meaning.specs.Limits.{coordinateLimit, vertexLimit, edgeLimit, triangleLimit}
 use Rattle.meaning.specs.Refusals.{Outcome, given, refused, numberOf}
 use Rattle.meaning.specs.Text.{coordinates}

@@ -7,7 +7,7 @@ use native.Mathlib.Omega.{arith}
 use lib.Dec.{leb, ltb, eqb}
 use borrow.Author.Tests.{leb-false, ltb-false}
 use Rattle.scenes.specs.Answering.{is-given}
-use Rattle.scenes.specs.Below.{or-left, or-rest}
+use Rattle.seam_table.specs.Below.{or-left, or-rest}
 use Rattle.meaning.specs.Limits.{coordinateLimit, vertexLimit, triangleLimit}
 use Rattle.meaning.specs.Refusals.{Outcome, given, refused}
 use Rattle.meaning.specs.declared.SceneCounts.{SceneCounts}

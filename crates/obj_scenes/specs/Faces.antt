@@ -8,7 +8,7 @@ use lib.Dec.{leb, ltb, eqb}
 use lib.ListN.{length, getD, length-append}
 use borrow.Author.Tests.{eq-eqb, ne-eqb, lt-leb, le-ltb, leb-false, eqb-false}
 use Rattle.sequences.specs.Pick.{pick, pick-has}
-use Rattle.scenes.specs.Below.{or-left, or-rest}
+use Rattle.seam_table.specs.Below.{or-left, or-rest}
 use Rattle.meaning.specs.Limits.{vertexLimit, edgeLimit, triangleLimit, seamLimit}
 use Rattle.meaning.specs.Refusals.{given}
 use Rattle.meaning.specs.Scene.{Scene, sceneOf, Accepted, stoodFor, someBelow, vertexCount, edgeCount, triangleCount, seamCount, uneven, overSize, wrongShape, unknownIn, unknownVertex, twiceInEdge, twiceInTriangle, repeatedVertex}

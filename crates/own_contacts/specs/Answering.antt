@@ -21,7 +21,7 @@ use Rattle.meaning.specs.declared.ListAnswer as ListAnswers
 use Rattle.meaning.specs.declared.ListAnswer.{ListAnswer}
 use Rattle.scenes.specs.Answering.{refuses, lets-pass, gives, refused-before, given-before}
 use Rattle.scenes.specs.Accepting.{after-accepted, after-refused}
-use Rattle.scenes.specs.Alone.{tabled}
+use Rattle.seam_table.specs.Alone.{tabled}
 use Rattle.scenes.specs.Checking.{Stitched, from-table}
 use Rattle.scene_words.specs.Listed.{pairsIn}
 use Rattle.scene_contacts.specs.Listed.{meetingsOf, metBytes, all-met}

@@ -20,7 +20,7 @@ use Rattle.meaning.specs.declared.ListAnswer as ListAnswers
 use Rattle.meaning.specs.declared.ListAnswer.{ListAnswer}
 use Rattle.scenes.specs.Answering.{refuses, lets-pass, gives, refused-before, given-before}
 use Rattle.scenes.specs.Accepting.{after-accepted, after-refused}
-use Rattle.scenes.specs.Alone.{tabled}
+use Rattle.seam_table.specs.Alone.{tabled}
 use Rattle.scenes.specs.Checking.{Stitched, from-table}
 use Rattle.scene_words.specs.Listed.{wordsOf, bytesOf, all-judged, pairsIn, AllThere}
 use Rattle.meaning.specs.OwnList.{askedFor, entryFaults, wordRoom, ownLimit, OwnSettled}

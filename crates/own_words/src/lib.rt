@@ -6,8 +6,8 @@ ghost use mathlib.Core.Path.{_≡_};
 ghost use Prim.Native.Nat.{ℕ, _≤_};
 ghost use lib.ListN.{length};
 ghost use Rattle.meaning.specs.Scene.{sceneOf, sceneAtEntry, Accepted};
-ghost use Rattle.scenes.specs.Alone.{tabledIn, tabledAtEntry};
-ghost use Rattle.scenes.specs.Sewing.{Blank};
+ghost use Rattle.seam_table.specs.Alone.{tabledIn, tabledAtEntry};
+ghost use Rattle.seam_table.specs.Sewing.{Blank};
 ghost use Rattle.scenes.specs.Checking.{Stitched};
 ghost use Rattle.meaning.specs.OwnList.{entryMissing, entryShared, ownLimit, OwnSettled};
 ghost use Rattle.own_words.specs.Faults.{FaultFound};
@@ -54,8 +54,8 @@ fn entry_shared(
     let first = entries::first_of(entry);
     let second = entries::second_of(entry);
     match entries::kind_of(entry) {
-        Kind::PointTriangle => scenes::parts::shares_pt(triangles, stands, first, second),
-        Kind::EdgeEdge => scenes::parts::shares_ee(edges, stands, first, second),
+        Kind::PointTriangle => scene_parts::shares_pt(triangles, stands, first, second),
+        Kind::EdgeEdge => scene_parts::shares_ee(edges, stands, first, second),
     }
 }
 

@@ -32,7 +32,7 @@ use Rattle.meaning.specs.declared.ContactAnswer.{ContactAnswer}
 use Rattle.theory.specs.Bounds.{Every, every-imp}
 use Rattle.theory.specs.Rewritten.{WellMade}
 use Rattle.theory.specs.Written.{endsWritten, cornersWritten, Different}
-use Rattle.scenes.specs.Below.{or-left, or-rest, none-passes}
+use Rattle.seam_table.specs.Below.{or-left, or-rest, none-passes}
 use Rattle.scenes.specs.Facts.{vertex-inside, accepted-wider}
 use Rattle.listing.specs.InOrder.{FirstBelow}
 use Rattle.scene_contacts.specs.OneMeeting.{one-meeting, one-contact}

@@ -13,7 +13,7 @@ use Rattle.sequences.specs.Mapped.{map-at}
 use Rattle.meaning.specs.Limits.{vertexLimit, edgeLimit, triangleLimit}
 use Rattle.meaning.specs.Scene.{Scene, sceneOf, AcceptedWithin, vertexCount, edgeCount, triangleCount, edgeEnd, corner, stoodFor, someBelow, beyond, twiceInEdge, twiceInTriangle, wrongShape, reachesBeyond, unknownVertex, repeatedVertex}
 use Rattle.meaning.specs.List.{Pair}
-use Rattle.scenes.specs.Below.{none-below, none-passes}
+use Rattle.seam_table.specs.Below.{none-below, none-passes}
 use Rattle.scenes.specs.Facts.{accepted-end, accepted-corner}
 use Rattle.backwards.specs.Checked.{none-broken}
 use Rattle.demands.specs.StillAccepted.{all-known, of-two, of-three, ends-differ, corners-differ}

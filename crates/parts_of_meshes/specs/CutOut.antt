@@ -19,7 +19,7 @@ use Rattle.meaning.specs.Scene.{Scene, sceneOf, AcceptedWithin, vertexCount, ed
 use Rattle.meaning.specs.Text.{coordinates}
 use Rattle.theory.specs.Bounds.{Every}
 use Rattle.theory.specs.Written.{Lower, before-lower, before-higher, endsWritten, cornersWritten, Different}
-use Rattle.scenes.specs.Below.{none-below}
+use Rattle.seam_table.specs.Below.{none-below}
 use Rattle.backwards.specs.Blocks.{gather-wide, gather-at}
 use Rattle.backwards.specs.Checked.{none-broken}
 use Rattle.demands.specs.StillAccepted.{all-known, of-two, of-three}

@@ -11,7 +11,7 @@ use Rattle.meaning.specs.declared.Kind.{Kind}
 use Rattle.meaning.specs.declared.Kind.the-variants.{PointTriangle, EdgeEdge}
 use Rattle.theory.specs.Moved.{Known}
 use Rattle.theory.specs.Rewritten.{WellMade}
-use Rattle.scenes.specs.Below.{or-left, or-rest}
+use Rattle.seam_table.specs.Below.{or-left, or-rest}
 use Rattle.scenes.specs.Facts.{known-inside, edge-inside, triangle-inside}
 use Rattle.listing.specs.InOrder.{are-there}
 use Rattle.demands.specs.StillAccepted.{ends-differ, corners-differ}

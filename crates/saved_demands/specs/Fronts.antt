@@ -16,8 +16,8 @@ use Rattle.meaning.specs.Limits.{coordinateLimit, vertexLimit, edgeLimit, trian
 use Rattle.meaning.specs.Scene.{Scene, sceneOf, Accepted, someBelow, stoodFor, vertexCount, edgeCount, triangleCount, seamCount, sewn, onto, uneven, overSize, wrongShape, beyond, unknownIn, unknownVertex, replaced, comesApart, wrongSeam, brokenSeam, twiceInEdge, twiceInTriangle, repeatedVertex}
 use Rattle.meaning.specs.Text.{Entry, vertex, edge, triangle, seam, coordinates, sceneWith, late}
 use Rattle.meaning.specs.declared.SceneCounts.{SceneCounts}
-use Rattle.scenes.specs.Below.{or-left, or-rest, none-passes, none-below}
-use Rattle.scenes.specs.OneMore.{broken, stays-broken, broken-alike}
+use Rattle.seam_table.specs.Below.{or-left, or-rest, none-passes, none-below}
+use Rattle.seam_table.specs.OneMore.{broken, stays-broken, broken-alike}
 use Rattle.scene_line.specs.Reading.{sortOf}
 use Rattle.scene_line.specs.Above.{Lengths, Bounded, bounded-by, lengths-more, countedBy}
 use Rattle.scene_line.specs.Adding.{one, twiceInTwo, twiceInThree}

@@ -18,7 +18,7 @@ use Rattle.meaning.specs.Lines as Lines
 use Rattle.meaning.specs.Lines.{afterAll}
 use Rattle.meaning.specs.Text.{Entry, vertex, edge, triangle, seam, coordinates, coordinatesIn, endsIn, cornersIn, seamIn, numbersOf, Short, sceneWith, none, late, EntryJudged, sceneLines, sceneFrom, Sound, Holds}
 use Rattle.meaning.specs.declared.SceneCounts.{SceneCounts}
-use Rattle.scenes.specs.Below.{or-left, or-rest}
+use Rattle.seam_table.specs.Below.{or-left, or-rest}
 use Rattle.scenes.specs.Facts.{Sized, accepted-sized}
 use Rattle.scene_line.specs.Reading.{sortOf}
 use Rattle.scene_line.specs.Above.{Above, Lengths, Bounded, above-none, bounded-by, lengths-more, countedBy, noCounts}

@@ -15,7 +15,7 @@ use Rattle.meaning.specs.Lines as Lines
 use Rattle.meaning.specs.Lines.{afterAll}
 use Rattle.meaning.specs.Text.{Entry, vertex, edge, triangle, seam, coordinates, sceneWith, none, late, sceneLines, sceneFrom, textOf, Sound, Holds}
 use Rattle.meaning.specs.declared.SceneCounts.{SceneCounts}
-use Rattle.scenes.specs.Below.{or-left, or-rest}
+use Rattle.seam_table.specs.Below.{or-left, or-rest}
 use Rattle.scene_line.specs.Reading.{sortOf}
 use Rattle.scene_line.specs.Above.{Above, Lengths, above-none, above-more, countedBy, noCounts, faultless}
 use Rattle.scene_line.specs.Checks.{with-vertex, with-edge, with-triangle, with-seam}

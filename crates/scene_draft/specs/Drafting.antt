@@ -12,10 +12,10 @@ use lib.Seq.{getD-take, getD-append-add, take-at, take-take}
 use borrow.Author.Tests.{leb-false}
 use Rattle.sequences.specs.Stands.{Stands}
 use Rattle.sequences.specs.Wrote.{Wrote}
-use Rattle.scenes.specs.Below.{or-left, or-rest}
-use Rattle.scenes.specs.Alone.{tabled}
-use Rattle.scenes.specs.Table.{seamsOf, sewnTo}
-use Rattle.scenes.specs.Sewing.{seamsAlone, leastAfter, breaksRules, one-more-seam, seam-entered}
+use Rattle.seam_table.specs.Below.{or-left, or-rest}
+use Rattle.seam_table.specs.Alone.{tabled}
+use Rattle.seam_table.specs.Table.{seamsOf, sewnTo}
+use Rattle.seam_table.specs.Sewing.{seamsAlone, leastAfter, breaksRules, one-more-seam, seam-entered}
 use Rattle.meaning.specs.Limits.{vertexLimit, seamLimit, digitLimit}
 use Rattle.meaning.specs.Scene.{Scene, sceneOf, overSize, outOfRange, unknownVertex, brokenSeam, repeatedVertex}
 use Rattle.meaning.specs.Refusals.{Outcome, given, refused, Answers, numberOf}

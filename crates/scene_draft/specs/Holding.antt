@@ -13,10 +13,10 @@ use Rattle.scene_line.specs.Judging.{judgedSays}
 use Rattle.scene_line.specs.declared.Judged.the-variants.{Good, Fault}
 use lib.IntN.{ℤ}
 use Rattle.meaning.specs.declared.SceneCounts.{SceneCounts}
-use Rattle.scenes.specs.Alone.{tabled}
-use Rattle.scenes.specs.OneMore.{leastOf}
-use Rattle.scenes.specs.Table.{sewnTo}
-use Rattle.scenes.specs.Sewing.{leastAfter, breaksRules}
+use Rattle.seam_table.specs.Alone.{tabled}
+use Rattle.seam_table.specs.OneMore.{leastOf}
+use Rattle.seam_table.specs.Table.{sewnTo}
+use Rattle.seam_table.specs.Sewing.{leastAfter, breaksRules}
 use Rattle.scene_line.specs.Above.{Bounded}
 use Rattle.scene_line.specs.declared.Sort.{Sort}
 use Rattle.scene_line.specs.declared.Sort.the-variants.{Vertex, Edge, Triangle, Seam}

@@ -11,7 +11,7 @@ use lib.Seq.{getD-take}
 use borrow.Author.Tests.{leb-false, ltb-false}
 use Rattle.whole.specs.Vector.{Vector}
 use Rattle.sequences.specs.Wrote.{Wrote, wrote-none}
-use Rattle.scenes.specs.Below.{or-left, or-rest}
+use Rattle.seam_table.specs.Below.{or-left, or-rest}
 use Rattle.fields.specs.Field.{negative}
 use Rattle.fields.specs.Ended.{InFront}
 use Rattle.meaning.specs.Limits.{coordinateLimit, vertexLimit, edgeLimit, triangleLimit, seamLimit}

@@ -5,8 +5,8 @@ use Prim.Native.Nat.{ℕ, _+_, _*_, _≤_, _<_}
 use native.Mathlib.Omega.{arith}
 use lib.IntN.{ℤ, pos}
 use lib.ListN.{length, drop, replicate, length-replicate}
-use Rattle.scenes.specs.Table.{seamsOf, no-seams-from}
-use Rattle.scenes.specs.Sewing.{blank-table}
+use Rattle.seam_table.specs.Table.{seamsOf, no-seams-from}
+use Rattle.seam_table.specs.Sewing.{blank-table}
 use Rattle.meaning.specs.Limits.{vertexLimit, edgeLimit, triangleLimit, seamLimit}
 use Rattle.meaning.specs.Scene.{Scene, sceneOf}
 use Rattle.meaning.specs.Refusals.{numberOf}

@@ -3,7 +3,7 @@ ghost use Prim.Native.Nat.{_+_, _*_, _≤_};
 ghost use lib.ListN.{length, take};
 ghost use mathlib.Core.Path.{_≡_};
 ghost use Rattle.meaning.specs.Scene.{sceneIn, sceneAtEntry};
-ghost use Rattle.scenes.specs.Sewing.{leastAfter};
+ghost use Rattle.seam_table.specs.Sewing.{leastAfter};
 ghost use Rattle.scene_line.specs.Judging.{judgedSays};
 ghost use Rattle.scene_draft.specs.Holding.{AtSeam, SeamHeld, HoldReady, Held};
 use meaning::Refusal;
@@ -11,7 +11,7 @@ use meaning::SceneCounts;
 use scene_line::Judged;
 use scene_line::Sort;
 use scenes::faults::repeated_vertex;
-use scenes::table::sew_next;
+use seam_table::sew_next;
 
 fn above(v: u16) -> usize
     ensures { λ r. ⌜ r ≡ v + 1 ⌝ }

@@ -10,7 +10,7 @@ use lib.ListN.{length, getD, length-append, List·getD-append}
 use lib.Seq.{getD-append-add}
 use Rattle.meaning.specs.Limits.{coordinateLimit}
 use Rattle.meaning.specs.Scene.{someBelow, stoodFor, outside, unknownIn}
-use Rattle.scenes.specs.Below.{some-more}
+use Rattle.seam_table.specs.Below.{some-more}
 
 or-false : (b : Bool) → b || false ≡ b
 or-false true = refl

@@ -12,7 +12,7 @@ use lib.ListN.{length, getD}
 use borrow.Author.Tests.{ltb-true, ltb-false, leb-true, leb-false, lt-ltb, le-ltb, lt-leb}
 use Rattle.whole.specs.Vector.{Vector}
 use Rattle.sequences.specs.Pick.{either}
-use Rattle.scenes.specs.Below.{or-left, or-rest, none-passes, none-below}
+use Rattle.seam_table.specs.Below.{or-left, or-rest, none-passes, none-below}
 use Rattle.meaning.specs.Limits.{coordinateLimit, vertexLimit, edgeLimit, triangleLimit, seamLimit}
 use Rattle.meaning.specs.Scene.{Scene, sceneOf, someBelow, stoodFor, vertexCount, overSize, outside, outOfRange, unknownIn, unknownVertex, brokenSeam, twiceInEdge, twiceInTriangle, repeatedVertex}
 use Rattle.meaning.specs.Text as Text

@@ -8,7 +8,7 @@ use lib.ListN.{length, length-append}
 use borrow.Author.Tests.{ltb-false}
 use Rattle.meaning.specs.Limits.{seamLimit}
 use Rattle.meaning.specs.Scene.{Scene, Accepted, seamCount, wrongShape}
-use Rattle.scenes.specs.Below.{or-left, or-rest}
+use Rattle.seam_table.specs.Below.{or-left, or-rest}
 use Rattle.scenes.specs.Facts.{Sized, accepted-sized, accepted-coordinate}
 use Rattle.numerals.specs.Marked.{Coordinates}
 use Rattle.meaning.specs.Saved.{savedText}

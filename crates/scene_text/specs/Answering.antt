@@ -8,7 +8,7 @@ use lib.Dec.{ltb}
 use lib.ListN.{length, take}
 use borrow.Author.Tests.{lt-ltb, le-ltb, ltb-false}
 use Rattle.sequences.specs.Wrote.{written}
-use Rattle.scenes.specs.Below.{or-left, or-rest}
+use Rattle.seam_table.specs.Below.{or-left, or-rest}
 use Rattle.meaning.specs.Limits.{textLimit}
 use Rattle.meaning.specs.Scene.{Scene}
 use Rattle.meaning.specs.Refusals.{Outcome, given, refused, numberOf}

@@ -14,7 +14,7 @@ use Rattle.sequences.specs.Pick.{either}
 use Rattle.scenes.specs.Facts.{Sized, accepted-sized}
 use Rattle.scenes.specs.Speaking.{one-number}
 use Rattle.meaning.specs.Scene.{Scene, sceneOf, Accepted, seamCount, wrongShape}
-use Rattle.scenes.specs.Below.{or-left, or-rest}
+use Rattle.seam_table.specs.Below.{or-left, or-rest}
 use Rattle.meaning.specs.Refusals.{Outcome, given, refused, numberOf}
 use Rattle.meaning.specs.Text.{Holds, FaultyAt, TextIs, shortBuffer, longText, TextOutcome, countsOf, countsTold, textSays, filled, TextRead}
 use Rattle.meaning.specs.declared.Refusal.{Refusal}

@@ -20,7 +20,7 @@ use Rattle.scene_words.specs.Listed.{wordsOf, bytesOf, all-judged, ListS
 use Rattle.meaning.specs.declared.Made.{Made}
 use Rattle.entries.specs.Entries.{written-at, written-room}
 use Rattle.scenes.specs.Answering.{is-given}
-use Rattle.scenes.specs.Alone.{tabled}
+use Rattle.seam_table.specs.Alone.{tabled}
 use Rattle.scenes.specs.Checking.{Stitched, from-table}
 use borrow.Author.Tests.{ltb-false}
 use native.Mathlib.Nat.{le-trans}

@@ -11,12 +11,12 @@ use Rattle.meaning.specs.Refusals.{SceneChecked, sceneSays, numberOf}
 use Rattle.meaning.specs.declared.Refusal.the-variants.{Shape, Coordinate, UnknownVertex, RepeatedVertex, BrokenSeam}
 use Rattle.meaning.specs.declared.SceneAnswer as SceneAnswers
 use Rattle.meaning.specs.declared.SceneAnswer.{SceneAnswer}
-use Rattle.scenes.specs.Below.{or-left, or-rest}
+use Rattle.seam_table.specs.Below.{or-left, or-rest}
 use Rattle.scenes.specs.Answering.{refuses, lets-pass, gives}
 use Rattle.scenes.specs.Facts.{none-over, known-inside}
-use Rattle.scenes.specs.Table.{seamsOf}
-use Rattle.scenes.specs.Alone.{tabled}
-use Rattle.scenes.specs.Sewing.{Blank, Sewable, Sewn, tableAfter}
+use Rattle.seam_table.specs.Table.{seamsOf}
+use Rattle.seam_table.specs.Alone.{tabled}
+use Rattle.seam_table.specs.Sewing.{Blank, Sewable, Sewn, tableAfter}
 
 -- the seams are taken into the table once 1, 2 and 3 have passed
 abbrev pub stitched : Scene → List ℕ → List ℕ

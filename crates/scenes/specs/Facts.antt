@@ -12,7 +12,7 @@ use lib.ListN.{length, getD, List·getD-eq-default}
 use borrow.Author.Tests.{ltb-false, le-ltb, leb-false, eqb-true, not-false}
 use Rattle.meaning.specs.Limits.{vertexLimit, edgeLimit, triangleLimit}
 use Rattle.meaning.specs.Scene.{Scene, AcceptedWithin, vertexCount, edgeCount, triangleCount, seamCount, edgeEnd, corner, beyond, unknownIn}
-use Rattle.scenes.specs.Below.{or-left, or-rest, none-passes, none-below}
+use Rattle.seam_table.specs.Below.{or-left, or-rest, none-passes, none-below}
 
 -- six numbers to each vertex, two to each edge, three to each triangle, two to each seam, and no more of them than their sizes
 pub record Sized (s : Scene) : Type 0 where

@@ -7,15 +7,15 @@ ghost use lib.Dec.{leb};
 ghost use lib.IntN.{pos};
 ghost use lib.ListN.{length, getD};
 ghost use Rattle.meaning.specs.Scene.{sceneAtEntry, edgeCount, triangleCount, someBelow, wrongShape, outside, outOfRange, unknownIn, unknownVertex, twiceInEdge, twiceInTriangle, repeatedVertex};
-ghost use Rattle.scenes.specs.Alone.{onlyPositions, onlyEdges, onlyTriangles, edgesSewn, trianglesSewn, tabled};
-use super::parts::corner_counts_as;
-use super::parts::end_counts_as;
-use super::written::wide;
+ghost use Rattle.seam_table.specs.Alone.{onlyPositions, onlyEdges, onlyTriangles, edgesSewn, trianglesSewn, tabled};
 use meaning::COORDINATE_LIMIT;
 use meaning::EDGE_LIMIT;
 use meaning::SEAM_LIMIT;
 use meaning::TRIANGLE_LIMIT;
 use meaning::VERTEX_LIMIT;
+use scene_parts::corner_counts_as;
+use scene_parts::end_counts_as;
+use seam_table::wide;
 
 // 1: a length that is no multiple, or a count over its size.
 pub fn wrong_shape(positions: &[i32], edges: &[u16], triangles: &[u16], seams: &[u16]) -> bool

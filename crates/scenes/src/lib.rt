@@ -1,13 +1,10 @@
-// The checks 1, 2, 3, 15 and 4 of scene slices, the table of seams, and what an edge and a triangle of a scene are.
+// The checks 1, 2, 3, 15 and 4 of scene slices.
 
-pub mod table; // table.rt: the vertex stood for, and 15
-pub mod written; // written.rt: ends and corners as the scene writes them, and in rising number
 pub mod faults; // faults.rt: what each of the other checks asks
-pub mod parts; // parts.rt: counts, the ends of an edge, the corners of a triangle, and what they share
 
 ghost use Rattle.meaning.specs.Scene.{sceneAtEntry};
 ghost use Rattle.meaning.specs.Refusals.{SceneChecked};
-ghost use Rattle.scenes.specs.Sewing.{Blank};
+ghost use Rattle.seam_table.specs.Sewing.{Blank};
 ghost use Rattle.scenes.specs.Checking.{Checked};
 use faults::out_of_range;
 use faults::repeated_vertex;
@@ -16,7 +13,7 @@ use faults::wrong_shape;
 use meaning::Refusal;
 use meaning::SceneAnswer;
 use meaning::VERTEX_LIMIT;
-use table::sew_all;
+use seam_table::sew_all;
 
 // May this scene be used? The shape comes first, so that the other checks read no more than the sizes allow; the seams are taken into the table
 // once their numbers are known to be vertices.

@@ -21,7 +21,7 @@ use Rattle.meaning.specs.Series.{Series, stepAfter, stepsFrom, lastFrom, stepsO
 use Rattle.meaning.specs.SeriesText.{Item, of, ends, next, threeOf, SoFar, nothingYet, blocksSoFar, seriesSoFar, withItem, ItemFormed, blockFull, blockShort, wrongLength, farEnd, comesApartNow, itemChecks, seriesLines, HoldsSeries}
 use Rattle.meaning.specs.declared.SceneCounts.{SceneCounts}
 use Rattle.scenes.specs.Answering.{is-given}
-use Rattle.scenes.specs.Below.{or-left, or-rest}
+use Rattle.seam_table.specs.Below.{or-left, or-rest}
 use Rattle.scenes.specs.Facts.{accepted-sized}
 use Rattle.scene_line.specs.Reading.{sortOf}
 use Rattle.scene_line.specs.Above.{Above, above-none, above-more, countedBy, noCounts}

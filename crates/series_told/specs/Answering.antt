@@ -10,8 +10,8 @@ use lib.ListN.{length, take, drop}
 use lib.Seq.{length-take-le, take-at}
 use borrow.Author.Tests.{lt-ltb, le-ltb, ltb-true, ltb-false}
 use Rattle.sequences.specs.Wrote.{written}
-use Rattle.scenes.specs.Below.{or-left, or-rest}
-use Rattle.scenes.specs.Table.{seamsOf}
+use Rattle.seam_table.specs.Below.{or-left, or-rest}
+use Rattle.seam_table.specs.Table.{seamsOf}
 use Rattle.meaning.specs.Limits.{textLimit}
 use Rattle.meaning.specs.Scene.{Scene, sceneOf, vertexCount, Accepted}
 use Rattle.meaning.specs.Refusals.{Outcome, given, refused, Answers, numberOf}

@@ -15,8 +15,8 @@ use Rattle.meaning.specs.StoredBoxes.{Filled, boxNumbers}
 use Rattle.meaning.specs.declared.SceneCounts.{SceneCounts}
 use Rattle.meaning.specs.declared.ListAnswer as ListAnswers
 use Rattle.meaning.specs.declared.ListAnswer.{ListAnswer}
-use Rattle.scenes.specs.Alone.{tabled}
-use Rattle.scenes.specs.Table.{seamsOf}
+use Rattle.seam_table.specs.Alone.{tabled}
+use Rattle.seam_table.specs.Table.{seamsOf}
 use Rattle.scenes.specs.Answering.{is-past, is-given}
 use Rattle.boxes.specs.Parts.{Drawn, accepted-drawn}
 use borrow.Author.Tests.{le-ltb}

@@ -6,7 +6,7 @@ ghost use mathlib.Core.Path.{_≡_};
 ghost use lib.ListN.{length};
 ghost use Rattle.meaning.specs.Scene.{Accepted};
 ghost use Rattle.meaning.specs.List.{pairs};
-ghost use Rattle.scenes.specs.Alone.{tabledIn, tabledAtEntry};
+ghost use Rattle.seam_table.specs.Alone.{tabledIn, tabledAtEntry};
 ghost use Rattle.candidates.specs.Rows.{firstCount, rowOf, rowsOf};
 ghost use Rattle.walking.specs.Skipping.{Prepared};
 ghost use Rattle.step_told.specs.Rows.{TellsPairs};

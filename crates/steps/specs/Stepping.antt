@@ -11,7 +11,7 @@ use lib.ListN.{length, getD, List·getD-eq-default}
 use borrow.Author.Tests.{eq-eqb}
 use Rattle.sequences.specs.Gather.{gather}
 use Rattle.sequences.specs.Range.{le-or-lt}
-use Rattle.scenes.specs.Below.{or-left, or-rest, none-passes, none-below}
+use Rattle.seam_table.specs.Below.{or-left, or-rest, none-passes, none-below}
 use Rattle.meaning.specs.Scene.{Scene, sceneOf, vertexCount, someBelow, uneven, overSize, wrongShape, outside, outOfRange, unknownIn, unknownVertex, brokenSeam, repeatedVertex, Accepted}
 use Rattle.backwards.specs.Blocks.{gather-wide, gather-at}
 use Rattle.meaning.specs.Series.{goesOn, stepAfter}

@@ -11,8 +11,8 @@ use lib.ListN.{length, length-append}
 use borrow.Author.Tests.{lt-ltb, le-ltb}
 use Rattle.sequences.specs.Range.{le-or-lt}
 use Rattle.sequences.specs.Stands.{Stands}
-use Rattle.scenes.specs.Alone.{tabled}
-use Rattle.scenes.specs.Table.{seamsOf}
+use Rattle.seam_table.specs.Alone.{tabled}
+use Rattle.seam_table.specs.Table.{seamsOf}
 use Rattle.meaning.specs.Limits.{textLimit}
 use Rattle.meaning.specs.Scene.{Scene, sceneOf, vertexCount, Accepted}
 use Rattle.meaning.specs.Refusals.{Outcome, given, refused, Answers, numberOf}

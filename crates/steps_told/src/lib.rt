@@ -4,7 +4,7 @@ ghost use Prim.Native.Nat.{_≤_};
 ghost use mathlib.Core.Path.{_≡_};
 ghost use Rattle.meaning.specs.Scene.{Accepted};
 ghost use Rattle.meaning.specs.Refusals.{numberOf};
-ghost use Rattle.scenes.specs.Alone.{tabledIn, tabledAtEntry};
+ghost use Rattle.seam_table.specs.Alone.{tabledIn, tabledAtEntry};
 ghost use Rattle.block_draft.specs.Taking.{faultNumber};
 ghost use Rattle.steps_told.specs.Telling.{StepAdded, refusedAt, RoomAnswer};
 ghost use Rattle.steps_told.specs.Reading.{FirstStep, StepsAre};

@@ -21,7 +21,7 @@ use borrow.Author.Tests.{ltb-false}
 use Rattle.scenes.specs.Answering.{refuses, lets-pass, gives, is-given, refused-before, given-before}
 use Rattle.scenes.specs.Accepting.{checked-accepted}
 use Rattle.scenes.specs.Checking.{Stitched, from-table}
-use Rattle.scenes.specs.Alone.{tabled}
+use Rattle.seam_table.specs.Alone.{tabled}
 use Rattle.scenes.specs.Facts.{accepted-sized}
 use Rattle.boxed_scenes.specs.Checks.{short-boxes, boxed-refused, boxed-accepted}
 use Rattle.looking.specs.Looked.{boxes-right}

@@ -3,7 +3,7 @@
 ghost use Rattle.meaning.specs.Scene.{sceneAtEntry};
 ghost use Rattle.meaning.specs.StoredBoxes.{CountedStored, ListedStored};
 ghost use Rattle.meaning.specs.Runs.{Tested};
-ghost use Rattle.scenes.specs.Sewing.{Blank};
+ghost use Rattle.seam_table.specs.Sewing.{Blank};
 ghost use Rattle.stored_listing.specs.Looked.{LookedAt};
 use entries::room;
 use listing::accepted::count_prepared;

@@ -24,10 +24,10 @@ use Rattle.meaning.specs.declared.ListAnswer as ListAnswers
 use Rattle.meaning.specs.declared.ListAnswer.{ListAnswer}
 use Rattle.meaning.specs.declared.TextAnswer as TextAnswers
 use Rattle.scenes.specs.Answering.{is-refused, is-past}
-use Rattle.scenes.specs.Below.{or-left, or-rest}
+use Rattle.seam_table.specs.Below.{or-left, or-rest}
 use Rattle.scenes.specs.Facts.{Sized, accepted-sized, known-inside}
-use Rattle.scenes.specs.Table.{seamsOf}
-use Rattle.scenes.specs.Sewing.{Sewable, Sewn, blank-table}
+use Rattle.seam_table.specs.Table.{seamsOf}
+use Rattle.seam_table.specs.Sewing.{Sewable, Sewn, blank-table}
 use Rattle.listing.specs.Answering.{roomChecks, IsCount, ListedIn}
 use Rattle.scene_words.specs.Listed.{ListStands, bytesOf, bytes-length, word-in-front}
 use Rattle.scene_words.specs.Answering.{SettledIn, MadeList, made-list, made-stands}

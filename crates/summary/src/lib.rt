@@ -8,7 +8,7 @@ ghost use lib.ListN.{length};
 ghost use Rattle.meaning.specs.Scene.{sceneIn, sceneAtEntry, Accepted};
 ghost use Rattle.meaning.specs.Limits.{textLimit};
 ghost use Rattle.meaning.specs.Report.{Reported, ReportedRead};
-ghost use Rattle.scenes.specs.Alone.{tabledIn, tabledAtEntry};
+ghost use Rattle.seam_table.specs.Alone.{tabledIn, tabledAtEntry};
 ghost use Rattle.summary.specs.Sizes.{reportLength};
 ghost use Rattle.summary.specs.Whole.{SceneReported};
 use meaning::EDGE_NUMBERS;
@@ -22,7 +22,7 @@ use meaning::TRIANGLE_NUMBERS;
 use meaning::TextAnswer;
 use meaning::VERTEX_LIMIT;
 use pairs::pairs_report;
-use scenes::table::sew_all;
+use seam_table::sew_all;
 use wording::lines::refused_line;
 use wording::number_of;
 

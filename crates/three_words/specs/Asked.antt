@@ -12,7 +12,7 @@ use Rattle.meaning.specs.declared.SceneAnswer as SceneAnswers
 use Rattle.meaning.specs.declared.SceneAnswer.{SceneAnswer}
 use Rattle.scenes.specs.Answering.{refuses, lets-pass, gives, is-refused, is-given, refused-before, given-before}
 use Rattle.scenes.specs.Accepting.{after-accepted}
-use Rattle.scenes.specs.Below.{or-left, or-rest}
+use Rattle.seam_table.specs.Below.{or-left, or-rest}
 
 -- checks 5 and 6, each with its test
 abbrev pub askedChecks : Bool → Bool → List Check

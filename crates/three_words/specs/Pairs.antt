@@ -14,7 +14,7 @@ use Rattle.meaning.specs.declared.Kind.{Kind}
 use Rattle.meaning.specs.declared.Kind.the-variants.{PointTriangle, EdgeEdge}
 use Rattle.meaning.specs.declared.Verdict.{Verdict}
 use Rattle.meaning.specs.declared.Verdict.the-variants.{Hit, Miss, Degenerate}
-use Rattle.scenes.specs.Below.{or-left, or-rest}
+use Rattle.seam_table.specs.Below.{or-left, or-rest}
 use Rattle.theory.specs.Computed.{joined, joinedBelow, pieceVerdict, pairVerdict}
 use Rattle.theory.specs.OneVerdict.{piece-is, pair-is}
 

@@ -9,7 +9,7 @@ ghost use Rattle.meaning.specs.Pieces.{pieceOf, pieceCount};
 ghost use Rattle.meaning.specs.Refusals.{notThere, shares};
 ghost use Rattle.meaning.specs.Verdicts.{PieceIs, PairIs};
 ghost use Rattle.meaning.specs.declared.Kind.the-variants.{PointTriangle, EdgeEdge};
-ghost use Rattle.scenes.specs.Alone.{tabledIn, tabledAtEntry};
+ghost use Rattle.seam_table.specs.Alone.{tabledIn, tabledAtEntry};
 ghost use Rattle.theory.specs.Computed.{joined};
 ghost use Rattle.sign_sums.specs.BySigns.{told};
 ghost use Rattle.three_words.specs.Ready.{PointReady, EdgesReady};
@@ -64,8 +64,8 @@ pub fn shares_vertex(
     ensures { λ r. ⌜ r ≡ shares (tabledAtEntry positions edges triangles stands) kind i j ⌝ }
 {
     match kind {
-        Kind::PointTriangle => scenes::parts::shares_pt(triangles, stands, i, j),
-        Kind::EdgeEdge => scenes::parts::shares_ee(edges, stands, i, j),
+        Kind::PointTriangle => scene_parts::shares_pt(triangles, stands, i, j),
+        Kind::EdgeEdge => scene_parts::shares_ee(edges, stands, i, j),
     }
 }
 
@@ -101,13 +101,13 @@ pub fn piece(
             crate::pieces::point_piece(
                 positions,
                 i,
-                scenes::parts::corners_of(triangles, stands, j),
+                scene_parts::corners_of(triangles, stands, j),
                 k,
             )
         }
         Kind::EdgeEdge => {
-            let first = scenes::parts::ends_of(edges, stands, smaller(i, j));
-            let second = scenes::parts::ends_of(edges, stands, larger(i, j));
+            let first = scene_parts::ends_of(edges, stands, smaller(i, j));
+            let second = scene_parts::ends_of(edges, stands, larger(i, j));
             crate::pieces::edges_piece(positions, first, k / 2, second, k % 2)
         }
     }
@@ -174,15 +174,11 @@ pub fn pair(
 {
     match kind {
         Kind::PointTriangle => {
-            point_pair(
-                positions,
-                i,
-                scenes::parts::corners_of(triangles, stands, j),
-            )
+            point_pair(positions, i, scene_parts::corners_of(triangles, stands, j))
         }
         Kind::EdgeEdge => {
-            let first = scenes::parts::ends_of(edges, stands, smaller(i, j));
-            let second = scenes::parts::ends_of(edges, stands, larger(i, j));
+            let first = scene_parts::ends_of(edges, stands, smaller(i, j));
+            let second = scene_parts::ends_of(edges, stands, larger(i, j));
             edges_pair(positions, first, second)
         }
     }

@@ -15,9 +15,9 @@ use Rattle.meaning.specs.Backwards.{fromLast, turnedRound, sceneLeft, Turning}
 use Rattle.meaning.specs.declared.Refusal.{Refusal}
 use Rattle.meaning.specs.declared.SceneAnswer as Answer
 use Rattle.meaning.specs.declared.SceneAnswer.{SceneAnswer}
-use Rattle.scenes.specs.Alone.{onlyPositions, unsewnIn}
+use Rattle.seam_table.specs.Alone.{onlyPositions, unsewnIn}
 use Rattle.scenes.specs.Accepting.{accepted-checked}
-use Rattle.scenes.specs.Below.{or-left, or-rest}
+use Rattle.seam_table.specs.Below.{or-left, or-rest}
 use Rattle.scenes.specs.Facts.{known-inside, accepted-sized}
 use Rattle.backwards.specs.Turned.{as-long, coordinate}
 use Rattle.turning.specs.Exchanging.{Exchanging, exchanging-ends}

@@ -7,14 +7,14 @@ ghost use mathlib.Core.Path.{_≡_};
 ghost use lib.ListN.{length};
 ghost use Rattle.meaning.specs.Limits.{vertexLimit};
 ghost use Rattle.meaning.specs.Backwards.{fromLast, Turning};
-ghost use Rattle.scenes.specs.Alone.{unsewnAtEntry};
+ghost use Rattle.seam_table.specs.Alone.{unsewnAtEntry};
 ghost use Rattle.backwards.specs.Turned.{source};
 ghost use Rattle.turning.specs.Exchanging.{exchanged};
 ghost use Rattle.turning.specs.Renumbering.{AllBelow};
 ghost use Rattle.turning.specs.Scene.{positionsTurned, unsewnAtExit};
 use meaning::SceneAnswer;
 use scenes::check_scene;
-use scenes::written::wide;
+use seam_table::wide;
 
 // Where the coordinate at place i comes from: the other half, start or end, of the vertex counted from the last.
 fn source(count: usize, i: usize) -> usize

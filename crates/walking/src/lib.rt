@@ -7,7 +7,7 @@ pub mod steps; // steps.rt: a pair, a run, a row, the rows
 ghost use Prim.Native.Nat.{_≤_};
 ghost use mathlib.Core.Path.{_≡_};
 ghost use lib.ListN.{length};
-ghost use Rattle.scenes.specs.Alone.{tabledIn, tabledAtEntry};
+ghost use Rattle.seam_table.specs.Alone.{tabledIn, tabledAtEntry};
 ghost use Rattle.meaning.specs.List.{pairs};
 ghost use Rattle.meaning.specs.Runs.{boxTests};
 ghost use Rattle.entries.specs.UpTo.{Walked};

@@ -5,7 +5,7 @@ ghost use Prim.Native.Nat.{_≤_, _<_};
 ghost use mathlib.Core.Path.{_≡_};
 ghost use lib.ListN.{length};
 ghost use Rattle.meaning.specs.Scene.{Accepted};
-ghost use Rattle.scenes.specs.Alone.{tabledIn, tabledAtEntry};
+ghost use Rattle.seam_table.specs.Alone.{tabledIn, tabledAtEntry};
 ghost use Rattle.meaning.specs.Runs.{runsOf};
 ghost use Rattle.meaning.specs.StoredBoxes.{Boxed};
 ghost use Rattle.boxes.specs.Kept.{meetBoxes};
@@ -19,9 +19,9 @@ use meaning::BOX_NUMBERS;
 use meaning::Kind;
 use runs::fill_runs;
 use runs::runs_of;
-use scenes::parts::edge_count;
-use scenes::parts::triangle_count;
-use scenes::parts::vertex_count;
+use scene_parts::edge_count;
+use scene_parts::triangle_count;
+use scene_parts::vertex_count;
 
 // Six numbers for each part, and for each run: 64 of edges, 32 of triangles.
 pub const WALK_NUMBERS: usize = BOX_NUMBERS + 576;

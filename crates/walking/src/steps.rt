@@ -5,7 +5,7 @@ ghost use Prim.Native.Nat.{_+_, _/_, _≤_, _<_};
 ghost use mathlib.Core.Path.{_≡_};
 ghost use lib.ListN.{length};
 ghost use Rattle.sequences.specs.Gather.{gather};
-ghost use Rattle.scenes.specs.Alone.{tabledIn, tabledAtEntry};
+ghost use Rattle.seam_table.specs.Alone.{tabledIn, tabledAtEntry};
 ghost use Rattle.meaning.specs.Runs.{runTo};
 ghost use Rattle.entries.specs.UpTo.{Walked};
 ghost use Rattle.candidates.specs.Rows.{firstCount, secondCount, candidate, rowOf, rowsOf};

@@ -1,7 +1,7 @@
 -- By kind: of the corners, or of the ends, that are there.
 use borrow.Author.Needs.{needs}
 use Rattle.meaning.specs.Scene.{Scene}
-use Rattle.scenes.specs.Alone.{tabled}
+use Rattle.seam_table.specs.Alone.{tabled}
 use Rattle.three_words.specs.Pairs.{pt-there, ee-smaller-there, ee-larger-there, pt-ready, ee-ready}
 use Rattle.at_rest.specs.Rests.{pt-rests, ee-rests}
 use Rattle.at_rest.proofs.pair_rests.Statement.{statement}

@@ -1,7 +1,7 @@
 -- `listed_ee`: boxes first, and then the vertices.
 use borrow.Author.Needs.{needs}
 use native.Mathlib.Omega.{arith}
-use Rattle.scenes.specs.Alone.{tabled}
+use Rattle.seam_table.specs.Alone.{tabled}
 use Rattle.meaning.specs.declared.Kind.the-variants.{EdgeEdge}
 use Rattle.candidates.specs.Meeting.{meets-ee, listed-unless, not-listed}
 use Rattle.candidates.proofs.listed_ee.Statement.{statement}

@@ -1,7 +1,7 @@
 -- `listed_pt`: boxes first, and then the vertices.
 use borrow.Author.Needs.{needs}
 use native.Mathlib.Omega.{arith}
-use Rattle.scenes.specs.Alone.{tabled}
+use Rattle.seam_table.specs.Alone.{tabled}
 use Rattle.meaning.specs.declared.Kind.the-variants.{PointTriangle}
 use Rattle.candidates.specs.Meeting.{meets-pt, listed-unless, not-listed}
 use Rattle.candidates.proofs.listed_pt.Statement.{statement}

@@ -1,7 +1,7 @@
 -- The list is made, and each of its pairs met; or it has no room, and one line says so.
 use native.Mathlib.Omega.{arith}
 use Rattle.meaning.specs.Scene.{Scene}
-use Rattle.scenes.specs.Alone.{tabled}
+use Rattle.seam_table.specs.Alone.{tabled}
 use Rattle.scene_words.specs.Answering.{made-list, made-stands}
 use Rattle.meetings.specs.Ready.{old-accepted}
 use Rattle.contact_report.specs.FromCalls.{own-room, no-room}

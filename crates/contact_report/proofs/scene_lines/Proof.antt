@@ -14,7 +14,7 @@ use Rattle.contact_report.proofs.scene_lines.Reads as reads
 use Rattle.contact_report.proofs.scene_lines.Lts as lts
 use Rattle.contact_report.proofs.near_contacts.Reads as near-contacts-reads
 use Rattle.meetings.proofs.beyond_old_range.Reads as beyond-old-range-reads
-use Rattle.scenes.proofs.table.sew_all.Reads as sew-all-reads
+use Rattle.seam_table.proofs.sew_all.Reads as sew-all-reads
 use Rattle.wording.proofs.lines.refused_line.Reads as refused-line-reads
 
 beyond-old-range-requires : tie.Need-beyond-old-range-requires

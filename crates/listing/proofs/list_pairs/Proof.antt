@@ -1,6 +1,6 @@
 -- `list_pairs`: the table is its own, and without entries where there are no seams.
 use borrow.Author.Needs.{needs}
-use Rattle.scenes.specs.Sewing.{blank-table}
+use Rattle.seam_table.specs.Sewing.{blank-table}
 use Rattle.listing.proofs.list_pairs.Statement.{statement}
 use Rattle.listing.proofs.list_pairs.Tie as tie
 

@@ -3,7 +3,7 @@ use borrow.Author.Needs.{needs}
 use native.Mathlib.Omega.{arith}
 use mathlib.Core.Path.{sym, _∙_}
 use Rattle.meaning.specs.Scene.{sceneOf}
-use Rattle.scenes.specs.Alone.{onlyPositions}
+use Rattle.seam_table.specs.Alone.{onlyPositions}
 use Rattle.looking.specs.Looked.{vertices-right, stale-by-vertex, stale-by-rest}
 use Rattle.looking.proofs.stale_box.Statement.{statement}
 use Rattle.looking.proofs.stale_box.Tie as tie

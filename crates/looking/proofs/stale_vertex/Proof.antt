@@ -1,7 +1,7 @@
 -- `stale_vertex`: axis by axis.
 use borrow.Author.Needs.{needs}
 use native.Mathlib.Omega.{arith}
-use Rattle.scenes.specs.Alone.{onlyPositions}
+use Rattle.seam_table.specs.Alone.{onlyPositions}
 use Rattle.looking.specs.Looked.{vertex-told}
 use Rattle.looking.proofs.stale_vertex.Statement.{statement}
 use Rattle.looking.proofs.stale_vertex.Tie as tie

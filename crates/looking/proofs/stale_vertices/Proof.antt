@@ -2,10 +2,10 @@
 use borrow.Author.Needs.{needs}
 use native.Mathlib.Omega.{arith}
 use Prim.Native.Nat.{_-_}
-use Rattle.scenes.specs.Scanning.{Scanned, scan-starts, scan-goes, scan-ends}
+use Rattle.seam_table.specs.Scanning.{Scanned, scan-starts, scan-goes, scan-ends}
 use Rattle.meaning.specs.Scene.{vertexCount}
 use Rattle.meaning.specs.StoredBoxes.{staleVertex}
-use Rattle.scenes.specs.Alone.{onlyPositions}
+use Rattle.seam_table.specs.Alone.{onlyPositions}
 use Rattle.looking.proofs.stale_vertices.Statement.{statement}
 use Rattle.looking.proofs.stale_vertices.Tie as tie
 

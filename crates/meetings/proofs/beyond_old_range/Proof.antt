@@ -5,7 +5,7 @@ use Rattle.meaning.specs.Limits.{contactLimit}
 use lib.IntN.{pos}
 use lib.ListN.{length, getD}
 use Rattle.meaning.specs.Scene.{beyond}
-use Rattle.scenes.specs.Scanning.{Scanned, scan-starts, scan-goes, scan-ends}
+use Rattle.seam_table.specs.Scanning.{Scanned, scan-starts, scan-goes, scan-ends}
 use Rattle.meetings.proofs.beyond_old_range.Statement.{statement}
 use Rattle.meetings.proofs.beyond_old_range.Tie as tie
 

@@ -1,6 +1,6 @@
 -- `meeting_pair`: the table is its own, and without entries where there are no seams.
 use borrow.Author.Needs.{needs}
-use Rattle.scenes.specs.Sewing.{blank-table}
+use Rattle.seam_table.specs.Sewing.{blank-table}
 use Rattle.meetings.proofs.meeting_pair.Statement.{statement}
 use Rattle.meetings.proofs.meeting_pair.Tie as tie
 

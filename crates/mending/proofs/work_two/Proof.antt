@@ -2,7 +2,7 @@
 use borrow.Author.Needs.{needs}
 use native.Mathlib.Omega.{arith}
 use Rattle.meaning.specs.StoredBoxes.{vertexBox}
-use Rattle.scenes.specs.Alone.{onlyPositions}
+use Rattle.seam_table.specs.Alone.{onlyPositions}
 use Rattle.mending.specs.Mending.{two-worked}
 use Rattle.mending.proofs.work_two.Statement.{statement}
 use Rattle.mending.proofs.work_two.Tie as tie

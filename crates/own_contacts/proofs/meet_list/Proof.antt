@@ -1,6 +1,6 @@
 -- `meet_list`: a list that is too long is refused; the table is its own, and without entries where there are no seams.
 use borrow.Author.Needs.{needs}
-use Rattle.scenes.specs.Sewing.{blank-table}
+use Rattle.seam_table.specs.Sewing.{blank-table}
 use Rattle.own_contacts.specs.Answering.{own-met-long}
 use Rattle.own_contacts.proofs.meet_list.Statement.{statement}
 use Rattle.own_contacts.proofs.meet_list.Tie as tie

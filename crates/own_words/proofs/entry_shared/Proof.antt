@@ -1,7 +1,7 @@
 -- `entry_shared`: the entry is taken apart, and its parts are compared as its kind says.
 use borrow.Author.Needs.{needs}
 use mathlib.Core.Path.{sym, _∙_}
-use Rattle.scenes.specs.Alone.{tabled}
+use Rattle.seam_table.specs.Alone.{tabled}
 use Rattle.meaning.specs.List.{pair}
 use Rattle.three_words.specs.Pairs.{pt-there, ee-there}
 use Rattle.own_words.specs.Faults.{shared-is, read-there}

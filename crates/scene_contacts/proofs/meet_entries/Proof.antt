@@ -7,7 +7,7 @@ use mathlib.Core.List.{List, [], _∷_}
 use lib.ListN.{length, drop, drop-of-length-le}
 use Rattle.sequences.specs.Writing.{Writing, writing-starts-front, writing-as, writing-room, writing-step, writing-ends-front}
 use Rattle.meaning.specs.Scene.{Scene}
-use Rattle.scenes.specs.Alone.{tabled}
+use Rattle.seam_table.specs.Alone.{tabled}
 use Rattle.meaning.specs.SceneWords.{byteOf}
 use Rattle.meaning.specs.Meetings.{wordOf}
 use Rattle.meaning.specs.declared.Meeting.{Meeting}

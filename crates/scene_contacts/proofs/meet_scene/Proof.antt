@@ -1,6 +1,6 @@
 -- `meet_scene`: the table is its own, and without entries where there are no seams.
 use borrow.Author.Needs.{needs}
-use Rattle.scenes.specs.Sewing.{blank-table}
+use Rattle.seam_table.specs.Sewing.{blank-table}
 use Rattle.scene_contacts.proofs.meet_scene.Statement.{statement}
 use Rattle.scene_contacts.proofs.meet_scene.Tie as tie
 

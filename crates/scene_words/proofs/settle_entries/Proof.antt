@@ -4,7 +4,7 @@ use native.Mathlib.Omega.{arith}
 use lib.ListN.{length, drop, drop-of-length-le}
 use Rattle.sequences.specs.Parts.{drop-next}
 use Rattle.sequences.specs.Writing.{Writing, writing-starts-front, writing-as, writing-room, writing-step, writing-ends-front}
-use Rattle.scenes.specs.Alone.{tabled}
+use Rattle.seam_table.specs.Alone.{tabled}
 use Rattle.scene_words.specs.Listed.{bytesOf, pairsIn, bytes-in-length, bytes-in-at, left-in}
 use Rattle.scene_words.proofs.settle_entries.Statement.{statement}
 use Rattle.scene_words.proofs.settle_entries.Tie as tie

@@ -1,6 +1,6 @@
 -- `settle_scene`: the table is its own, and without entries where there are no seams.
 use borrow.Author.Needs.{needs}
-use Rattle.scenes.specs.Sewing.{blank-table}
+use Rattle.seam_table.specs.Sewing.{blank-table}
 use Rattle.scene_words.proofs.settle_scene.Statement.{statement}
 use Rattle.scene_words.proofs.settle_scene.Tie as tie
 

@@ -1,6 +1,6 @@
 -- `check_scene`: the table is its own, and without entries where there are no seams.
 use borrow.Author.Needs.{needs}
-use Rattle.scenes.specs.Sewing.{blank-none, blank-table}
+use Rattle.seam_table.specs.Sewing.{blank-none, blank-table}
 use Rattle.scenes.proofs.check_scene.Statement.{statement}
 use Rattle.scenes.proofs.check_scene.Tie as tie
 

@@ -1,6 +1,6 @@
 -- `tell_row`: the row is walked into an array of its own, its pairs are judged, and told.
 use mathlib.Core.Path.{refl}
-use Rattle.scenes.specs.Alone.{tabled}
+use Rattle.seam_table.specs.Alone.{tabled}
 use Rattle.step_told.specs.Rows.{row-buffered, bytes-room, buffered-told}
 use borrow.Author.Needs.{needs}
 use Rattle.step_told.proofs.tell_row.Statement.{statement}

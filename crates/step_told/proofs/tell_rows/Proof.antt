@@ -4,7 +4,7 @@ use mathlib.Core.Path.{_≡_}
 use native.Mathlib.Omega.{arith}
 use borrow.Author.Needs.{needs}
 use Rattle.sequences.specs.Gather.{gather, gather-none, gather-last}
-use Rattle.scenes.specs.Alone.{tabled}
+use Rattle.seam_table.specs.Alone.{tabled}
 use Rattle.candidates.specs.Rows.{firstCount, rowOf, few-firsts}
 use Rattle.step_told.specs.Rows.{TellsPairs, tells-none, tells-then}
 use Rattle.step_told.proofs.tell_rows.Statement.{statement}

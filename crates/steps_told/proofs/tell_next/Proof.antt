@@ -2,7 +2,7 @@
 use borrow.Author.Needs.{needs}
 use native.Mathlib.Omega.{arith}
 use mathlib.Core.Path.{_≡_}
-use Rattle.scenes.specs.Alone.{tabled}
+use Rattle.seam_table.specs.Alone.{tabled}
 use Rattle.steps_told.specs.Telling.{added-none, added-over, added-told}
 use Rattle.steps_told.proofs.tell_next.Statement.{statement}
 use Rattle.steps_told.proofs.tell_next.Tie as tie

@@ -4,7 +4,7 @@ use borrow.Author.Needs.{needs}
 use native.Mathlib.Omega.{arith}
 use mathlib.Core.Path.{_≡_, refl, _∙_, subst}
 use lib.ListN.{length}
-use Rattle.scenes.specs.Alone.{tabled}
+use Rattle.seam_table.specs.Alone.{tabled}
 use Rattle.first_causes.specs.declared.SeriesTold.{SeriesTold}
 use Rattle.steps_told.specs.Telling.{StepAdded}
 use Rattle.steps_told.specs.Reading.{StepNow, first-accepted, first-told, step-few, line-few, some-step, block-faulty, next-accepted, next-told, ends-all}

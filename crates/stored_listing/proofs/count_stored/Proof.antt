@@ -5,7 +5,7 @@ use mathlib.Core.Path.{_≡_}
 use lib.ListN.{length}
 use Rattle.meaning.specs.Scene.{Scene, sceneIn, Accepted}
 use Rattle.meaning.specs.StoredBoxes.{Boxed}
-use Rattle.scenes.specs.Sewing.{blank-table}
+use Rattle.seam_table.specs.Sewing.{blank-table}
 use Rattle.meaning.specs.List.{pairs}
 use Rattle.meaning.specs.Runs.{boxTests}
 use Rattle.scenes.specs.Checking.{to-table, from-table}

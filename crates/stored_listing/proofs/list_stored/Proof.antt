@@ -3,7 +3,7 @@ use borrow.Author.Needs.{needs}
 use native.Mathlib.Omega.{arith}
 use Rattle.meaning.specs.Scene.{Scene, sceneIn, Accepted}
 use Rattle.meaning.specs.StoredBoxes.{Boxed}
-use Rattle.scenes.specs.Sewing.{blank-table}
+use Rattle.seam_table.specs.Sewing.{blank-table}
 use Rattle.scenes.specs.Checking.{one-scene, to-table}
 use Rattle.listing.specs.Answering.{tested-refused, tested-as}
 use Rattle.stored_listing.specs.Looked.{passed, listed-refused, listed-right}

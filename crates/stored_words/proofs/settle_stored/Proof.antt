@@ -3,7 +3,7 @@ use borrow.Author.Needs.{needs}
 use native.Mathlib.Omega.{arith}
 use Rattle.meaning.specs.Scene.{Scene, sceneIn, Accepted}
 use Rattle.meaning.specs.StoredBoxes.{Boxed}
-use Rattle.scenes.specs.Sewing.{blank-table}
+use Rattle.seam_table.specs.Sewing.{blank-table}
 use Rattle.scenes.specs.Checking.{to-table}
 use Rattle.stored_listing.specs.Looked.{passed}
 use Rattle.scene_words.specs.Answering.{settled-in-table}

@@ -1,6 +1,6 @@
 use borrow.Author.Needs.{needs}
 use native.Mathlib.Omega.{arith}
-use Rattle.scenes.specs.Alone.{tabled}
+use Rattle.seam_table.specs.Alone.{tabled}
 use Rattle.summary.specs.FromCalls.{own-room, judged-list, no-room}
 use Rattle.summary.specs.Whole.{report-stands, room-refused}
 use Rattle.summary.proofs.tabled_report.Statement.{statement}

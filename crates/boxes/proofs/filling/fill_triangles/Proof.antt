@@ -5,7 +5,7 @@ use Prim.Native.Nat.{_+_, _-_, _≤_}
 use mathlib.Core.List.{[]}
 use mathlib.Core.Path.{refl}
 use Rattle.meaning.specs.Scene.{sceneOf, vertexCount, edgeCount}
-use Rattle.scenes.specs.Alone.{onlyPositions}
+use Rattle.seam_table.specs.Alone.{onlyPositions}
 use Rattle.meaning.specs.StoredBoxes.{Holds, triangleBox, VerticesIn, EdgesIn}
 use Rattle.meaning.specs.StoredBoxes.{KeptBehind}
 use Rattle.boxes.specs.Filling.{holds-none, holds-kept, holds-more, holds-all, kept-all, kept-wider, kept-more}

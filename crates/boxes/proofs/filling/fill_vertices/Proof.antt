@@ -2,7 +2,7 @@
 use borrow.Author.Needs.{needs}
 use native.Mathlib.Omega.{arith}
 use Prim.Native.Nat.{_-_, _≤_}
-use Rattle.scenes.specs.Alone.{onlyPositions}
+use Rattle.seam_table.specs.Alone.{onlyPositions}
 use Rattle.meaning.specs.StoredBoxes.{Holds, vertexBox}
 use Rattle.meaning.specs.StoredBoxes.{KeptBehind}
 use Rattle.boxes.specs.Filling.{holds-none, holds-more, holds-all, kept-all, kept-wider, kept-more}

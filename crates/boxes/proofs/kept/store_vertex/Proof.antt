@@ -1,7 +1,7 @@
 -- `kept::store_vertex`: span by span.
 use borrow.Author.Needs.{needs}
 use native.Mathlib.Omega.{arith}
-use Rattle.scenes.specs.Alone.{onlyPositions}
+use Rattle.seam_table.specs.Alone.{onlyPositions}
 use Rattle.boxes.specs.Working.{vertex-stored}
 use Rattle.boxes.proofs.kept.store_vertex.Statement.{statement}
 use Rattle.boxes.proofs.kept.store_vertex.Tie as tie

@@ -7,7 +7,7 @@ use lib.ListN.{length}
 use Rattle.sequences.specs.Writing.{Writing, writing-starts-front, writing-as, writing-steps}
 use Rattle.meaning.specs.Scene.{Scene}
 use Rattle.meaning.specs.List.{pairs}
-use Rattle.scenes.specs.Alone.{tabled}
+use Rattle.seam_table.specs.Alone.{tabled}
 use Rattle.scene_words.specs.Listed.{listed-all-there}
 use Rattle.scene_contacts.specs.Listed.{listed-meeting}
 use Rattle.contact_report.specs.Lines.{one-hit, linesFrom, lines-fit, lines-told, entry-next, hitsFrom, hits-next, hits-end, listed-line-short}

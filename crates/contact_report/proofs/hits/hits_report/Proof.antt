@@ -1,6 +1,6 @@
 -- The lines, then the totals behind them.
 use Rattle.meaning.specs.Scene.{Scene}
-use Rattle.scenes.specs.Alone.{tabled}
+use Rattle.seam_table.specs.Alone.{tabled}
 use Rattle.contact_report.specs.Lines.{whole-told}
 use borrow.Author.Needs.{needs}
 use Rattle.contact_report.proofs.hits.hits_report.Statement.{statement}

@@ -1,7 +1,7 @@
 -- `tearing::tears`: the seam has the vertex as its first, as its second, or not at all.
 use borrow.Author.Needs.{needs}
 use native.Mathlib.Omega.{arith}
-use Rattle.scenes.specs.Sewing.{seamsAlone}
+use Rattle.seam_table.specs.Sewing.{seamsAlone}
 use Rattle.boxed_scenes.specs.Torn.{torn-first, torn-second, torn-neither}
 use Rattle.dragging.proofs.tearing.tears.Statement.{statement}
 use Rattle.dragging.proofs.tearing.tears.Tie as tie

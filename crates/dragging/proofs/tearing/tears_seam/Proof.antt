@@ -2,10 +2,10 @@
 use borrow.Author.Needs.{needs}
 use native.Mathlib.Omega.{arith}
 use Prim.Native.Nat.{_+_, _*_, _-_}
-use Rattle.scenes.specs.Scanning.{Scanned, scan-starts, scan-goes, scan-ends}
+use Rattle.seam_table.specs.Scanning.{Scanned, scan-starts, scan-goes, scan-ends}
 use Rattle.meaning.specs.Scene.{seamCount, sewn, onto, comesApart}
 use Rattle.meaning.specs.Dragging.{movedScene}
-use Rattle.scenes.specs.Sewing.{seamsAlone}
+use Rattle.seam_table.specs.Sewing.{seamsAlone}
 use Rattle.dragging.proofs.tearing.tears_seam.Statement.{statement}
 use Rattle.dragging.proofs.tearing.tears_seam.Tie as tie
 

@@ -7,7 +7,7 @@ use mathlib.Core.List.{[], _∷_}
 use types.Run.{OneOf}
 use denote.Enum.Declared.{tagOf}
 use borrow.Author.Needs.{needs}
-use Rattle.scenes.specs.Alone.{tabled}
+use Rattle.seam_table.specs.Alone.{tabled}
 use Rattle.meaning.specs.declared.Settled.{Settled}
 use Rattle.meaning.specs.declared.Settled.the-variants.{Touch}
 use Rattle.meaning.proofs.Settled.{the-type}

@@ -4,7 +4,7 @@ use native.Mathlib.Omega.{arith}
 use native.Mathlib.Nat.{zero-add}
 use lib.ListN.{length}
 use Rattle.meaning.specs.List.{pairs}
-use Rattle.scenes.specs.Alone.{tabled}
+use Rattle.seam_table.specs.Alone.{tabled}
 use Rattle.listing.proofs.accepted.count_prepared.Statement.{statement}
 use Rattle.listing.proofs.accepted.count_prepared.Tie as tie
 

@@ -1,7 +1,7 @@
 -- `accepted::enter`: copied, or walked again.
 use borrow.Author.Needs.{needs}
 use native.Mathlib.Omega.{arith}
-use Rattle.scenes.specs.Alone.{tabled}
+use Rattle.seam_table.specs.Alone.{tabled}
 use Rattle.listing.specs.Own.{walked-whole}
 use Rattle.listing.proofs.accepted.enter.Statement.{statement}
 use Rattle.listing.proofs.accepted.enter.Tie as tie

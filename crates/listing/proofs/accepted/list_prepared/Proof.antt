@@ -2,7 +2,7 @@
 use borrow.Author.Needs.{needs}
 use native.Mathlib.Omega.{arith}
 use mathlib.Core.Path.{refl}
-use Rattle.scenes.specs.Alone.{tabled}
+use Rattle.seam_table.specs.Alone.{tabled}
 use Rattle.listing.specs.Answering.{too-many, listed, tested-refused, tested-listed}
 use Rattle.listing.specs.Own.{own-list}
 use Rattle.listing.proofs.accepted.list_prepared.Statement.{statement}

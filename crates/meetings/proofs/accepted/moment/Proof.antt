@@ -1,7 +1,7 @@
 -- By kind: the corners, or the ends, are those of the pair.
 use borrow.Author.Needs.{needs}
 use mathlib.Core.Path.{refl, sym}
-use Rattle.scenes.specs.Alone.{tabled}
+use Rattle.seam_table.specs.Alone.{tabled}
 use Rattle.three_words.specs.Pairs.{pt-there, ee-smaller-there, ee-larger-there}
 use Rattle.meetings.specs.Ready.{pt-asked, ee-asked}
 use Rattle.meetings.proofs.accepted.moment.Statement.{statement}

@@ -4,7 +4,7 @@ use native.Mathlib.Omega.{arith}
 use lib.IntN.{pos}
 use lib.ListN.{length, getD}
 use Rattle.meaning.specs.Scene.{outside}
-use Rattle.scenes.specs.Scanning.{Scanned, scan-starts, scan-goes, scan-ends}
+use Rattle.seam_table.specs.Scanning.{Scanned, scan-starts, scan-goes, scan-ends}
 use Rattle.scenes.proofs.faults.out_of_range.Statement.{statement}
 use Rattle.scenes.proofs.faults.out_of_range.Tie as tie
 

@@ -2,8 +2,8 @@
 use Prim.Native.Nat.{_-_}
 use native.Mathlib.Omega.{arith}
 use Rattle.meaning.specs.Scene.{triangleCount, twiceInTriangle}
-use Rattle.scenes.specs.Alone.{onlyTriangles, trianglesSewn}
-use Rattle.scenes.specs.Scanning.{Scanned, scan-starts, scan-goes, scan-ends}
+use Rattle.seam_table.specs.Alone.{onlyTriangles, trianglesSewn}
+use Rattle.seam_table.specs.Scanning.{Scanned, scan-starts, scan-goes, scan-ends}
 use Rattle.scenes.proofs.faults.repeated_in_triangles.Statement.{statement}
 use Rattle.scenes.proofs.faults.repeated_in_triangles.Tie as tie
 

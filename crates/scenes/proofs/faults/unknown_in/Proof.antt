@@ -3,7 +3,7 @@ use Prim.Native.Nat.{_-_}
 use native.Mathlib.Omega.{arith}
 use lib.Dec.{leb}
 use lib.ListN.{length, getD}
-use Rattle.scenes.specs.Scanning.{Scanned, scan-starts, scan-goes, scan-ends}
+use Rattle.seam_table.specs.Scanning.{Scanned, scan-starts, scan-goes, scan-ends}
 use Rattle.scenes.proofs.faults.unknown_in.Statement.{statement}
 use Rattle.scenes.proofs.faults.unknown_in.Tie as tie
 

@@ -1,13 +1,13 @@
 use borrow.Author.Needs.{needs}
 use mathlib.Core.Path.{sym}
-use Rattle.scenes.specs.Alone.{tabled}
+use Rattle.seam_table.specs.Alone.{tabled}
 use Rattle.three_words.specs.Pairs.{pt-there, ee-smaller-there, ee-larger-there, pt-ready, ee-ready}
 use Rattle.three_words.proofs.accepted.pair.Statement.{statement}
 use Rattle.three_words.proofs.accepted.pair.Tie as tie
 use Rattle.three_words.proofs.accepted.pair.Reads as reads
 use Rattle.three_words.proofs.accepted.pair.Lts as lts
-use Rattle.scenes.proofs.parts.corners_of.Reads as corners-of-reads
-use Rattle.scenes.proofs.parts.ends_of.Reads as ends-of-reads
+use Rattle.scene_parts.proofs.corners_of.Reads as corners-of-reads
+use Rattle.scene_parts.proofs.ends_of.Reads as ends-of-reads
 use Rattle.three_words.proofs.accepted.edges_pair.Reads as edges-pair-reads
 use Rattle.three_words.proofs.accepted.larger.Reads as larger-reads
 use Rattle.three_words.proofs.accepted.point_pair.Reads as point-pair-reads

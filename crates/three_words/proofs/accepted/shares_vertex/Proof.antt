@@ -1,12 +1,12 @@
 use borrow.Author.Needs.{needs}
-use Rattle.scenes.specs.Alone.{tabled}
+use Rattle.seam_table.specs.Alone.{tabled}
 use Rattle.three_words.specs.Pairs.{pt-there, ee-there}
 use Rattle.three_words.proofs.accepted.shares_vertex.Statement.{statement}
 use Rattle.three_words.proofs.accepted.shares_vertex.Tie as tie
 use Rattle.three_words.proofs.accepted.shares_vertex.Reads as reads
 use Rattle.three_words.proofs.accepted.shares_vertex.Lts as lts
-use Rattle.scenes.proofs.parts.shares_ee.Reads as shares-ee-reads
-use Rattle.scenes.proofs.parts.shares_pt.Reads as shares-pt-reads
+use Rattle.scene_parts.proofs.shares_ee.Reads as shares-ee-reads
+use Rattle.scene_parts.proofs.shares_pt.Reads as shares-pt-reads
 
 -- src/accepted.rt:45:32
 enum-told : tie.Need-enum-told

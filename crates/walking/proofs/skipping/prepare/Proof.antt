@@ -1,7 +1,7 @@
 -- `skipping::prepare`: the boxes of all parts, then the runs.
 use borrow.Author.Needs.{needs}
 use native.Mathlib.Omega.{arith}
-use Rattle.scenes.specs.Table.{seamsOf}
+use Rattle.seam_table.specs.Table.{seamsOf}
 use Rattle.boxes.specs.Parts.{accepted-drawn}
 use Rattle.walking.proofs.skipping.prepare.Statement.{statement}
 use Rattle.walking.proofs.skipping.prepare.Tie as tie

@@ -1,7 +1,7 @@
 -- `steps::walk_one`: a pair that is listed is counted, and one that is not leaves everything as it is.
 use borrow.Author.Needs.{needs}
 use native.Mathlib.Omega.{arith}
-use Rattle.scenes.specs.Alone.{tabled}
+use Rattle.seam_table.specs.Alone.{tabled}
 use Rattle.meaning.specs.Boxes.{listed}
 use Rattle.meaning.specs.List.{pair}
 use Rattle.entries.specs.UpTo.{walked-pair, walked-no-pair}

@@ -3,7 +3,7 @@ use borrow.Author.Needs.{needs}
 use native.Mathlib.Omega.{arith}
 use Prim.Native.Nat.{_-_, _/_, _≤_}
 use mathlib.Core.Path.{_≡_, sym}
-use Rattle.scenes.specs.Alone.{tabled}
+use Rattle.seam_table.specs.Alone.{tabled}
 use Rattle.meaning.specs.Runs.{runTo}
 use Rattle.entries.specs.UpTo.{Walking, walking-starts, walking-more, walked-length}
 use Rattle.candidates.specs.Rows.{secondCount, secondFrom, candidate, row-begins, stretch-short, few-firsts, few-seconds}

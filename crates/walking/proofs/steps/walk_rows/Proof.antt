@@ -4,7 +4,7 @@ use native.Mathlib.Omega.{arith}
 use Prim.Native.Nat.{_-_, _≤_}
 use mathlib.Core.Path.{_≡_, sym}
 use Rattle.sequences.specs.Gather.{sum, sum-none}
-use Rattle.scenes.specs.Alone.{tabled}
+use Rattle.seam_table.specs.Alone.{tabled}
 use Rattle.entries.specs.UpTo.{Walking, walking-starts, walking-next, walked-length}
 use Rattle.candidates.specs.Rows.{firstCount, secondCount, rowOf, rows-up-to, few-firsts, few-seconds}
 use Rattle.walking.specs.Testing.{testsOfRow, row-tests-few, rows-tests-few, rows-tests-go}

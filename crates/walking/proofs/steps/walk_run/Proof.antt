@@ -3,7 +3,7 @@ use borrow.Author.Needs.{needs}
 use native.Mathlib.Omega.{arith}
 use Prim.Native.Nat.{_/_}
 use mathlib.Core.Path.{sym, _∙_}
-use Rattle.scenes.specs.Alone.{tabled}
+use Rattle.seam_table.specs.Alone.{tabled}
 use Rattle.meaning.specs.Runs.{runTo}
 use Rattle.entries.specs.UpTo.{walked-none}
 use Rattle.candidates.specs.Rows.{secondCount, few-seconds, stretch-short}

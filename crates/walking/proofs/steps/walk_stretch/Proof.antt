@@ -3,7 +3,7 @@ use borrow.Author.Needs.{needs}
 use native.Mathlib.Omega.{arith}
 use Prim.Native.Nat.{_-_, _≤_}
 use mathlib.Core.Path.{_≡_}
-use Rattle.scenes.specs.Alone.{tabled}
+use Rattle.seam_table.specs.Alone.{tabled}
 use Rattle.entries.specs.UpTo.{Walking, walking-starts, walking-next, walked-length}
 use Rattle.candidates.specs.Rows.{candidate, stretch-short, few-seconds}
 use Rattle.walking.proofs.steps.walk_stretch.Statement.{statement}
