@@ -1,6 +1,6 @@
 -- A box is worked out in a list of one's own, and stored where its part has the vertex; every other box is kept.
-use Prim.Native.Nat.{ℕ, _+_, _*_, _≤_, _<_}
-use mathlib.Core.Bool.{Bool, true, false, cond}
+use Prim.Native.Nat.{ℕ, _+_, _*_, _-_, _≤_, _<_}
+use mathlib.Core.Bool.{Bool, true, false, cond, not, _||_, true≢false}
 use mathlib.Core.List.{List}
 use mathlib.Core.Logic.{⊎-elim}
 use mathlib.Core.Path.{_≡_, refl, sym, ap, _∙_, subst}
@@ -15,6 +15,8 @@ use Rattle.sequences.specs.Pick.{either}
 use Rattle.meaning.specs.Limits.{vertexLimit}
 use Rattle.meaning.specs.Scene.{Scene, vertexCount}
 use Rattle.meaning.specs.StoredBoxes.{Box, spanAt, boxAt, Holds, KeptBehind, boxNumbers}
+use Rattle.meaning.specs.Dragging.{edgeHas, triangleHas}
+use Rattle.scenes.specs.Below.{or-left, or-rest}
 use Rattle.boxes.specs.Kept.{jointBox}
 use Rattle.boxes.specs.Storing.{BoxStored, withSpan, withBox, box-stored, others-kept, same-box}
 use Rattle.boxes.specs.Parts.{Drawn}
@@ -83,6 +85,47 @@ stored-if {l} {l′} {k} {n} {has} {r} {b} {c} e t place same stored =
 pub left-if : (l : List ℤ) (k : ℕ) {has r : Bool} (b : Box) → r ≡ has → r ≡ false → BoxStored l k (cond has b (boxAt l k)) l
 left-if l k b e t = rw (sym e ∙ t) (record { here = refl; front = λ i h. refl; behind = λ i h. refl; same = refl })
 
+-- ---- parts that are passed
+
+-- n numbers from a place on are there, and none of them is v
+pub record Missing (l : List ℕ) (from n v : ℕ) : Type 0 where
+  pub there : from + n ≤ length l
+  pub none : (i : ℕ) → from ≤ i → i < from + n → eqb (getD l i 0) v ≡ false
+
+-- none of the first k is v, unless one was found
+pub record NoneBelow (l : List ℕ) (from k v : ℕ) (found : Bool) : Type 0 where
+  pub none : found ≡ false → (i : ℕ) → from ≤ i → i < from + k → eqb (getD l i 0) v ≡ false
+
+pub none-yet : (l : List ℕ) (from v : ℕ) (found : Bool) → NoneBelow l from 0 v found
+none-yet l from v found = record { none = λ e i low high. absurd (omega arith) }
+
+pub one-more : {l : List ℕ} {from k v : ℕ} {found : Bool} → NoneBelow l from k v found
+    → NoneBelow l from (k + 1) v (found || eqb (getD l (from + k) 0) v)
+one-more {l} {from} {k} {v} {found} so =
+    record {
+      none = λ e i low high.
+          ⊎-elim
+          (λ le. let here : from + k ≡ i = omega arith in rw here at (or-rest found (eqb (getD l (from + k) 0) v) e))
+          (λ lt. so .none (or-left found (eqb (getD l (from + k) 0) v) e) i low lt)
+          (le-or-lt (from + k) i);
+    }
+
+not-found : (b : Bool) → not b ≡ true → b ≡ false
+not-found true e = absurd (true≢false (sym e))
+not-found false e = refl
+
+pub all-missing : {l : List ℕ} {from k v : ℕ} {found : Bool} (n : ℕ) → n ≤ length l - from → from ≤ length l → n ≤ k → NoneBelow l from k v found → not found ≡ true
+    → Missing l from n v
+all-missing {found = found} n room inside all so e =
+    record { there = omega arith; none = λ i low high. so .none (not-found found e) i low (omega arith) }
+
+pub edges-missing : (s : Scene) (v j : ℕ) → Missing (s .edges) (2 * j) 16 v → (i : ℕ) → j ≤ i → i < j + 8 → edgeHas s v i ≡ false
+edges-missing s v j so i low high = rw (so .none (2 * i + 0) (omega arith) (omega arith), so .none (2 * i + 1) (omega arith) (omega arith))
+
+pub triangles-missing : (s : Scene) (v j : ℕ) → Missing (s .triangles) (3 * j) 24 v → (i : ℕ) → j ≤ i → i < j + 8 → triangleHas s v i ≡ false
+triangles-missing s v j so i low high =
+    rw (so .none (3 * i + 0) (omega arith) (omega arith), so .none (3 * i + 1) (omega arith) (omega arith), so .none (3 * i + 2) (omega arith) (omega arith))
+
 -- ---- one after the other
 
 -- of n boxes from `first` on those that `has` names are the wanted ones, and no other number has changed
@@ -123,6 +166,23 @@ module _ {l l₁ l₂ : List ℤ} {first n : ℕ} {has : ℕ → Bool} {want : �
           same = stored .same ∙ so .behind .same;
         };
       }
+
+-- so many parts that have the vertex nowhere are passed
+pub mended-passed : {l l′ : List ℤ} {first n : ℕ} {has : ℕ → Bool} {want : ℕ → Box} (m : ℕ) → Mended l first n has want l′
+    → ((i : ℕ) → n ≤ i → i < n + m → has i ≡ false)
+    → Mended l first (n + m) has want l′
+mended-passed {l} {l′} {first} {n} m so none =
+    record {
+      boxes = record {
+        at = λ i p.
+            ⊎-elim
+            (λ le. rw (none i le p) (same-box l l′ (first + i) (λ k h q. so .behind .at k (omega arith))))
+            (λ lt. so .boxes .at i lt)
+            (le-or-lt n i);
+      };
+      front = so .front;
+      behind = record { at = λ i h. so .behind .at i (omega arith); same = so .behind .same };
+    }
 
 pub mended-all : {l l′ : List ℤ} {first n m : ℕ} {has : ℕ → Bool} {want : ℕ → Box} → n ≡ m → Mended l first n has want l′ → Mended l first m has want l′
 mended-all e so = rw e at so

@@ -2,7 +2,7 @@
 // have the vertex goes by its number and by no seam.
 
 ghost use Prim.Native.Nat.{ℕ, _+_, _*_, _≤_, _<_};
-ghost use mathlib.Core.Bool.{cond};
+ghost use mathlib.Core.Bool.{true, cond};
 ghost use mathlib.Core.List.{List};
 ghost use mathlib.Core.Path.{_≡_};
 ghost use lib.ListN.{length};
@@ -14,7 +14,7 @@ ghost use Rattle.seam_table.specs.Alone.{onlyPositions, onlyEdges, onlyTriangle
 ghost use Rattle.boxes.specs.Kept.{jointBox};
 ghost use Rattle.boxes.specs.Storing.{BoxStored, withSpan};
 ghost use Rattle.boxes.specs.Parts.{Drawn};
-ghost use Rattle.mending.specs.Mending.{workNumbers, WorkedOut, Workable, Mended};
+ghost use Rattle.mending.specs.Mending.{workNumbers, Missing, WorkedOut, Workable, Mended};
 use boxes::kept::store_joint_box;
 use boxes::kept::store_vertex;
 use meaning::VERTEX_LIMIT;
@@ -24,8 +24,29 @@ use scene_parts::vertex_count;
 use scene_parts::written::corner;
 use scene_parts::written::edge_end;
 
+// How many parts are passed at once where none of them has the vertex, told by all their numbers in a row.
+const PASSED: usize = 8;
+
 // Room to work a box out: one for each vertex, and one more.
 const WORK_NUMBERS: usize = 6 * (VERTEX_LIMIT + 1);
+
+// Whether so many numbers from a place on are there and none of them is v. A wrong no would cost time alone: then parts are asked one by one.
+fn missing(list: &[u16], from: usize, numbers: usize, v: usize) -> bool
+    requires { ⌜ (from ≤ length (now list)) × (v < vertexLimit) ⌝ }
+    ensures { λ r. ⌜ (r ≡ true → Missing (now (list .entry)) from numbers v) ⌝ }
+{
+    if list.len() - from < numbers {
+        return false;
+    }
+    let wanted = v as u16;
+    let mut found = false;
+    let mut k = 0;
+    while k < numbers {
+        found = found | (list[from + k] == wanted);
+        k += 1;
+    }
+    !found
+}
 
 fn edge_has(edges: &[u16], v: usize, j: usize) -> bool
     requires { ⌜ j < edgeCount (onlyEdges (now edges)) ⌝ }
@@ -137,14 +158,18 @@ fn mend_edges(
     own: &mut [i32],
     boxes: &mut [i32],
 )
-    requires { ⌜ Workable (unsewnIn positions edges triangles) (now own) (now boxes) ⌝ }
+    requires { ⌜ Workable (unsewnIn positions edges triangles) (now own) (now boxes) × (v < vertexLimit) ⌝ }
     ensures { λ _. ⌜ Mended (now (boxes .entry)) (vertexCount (unsewnAtEntry positions edges triangles)) (edgeCount (unsewnAtEntry positions edges triangles)) (edgeHas (unsewnAtEntry positions edges triangles) v) (edgeBox (unsewnAtEntry positions edges triangles)) (now (boxes .exit)) × (length (now (own .exit)) ≡ workNumbers) ⌝ }
 {
     let count = edge_count(edges);
     let mut j = 0;
     while j < count {
-        mend_edge(positions, edges, triangles, v, j, own, boxes);
-        j += 1;
+        if missing(edges, 2 * j, 2 * PASSED, v) {
+            j += PASSED;
+        } else {
+            mend_edge(positions, edges, triangles, v, j, own, boxes);
+            j += 1;
+        }
     }
 }
 
@@ -156,14 +181,18 @@ fn mend_triangles(
     own: &mut [i32],
     boxes: &mut [i32],
 )
-    requires { ⌜ Workable (unsewnIn positions edges triangles) (now own) (now boxes) ⌝ }
+    requires { ⌜ Workable (unsewnIn positions edges triangles) (now own) (now boxes) × (v < vertexLimit) ⌝ }
     ensures { λ _. ⌜ Mended (now (boxes .entry)) (vertexCount (unsewnAtEntry positions edges triangles) + edgeCount (unsewnAtEntry positions edges triangles)) (triangleCount (unsewnAtEntry positions edges triangles)) (triangleHas (unsewnAtEntry positions edges triangles) v) (triangleBox (unsewnAtEntry positions edges triangles)) (now (boxes .exit)) ⌝ }
 {
     let count = triangle_count(triangles);
     let mut j = 0;
     while j < count {
-        mend_triangle(positions, edges, triangles, v, j, own, boxes);
-        j += 1;
+        if missing(triangles, 3 * j, 3 * PASSED, v) {
+            j += PASSED;
+        } else {
+            mend_triangle(positions, edges, triangles, v, j, own, boxes);
+            j += 1;
+        }
     }
 }
 

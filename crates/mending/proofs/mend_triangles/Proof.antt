@@ -8,7 +8,7 @@ use lib.ListN.{length}
 use Rattle.meaning.specs.Scene.{sceneOf, vertexCount, edgeCount, triangleCount}
 use Rattle.meaning.specs.StoredBoxes.{edgeBox, triangleBox}
 use Rattle.meaning.specs.Dragging.{edgeHas, triangleHas}
-use Rattle.mending.specs.Mending.{workNumbers, Mended, mended-none, mended-more, mended-all}
+use Rattle.mending.specs.Mending.{workNumbers, Mended, mended-none, mended-more, mended-passed, mended-all, triangles-missing}
 use Rattle.mending.proofs.mend_triangles.Statement.{statement}
 use Rattle.mending.proofs.mend_triangles.Tie as tie
 
@@ -21,24 +21,34 @@ abbrev μ-loop : tie.MeasureT-loop
 μ-loop positions edges triangles v own₀ boxes₀ count j₀ own boxes j = count - j
 
 loop-holds : tie.Need-loop-holds Inv-loop μ-loop
-loop-holds c = (omega arith, c .before .before .before .pre .long, mended-none _ _ _ _)
+loop-holds c = (omega arith, c .before .before .before .pre .0 .long, mended-none _ _ _ _)
 
-mend-triangle-requires : tie.Need-mend-triangle-requires Inv-loop μ-loop
-mend-triangle-requires c κs =
-    let start = c .before .before .before .before .before .before .before in
-    let inv = c .before .before .before .loop .inv in
-    (record { drawn = start .pre .drawn; few = start .pre .few; long = inv .1; room = omega (arith, start .pre .room, inv .2 .behind .same) }, omega arith)
+missing-requires : tie.Need-missing-requires Inv-loop μ-loop
+missing-requires c κs = (omega arith, c .before .before .before .before .before .pre .1)
 
 loop-again : tie.Need-loop-again Inv-loop μ-loop
 loop-again c =
-    let inv = c .before .before .before .before .before .before .loop .inv in
+    let a = c .before .before .before .before .before .before .before .args in
+    let at = c .before .before .before .loop in
+    let gone = c .before .missing .ensures (c .if1 .taken) in
+    (omega (arith, gone .there), at .inv .1, mended-passed 8 (at .inv .2) (triangles-missing (sceneOf (a .positions .now) (a .edges .now) (a .triangles .now) []) (a .v) (at .j) gone))
+
+mend-triangle-requires : tie.Need-mend-triangle-requires Inv-loop μ-loop
+mend-triangle-requires c κs =
+    let start = c .before .before .before .before .before .before .before .before .before in
+    let inv = c .before .before .before .before .before .loop .inv in
+    (record { drawn = start .pre .0 .drawn; few = start .pre .0 .few; long = inv .1; room = omega (arith, start .pre .0 .room, inv .2 .behind .same) }, omega arith)
+
+loop-again-2 : tie.Need-loop-again-2 Inv-loop μ-loop
+loop-again-2 c =
+    let inv = c .before .before .before .before .before .before .before .before .loop .inv in
     let done = c .before .before .mend-triangle .ensures in
     (omega arith, done .1, mended-more (inv .2) (done .0))
 
 same-length : tie.Need-same-length Inv-loop μ-loop
 same-length c =
     let inv = c .before .loop .inv in
-    omega (arith, inv .1, c .before .before .before .before .before .pre .long)
+    omega (arith, inv .1, c .before .before .before .before .before .pre .0 .long)
 
 same-length-2 : tie.Need-same-length-2 Inv-loop μ-loop
 same-length-2 c = c .before .loop .inv .2 .behind .same
@@ -54,10 +64,16 @@ mend-triangles-spec =
     μ-loop
     (λ c κs. search needs)
     loop-holds
-    mend-triangle-requires
+    (λ c. omega arith)
+    (λ c. omega arith)
+    missing-requires
     (λ c. omega arith)
     (λ c. omega arith)
     loop-again
+    mend-triangle-requires
+    (λ c. omega arith)
+    (λ c. omega arith)
+    loop-again-2
     same-length
     same-length-2
     returns)
