@@ -1,24 +1,21 @@
 // The program `import`: two OBJ files by name, one for the start and one for the end; the scene that they give, as scene text, on standard output.
-use libc::STDERR_FILENO;
-use libc::STDOUT_FILENO;
 use meaning::REPORT_BYTES;
 use meaning::TEXT_LIMIT;
-use named_files::FileRead;
-use named_files::read_file;
+use named_files::PairRead;
+use named_files::read_pair;
+use named_files::write_out;
 
 fn main() {
-    if os::arg_count() != 3 {
-        io::write_all(STDERR_FILENO, b"usage: import START END\n");
-        return;
-    }
+    // one byte more than a text may have: a full buffer decides refusal 8
     let mut start = [0u8; TEXT_LIMIT + 1];
-    let FileRead::Bytes(start_length) = read_file(1, &mut start) else {
-        io::write_all(STDERR_FILENO, b"import: the start file could not be read\n");
-        return;
-    };
     let mut end = [0u8; TEXT_LIMIT + 1];
-    let FileRead::Bytes(end_length) = read_file(2, &mut end) else {
-        io::write_all(STDERR_FILENO, b"import: the end file could not be read\n");
+    let PairRead::Lengths(start_length, end_length) = read_pair(
+        b"usage: import START END\n",
+        b"import: the start file could not be read\n",
+        b"import: the end file could not be read\n",
+        &mut start,
+        &mut end,
+    ) else {
         return;
     };
     let mut out = [0u8; REPORT_BYTES];
@@ -27,7 +24,5 @@ fn main() {
         &end[..end_length],
         &mut out,
     );
-    if !io::write_all(STDOUT_FILENO, &out[..length]) {
-        io::write_all(STDERR_FILENO, b"import: the text could not be written\n");
-    }
+    write_out(&out[..length], b"import: the text could not be written\n");
 }
