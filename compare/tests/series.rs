@@ -415,3 +415,20 @@ fn the_sleeve_is_made() {
     assert_eq!((told.first, told.log[0]), (12, HitAt { step: 12, pair: Pair::pt(30, 11) }));
     assert!(told.later > LOG_LIMIT as u64, "a ring would keep the first cause: {}", told.later);
 }
+
+/// What docs/FORMAT.md shows of a series is what is printed for the one that it names.
+#[test]
+fn the_page_tells_of_series() {
+    let page = std::fs::read_to_string(kept::folder().join("../docs/FORMAT.md")).unwrap();
+    let part = page.split("\n## Series\n").nth(1).unwrap().split("\n## ").next().unwrap();
+    let shown: String = part
+        .lines()
+        .filter_map(|line| line.strip_prefix("    "))
+        .filter(|line| line.contains('\t'))
+        .map(|line| format!("{line}\n"))
+        .collect();
+    assert_eq!(printed(write(&falling()).as_bytes(), REPORT_ROOM), shown);
+    for number in [format!("first {LOG_LIMIT} hits"), "3,072 pairs".into(), "9, 10, 11, 13, 2, 3, 15, 4".into()] {
+        assert!(part.contains(&number), "{number}");
+    }
+}

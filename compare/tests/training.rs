@@ -50,7 +50,7 @@ fn printed(command: &str) -> String {
             let mistake = contacts::mistakes::find(key).unwrap_or_else(|| panic!("no mistake is called {key}"));
             contacts::mistakes::printed(mistake, &text, REPORT_ROOM)
         }
-        ["compare/series", "--exact"] => series::printed(&text, REPORT_ROOM),
+        ["./makhnodri", "series"] | ["compare/series", "--exact"] => series::printed(&text, REPORT_ROOM),
         ["compare/series", "--wrong", key] => {
             let mistake = series::mistakes::find(key).unwrap_or_else(|| panic!("no mistake is called {key}"));
             mistake.outcome(&series::mistakes::Right::of(&text)).printed

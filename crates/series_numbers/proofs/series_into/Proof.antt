@@ -1,0 +1,39 @@
+-- `series_into`: refused, or told and put into the arrays.
+use borrow.Author.Needs.{needs}
+use mathlib.Core.Path.{refl}
+use Rattle.series_numbers.specs.Into.{into-refused, into-told}
+use Rattle.series_numbers.proofs.series_into.Statement.{statement}
+use Rattle.series_numbers.proofs.series_into.Tie as tie
+
+returns : tie.Need-returns
+returns c = into-refused (c .before .before .before .before .before .before .before .before .before .before .before .before .before .before .before .before .list-series .result) (c .before .before .before .before .before .before .before .before .before .before .before .before .before .before .before .before .list-series .ensures) (c .before .before .outcome .given .1) (c .refused .ensures)
+
+returns-2 : tie.Need-returns-2
+returns-2 c =
+    into-told (c .before .before .before .before .before .before .before .before .before .before .before .before .before .before .before .before .before .before .before .before .before .list-series .result) (c .before .before .before .before .before .before .before .before .before .before .before .before .before .before .before .before .before .before .before .before .before .list-series .ensures) (c .before .before .before .before .before .before .before .outcome2 .given .1) refl (c .before .before .before .before .put-counts .ensures) (c .before .before .put-log .ensures) (c .put-told .ensures)
+
+pub series-into-spec : {M : Type 1} → statement M
+series-into-spec =
+    tie.close
+    (tie.spec
+    (λ c κs. search needs)
+    (λ c. search needs)
+    (λ c κs. search needs)
+    (λ c. search needs)
+    (λ c κs. search needs)
+    (λ c κs. search needs)
+    (λ c κs. search needs)
+    (λ c. search needs)
+    (λ c. search needs)
+    (λ c. search needs)
+    (λ c. search needs)
+    (λ c. search needs)
+    (λ c. search needs)
+    returns
+    (λ c. search needs)
+    (λ c. search needs)
+    (λ c. search needs)
+    (λ c. search needs)
+    (λ c. search needs)
+    (λ c. search needs)
+    returns-2)

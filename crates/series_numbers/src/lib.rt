@@ -1,0 +1,115 @@
+// What is told of a series, as numbers in lent arrays: neither a struct nor an enum crosses to C.
+
+ghost use Prim.Native.Nat.{_+_, _*_, _≤_, _<_, min};
+ghost use mathlib.Core.List.{[], _∷_};
+ghost use mathlib.Core.Path.{_≡_};
+ghost use lib.ListN.{length, set, take};
+ghost use Rattle.sequences.specs.Wrote.{written};
+ghost use Rattle.meaning.specs.Scene.{sceneAtEntry, sceneAtExit};
+ghost use Rattle.meaning.specs.Series.{logLimit};
+ghost use Rattle.series_numbers.specs.Rows.{rowStep, rowEntry, rowsOf, numbersOf, refusedNumber};
+ghost use Rattle.series_numbers.specs.Into.{SeriesInto};
+use first_causes::LOG_ROOM;
+use first_causes::Log;
+use first_causes::SeriesOutcome;
+use first_causes::SeriesTold;
+use first_causes::StepHit;
+use meaning::Refusal;
+use meaning::SceneCounts;
+use series_told::list_series;
+use wording::number_of;
+
+// Two numbers for each entry of a log: its step, and the number of its pair as a list has it.
+pub const LOG_NUMBERS: usize = 2 * LOG_ROOM;
+
+fn put_row(hit: StepHit, rows: &mut [u32], at: usize)
+    requires { ⌜ at + 1 < length (now rows) ⌝ }
+    ensures { λ _. ⌜ now (rows .exit) ≡ set (set (now (rows .entry)) at (rowStep hit)) (at + 1) (rowEntry hit) ⌝ }
+{
+    let kind = hit.kind;
+    let entry = entries::number_of(kind, hit.first % 1024, hit.second % 1024);
+    rows[at] = (hit.step % 4294967296) as u32;
+    rows[at + 1] = entry;
+}
+
+// How many entries there are: no more than a log has room for.
+fn entries_held(held: usize) -> usize
+    ensures { λ r. ⌜ r ≡ min held logLimit ⌝ }
+{
+    if held < LOG_ROOM { held } else { LOG_ROOM }
+}
+
+// A row for each entry, and the rows behind them unchanged.
+fn put_log(log: Log, rows: &mut [u32])
+    requires { ⌜ 2 * logLimit ≤ length (now rows) ⌝ }
+    ensures { λ _. ⌜ now (rows .exit) ≡ written (rowsOf (take (min (log .held) logLimit) (log .hits))) (now (rows .entry)) ⌝ }
+{
+    let held = entries_held(log.held);
+    let mut k = 0;
+    while k < held {
+        let hit = log.hits[k];
+        put_row(hit, rows, 2 * k);
+        k += 1;
+    }
+}
+
+// Held, later, listed, hits, misses, touches, aparts, first.
+fn put_told(told: SeriesTold, numbers: &mut [u64; 8])
+    ensures { λ _. ⌜ now (numbers .exit) ≡ numbersOf told ⌝ }
+{
+    let log = told.log;
+    *numbers = [
+        log.held as u64,
+        log.later,
+        told.listed,
+        told.hits,
+        told.misses,
+        told.touches,
+        told.aparts,
+        told.first as u64,
+    ];
+}
+
+fn put_counts(c: SceneCounts, counts: &mut [usize; 4])
+    ensures { λ _. ⌜ now (counts .exit) ≡ c .vertices ∷ c .edges ∷ c .triangles ∷ c .seams ∷ [] ⌝ }
+{
+    *counts = [c.vertices, c.edges, c.triangles, c.seams];
+}
+
+// The refusal's number times 2^32, with its line or the count needed.
+fn refused(why: Refusal, carries: usize) -> u64
+    ensures { λ r. ⌜ r ≡ refusedNumber why carries ⌝ }
+{
+    number_of(why) * 4294967296 + (carries % 4294967296) as u64
+}
+
+// Tells a series: the counts of its last step, its log in rows of two numbers, and what is told beside it, in lent arrays; the answer is how many
+// pairs the last step lists. A refusal changes none of them.
+pub fn series_into(
+    text: &[u8],
+    positions: &mut [i32],
+    edges: &mut [u16],
+    triangles: &mut [u16],
+    seams: &mut [u16],
+    boxes: &mut [i32],
+    list: &mut [u32],
+    counts: &mut [usize; 4],
+    log: &mut [u32; LOG_NUMBERS],
+    told: &mut [u64; 8],
+) -> u64
+    ensures { λ r. ⌜ SeriesInto (now (text .entry)) (sceneAtEntry positions edges triangles seams) (sceneAtExit positions edges triangles seams) (now (boxes .entry)) (now (boxes .exit)) (now (list .entry)) (now (list .exit)) (now (counts .entry)) (now (counts .exit)) (now (log .entry)) (now (log .exit)) (now (told .entry)) (now (told .exit)) r ⌝ }
+{
+    let all = list_series(text, positions, edges, triangles, seams, boxes, list);
+    let answer = all.answer;
+    let outcome = answer.outcome;
+    let all_told = answer.told;
+    match outcome {
+        SeriesOutcome::Refused(why, carries) => refused(why, carries),
+        SeriesOutcome::Told(c) => {
+            put_counts(c, counts);
+            put_log(all_told.log, log);
+            put_told(all_told, told);
+            all.count as u64
+        }
+    }
+}
