@@ -36,3 +36,4 @@ pub mod Series
 pub mod SeriesText
 pub mod FirstFault
 pub mod SeriesShown
+pub mod SeriesLines

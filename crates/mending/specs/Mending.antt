@@ -16,7 +16,7 @@ use Rattle.meaning.specs.Limits.{vertexLimit}
 use Rattle.meaning.specs.Scene.{Scene, vertexCount}
 use Rattle.meaning.specs.StoredBoxes.{Box, spanAt, boxAt, Holds, KeptBehind, boxNumbers}
 use Rattle.meaning.specs.Dragging.{edgeHas, triangleHas}
-use Rattle.scenes.specs.Below.{or-left, or-rest}
+use Rattle.seam_table.specs.Below.{or-left, or-rest}
 use Rattle.boxes.specs.Kept.{jointBox}
 use Rattle.boxes.specs.Storing.{BoxStored, withSpan, withBox, box-stored, others-kept, same-box}
 use Rattle.boxes.specs.Parts.{Drawn}

@@ -10,7 +10,7 @@ use Rattle.meaning.specs.Refusals.{Outcome, refused}
 use Rattle.meaning.specs.Text.{longText}
 use Rattle.meaning.specs.ReadShown.{front-read}
 use Rattle.meaning.specs.SeriesText.{Ended, SeriesIs}
-use Rattle.series_laws.specs.SeriesLines.{outcomeLines, SeriesPrinted, SeriesReported, SeriesRead}
+use Rattle.meaning.specs.SeriesLines.{outcomeLines, SeriesPrinted, SeriesReported, SeriesRead}
 use Rattle.series_demands.specs.OneSeries.{one-outcome}
 
 outcome-one : (text : List ℕ) (o o′ : Outcome Ended) (b : Bool) → cond b (o ≡ refused 8 0) (SeriesIs text reportRoom o)

@@ -39,7 +39,7 @@ use Rattle.corner_search.specs.Decided.{byLeaf, touching, settledBy, pieceWord,
 use Rattle.demands.specs.Printed.{bytesOf}
 use Rattle.steps.specs.Faultless.{EachFormed, no-fault}
 use Rattle.series_line.specs.Rendered.{series-readable}
-use Rattle.series_laws.specs.SeriesLines.{hitLines, outcomeLines, SeriesPrinted}
+use Rattle.meaning.specs.SeriesLines.{hitLines, outcomeLines, SeriesPrinted}
 use Rattle.series_demands.specs.OnePrinted.{one-printed}
 
 -- the corners stay

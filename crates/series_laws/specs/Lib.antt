@@ -1,4 +1,3 @@
--- What is printed of a series, and what follows of one that was read and of what is told of it.
-pub mod SeriesLines
+-- What follows of a series that was read and of what is told of it.
 pub mod AllAccepted
 pub mod TrueHits

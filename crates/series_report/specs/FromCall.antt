@@ -16,7 +16,7 @@ use Rattle.first_causes.specs.Told.{answerSays}
 use Rattle.first_causes.specs.declared.SeriesAnswer.{SeriesAnswer}
 use Rattle.wording.specs.Lines.{wrote-as}
 use Rattle.series_told.specs.Called.{toldPart, SeriesCalled}
-use Rattle.series_laws.specs.SeriesLines.{outcomeLines, SeriesReported}
+use Rattle.meaning.specs.SeriesLines.{outcomeLines, SeriesReported}
 use Rattle.series_report.specs.Whole.{answerLines, OutcomeRight, outcome-reported}
 
 part-lines : (o : Outcome Ended) → answerLines (toldPart o) ≡ outcomeLines o

@@ -18,7 +18,7 @@ use Rattle.wording.specs.Lines.{kind-short}
 use Rattle.first_causes.specs.Kept.{hitOf}
 use Rattle.first_causes.specs.declared.StepHit.{StepHit}
 use Rattle.first_causes.specs.declared.Log.{Log}
-use Rattle.series_laws.specs.SeriesLines.{laterWord, firstWord, pairFields, hitLine, hitLines, numberLine, seriesTotal, toldLines}
+use Rattle.meaning.specs.SeriesLines.{laterWord, firstWord, pairFields, hitLine, hitLines, numberLine, seriesTotal, toldLines}
 
 abbrev pub hitWord : List ℕ
 hitWord = 104 ∷ 105 ∷ 116 ∷ []

@@ -20,7 +20,7 @@ use Rattle.first_causes.specs.Told.{outcomeSays}
 use Rattle.first_causes.specs.declared.SeriesOutcome as Outcomes
 use Rattle.first_causes.specs.declared.SeriesOutcome.{SeriesOutcome}
 use Rattle.summary.specs.ReadSoFar.{read-whole, read-full}
-use Rattle.series_laws.specs.SeriesLines.{toldLines, outcomeLines, SeriesReported, SeriesRead}
+use Rattle.meaning.specs.SeriesLines.{toldLines, outcomeLines, SeriesReported, SeriesRead}
 
 -- what the answer of a call prints
 unfoldable pub answerLines : Outcome Told → List ℕ

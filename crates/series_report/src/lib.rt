@@ -11,7 +11,7 @@ ghost use Rattle.meaning.specs.Limits.{textLimit};
 ghost use Rattle.meaning.specs.Series.{logLimit};
 ghost use Rattle.first_causes.specs.Kept.{hitOf, entriesOf};
 ghost use Rattle.first_causes.specs.Told.{toldSays, outcomeSays};
-ghost use Rattle.series_laws.specs.SeriesLines.{hitLine, hitLines, toldLines, SeriesReported, SeriesRead};
+ghost use Rattle.meaning.specs.SeriesLines.{hitLine, hitLines, toldLines, SeriesReported, SeriesRead};
 ghost use Rattle.series_report.specs.Sizes.{seriesLength};
 ghost use Rattle.series_report.specs.Whole.{answerLines};
 use first_causes::LOG_ROOM;

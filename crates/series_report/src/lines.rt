@@ -6,7 +6,7 @@ ghost use Rattle.sequences.specs.Wrote.{Wrote};
 ghost use Rattle.meaning.specs.List.{pair};
 ghost use Rattle.meaning.specs.Series.{hitAt};
 ghost use Rattle.meaning.specs.Text.{tab, further};
-ghost use Rattle.series_laws.specs.SeriesLines.{pairFields, hitLine, numberLine};
+ghost use Rattle.meaning.specs.SeriesLines.{pairFields, hitLine, numberLine};
 use meaning::Kind;
 use wording::lines::put_kind;
 use wording::words::put_byte;

@@ -6,7 +6,7 @@ use native.Mathlib.Omega.{arith}
 use lib.ListN.{length, take, length-append}
 use lib.Seq.{length-take-le}
 use borrow.Author.Needs.{needs}
-use Rattle.series_laws.specs.SeriesLines.{SeriesReported, SeriesRead}
+use Rattle.meaning.specs.SeriesLines.{SeriesReported, SeriesRead}
 use Rattle.meaning.specs.ReadShown.{front-read}
 use Rattle.series.proofs.main.Statement.{statement}
 use Rattle.series.proofs.main.Tie as tie

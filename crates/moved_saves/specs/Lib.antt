@@ -1,2 +1,0 @@
--- A move, then a save, then a read.
-pub mod Kept
