@@ -75,30 +75,19 @@ pub fn corners_of(triangles: &[u16], stands: &[u16], j: usize) -> Corners
     }
 }
 
-// End k of edge j and corner k of triangle j, as the vertex stood for. Whether there are seams is asked apart from the vertex, so that in a loop
-// over all edges it is asked once, and many edges are compared at a time where there are none.
+// End k of edge j and corner k of triangle j, as the vertex stood for.
 pub fn end_counts_as(edges: &[u16], stands: &[u16], j: usize, k: usize) -> usize
     requires { ⌜ (j < edgeCount (onlyEdges (now edges))) × (k < 2) ⌝ }
     ensures { λ r. ⌜ r ≡ countsAs (onlyTable (now (stands .entry))) (edgeEnd (onlyEdges (now (edges .entry))) j k) ⌝ }
 {
-    let v = edge_end(edges, j, k);
-    if stands.len() == 0 {
-        v
-    } else {
-        counts_as(stands, v)
-    }
+    counts_as(stands, edge_end(edges, j, k))
 }
 
 pub fn corner_counts_as(triangles: &[u16], stands: &[u16], j: usize, k: usize) -> usize
     requires { ⌜ (j < triangleCount (onlyTriangles (now triangles))) × (k < 3) ⌝ }
     ensures { λ r. ⌜ r ≡ countsAs (onlyTable (now (stands .entry))) (corner (onlyTriangles (now (triangles .entry))) j k) ⌝ }
 {
-    let v = corner(triangles, j, k);
-    if stands.len() == 0 {
-        v
-    } else {
-        counts_as(stands, v)
-    }
+    counts_as(stands, corner(triangles, j, k))
 }
 
 fn one_of_three(v: usize, a: usize, b: usize, c: usize) -> bool

@@ -4,3 +4,4 @@ pub mod Speaking
 pub mod Accepting
 pub mod Facts
 pub mod Checking
+pub mod AsWritten

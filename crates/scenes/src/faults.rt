@@ -8,6 +8,7 @@ ghost use lib.IntN.{pos};
 ghost use lib.ListN.{length, getD};
 ghost use Rattle.meaning.specs.Scene.{sceneAtEntry, edgeCount, triangleCount, someBelow, wrongShape, outside, outOfRange, unknownIn, unknownVertex, twiceInEdge, twiceInTriangle, repeatedVertex};
 ghost use Rattle.seam_table.specs.Alone.{onlyPositions, onlyEdges, onlyTriangles, edgesSewn, trianglesSewn, tabled};
+ghost use Rattle.scenes.specs.AsWritten.{writtenTwiceInEdge, writtenTwiceInTriangle};
 use meaning::COORDINATE_LIMIT;
 use meaning::EDGE_LIMIT;
 use meaning::SEAM_LIMIT;
@@ -15,6 +16,8 @@ use meaning::TRIANGLE_LIMIT;
 use meaning::VERTEX_LIMIT;
 use scene_parts::corner_counts_as;
 use scene_parts::end_counts_as;
+use scene_parts::written::corner;
+use scene_parts::written::edge_end;
 use seam_table::wide;
 
 // 1: a length that is no multiple, or a count over its size.
@@ -124,8 +127,57 @@ fn repeated_in_triangles(triangles: &[u16], stands: &[u16]) -> bool
     found
 }
 
+// The same without seams, by the numbers as they are written: loops of their own, in which the compiler takes many parts at a time.
+fn written_twice_in_edge(edges: &[u16], j: usize) -> bool
+    requires { ⌜ j < edgeCount (onlyEdges (now edges)) ⌝ }
+    ensures { λ r. ⌜ r ≡ writtenTwiceInEdge (now (edges .entry)) j ⌝ }
+{
+    edge_end(edges, j, 0) == edge_end(edges, j, 1)
+}
+
+fn written_twice_in_triangle(triangles: &[u16], j: usize) -> bool
+    requires { ⌜ j < triangleCount (onlyTriangles (now triangles)) ⌝ }
+    ensures { λ r. ⌜ r ≡ writtenTwiceInTriangle (now (triangles .entry)) j ⌝ }
+{
+    let a = corner(triangles, j, 0);
+    let b = corner(triangles, j, 1);
+    let c = corner(triangles, j, 2);
+    let first = (a == b) | (a == c);
+    first | (b == c)
+}
+
+fn written_in_edges(edges: &[u16]) -> bool
+    ensures { λ r. ⌜ r ≡ someBelow (edgeCount (onlyEdges (now (edges .entry)))) (writtenTwiceInEdge (now (edges .entry))) ⌝ }
+{
+    let count = edges.len() / 2;
+    let mut found = false;
+    let mut j = 0;
+    while j < count {
+        found = found | written_twice_in_edge(edges, j);
+        j += 1;
+    }
+    found
+}
+
+fn written_in_triangles(triangles: &[u16]) -> bool
+    ensures { λ r. ⌜ r ≡ someBelow (triangleCount (onlyTriangles (now (triangles .entry)))) (writtenTwiceInTriangle (now (triangles .entry))) ⌝ }
+{
+    let count = triangles.len() / 3;
+    let mut found = false;
+    let mut j = 0;
+    while j < count {
+        found = found | written_twice_in_triangle(triangles, j);
+        j += 1;
+    }
+    found
+}
+
 pub fn repeated_vertex(edges: &[u16], triangles: &[u16], stands: &[u16]) -> bool
     ensures { λ r. ⌜ r ≡ repeatedVertex (tabled [] (now (edges .entry)) (now (triangles .entry)) (now (stands .entry))) ⌝ }
 {
-    repeated_in_edges(edges, stands) | repeated_in_triangles(triangles, stands)
+    if stands.len() == 0 {
+        written_in_edges(edges) | written_in_triangles(triangles)
+    } else {
+        repeated_in_edges(edges, stands) | repeated_in_triangles(triangles, stands)
+    }
 }
