@@ -1,6 +1,7 @@
 // The library for C and for Rust: numbers and slices only, thin over the crates that do the work. include/makhnodri.h tells the same in C.
 
 pub mod own; // own.rt: a list of one's own
+pub mod series; // series.rt: a series
 
 ghost use mathlib.Core.List.{[], _∷_};
 ghost use mathlib.Core.Path.{_≡_};
