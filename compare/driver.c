@@ -2,7 +2,7 @@
  * Answers questions from another program with what the library answers, number for number: one question after the other on
  * standard input, one answer after the other on standard output, until the input ends. compare/raw runs it.
  *
- * A question is `struct question`, then each of the nine buffers in the order of the `enum`: as many numbers as its length
+ * A question is `struct question`, then each of the buffers in the order of the `enum`: as many numbers as its length
  * says, with MARGIN bytes in front of them and MARGIN behind, which are not lent. An answer is the number that the call gave,
  * then all those bytes as the call left them.
  */
@@ -14,8 +14,8 @@
 /* each buffer is aligned for 64-bit numbers, and not for more */
 enum { MARGIN = 24, CAPACITY = 1 << 22 };
 
-enum { POSITIONS, EDGES, TRIANGLES, SEAMS, LIST, WORDS, TEXT, COUNTS, REPORT, CONTACTS, BUFFERS };
-static const size_t size_of[BUFFERS] = {4, 2, 2, 2, 4, 1, 1, sizeof(size_t), 1, 4};
+enum { POSITIONS, EDGES, TRIANGLES, SEAMS, LIST, WORDS, TEXT, COUNTS, REPORT, CONTACTS, BOXES, LOG, TOLD, BUFFERS };
+static const size_t size_of[BUFFERS] = {4, 2, 2, 2, 4, 1, 1, sizeof(size_t), 1, 4, 4, 4, 8};
 
 struct question {
     uint64_t call, asked[3], length[BUFFERS];
@@ -65,6 +65,9 @@ static uint64_t answer(const struct question *q) {
                                              q->length[CONTACTS]);
     case 21: return makhnodri_saved_length_slices(SCENE);
     case 22: return makhnodri_save_scene_slices(SCENE, lent(TEXT), q->length[TEXT]);
+    case 23:
+        return makhnodri_tell_series_slices(lent(TEXT), q->length[TEXT], SCENE, lent(BOXES), q->length[BOXES], lent(LIST), q->length[LIST],
+                                            lent(COUNTS), lent(LOG), lent(TOLD));
     }
     give_up("no such call");
     return 0;

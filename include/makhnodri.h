@@ -51,9 +51,14 @@ extern "C" {
 #define MAKHNODRI_EDGES_LENGTH 2048     /* 1024 x 2 */
 #define MAKHNODRI_TRIANGLES_LENGTH 1536 /* 512 x 3 */
 #define MAKHNODRI_SEAMS_LENGTH 1024     /* 512 x 2 */
+#define MAKHNODRI_BOXES_LENGTH 12288    /* 2048 parts x 6: 512 vertices, 1024 edges, 512 triangles */
+
+#define MAKHNODRI_LOG_LIMIT 64   /* hits that the log of a series holds */
+#define MAKHNODRI_LOG_LENGTH 128 /* numbers of a log: 64 x 2 */
+#define MAKHNODRI_TOLD_LENGTH 8  /* numbers that are told of a series beside its log */
 
 /* enough stack for any call, in bytes */
-#define MAKHNODRI_STACK 131072
+#define MAKHNODRI_STACK 196608
 
 /* the length of the buffer that a report is written into, in bytes; every report fits */
 #define MAKHNODRI_REPORT_LENGTH 65536
@@ -97,14 +102,15 @@ extern "C" {
  * was less for each:
  *
  *     check_scene       1,288      judge_pt, judge_pt_piece     1,792
- *     count_pairs      53,240      judge_ee, judge_ee_piece     1,824
- *     list_pairs       86,200      settle_pt, settle_pt_piece   2,624
- *     settle_scene     86,376      settle_ee, settle_ee_piece   2,624
- *     read_scene       26,184      write_report               123,224
+ *     count_pairs      53,384      judge_ee, judge_ee_piece     1,824
+ *     list_pairs       86,328      settle_pt, settle_pt_piece   2,624
+ *     settle_scene     87,709      settle_ee, settle_ee_piece   2,624
+ *     read_scene       26,184      write_report               124,349
  *     turn_scene          280      check_claims                 2,032
- *     contact_scene    86,344      contact_pt, contact_ee       2,976
+ *     contact_scene    86,584      contact_pt, contact_ee       2,976
  *     saved_length      1,464      save_scene                   1,576
  *     settle_list       3,184      contact_list                 3,296
+ *     tell_series     175,853
  *
  * ---- An answer ----
  *
@@ -115,7 +121,7 @@ extern "C" {
  */
 typedef uint64_t makhnodri_answer;
 
-/* the refusal's number, 1 to 12, 15 or 16, or 0 where the answer is a value */
+/* the refusal's number, 1 to 13, 15 or 16, or 0 where the answer is a value */
 static inline uint32_t makhnodri_refusal(makhnodri_answer answer) { return (uint32_t)(answer >> 32); }
 
 /* the value; of a refusal, the line or the needed count. Look at makhnodri_refusal first: both may be 0 */
@@ -177,6 +183,7 @@ static inline uint32_t makhnodri_entry_second(uint32_t entry) { return entry & 1
  * Of a text: 12, 8, then the first faulty line, and in it 9, 10, 11, 2, 3, 15, 4.
  * Of claims: the scene's, 8, then the first faulty line, and in it 9, 5, 6; 7 last.
  * Of a scene that is saved: the scene's, then 8, then 7.
+ * Of a series: 12, 8, then the first faulty line, and in it 9, 10, 11, 13, 2, 3, 15, 4; 7 last, for the first step without room.
  */
 enum {
     MAKHNODRI_SHAPE = 1,           /* positions not a multiple of 6 long, edges of 2, triangles of 3, seams of 2, or a count over its size */
@@ -190,7 +197,8 @@ enum {
     MAKHNODRI_BAD_LINE = 9,        /* a line not of the form, or a last line without LF; with the line */
     MAKHNODRI_LATE_RECORD = 10,    /* a record after one of a later kind; with the line */
     MAKHNODRI_TOO_MANY = 11,       /* one record more than its size; with the line */
-    MAKHNODRI_SHORT_BUFFER = 12,   /* a lent scene buffer shorter than 3,072 positions, 2,048 edge, 1,536 triangle or 1,024 seam numbers */
+    MAKHNODRI_SHORT_BUFFER = 12,   /* a lent scene buffer shorter than 3,072 positions, 2,048 edge, 1,536 triangle or 1,024 seam numbers, or 12,288 of boxes */
+    MAKHNODRI_WRONG_BLOCK = 13,    /* a block with more or fewer v lines than vertices: with the first line too many, the n too soon, or the last line */
     MAKHNODRI_BROKEN_SEAM = 15,    /* a seam that breaks the rules of seams, or whose two positions differ at either time; of a text, with the line */
     MAKHNODRI_BEYOND_OLD_RANGE = 16 /* a contact asked for in a scene with a coordinate beyond MAKHNODRI_CONTACT_LIMIT in size */
 };
@@ -226,6 +234,7 @@ static inline const char *makhnodri_refusal_words(uint32_t refusal) {
     case MAKHNODRI_LATE_RECORD: return "a record after one of a later kind";
     case MAKHNODRI_TOO_MANY: return "one record more than its size";
     case MAKHNODRI_SHORT_BUFFER: return "a lent scene buffer that is too short";
+    case MAKHNODRI_WRONG_BLOCK: return "a block with more or fewer lines than vertices";
     case MAKHNODRI_BROKEN_SEAM: return "a seam that breaks the rules of seams, or whose two positions differ";
     case MAKHNODRI_BEYOND_OLD_RANGE: return "a contact asked for in a scene with a coordinate beyond 262,143";
     default: return "no refusal";
@@ -295,6 +304,13 @@ makhnodri_answer makhnodri_save_scene_slices(MAKHNODRI_LISTS, uint8_t *text, siz
 makhnodri_answer makhnodri_read_scene_slices(const uint8_t *text, size_t text_length, int32_t *positions, size_t positions_length,
                                              uint16_t *edges, size_t edges_length, uint16_t *triangles, size_t triangles_length,
                                              uint16_t *seams, size_t seams_length, size_t counts[MAKHNODRI_AT_LEAST(4)]);
+
+makhnodri_answer makhnodri_tell_series_slices(const uint8_t *text, size_t text_length, int32_t *positions, size_t positions_length,
+                                              uint16_t *edges, size_t edges_length, uint16_t *triangles, size_t triangles_length,
+                                              uint16_t *seams, size_t seams_length, int32_t *boxes, size_t boxes_length, uint32_t *list,
+                                              size_t list_length, size_t counts[MAKHNODRI_AT_LEAST(4)],
+                                              uint32_t log[MAKHNODRI_AT_LEAST(MAKHNODRI_LOG_LENGTH)],
+                                              uint64_t told[MAKHNODRI_AT_LEAST(MAKHNODRI_TOLD_LENGTH)]);
 
 /* the lists of a struct, as the plain functions take them */
 #define MAKHNODRI_LISTS_OF(scene)                                                                                                 \
@@ -505,6 +521,67 @@ static inline makhnodri_answer makhnodri_read_scene(const uint8_t *text, size_t 
     scene->triangles_length = 3 * counts[2];
     scene->seams = buffers->seams;
     scene->seams_length = 2 * counts[3];
+    return answer;
+}
+
+/* An entry of a log: the step, counted from 1, and the pair that was hit in it, as an entry of a list. */
+typedef struct makhnodri_hit {
+    uint32_t step, entry;
+} makhnodri_hit;
+
+/*
+ * What is told of a series. The log holds its first 64 hits, in step and list order: log[0] to log[held - 1]. Hits behind them are
+ * counted in later; none replaces an entry. A touch is no hit. listed, hits, misses, touches and aparts are totals over all steps, and
+ * first is the first step with a hit, or 0 where there is none.
+ */
+typedef struct makhnodri_told {
+    makhnodri_hit log[MAKHNODRI_LOG_LIMIT];
+    uint64_t held, later, listed, hits, misses, touches, aparts, first;
+} makhnodri_told;
+
+/*
+ * Runs a series (docs/FORMAT.md): a scene, which is step 1, and blocks of next end positions; each step starts where the last ended. The
+ * answer is the count of the last step's list. The list is then in front of list, the last step in the buffers, its boxes (six numbers
+ * each, the three lows first: all vertices, then edges, then triangles) in front of boxes; scene points to the last step; the rest of
+ * each buffer, and of the log, is unchanged. Or a refusal, after which nothing lent has changed: 8; a line of the text, 9, 10, 11, 13, 2,
+ * 3, 15 or 4; 7 with the count needed, for the first step whose list has no room. No step is told then.
+ *
+ * makhnodri_tell_series_slices works with buffers of the caller's, at least MAKHNODRI_POSITIONS_LENGTH, MAKHNODRI_EDGES_LENGTH,
+ * MAKHNODRI_TRIANGLES_LENGTH, MAKHNODRI_SEAMS_LENGTH and MAKHNODRI_BOXES_LENGTH long, else 12, before all others. counts is as for
+ * makhnodri_read_scene_slices; log has two numbers an entry, step and pair; told has held, later, listed, hits, misses, touches, aparts
+ * and first.
+ */
+static inline makhnodri_answer makhnodri_tell_series(const uint8_t *text, size_t text_length, makhnodri_buffers *buffers,
+                                                     int32_t boxes[MAKHNODRI_AT_LEAST(MAKHNODRI_BOXES_LENGTH)], uint32_t *list,
+                                                     size_t list_length, makhnodri_scene *scene, makhnodri_told *told) {
+    size_t counts[4];
+    uint32_t log[MAKHNODRI_LOG_LENGTH];
+    uint64_t numbers[MAKHNODRI_TOLD_LENGTH];
+    makhnodri_answer answer = makhnodri_tell_series_slices(
+        text, text_length, buffers->positions, MAKHNODRI_POSITIONS_LENGTH, buffers->edges, MAKHNODRI_EDGES_LENGTH, buffers->triangles,
+        MAKHNODRI_TRIANGLES_LENGTH, buffers->seams, MAKHNODRI_SEAMS_LENGTH, boxes, MAKHNODRI_BOXES_LENGTH, list, list_length, counts, log,
+        numbers);
+    if (makhnodri_refusal(answer)) return answer;
+    scene->positions = buffers->positions;
+    scene->positions_length = 6 * counts[0];
+    scene->edges = buffers->edges;
+    scene->edges_length = 2 * counts[1];
+    scene->triangles = buffers->triangles;
+    scene->triangles_length = 3 * counts[2];
+    scene->seams = buffers->seams;
+    scene->seams_length = 2 * counts[3];
+    for (size_t i = 0; i < numbers[0]; i++) {
+        told->log[i].step = log[2 * i];
+        told->log[i].entry = log[2 * i + 1];
+    }
+    told->held = numbers[0];
+    told->later = numbers[1];
+    told->listed = numbers[2];
+    told->hits = numbers[3];
+    told->misses = numbers[4];
+    told->touches = numbers[5];
+    told->aparts = numbers[6];
+    told->first = numbers[7];
     return answer;
 }
 

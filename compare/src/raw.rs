@@ -5,4 +5,5 @@ pub mod damaged;
 pub mod expected;
 pub mod harm;
 pub mod question;
+pub mod series;
 pub mod sorts;

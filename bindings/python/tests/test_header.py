@@ -9,8 +9,8 @@ from . import TOP
 HEADER = (TOP / "include/makhnodri.h").read_text(encoding="utf-8")
 CODE = re.sub(r"[ \t]+$", "", re.sub(r"/\*.*?\*/", "", HEADER, flags=re.S), flags=re.M)
 NO_NUMBERS = {"H", "AT_LEAST", "LISTS", "LISTS_OF"}  # macros that stand for no number
-STRUCTS = {"scene", "buffers"}  # Scene, and arrays
-TYPES = {"int32_t": "_INT32", "uint16_t": "_UINT16", "uint32_t": "_UINT32", "uint8_t": "_UINT8", "size_t": "_SIZE"}
+STRUCTS = {"scene", "buffers", "hit", "told"}  # Scene, arrays, Hit and Told
+TYPES = {"int32_t": "_INT32", "uint16_t": "_UINT16", "uint32_t": "_UINT32", "uint8_t": "_UINT8", "size_t": "_SIZE", "uint64_t": "_UINT64"}
 
 
 def in_numbers(length):
@@ -66,7 +66,7 @@ class Header(unittest.TestCase):
         for name, said in words.items():
             number = getattr(makhnodri, name)
             self.assertEqual(makhnodri.word(number) if isinstance(number, makhnodri.Word) else makhnodri.refusal_words(number), said)
-        self.assertEqual((makhnodri.word(5), makhnodri.refusal_words(0), makhnodri.refusal_words(13)), ("no word", "not refused", "no refusal"))
+        self.assertEqual((makhnodri.word(5), makhnodri.refusal_words(0), makhnodri.refusal_words(14)), ("no word", "not refused", "no refusal"))
 
     def test_structs_have_their_stand_ins(self):
         self.assertEqual(set(re.findall(r"^} makhnodri_(\w+);", CODE, re.M)), STRUCTS)

@@ -74,7 +74,7 @@ pub struct Listed {
     pub box_tests: usize,
 }
 
-/// Why a call was refused, in the order of the numbers: 1 to 12, 15 and 16.
+/// Why a call was refused, in the order of the numbers: 1 to 13, 15 and 16.
 #[derive(Clone, Copy, Debug, PartialEq, Eq, Hash)]
 pub enum Refusal {
     Shape = 1,
@@ -89,6 +89,7 @@ pub enum Refusal {
     LateRecord,
     TooMany,
     ShortBuffer,
+    WrongBlock,
     BrokenSeam = 15,
     BeyondOldRange = 16,
 }
@@ -146,7 +147,7 @@ pub enum SaveRefusal {
     NoRoom { needed: usize },
 }
 
-const REFUSALS: [(Refusal, &str); 14] = [
+const REFUSALS: [(Refusal, &str); 15] = [
     (Refusal::Shape, "positions not a multiple of 6 long, edges of 2, triangles of 3, seams of 2, or a count over its size"),
     (Refusal::Coordinate, "a coordinate outside its range"),
     (Refusal::UnknownVertex, "a vertex number not below the vertex count"),
@@ -159,6 +160,7 @@ const REFUSALS: [(Refusal, &str); 14] = [
     (Refusal::LateRecord, "a record after one of a later kind"),
     (Refusal::TooMany, "one record more than its size"),
     (Refusal::ShortBuffer, "a lent scene buffer that is too short"),
+    (Refusal::WrongBlock, "a block with more or fewer lines than vertices"),
     (Refusal::BrokenSeam, "a seam that breaks the rules of seams, or whose two positions differ"),
     (Refusal::BeyondOldRange, "a contact asked for in a scene with a coordinate beyond 262,143"),
 ];

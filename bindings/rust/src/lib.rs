@@ -49,6 +49,7 @@ mod contacts;
 mod own;
 mod raw;
 mod scenes;
+mod series;
 mod texts;
 
 pub use answers::{
@@ -57,6 +58,7 @@ pub use answers::{
 pub use contacts::Contact;
 pub use own::OwnRefusal;
 pub use scenes::{turn_scene, Scene};
+pub use series::{tell_series, Hit, Log, Series, SeriesRefusal, Told};
 pub use texts::{read_scene, report, write_report, Counts};
 
 /// The version of the wrapper, and of the header and library that it belongs to.
@@ -88,8 +90,12 @@ pub const POSITIONS_LENGTH: usize = 6 * VERTEX_LIMIT;
 pub const EDGES_LENGTH: usize = 2 * EDGE_LIMIT;
 pub const TRIANGLES_LENGTH: usize = 3 * TRIANGLE_LIMIT;
 pub const SEAMS_LENGTH: usize = 2 * SEAM_LIMIT;
+/// How long the buffer is that boxes are kept in, in numbers: six a part.
+pub const BOXES_LENGTH: usize = 6 * (VERTEX_LIMIT + EDGE_LIMIT + TRIANGLE_LIMIT);
+/// Hits that the log of a series holds.
+pub const LOG_LIMIT: usize = 64;
 /// How long the array is that a report is written into, in bytes; every report fits.
 pub const REPORT_LENGTH: usize = 65_536;
 
 /// Enough stack for any call, in bytes.
-pub const STACK: usize = 131_072;
+pub const STACK: usize = 196_608;

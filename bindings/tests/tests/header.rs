@@ -19,7 +19,7 @@ fn header() -> BTreeMap<String, i64> {
     text.lines().filter_map(numbered).collect()
 }
 
-const REFUSALS: [(&str, Refusal); 14] = [
+const REFUSALS: [(&str, Refusal); 15] = [
     ("SHAPE", Refusal::Shape),
     ("COORDINATE", Refusal::Coordinate),
     ("UNKNOWN_VERTEX", Refusal::UnknownVertex),
@@ -32,6 +32,7 @@ const REFUSALS: [(&str, Refusal); 14] = [
     ("LATE_RECORD", Refusal::LateRecord),
     ("TOO_MANY", Refusal::TooMany),
     ("SHORT_BUFFER", Refusal::ShortBuffer),
+    ("WRONG_BLOCK", Refusal::WrongBlock),
     ("BROKEN_SEAM", Refusal::BrokenSeam),
     ("BEYOND_OLD_RANGE", Refusal::BeyondOldRange),
 ];
@@ -61,6 +62,10 @@ fn the_header_has_the_same_numbers() {
         ("EDGES_LENGTH", EDGES_LENGTH),
         ("TRIANGLES_LENGTH", TRIANGLES_LENGTH),
         ("SEAMS_LENGTH", SEAMS_LENGTH),
+        ("BOXES_LENGTH", BOXES_LENGTH),
+        ("LOG_LIMIT", LOG_LIMIT),
+        ("LOG_LENGTH", 2 * LOG_LIMIT),
+        ("TOLD_LENGTH", 8),
         ("REPORT_LENGTH", REPORT_LENGTH),
         ("STACK", STACK),
         ("HIT", Verdict::Hit as usize),
@@ -96,6 +101,7 @@ fn the_independent_program_has_the_same_sizes() {
     assert_eq!(sizes[..4], wanted);
     assert_eq!(sizes[4..], [independent::TEXT_LIMIT, independent::REPORT_ROOM]);
     assert_eq!([POSITIONS_LENGTH, EDGES_LENGTH, TRIANGLES_LENGTH, SEAMS_LENGTH], compare::text::LENT_LENGTHS);
+    assert_eq!((BOXES_LENGTH, LOG_LIMIT), (compare::stored::BOX_NUMBERS, compare::series::LOG_LIMIT));
     assert_eq!(WEIGHT_LIMIT, compare::claims::WEIGHT_LIMIT);
     assert_eq!(Refusal::BrokenSeam.number() as u64, compare::refusal::BROKEN_SEAM);
 }

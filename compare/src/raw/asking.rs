@@ -2,6 +2,7 @@
 
 use super::harm::{harm, SCENE_CHECKS};
 use super::question::*;
+use super::series;
 use crate::affine::Affine;
 use crate::claims::{self, making};
 use crate::contacts::making as contact_scenes;
@@ -33,6 +34,7 @@ pub fn fixed() -> Vec<Question> {
     out.extend(trials::fixed().into_iter().flat_map(|trial| about_text(&mut random, trial.text)));
     out.extend(box_tests::SIZES.into_iter().flat_map(about_runs));
     out.extend(about_long_texts());
+    out.extend(series::fixed());
     out
 }
 
@@ -61,6 +63,7 @@ pub fn seeded(seed: u64) -> Vec<Question> {
         out.extend(pairs(&mut random, &full));
     }
     out.extend(scenes_for_contacts(seed));
+    out.extend(series::seeded(seed));
     out
 }
 

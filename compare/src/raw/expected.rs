@@ -1,4 +1,4 @@
-//! What each call must answer, and what it must leave in every buffer, by document 01, §12 of document 02, and
+//! What each call must answer, and what it must leave in every buffer, by document 01, §2 and §12 of document 02, and
 //! docs/DECISIONS.md, D13, D15, D25 and D68.
 
 use super::question::*;
@@ -74,6 +74,7 @@ impl Expecting {
             Call::SettleList | Call::ContactList => self.own_list(question.call, lent),
             Call::SavedLength => Ok(saved(lent)?.len() as u64),
             Call::SaveScene => save(lent),
+            Call::TellSeries => super::series::told(lent),
         }
     }
 

@@ -26,6 +26,7 @@ pub enum Call {
     ContactList,
     SavedLength,
     SaveScene,
+    TellSeries,
 }
 
 /// Of a pair, or of a piece of one.
@@ -69,6 +70,7 @@ pub fn calls() -> Vec<Call> {
     out.extend([Call::Contact(Asked::Pt), Call::Contact(Asked::Ee), Call::ContactScene]);
     out.extend([Call::SettleList, Call::ContactList]);
     out.extend([Call::SavedLength, Call::SaveScene]);
+    out.push(Call::TellSeries);
     out
 }
 
@@ -82,7 +84,7 @@ impl Call {
 
     /// Whether it takes a scene as slices.
     pub fn takes_a_scene(self) -> bool {
-        !matches!(self, Call::ReadScene | Call::WriteReport)
+        !matches!(self, Call::ReadScene | Call::WriteReport | Call::TellSeries)
     }
 
     /// Whether its scene may have seams.
@@ -138,6 +140,7 @@ impl Call {
             Call::ContactList => "contact_list".into(),
             Call::SavedLength => "saved_length".into(),
             Call::SaveScene => "save_scene".into(),
+            Call::TellSeries => "tell_series".into(),
         }
     }
 }
@@ -156,10 +159,14 @@ pub struct Lent {
     pub counts: Vec<u64>,
     pub report: Vec<u8>,
     pub contacts: Vec<u32>,
+    pub boxes: Vec<i32>,
+    /// A series' log, two numbers an entry, and what is told beside it.
+    pub log: Vec<u32>,
+    pub told: Vec<u64>,
 }
 
-pub const BUFFERS: [&str; 10] =
-    ["positions", "edges", "triangles", "seams", "list", "words", "text", "counts", "report", "contacts"];
+pub const BUFFERS: [&str; 13] =
+    ["positions", "edges", "triangles", "seams", "list", "words", "text", "counts", "report", "contacts", "boxes", "log", "told"];
 
 /// The places of some buffers.
 pub const POSITIONS: usize = 0;
@@ -171,6 +178,7 @@ pub const COUNTS: usize = 7;
 pub const TEXT: usize = 6;
 pub const REPORT: usize = 8;
 pub const CONTACTS: usize = 9;
+pub const TOLD: usize = 12;
 /// Numbers of a contact.
 pub const ROW: usize = 5;
 
@@ -202,6 +210,9 @@ impl Lent {
             self.counts.len(),
             self.report.len(),
             self.contacts.len(),
+            self.boxes.len(),
+            self.log.len(),
+            self.told.len(),
         ]
     }
 
@@ -219,6 +230,9 @@ impl Lent {
             self.counts.iter().flat_map(|n| n.to_le_bytes()).collect(),
             self.report.clone(),
             self.contacts.iter().flat_map(|n| n.to_le_bytes()).collect(),
+            self.boxes.iter().flat_map(|n| n.to_le_bytes()).collect(),
+            self.log.iter().flat_map(|n| n.to_le_bytes()).collect(),
+            self.told.iter().flat_map(|n| n.to_le_bytes()).collect(),
         ];
         inside.map(|inside| [marks(MARGIN), inside, marks(MARGIN)].concat())
     }

@@ -3,6 +3,7 @@
 use super::expected;
 use super::harm::*;
 use super::question::*;
+use super::series;
 use crate::box_tests;
 use crate::faults::{self, Cell};
 use crate::listing;
@@ -41,6 +42,7 @@ pub fn none_yet() -> Sorts {
     out.extend(of_contact_scenes());
     out.extend([Call::SettleList, Call::ContactList].into_iter().flat_map(of_own_lists));
     out.extend(of_saving_calls());
+    out.extend(series::sorts());
     out.extend(SCENE_FAULTS.map(|(number, fault)| alone(number, fault)));
     out.extend(of_texts());
     out.into_iter().map(|sort| (sort, 0)).collect()
@@ -281,6 +283,7 @@ pub fn of(question: &Question, answer: &Answer) -> Vec<String> {
             out.extend(of_saving(question, answer));
             out
         }
+        Call::TellSeries => series::sorts_of(question, answer),
         _ => of_slices(question, answer),
     }
 }
