@@ -2,7 +2,7 @@
  * Answers questions from another program with what the library answers, number for number: one question after the other on
  * standard input, one answer after the other on standard output, until the input ends. compare/raw runs it.
  *
- * A question is `struct question`, then each of the twelve buffers in the order of the `enum`: as many numbers as its length
+ * A question is `struct question`, then each of the buffers in the order of the `enum`: as many numbers as its length
  * says, with MARGIN bytes in front of them and MARGIN behind, which are not lent. An answer is the number that the call gave,
  * then all those bytes as the call left them.
  */
@@ -14,8 +14,8 @@
 /* each buffer is aligned for 64-bit numbers, and not for more */
 enum { MARGIN = 24, CAPACITY = 1 << 22 };
 
-enum { POSITIONS, EDGES, TRIANGLES, SEAMS, LIST, WORDS, TEXT, COUNTS, REPORT, CONTACTS, BOXES, COORDINATES, ENDING, BUFFERS };
-static const size_t size_of[BUFFERS] = {4, 2, 2, 2, 4, 1, 1, sizeof(size_t), 1, 4, 4, 4, 1};
+enum { POSITIONS, EDGES, TRIANGLES, SEAMS, LIST, WORDS, TEXT, COUNTS, REPORT, CONTACTS, BOXES, COORDINATES, ENDING, LOG, TOLD, BUFFERS };
+static const size_t size_of[BUFFERS] = {4, 2, 2, 2, 4, 1, 1, sizeof(size_t), 1, 4, 4, 4, 1, 4, 8};
 
 struct question {
     uint64_t call, asked[3], length[BUFFERS];
@@ -74,6 +74,9 @@ static uint64_t answer(const struct question *q) {
     case 28: return makhnodri_read_boxed_slices(lent(TEXT), q->length[TEXT], STORED, lent(COUNTS));
     case 29:
         return makhnodri_import_scene_slices(lent(TEXT), q->length[TEXT], lent(ENDING), q->length[ENDING], STORED, lent(COUNTS));
+    case 30:
+        return makhnodri_tell_series_slices(lent(TEXT), q->length[TEXT], STORED, lent(LIST), q->length[LIST], lent(COUNTS), lent(LOG),
+                                            lent(TOLD));
     }
     give_up("no such call");
     return 0;

@@ -51,10 +51,14 @@ extern "C" {
 #define MAKHNODRI_EDGES_LENGTH 2048     /* 1024 x 2 */
 #define MAKHNODRI_TRIANGLES_LENGTH 1536 /* 512 x 3 */
 #define MAKHNODRI_SEAMS_LENGTH 1024     /* 512 x 2 */
-#define MAKHNODRI_BOXES_LENGTH 12288    /* (512 + 1024 + 512) x 6, of the boxes that a scene keeps */
+#define MAKHNODRI_BOXES_LENGTH 12288    /* (512 + 1024 + 512) x 6, of the boxes of its parts */
+
+#define MAKHNODRI_LOG_LIMIT 64   /* hits that the log of a series holds */
+#define MAKHNODRI_LOG_LENGTH 128 /* numbers of a log: 64 x 2 */
+#define MAKHNODRI_TOLD_LENGTH 8  /* numbers that are told of a series beside its log */
 
 /* enough stack for any call, in bytes */
-#define MAKHNODRI_STACK 131072
+#define MAKHNODRI_STACK 196608
 
 /* the length of the buffer that a report is written into, in bytes; every report fits */
 #define MAKHNODRI_REPORT_LENGTH 65536
@@ -98,18 +102,18 @@ extern "C" {
  * was less for each but those with boxes, the last three rows, which were not measured there:
  *
  *     check_scene       1,288      judge_pt, judge_pt_piece     1,792
- *     count_pairs      53,240      judge_ee, judge_ee_piece     1,824
- *     list_pairs       86,200      settle_pt, settle_pt_piece   2,624
- *     settle_scene     86,376      settle_ee, settle_ee_piece   2,624
- *     read_scene       26,184      write_report               123,224
+ *     count_pairs      53,384      judge_ee, judge_ee_piece     1,824
+ *     list_pairs       86,328      settle_pt, settle_pt_piece   2,624
+ *     settle_scene     87,709      settle_ee, settle_ee_piece   2,624
+ *     read_scene       26,184      write_report               124,349
  *     turn_scene          280      check_claims                 2,032
- *     contact_scene    86,344      contact_pt, contact_ee       2,976
+ *     contact_scene    86,584      contact_pt, contact_ee       2,976
  *     saved_length      1,464      save_scene                   1,576
  *     settle_list       3,184      contact_list                 3,296
  *     fill_boxes        1,352      move_vertex                 12,728
  *     count_stored     53,144      list_stored                 86,080
  *     settle_stored    86,096      read_boxed                  23,288
- *     import_scene     39,560
+ *     import_scene     39,560      tell_series                175,853
  *
  * ---- An answer ----
  *
@@ -186,6 +190,7 @@ static inline uint32_t makhnodri_entry_second(uint32_t entry) { return entry & 1
  * Of a scene that keeps its boxes: 12, the scene's; then for a move 5, 2 of the new coordinates, 15; for the list 17, then 7.
  * Of two OBJ files: 12, 8 for the start file, 8 for the end file, then the first faulty line of the start file and then of the end file,
  * in it 9, 10, 11, 2, 3, 4, and 11 again for edge 1,025; 14 last.
+ * Of a series: 12, 8, then the first faulty line, and in it 9, 10, 11, 13, 2, 3, 15, 4; 7 last, for the first step without room.
  */
 enum {
     MAKHNODRI_SHAPE = 1,           /* positions not a multiple of 6 long, edges of 2, triangles of 3, seams of 2, or a count over its size */
@@ -370,6 +375,12 @@ makhnodri_answer makhnodri_read_boxed_slices(const uint8_t *text, size_t text_le
                                              uint16_t *edges, size_t edges_length, uint16_t *triangles, size_t triangles_length,
                                              uint16_t *seams, size_t seams_length, int32_t *boxes, size_t boxes_length,
                                              size_t counts[MAKHNODRI_AT_LEAST(4)]);
+makhnodri_answer makhnodri_tell_series_slices(const uint8_t *text, size_t text_length, int32_t *positions, size_t positions_length,
+                                              uint16_t *edges, size_t edges_length, uint16_t *triangles, size_t triangles_length,
+                                              uint16_t *seams, size_t seams_length, int32_t *boxes, size_t boxes_length, uint32_t *list,
+                                              size_t list_length, size_t counts[MAKHNODRI_AT_LEAST(4)],
+                                              uint32_t log[MAKHNODRI_AT_LEAST(MAKHNODRI_LOG_LENGTH)],
+                                              uint64_t told[MAKHNODRI_AT_LEAST(MAKHNODRI_TOLD_LENGTH)]);
 
 /* the lists of a struct, as the plain functions take them; of a scene that keeps its boxes, those too */
 #define MAKHNODRI_LISTS_OF(scene)                                                                                                 \
@@ -632,6 +643,67 @@ static inline makhnodri_answer makhnodri_read_scene(const uint8_t *text, size_t 
         text, text_length, buffers->positions, MAKHNODRI_POSITIONS_LENGTH, buffers->edges, MAKHNODRI_EDGES_LENGTH, buffers->triangles,
         MAKHNODRI_TRIANGLES_LENGTH, buffers->seams, MAKHNODRI_SEAMS_LENGTH, counts);
     if (!makhnodri_refusal(answer)) makhnodri_scene_in(buffers, counts, scene);
+    return answer;
+}
+
+/* An entry of a log: the step, counted from 1, and the pair that was hit in it, as an entry of a list. */
+typedef struct makhnodri_hit {
+    uint32_t step, entry;
+} makhnodri_hit;
+
+/*
+ * What is told of a series. The log holds its first 64 hits, in step and list order: log[0] to log[held - 1]. Hits behind them are
+ * counted in later; none replaces an entry. A touch is no hit. listed, hits, misses, touches and aparts are totals over all steps, and
+ * first is the first step with a hit, or 0 where there is none.
+ */
+typedef struct makhnodri_told {
+    makhnodri_hit log[MAKHNODRI_LOG_LIMIT];
+    uint64_t held, later, listed, hits, misses, touches, aparts, first;
+} makhnodri_told;
+
+/*
+ * Runs a series (docs/FORMAT.md): a scene, which is step 1, and blocks of next end positions; each step starts where the last ended. The
+ * answer is the count of the last step's list. The list is then in front of list, the last step in the buffers, its boxes (six numbers
+ * each, the three lows first: all vertices, then edges, then triangles) in front of boxes; scene points to the last step; the rest of
+ * each buffer, and of the log, is unchanged. Or a refusal, after which nothing lent has changed: 8; a line of the text, 9, 10, 11, 13, 2,
+ * 3, 15 or 4; 7 with the count needed, for the first step whose list has no room. No step is told then.
+ *
+ * makhnodri_tell_series_slices works with buffers of the caller's, at least MAKHNODRI_POSITIONS_LENGTH, MAKHNODRI_EDGES_LENGTH,
+ * MAKHNODRI_TRIANGLES_LENGTH, MAKHNODRI_SEAMS_LENGTH and MAKHNODRI_BOXES_LENGTH long, else 12, before all others. counts is as for
+ * makhnodri_read_scene_slices; log has two numbers an entry, step and pair; told has held, later, listed, hits, misses, touches, aparts
+ * and first.
+ */
+static inline makhnodri_answer makhnodri_tell_series(const uint8_t *text, size_t text_length, makhnodri_buffers *buffers,
+                                                     int32_t boxes[MAKHNODRI_AT_LEAST(MAKHNODRI_BOXES_LENGTH)], uint32_t *list,
+                                                     size_t list_length, makhnodri_scene *scene, makhnodri_told *told) {
+    size_t counts[4];
+    uint32_t log[MAKHNODRI_LOG_LENGTH];
+    uint64_t numbers[MAKHNODRI_TOLD_LENGTH];
+    makhnodri_answer answer = makhnodri_tell_series_slices(
+        text, text_length, buffers->positions, MAKHNODRI_POSITIONS_LENGTH, buffers->edges, MAKHNODRI_EDGES_LENGTH, buffers->triangles,
+        MAKHNODRI_TRIANGLES_LENGTH, buffers->seams, MAKHNODRI_SEAMS_LENGTH, boxes, MAKHNODRI_BOXES_LENGTH, list, list_length, counts, log,
+        numbers);
+    if (makhnodri_refusal(answer)) return answer;
+    scene->positions = buffers->positions;
+    scene->positions_length = 6 * counts[0];
+    scene->edges = buffers->edges;
+    scene->edges_length = 2 * counts[1];
+    scene->triangles = buffers->triangles;
+    scene->triangles_length = 3 * counts[2];
+    scene->seams = buffers->seams;
+    scene->seams_length = 2 * counts[3];
+    for (size_t i = 0; i < numbers[0]; i++) {
+        told->log[i].step = log[2 * i];
+        told->log[i].entry = log[2 * i + 1];
+    }
+    told->held = numbers[0];
+    told->later = numbers[1];
+    told->listed = numbers[2];
+    told->hits = numbers[3];
+    told->misses = numbers[4];
+    told->touches = numbers[5];
+    told->aparts = numbers[6];
+    told->first = numbers[7];
     return answer;
 }
 

@@ -102,6 +102,7 @@ fn main() {
     bench.saving();
     bench.dragging();
     bench.importing();
+    bench.series();
     bench.wrong_answers();
 }
 
@@ -335,6 +336,45 @@ impl Bench {
             "importing, the largest pair of OBJ files (twice {} bytes; {vertices} vertices, {edges} edges, {triangles} faces)",
             start.len()
         );
+        table(&title, ("us", 1e6), &times);
+    }
+
+    /// The series that is kept, a long text of few large steps, and one of many small ones: over the reports of their steps, one after the other.
+    fn series(&self) {
+        let kept = std::fs::read(compare::kept::folder().join("series/sleeve.series")).expect("the sleeve");
+        let kept = compare::series::read(&kept).expect("a series");
+        let texts = [
+            ("a patch drawn through a sleeve", kept),
+            ("large steps", scenes::large_steps(&mut Random::new(5))),
+            ("small steps", compare::series::making::up_and_down(&[4; 300])),
+        ];
+        for (name, series) in texts {
+            self.tell(name, &series);
+        }
+    }
+
+    fn tell(&self, name: &str, series: &compare::series::Series) {
+        let Some(product) = &self.product else { return };
+        let text = compare::series::write(series);
+        let steps: Vec<String> = series.steps().iter().map(write).collect();
+        let (mut report, mut slices) = ([0; product::REPORT_BYTES], Slices::with_room());
+        let (mut boxes, mut list) = (vec![0; compare::stored::BOX_NUMBERS], [0; REPORT_ROOM]);
+        let mut told = product::Told { log: [0; 128], told: [0; 8] };
+        let ways = vec![
+            Way::new("the library's reports of the steps", || {
+                steps.iter().map(|step| product.report(step.as_bytes(), &mut report) as u64).sum()
+            }),
+            Way::new(OURS, || {
+                product.tell_series(text.as_bytes(), &mut slices, &mut boxes, &mut list, &mut told).expect("a series") as u64
+            }),
+        ];
+        let times = shortest(ways, self.rounds);
+        let right = compare::series::ended(text.as_bytes(), REPORT_ROOM).expect("a series").told;
+        assert!(
+            told.told[2] == right.listed && told.told[3..7] == right.totals,
+            "the library tells what the independent program tells"
+        );
+        let title = format!("a series, {name} ({} bytes, {} steps, {} pairs)", text.len(), steps.len(), right.listed);
         table(&title, ("us", 1e6), &times);
     }
 

@@ -20,6 +20,7 @@
 //! | makhnodri_save_scene_slices | a scene's four lists, text u8 | an answer; the scene's text |
 //! | makhnodri_import_scene_slices | two files u8, a scene's four lists and its boxes i32, all of full size, four counts | an answer; the scene, its boxes and its counts |
 //! | makhnodri_read_scene_slices | text u8, a scene's four lists of full size, four counts | an answer; the scene and its counts |
+//! | makhnodri_tell_series_slices | text u8, a scene's four lists of full size, boxes i32, list u32, counts, log u32, told u64 | an answer; the last step, and what is told |
 //! | makhnodri_write_report | text u8, 65,536 bytes for the report | the length of the report |
 //!
 //! A scene is positions i32, edges u16, triangles u16, seams u16.
@@ -31,6 +32,12 @@ pub type Answer = Result<usize, u64>;
 /// Every report fits.
 pub const REPORT_BYTES: usize = 65_536;
 
+/// What is told of a series: the log, two numbers an entry; then held, later, listed, hits, misses, touches, aparts and first.
+pub struct Told {
+    pub log: [u32; 128],
+    pub told: [u64; 8],
+}
+
 /// A hit as a byte.
 pub const HIT: u8 = 0;
 
@@ -41,7 +48,7 @@ pub use missing::Product;
 
 #[cfg(feature = "product")]
 mod linked {
-    use super::{Answer, REPORT_BYTES};
+    use super::{Answer, Told, REPORT_BYTES};
     use crate::slices::{parts, Slices};
 
     extern "C" {
@@ -148,6 +155,25 @@ mod linked {
             seams: *mut u16,
             seams_len: usize,
             counts: *mut usize,
+        ) -> u64;
+        fn makhnodri_tell_series_slices(
+            text: *const u8,
+            text_len: usize,
+            positions: *mut i32,
+            positions_len: usize,
+            edges: *mut u16,
+            edges_len: usize,
+            triangles: *mut u16,
+            triangles_len: usize,
+            seams: *mut u16,
+            seams_len: usize,
+            boxes: *mut i32,
+            boxes_len: usize,
+            list: *mut u32,
+            list_len: usize,
+            counts: *mut usize,
+            log: *mut u32,
+            told: *mut u64,
         ) -> u64;
         fn makhnodri_save_scene_slices(
             positions: *const i32,
@@ -425,6 +451,33 @@ mod linked {
             })
         }
 
+        /// The last step stands in front of the buffers, which are of full size; the log and what is told beside it.
+        pub fn tell_series(&self, text: &[u8], s: &mut Slices, boxes: &mut [i32], list: &mut [u32], told: &mut Told) -> Answer {
+            let mut counts = [0; 4];
+            // SAFETY: as above, and counts, log and told have their lengths
+            answer(unsafe {
+                makhnodri_tell_series_slices(
+                    text.as_ptr(),
+                    text.len(),
+                    s.positions.as_mut_ptr(),
+                    s.positions.len(),
+                    s.edges.as_mut_ptr(),
+                    s.edges.len(),
+                    s.triangles.as_mut_ptr(),
+                    s.triangles.len(),
+                    s.seams.as_mut_ptr(),
+                    s.seams.len(),
+                    boxes.as_mut_ptr(),
+                    boxes.len(),
+                    list.as_mut_ptr(),
+                    list.len(),
+                    counts.as_mut_ptr(),
+                    told.log.as_mut_ptr(),
+                    told.told.as_mut_ptr(),
+                )
+            })
+        }
+
         pub fn report(&self, text: &[u8], report: &mut [u8; REPORT_BYTES]) -> usize {
             // SAFETY: as above, and the report's array has its length
             unsafe { makhnodri_write_report(text.as_ptr(), text.len(), report.as_mut_ptr()) }
@@ -434,7 +487,7 @@ mod linked {
 
 #[cfg(not(feature = "product"))]
 mod missing {
-    use super::{Answer, REPORT_BYTES};
+    use super::{Answer, Told, REPORT_BYTES};
     use crate::slices::Slices;
 
     /// There is no library, so there is none of these.
@@ -502,6 +555,10 @@ mod missing {
         }
 
         pub fn read(&self, _: &[u8], _: &mut Slices, _: &mut [usize; 4]) -> Answer {
+            match *self {}
+        }
+
+        pub fn tell_series(&self, _: &[u8], _: &mut Slices, _: &mut [i32], _: &mut [u32], _: &mut Told) -> Answer {
             match *self {}
         }
 

@@ -161,3 +161,24 @@ fn mapped(mut scene: Scene, map: fn([i64; 3]) -> [i64; 3]) -> Scene {
     }
     scene
 }
+
+/// A sheet of 160 vertices that is creased anew in every step, in a text that has just no room for a step more.
+pub fn large_steps(random: &mut Random) -> compare::series::Series {
+    let (columns, rows) = (16, 10);
+    let mut scene = Scene::default();
+    let place = |random: &mut Random, i: usize| [4 * (i % columns) as i64, 4 * (i / columns) as i64, random.between(0, 2)];
+    for i in 0..columns * rows {
+        let (start, end) = (place(random, i), place(random, i));
+        scene.vertices.push([start[0], start[1], start[2], end[0], end[1], end[2]]);
+        let beside = if i % columns + 1 < columns { i + 1 } else { i - 1 };
+        let above = if i / columns + 1 < rows { i + columns } else { i - columns };
+        scene.edges.extend([[i, beside], [above, i]]);
+        scene.triangles.push([i, beside, above]);
+    }
+    let mut series = compare::series::Series { scene, blocks: vec![] };
+    while compare::series::write(&series).len() <= compare::scene::TEXT_LIMIT {
+        series.blocks.push((0..columns * rows).map(|i| place(random, i)).collect());
+    }
+    series.blocks.pop();
+    series
+}

@@ -49,7 +49,10 @@ EDGES_LENGTH = 2048
 TRIANGLES_LENGTH = 1536
 SEAMS_LENGTH = 1024
 BOXES_LENGTH = 12288
-STACK = 131072
+LOG_LIMIT = 64
+LOG_LENGTH = 128
+TOLD_LENGTH = 8
+STACK = 196608
 REPORT_LENGTH = 65536
 
 # ---- Words, kinds, answers to claims, refusals
@@ -268,6 +271,7 @@ _UINT16 = _Type("16-bit unsigned numbers", 2, b"H", "H")
 _UINT32 = _Type("32-bit unsigned numbers", 4, b"IL", "I")
 _UINT8 = _Type("bytes", 1, b"B", "B")
 _SIZE = _Type("64-bit unsigned numbers", 8, b"LQN", "Q")
+_UINT64 = _Type("64-bit unsigned numbers", 8, b"LQN", "Q")
 _ORDERS, _OTHER_ORDER = b"@=<>!", b">!" if sys.byteorder == "little" else b"<"
 
 
@@ -447,6 +451,18 @@ _FUNCTIONS = (
     (
         "import_scene_slices", _IMPORTED, _Read("start", _UINT8), _Read("end", _UINT8), *_THREE, _Write("seams", _UINT16), _Write("boxes", _INT32),
         _Fixed("counts", _SIZE, 4),
+    ),
+    (
+        "tell_series_slices",
+        _COUNT,
+        _Read("text", _UINT8),
+        *_THREE,
+        _Write("seams", _UINT16),
+        _Write("boxes", _INT32),
+        _LIST,
+        _Fixed("counts", _SIZE, 4),
+        _Fixed("log", _UINT32, LOG_LENGTH),
+        _Fixed("told", _UINT64, TOLD_LENGTH),
     ),
     ("write_report", _COUNT, _Read("text", _UINT8), _Fixed("out", _UINT8, REPORT_LENGTH)),
     ("turn_scene", _NOTHING, *_THREE),
@@ -699,3 +715,24 @@ def report(text):
     """The report of a scene text as the program prints it, in bytes: the lines of the listed pairs and the totals, or the one line of a refusal."""
     out = bytearray(REPORT_LENGTH)
     return bytes(out[: write_report(text, out)])
+
+
+# ---- Series
+
+Hit = collections.namedtuple("Hit", "step pair")
+Hit.__doc__ = "A hit of a series: its step, counted from 1, and its pair."
+
+Told = collections.namedtuple("Told", "log later listed hits misses touches aparts first last pairs")
+Told.__doc__ = """What is told of a series: its first 64 hits in step and list order; the count of later ones, none of which replaced an entry; totals over all
+steps; the first step with a hit, or 0; the last step, a `Scene`; and its listed pairs."""
+
+
+def series(text, room=REPORT_ROOM):
+    """What is told of the series of a text (docs/FORMAT.md), a buffer of bytes, where each step's list has so much room."""
+    sizes, lengths = (6, 2, 3, 2), (POSITIONS_LENGTH, EDGES_LENGTH, TRIANGLES_LENGTH, SEAMS_LENGTH)
+    buffers = [_room(part.numbers, length) for part, length in zip(_Lists.parts, lengths)]
+    entries, counts, log, told = _room(_UINT32, room), _room(_SIZE, 4), _room(_UINT32, LOG_LENGTH), _room(_UINT64, TOLD_LENGTH)
+    count = tell_series(text, *buffers, _room(_INT32, BOXES_LENGTH), entries, counts, log, told)
+    last = Scene(*(buffer[: size * part] for buffer, size, part in zip(buffers, sizes, counts)))
+    hits = [Hit(log[at], Pair.of_entry(log[at + 1])) for at in range(0, 2 * told[0], 2)]
+    return Told(hits, *told[1:], last, [Pair.of_entry(entry) for entry in entries[:count]])

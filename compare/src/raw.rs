@@ -5,6 +5,7 @@ pub mod damaged;
 pub mod expected;
 pub mod harm;
 pub mod question;
+pub mod series;
 pub mod sorts;
 pub mod stored;
 pub mod stored_damaged;

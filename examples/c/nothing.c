@@ -62,6 +62,11 @@ static void hold_slices(void) {
          MAKHNODRI_SHORT_BUFFER, 0);
     if (counts[0] != 7 || counts[3] != 7) wrong = 1, puts("counts of a refused import");
     hold("turn_scene", makhnodri_turn_scene(NULL, 0, NULL, 0, NULL, 0), 0, 0);
+    uint32_t log[MAKHNODRI_LOG_LENGTH] = {7};
+    uint64_t told[MAKHNODRI_TOLD_LENGTH] = {7};
+    hold("tell_series", makhnodri_tell_series_slices(NULL, 0, NULL, 0, NULL, 0, NULL, 0, NULL, 0, NULL, 0, NULL, 0, counts, log, told),
+         MAKHNODRI_SHORT_BUFFER, 0);
+    if (counts[0] != 7 || log[0] != 7 || told[0] != 7) wrong = 1, puts("what is told of a refused series");
 }
 
 /* a scene that keeps its boxes: no boxes at all are 12, boxes of no scene are not looked at */
@@ -145,6 +150,10 @@ int main(void) {
     hold_slices();
     hold_boxed_slices();
     hold_scene(&scene);
+    static int32_t boxes[MAKHNODRI_BOXES_LENGTH];
+    static makhnodri_told told = {.first = 7};
+    hold("tell_series, no text", makhnodri_tell_series(NULL, 0, &buffers, boxes, NULL, 0, &scene, &told), 0, 0);
+    if (told.held || told.listed || told.first || scene.positions_length) wrong = 1, puts("what is told of no text");
     hold("read_scene, no text", makhnodri_read_scene(NULL, 0, &buffers, &scene), 0, 0);
     if (scene.positions != buffers.positions || scene.positions_length || scene.edges_length || scene.triangles_length || scene.seams_length)
         wrong = 1, puts("the scene of no text");

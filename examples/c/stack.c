@@ -64,6 +64,18 @@ static void read_text(void) {
 }
 static void write_report(void) { makhnodri_write_report((const uint8_t *)text, text_length, report); }
 
+/* the text and two blocks, in which the vertices go on from their ends as they stand */
+static int32_t boxes[MAKHNODRI_BOXES_LENGTH];
+static uint32_t hits[MAKHNODRI_LOG_LENGTH];
+static uint64_t told[MAKHNODRI_TOLD_LENGTH];
+static char steps[2 * MAKHNODRI_TEXT_LIMIT];
+static size_t steps_length;
+static void tell_series(void) {
+    makhnodri_tell_series_slices((const uint8_t *)steps, steps_length, own.positions, MAKHNODRI_POSITIONS_LENGTH, own.edges,
+                                 MAKHNODRI_EDGES_LENGTH, own.triangles, MAKHNODRI_TRIANGLES_LENGTH, own.seams, MAKHNODRI_SEAMS_LENGTH, boxes,
+                                 MAKHNODRI_BOXES_LENGTH, list, sizeof list / sizeof list[0], counts, hits, told);
+}
+
 static char claims[MAKHNODRI_TEXT_LIMIT];
 static size_t claims_length;
 static void check_claims(void) { makhnodri_check_claims_slices(SCENE, (const uint8_t *)claims, claims_length, words, sizeof words); }
@@ -173,6 +185,20 @@ static void write_text(unsigned seed) {
     text_length = (size_t)at;
 }
 
+/* the text, and blocks behind it: each vertex goes on to a place near its end, copies with those that they are sewn to */
+static void write_steps(unsigned seed) {
+    memcpy(steps, text, text_length);
+    int at = (int)text_length;
+    for (unsigned block = 0; block < 2 + seed % 3; block++) {
+        at += sprintf(steps + at, "n\n");
+        for (size_t i = 0; i < (seed % 3 == 1 ? 65 : 45); i++) {
+            const int32_t *end = positions + 6 * (i % 45) + 3;
+            at += sprintf(steps + at, "v\t%d\t%d\t%d\n", (int)(end[0] + (int32_t)block), (int)end[1], (int)(end[2] - (int32_t)block));
+        }
+    }
+    steps_length = (size_t)at;
+}
+
 /* claims that may be asked for: pieces of a point and a triangle, and of two edges, that share no vertex; every fourth text has a fault at its end */
 static void write_claims(unsigned seed) {
     int at = 0;
@@ -238,6 +264,7 @@ static const struct {
     {"settle_ee_piece", settle_ee_piece, 400},
     {"read_scene", read_text, 40},
     {"write_report", write_report, 40},
+    {"tell_series", tell_series, 40},
     {"turn_scene", turn, 4},
     {"check_claims", check_claims, 40},
     {"saved_length", saved_length, 40},
@@ -265,6 +292,7 @@ static size_t most_of(size_t i) {
         fill((unsigned)seed);
         for (int run = seed; run < calls[i].runs; run += SCENES) {
             write_text((unsigned)run);
+            write_steps((unsigned)run);
             write_claims((unsigned)run);
             write_asked();
             fill_boxes();

@@ -53,6 +53,16 @@ def contacts_by_calls(text):
     return lines_of(contacts, rows, lambda found: ["total", len(found), sum(contact is not None for *_, contact in found)])
 
 
+def series_by_calls(text):
+    try:
+        told = makhnodri.series(text)
+    except makhnodri.Refused as refused:
+        return b"refused\t%d\t%d\n" % (refused.number, refused.carried)
+    lines = [["hit", hit.step, *hit.pair] for hit in told.log]
+    lines += [["later", told.later], ["total", *told[2:7]], ["first", told.first]]
+    return "".join("\t".join(map(str, line)) + "\n" for line in lines).encode()
+
+
 def claims_by_calls(text, claims):
     try:
         answers = Scene.read(text).claims(claims)
@@ -157,6 +167,30 @@ class ObjFiles(unittest.TestCase):
             wanted += [min(places[axis]) for axis in range(3)] + [max(places[axis]) for axis in range(3)]
         self.assertEqual(list(boxes), wanted + [7] * (12290 - len(wanted)))
         self.assertEqual(list(seams), [7] * 1024)
+
+
+class Series(unittest.TestCase):
+    def test_every_series_has_its_log(self):
+        files = sorted((TOP / "scenes").rglob("*.series"))
+        self.assertGreater(len(files), 10)
+        for file in files:
+            self.assertEqual(series_by_calls(file.read_bytes()), file.with_suffix(".log").read_bytes(), file)
+
+    def test_a_scene_is_a_series_of_one_step(self):
+        for scene in SCENES:
+            text = scene.read_bytes()
+            self.assertEqual(series_by_calls(text), independent("compare-series", "--exact", text=text), scene)
+
+    def test_the_last_step_is_a_scene_with_its_list(self):
+        told = makhnodri.series((TOP / "scenes/series/sleeve.series").read_bytes())
+        self.assertEqual((told.first, told.log[0].pair, len(told.log)), (12, (PT, 30, 11), makhnodri.LOG_LIMIT))
+        self.assertEqual(told.last.listed(), told.pairs)
+
+    def test_a_refusal_carries_its_line_or_count(self):
+        for name, number, line, count in (("ends-too-soon", 13, 13, None), ("seam-apart", 15, 20, None), ("heap", 7, None, 3080)):
+            with self.assertRaises(makhnodri.Refused) as caught:
+                makhnodri.series((TOP / f"scenes/series/refused-{name}.series").read_bytes())
+            self.assertEqual((caught.exception.number, caught.exception.line, caught.exception.count), (number, line, count))
 
 
 class Seeds(unittest.TestCase):

@@ -9,8 +9,8 @@ from . import TOP
 HEADER = (TOP / "include/makhnodri.h").read_text(encoding="utf-8")
 CODE = re.sub(r"[ \t]+$", "", re.sub(r"/\*.*?\*/", "", HEADER, flags=re.S), flags=re.M)
 NO_NUMBERS = {"H", "AT_LEAST", "LISTS", "LISTS_OF", "BOXED_LISTS_OF"}  # macros that stand for no number
-STRUCTS = {"scene", "buffers", "boxed_scene", "boxed_buffers"}  # Scene, arrays, BoxedScene, arrays
-TYPES = {"int32_t": "_INT32", "uint16_t": "_UINT16", "uint32_t": "_UINT32", "uint8_t": "_UINT8", "size_t": "_SIZE"}
+STRUCTS = {"scene", "buffers", "boxed_scene", "boxed_buffers", "hit", "told"}  # Scene, arrays, BoxedScene, arrays, Hit and Told
+TYPES = {"int32_t": "_INT32", "uint16_t": "_UINT16", "uint32_t": "_UINT32", "uint8_t": "_UINT8", "size_t": "_SIZE", "uint64_t": "_UINT64"}
 
 
 def in_numbers(length):

@@ -53,6 +53,7 @@ mod importing;
 mod own;
 mod raw;
 mod scenes;
+mod series;
 mod texts;
 
 pub use answers::{
@@ -63,6 +64,7 @@ pub use contacts::Contact;
 pub use importing::{import_scene, ImportRefusal, ObjFile};
 pub use own::OwnRefusal;
 pub use scenes::{turn_scene, Scene};
+pub use series::{tell_series, Hit, Log, Series, SeriesRefusal, Told};
 pub use texts::{read_scene, report, write_report, Counts};
 
 /// The version of the wrapper, and of the header and library that it belongs to.
@@ -96,8 +98,10 @@ pub const TRIANGLES_LENGTH: usize = 3 * TRIANGLE_LIMIT;
 pub const SEAMS_LENGTH: usize = 2 * SEAM_LIMIT;
 /// How long a buffer of boxes is, in numbers: six for each vertex, edge and triangle that a scene can have.
 pub const BOXES_LENGTH: usize = 6 * (VERTEX_LIMIT + EDGE_LIMIT + TRIANGLE_LIMIT);
+/// Hits that the log of a series holds.
+pub const LOG_LIMIT: usize = 64;
 /// How long the array is that a report is written into, in bytes; every report fits.
 pub const REPORT_LENGTH: usize = 65_536;
 
 /// Enough stack for any call, in bytes.
-pub const STACK: usize = 131_072;
+pub const STACK: usize = 196_608;

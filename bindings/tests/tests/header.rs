@@ -68,6 +68,9 @@ fn the_header_has_the_same_numbers() {
         ("NO_FILE", 0),
         ("START_FILE", ObjFile::Start as usize),
         ("END_FILE", ObjFile::End as usize),
+        ("LOG_LIMIT", LOG_LIMIT),
+        ("LOG_LENGTH", 2 * LOG_LIMIT),
+        ("TOLD_LENGTH", 8),
         ("REPORT_LENGTH", REPORT_LENGTH),
         ("STACK", STACK),
         ("HIT", Verdict::Hit as usize),
@@ -103,7 +106,7 @@ fn the_independent_program_has_the_same_sizes() {
     assert_eq!(sizes[..4], wanted);
     assert_eq!(sizes[4..], [independent::TEXT_LIMIT, independent::REPORT_ROOM]);
     assert_eq!([POSITIONS_LENGTH, EDGES_LENGTH, TRIANGLES_LENGTH, SEAMS_LENGTH], compare::text::LENT_LENGTHS);
-    assert_eq!(BOXES_LENGTH, compare::stored::BOX_NUMBERS);
+    assert_eq!((BOXES_LENGTH, LOG_LIMIT), (compare::stored::BOX_NUMBERS, compare::series::LOG_LIMIT));
     assert_eq!(WEIGHT_LIMIT, compare::claims::WEIGHT_LIMIT);
     assert_eq!(BOXES_LENGTH, compare::stored::BOX_NUMBERS);
     assert_eq!(Refusal::FilesDiffer.number() as u64, compare::refusal::FILES_DIFFER);

@@ -2,6 +2,7 @@
 
 use super::harm::{harm, SCENE_CHECKS};
 use super::question::*;
+use super::series;
 use super::stored;
 use crate::affine::Affine;
 use crate::claims::{self, making};
@@ -38,6 +39,7 @@ pub fn fixed() -> Vec<Question> {
     out.extend(about_long_texts());
     out.extend(stored::fixed());
     out.extend(obj_files::fixed().into_iter().flat_map(|trial| about_files(&mut random, trial)));
+    out.extend(series::fixed());
     out
 }
 
@@ -68,6 +70,7 @@ pub fn seeded(seed: u64) -> Vec<Question> {
     }
     out.extend(scenes_for_contacts(seed));
     out.extend(obj_files::seeded(seed).into_iter().flat_map(|trial| about_files(&mut random, trial)));
+    out.extend(series::seeded(seed));
     out
 }
 

@@ -45,6 +45,7 @@ pub fn all() -> Vec<Damage> {
     out.extend(saving());
     out.extend(stored_damaged::all());
     out.extend(importing());
+    out.extend(series());
     out
 }
 
@@ -61,6 +62,19 @@ fn saved_as(name: &str, wrong: impl Fn(&mut Lent) -> String + 'static) -> Damage
             answer.number = length as u64;
         }
     })
+}
+
+/// What a program of series gets wrong, and leaves in what it was lent.
+fn series() -> Vec<Damage> {
+    let wrong = crate::series::mistakes::all().into_iter().filter(|mistake| super::series::DAMAGES.contains(&&mistake.key[..]));
+    let change = |mistake: crate::series::mistakes::Mistake| {
+        damage(format!("a series: {}", mistake.says), move |question, answer| {
+            if question.call == Call::TellSeries && super::series::is_short(question) {
+                *answer = super::series::wrong(question, &mistake);
+            }
+        })
+    };
+    wrong.map(change).collect()
 }
 
 /// What a writer of texts gets wrong.

@@ -1,4 +1,4 @@
-//! What each call must answer, and what it must leave in every buffer, by document 01, §3, §8 and §12 of document 02, and
+//! What each call must answer, and what it must leave in every buffer, by document 01, §2, §3, §8 and §12 of document 02, and
 //! docs/DECISIONS.md, D13, D15, D25 and D68.
 
 use super::question::*;
@@ -115,6 +115,7 @@ impl Expecting {
             }
             Call::ReadBoxed => read_boxed(lent, self.wrong),
             Call::ImportScene => import(lent),
+            Call::TellSeries => super::series::told(lent),
         }
     }
 

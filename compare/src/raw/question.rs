@@ -36,6 +36,7 @@ pub enum Call {
     ReadBoxed,
     /// Two OBJ files.
     ImportScene,
+    TellSeries,
 }
 
 /// Of a pair, or of a piece of one.
@@ -83,7 +84,7 @@ pub fn calls() -> Vec<Call> {
     out.extend([Call::SettleList, Call::ContactList]);
     out.extend([Call::SavedLength, Call::SaveScene]);
     out.extend(STORED_CALLS);
-    out.extend([Call::ReadBoxed, Call::ImportScene]);
+    out.extend([Call::ReadBoxed, Call::ImportScene, Call::TellSeries]);
     out
 }
 
@@ -97,7 +98,7 @@ impl Call {
 
     /// Whether it takes a scene as slices.
     pub fn takes_a_scene(self) -> bool {
-        !matches!(self, Call::ReadScene | Call::WriteReport | Call::ReadBoxed | Call::ImportScene)
+        !matches!(self, Call::ReadScene | Call::WriteReport | Call::ReadBoxed | Call::ImportScene | Call::TellSeries)
     }
 
     /// Whether it reads a text into lent buffers.
@@ -175,6 +176,7 @@ impl Call {
             Call::SettleStored => "settle_stored".into(),
             Call::ReadBoxed => "read_boxed".into(),
             Call::ImportScene => "import_scene".into(),
+            Call::TellSeries => "tell_series".into(),
         }
     }
 }
@@ -198,11 +200,14 @@ pub struct Lent {
     pub coordinates: Vec<i32>,
     /// The end file of two; the start file is the text.
     pub ending: Vec<u8>,
+    /// A series' log, two numbers an entry, and what is told beside it.
+    pub log: Vec<u32>,
+    pub told: Vec<u64>,
 }
 
-pub const BUFFERS: [&str; 13] = [
+pub const BUFFERS: [&str; 15] = [
     "positions", "edges", "triangles", "seams", "list", "words", "text", "counts", "report", "contacts", "boxes", "coordinates",
-    "ending",
+    "ending", "log", "told",
 ];
 
 /// The places of some buffers.
@@ -216,6 +221,7 @@ pub const TEXT: usize = 6;
 pub const REPORT: usize = 8;
 pub const CONTACTS: usize = 9;
 pub const BOXES: usize = 10;
+pub const TOLD: usize = 14;
 /// Numbers of a contact.
 pub const ROW: usize = 5;
 
@@ -250,6 +256,8 @@ impl Lent {
             self.boxes.len(),
             self.coordinates.len(),
             self.ending.len(),
+            self.log.len(),
+            self.told.len(),
         ]
     }
 
@@ -270,6 +278,8 @@ impl Lent {
             self.boxes.iter().flat_map(|n| n.to_le_bytes()).collect(),
             self.coordinates.iter().flat_map(|n| n.to_le_bytes()).collect(),
             self.ending.clone(),
+            self.log.iter().flat_map(|n| n.to_le_bytes()).collect(),
+            self.told.iter().flat_map(|n| n.to_le_bytes()).collect(),
         ];
         inside.map(|inside| [marks(MARGIN), inside, marks(MARGIN)].concat())
     }

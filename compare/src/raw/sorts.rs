@@ -3,6 +3,7 @@
 use super::expected;
 use super::harm::*;
 use super::question::*;
+use super::series;
 use super::stored_sorts;
 use crate::box_tests;
 use crate::faults::{self, Cell};
@@ -47,6 +48,7 @@ pub fn none_yet() -> Sorts {
     out.extend([Call::SettleList, Call::ContactList].into_iter().flat_map(of_own_lists));
     out.extend(of_saving_calls());
     out.extend(stored_sorts::all());
+    out.extend(series::sorts());
     out.extend(SCENE_FAULTS.map(|(number, fault)| alone(number, fault)));
     out.extend(of_texts());
     out.extend(of_imports());
@@ -331,6 +333,7 @@ pub fn of(question: &Question, answer: &Answer) -> Vec<String> {
             }
             out
         }
+        Call::TellSeries => series::sorts_of(question, answer),
         _ => of_slices(question, answer),
     }
 }

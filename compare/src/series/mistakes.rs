@@ -57,13 +57,18 @@ pub struct Right {
 }
 
 impl Right {
+    /// With buffers of the least lengths, and the program's room.
     pub fn of(text: &[u8]) -> Right {
+        Right::lent(text, Lent::marked(least_lengths(), REPORT_ROOM))
+    }
+
+    pub fn lent(text: &[u8], lent: Lent) -> Right {
         let series = read(text);
         let steps = series.as_ref().map(Series::steps).unwrap_or_default();
         let lists: Vec<Vec<Pair>> = steps.iter().map(listing::listed).collect();
-        let fits = lists.iter().all(|list| list.len() <= REPORT_ROOM);
+        let fits = lists.iter().all(|list| list.len() <= lent.list.len());
         let judged = (fits && series.is_ok()).then(|| steps.iter().map(judged).collect());
-        Right { text: text.to_vec(), series, steps, lists, judged, lent: Lent::marked(least_lengths(), REPORT_ROOM) }
+        Right { text: text.to_vec(), series, steps, lists, judged, lent }
     }
 
     pub fn outcome(&self) -> Outcome {
@@ -81,7 +86,8 @@ impl Right {
         let same = self.series.is_ok() && steps == self.steps;
         let lists = if same { self.lists.clone() } else { steps.iter().map(listing::listed).collect() };
         let counts: Vec<usize> = lists.iter().map(Vec::len).collect();
-        let full = stages.room.unwrap_or(first_without_room)(&counts, REPORT_ROOM);
+        let room = left.list.len();
+        let full = stages.room.unwrap_or(first_without_room)(&counts, room);
         let mut whole = Whole { steps, lists, refused: full.is_err() };
         if let Err(refusal) = full {
             stages.leave.into_iter().for_each(|leave| leave(&whole, &mut left));
@@ -95,9 +101,9 @@ impl Right {
         let printed = written(&Ok(told.clone()));
         let (last, list) = (whole.steps.last().unwrap().clone(), whole.lists.last().unwrap().clone());
         // what a program lists beyond the room is not written anywhere
-        let list_left = list.iter().take(REPORT_ROOM).copied().collect();
+        let list_left = list.iter().take(room).copied().collect();
         answered(&Ok(Ended { last, list: list_left, told }), &mut left);
-        whole.lists.iter_mut().for_each(|list| list.truncate(REPORT_ROOM));
+        whole.lists.iter_mut().for_each(|list| list.truncate(room));
         stages.leave.into_iter().for_each(|leave| leave(&whole, &mut left));
         Outcome { printed, answer: list.len() as u64, left }
     }
@@ -318,7 +324,8 @@ fn leavings() -> Vec<Mistake> {
             }
         }),
         leaving("lists-before-room", "steps are listed until one has no room", |whole, left| {
-            let listed = whole.lists.iter().take_while(|list| whole.refused && list.len() <= REPORT_ROOM);
+            let room = left.list.len();
+            let listed = whole.lists.iter().take_while(|list| whole.refused && list.len() <= room);
             listed.for_each(|list| put_list(list, left));
         }),
     ]

@@ -3,6 +3,7 @@
 pub mod own; // own.rt: a list of one's own
 pub mod stored; // stored.rt: a scene that keeps its boxes
 pub mod importing; // importing.rt: two OBJ files
+pub mod series; // series.rt: a series
 
 ghost use mathlib.Core.List.{[], _∷_};
 ghost use mathlib.Core.Path.{_≡_};
