@@ -159,7 +159,6 @@ int main(void) {
         wrong = 1, puts("the scene of no text");
     hold_scene(&scene);
 
-    static int32_t boxes[MAKHNODRI_BOXES_LENGTH];
     boxes[0] = 7;
     hold("import_scene, no files", makhnodri_import_scene(NULL, 0, NULL, 0, &buffers, boxes, &scene), 0, 0);
     if (scene.positions != buffers.positions || scene.positions_length || scene.edges_length || scene.triangles_length || scene.seams_length || boxes[0] != 7)

@@ -10,7 +10,6 @@ from . import TOP, triangle_and_point
 MET = set()
 
 
-
 def change(place, numbers):
     lists = list(triangle_and_point())
     lists[place] = array.array(lists[place].typecode, numbers)
