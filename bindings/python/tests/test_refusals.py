@@ -161,6 +161,17 @@ class Refusals(unittest.TestCase):
             self.assertEqual(answers, b"\x07" * 4)
             self.refused(number, line, scene.claims, claims)
 
+    def test_of_a_series(self):
+        v, n, on = b"v\t0\t0\t0\t0\t0\t0\n", b"n\n", b"v\t0\t0\t0\n"
+        lengths = (3072, 2048, 1536, 1024, 12288, 9, 4, 128, 8)
+        for number, line, text, short in (
+            (13, 4, v + n + on + on, None), (13, 3, v + n + n, None), (13, 2, v + n, None), (2, 3, v + n + on.replace(b"0", b"524288", 1), None),
+            (10, 3, v + n + b"e\t0\t1\n", None), (9, 3, v + n + v, None), (8, 0, n * 16385, None), *((12, 0, v, place) for place in range(5)),
+        ):
+            buffers = [array.array(kind, [7] * (length - (place == short))) for place, (kind, length) in enumerate(zip("iHHHiIQIQ", lengths))]
+            self.refused(number, line, makhnodri.tell_series, text, *buffers)
+            self.assertTrue(all(number == 7 for buffer in buffers for number in buffer))
+
     @classmethod
     def tearDownClass(cls):
         missing = {number for _, number, _ in makhnodri._REFUSALS} - MET
