@@ -99,21 +99,21 @@ extern "C" {
  * corner, in turn of the one simplex and of the other, and call each other on the rest. A piece has six corners to leave out, and
  * with the same corners left each step is asked once at most, so that the calls are never more than 14 deep.
  * MAKHNODRI_STACK bytes of stack are enough for any call. As measured by `examples/c/run stack` on x86-64, in bytes; on aarch64 it
- * was less for each but those with boxes, the last three rows, which were not measured there:
+ * was less for each but those of the last four rows, which were not measured there:
  *
- *     check_scene       1,288      judge_pt, judge_pt_piece     1,792
+ *     check_scene       1,320      judge_pt, judge_pt_piece     1,792
  *     count_pairs      53,384      judge_ee, judge_ee_piece     1,824
  *     list_pairs       86,328      settle_pt, settle_pt_piece   2,624
  *     settle_scene     87,709      settle_ee, settle_ee_piece   2,624
- *     read_scene       26,184      write_report               124,349
- *     turn_scene          280      check_claims                 2,032
+ *     read_scene       26,184      write_report               124,368
+ *     turn_scene          312      check_claims                 2,032
  *     contact_scene    86,584      contact_pt, contact_ee       2,976
- *     saved_length      1,464      save_scene                   1,576
+ *     saved_length      1,480      save_scene                   1,592
  *     settle_list       3,184      contact_list                 3,296
- *     fill_boxes        1,352      move_vertex                 12,728
- *     count_stored     53,144      list_stored                 86,080
- *     settle_stored    86,096      read_boxed                  23,288
- *     import_scene     39,560      tell_series                175,853
+ *     fill_boxes        1,384      move_vertex                 12,760
+ *     count_stored     53,320      list_stored                 86,216
+ *     settle_stored    87,600      read_boxed                  23,760
+ *     import_scene     39,560      tell_series                175,856
  *
  * ---- An answer ----
  *
