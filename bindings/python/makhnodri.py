@@ -559,20 +559,20 @@ class Scene:
         for part, given in zip(_Lists.parts, (positions, edges, triangles, seams)):
             setattr(self, part.name, _in_a_row(given, part.numbers))
 
-    @classmethod
-    def read(cls, text):
+    @staticmethod
+    def read(text):
         """The scene of a text (docs/FORMAT.md), a buffer of bytes."""
         buffers, counts = _rooms()
         read_scene(text, *buffers, counts)
-        return cls(*_in_front(buffers, counts))
+        return scene_in(buffers, counts)
 
-    @classmethod
-    def import_obj(cls, start, end):
+    @staticmethod
+    def import_obj(start, end):
         """The scene of two OBJ files (docs/FORMAT.md), one for the start and one for the end, buffers of bytes; in hundredths of their unit. A Refused
         tells the file and its line."""
         buffers, counts = _rooms()
         import_scene(start, end, *buffers, _room(_INT32, BOXES_LENGTH), counts)
-        return cls(*_in_front(buffers, counts))
+        return scene_in(buffers, counts)
 
     def listed(self):
         """The listed pairs, in order."""
@@ -632,9 +632,9 @@ def _rooms():
     return [_room(part.numbers, length) for part, length in zip(_Lists.parts, lengths)], _room(_SIZE, 4)
 
 
-def _in_front(buffers, counts):
-    """The lists of the scene that was read into them."""
-    return [buffer[: size * count] for buffer, size, count in zip(buffers, (6, 2, 3, 2), counts)]
+def scene_in(buffers, counts):
+    """The scene that stands in front of four arrays, with these counts; its lists are copies."""
+    return Scene(*(buffer[: size * count] for buffer, size, count in zip(buffers, (6, 2, 3, 2), counts)))
 
 
 class BoxedScene:
@@ -656,7 +656,7 @@ class BoxedScene:
         self, (buffers, counts) = cls.__new__(cls), _rooms()
         self._boxes = _room(_INT32, BOXES_LENGTH)
         read_boxed(text, *buffers, self._boxes, counts)
-        self._scene = Scene(*_in_front(buffers, counts))
+        self._scene = scene_in(buffers, counts)
         return self
 
     @property
@@ -729,10 +729,9 @@ steps; the first step with a hit, or 0; the last step, a `Scene`; and its listed
 
 def series(text, room=REPORT_ROOM):
     """What is told of the series of a text (docs/FORMAT.md), a buffer of bytes, where each step's list has so much room."""
-    sizes, lengths = (6, 2, 3, 2), (POSITIONS_LENGTH, EDGES_LENGTH, TRIANGLES_LENGTH, SEAMS_LENGTH)
-    buffers = [_room(part.numbers, length) for part, length in zip(_Lists.parts, lengths)]
-    entries, counts, log, told = _room(_UINT32, room), _room(_SIZE, 4), _room(_UINT32, LOG_LENGTH), _room(_UINT64, TOLD_LENGTH)
+    buffers, counts = _rooms()
+    entries, log, told = _room(_UINT32, room), _room(_UINT32, LOG_LENGTH), _room(_UINT64, TOLD_LENGTH)
     count = tell_series(text, *buffers, _room(_INT32, BOXES_LENGTH), entries, counts, log, told)
-    last = Scene(*(buffer[: size * part] for buffer, size, part in zip(buffers, sizes, counts)))
+    last = scene_in(buffers, counts)
     hits = [Hit(log[at], Pair.of_entry(log[at + 1])) for at in range(0, 2 * told[0], 2)]
     return Told(hits, *told[1:], last, [Pair.of_entry(entry) for entry in entries[:count]])
