@@ -182,7 +182,7 @@ fn the_example_files_have_their_reports() {
         } else {
             assert!(imported.is_err(), "{} has no scene", pair.name);
         }
-        assert!(page.contains(&format!("\n+ {}: ", pair.name)), "{} has no line", pair.name);
+        assert!(page.contains(&format!("\n+ obj/{}: ", pair.name)), "{} has no line", pair.name);
     }
-    assert_eq!(pairs.len(), page.lines().filter(|line| line.starts_with("+ ")).count());
+    assert_eq!(pairs.len(), page.lines().filter(|line| line.starts_with("+ obj/")).count());
 }

@@ -397,7 +397,7 @@ fn the_example_series_have_their_logs() {
         assert_eq!(printed(&std::fs::read(path).unwrap(), REPORT_ROOM), wanted, "{name}");
         assert!(page.contains(&format!("+ {name}: ")), "{name} has no line");
     }
-    assert_eq!(series.len(), page.lines().filter(|line| line.starts_with("+ ")).count());
+    assert_eq!(series.len(), page.lines().filter(|line| line.starts_with("+ series/")).count());
     let numbers = series.iter().filter_map(|(_, path)| read(&std::fs::read(path).unwrap()).err());
     let mut refused: Vec<u64> = numbers.map(|refusal| refusal.number).collect();
     refused.sort();
