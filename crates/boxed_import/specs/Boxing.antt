@@ -8,10 +8,10 @@ use lib.IntN.{ℤ}
 use lib.ListN.{length, take, length-append, length-drop}
 use borrow.Author.Tests.{ltb-false}
 use Rattle.seam_table.specs.Below.{or-left, or-rest}
-use Rattle.meaning.specs.Scene.{Scene, sceneOf}
+use Rattle.meaning.specs.Scene.{Scene}
 use Rattle.meaning.specs.Refusals.{given, numberOf}
 use Rattle.meaning.specs.Text.{shortBuffer, countsOf, filled}
-use Rattle.meaning.specs.StoredBoxes.{boxNumbers, shortBoxes, Filled}
+use Rattle.meaning.specs.StoredBoxes.{shortBoxes, Filled}
 use Rattle.meaning.specs.ObjPair.{ImportOutcome, read, refused, refusedIn, ImportIs, counts, importSays, importTold, importLeft, Imported}
 use Rattle.meaning.specs.ObjBoxes.{BoxedImportIs, FillsImported, BoxedImport}
 use Rattle.meaning.specs.declared.Refusal.{Refusal}
@@ -22,16 +22,27 @@ use Rattle.meaning.specs.declared.ImportAnswer.{ImportAnswer}
 use Rattle.meaning.specs.declared.ImportAnswer.the-variants.{Read, Refused, RefusedIn}
 use Rattle.scene_text.specs.Using.{FewOf}
 use Rattle.boxes.specs.Parts.{Drawn, accepted-drawn}
+use Rattle.boxed_text.specs.Front.{frontWith, InFront}
 use Rattle.obj_demands.specs.Using.{SceneImported, scene-imported, RoomFor, room-imported, few-imported, front-imported, accepted-imported, import-refusal, import-refusal-in}
 
--- a scene stands in front of the buffers, whose boxes can be worked out, and there is room for them
-pub record InFront (c : SceneCounts) (p : List ℤ) (e t : List ℕ) (b : List ℤ) : Type 0 where
-  pub few : FewOf c
-  pub points : 6 * c .vertices ≤ length p
-  pub sides : 2 * c .edges ≤ length e
-  pub corners : 3 * c .triangles ≤ length t
-  pub drawn : Drawn (sceneOf (take (6 * c .vertices) p) (take (2 * c .edges) e) (take (3 * c .triangles) t) [])
-  pub room : boxNumbers ≤ length b
+-- what filling in asks for
+module _ {start end : List ℕ} {lent left : Scene} {r : ImportAnswer} (a : Imported start end lent left r) {c : SceneCounts} (e : r ≡ Read c) where
+  pub import-in-front : InFront c (left .positions) (left .edges) (left .triangles)
+  import-in-front =
+      let i : SceneImported start end lent left (a .outcome) c = scene-imported a e in
+      let few : FewOf c = few-imported i in
+      let room : RoomFor c left = room-imported i in
+      record {
+        fewVertices = few .vertices;
+        fewEdges = few .edges;
+        fewTriangles = few .triangles;
+        positions = room .points;
+        edges = room .sides;
+        triangles = room .corners;
+      }
+
+  pub import-drawn : Drawn (frontWith c (left .positions) (left .edges) (left .triangles) [])
+  import-drawn = accepted-drawn (accepted-imported (scene-imported a e))
 
 module _ (start end : List ℕ) (lent : Scene) (b : List ℤ) where
   pub boxed-short : shortBoxes b ≡ true → BoxedImport start end lent lent b b (Refused ShortBuffer)
@@ -62,27 +73,12 @@ module _ (start end : List ℕ) (lent : Scene) (b : List ℤ) where
           }
 
       module _ {c : SceneCounts} (e : r ≡ Read c) where
-        i : SceneImported start end lent left (a .outcome) c
-        i = scene-imported a e
-
-        pub in-front : boxNumbers ≤ length b → InFront c (left .positions) (left .edges) (left .triangles) b
-        unfolding i
-        in-front h =
-            let room : RoomFor c left = room-imported i in
-            record {
-              few = few-imported i;
-              points = room .points;
-              sides = room .sides;
-              corners = room .corners;
-              drawn = accepted-drawn (accepted-imported i);
-              room = h;
-            }
-
         pub boxed-read : {b′ : List ℤ}
-            → ((w : List ℕ) → Filled (sceneOf (take (6 * c .vertices) (left .positions)) (take (2 * c .edges) (left .edges)) (take (3 * c .triangles) (left .triangles)) w) b b′)
+            → ((w : List ℕ) → Filled (frontWith c (left .positions) (left .edges) (left .triangles) w) b b′)
             → BoxedImport start end lent left b b′ (Read c)
-        unfolding importSays importTold importLeft FillsImported i
+        unfolding importSays importTold importLeft FillsImported
         boxed-read {b′} f =
+            let i : SceneImported start end lent left (a .outcome) c = scene-imported a e in
             let boxes : Filled (i .scene) b b′ = subst (λ (s : Scene). Filled s b b′) (front-imported i) (f (take (2 * c .seams) (left .seams))) in
             record {
               outcome = a .outcome;

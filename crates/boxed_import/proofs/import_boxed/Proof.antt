@@ -1,7 +1,7 @@
 -- 12 for the box buffer, then what the import answers, with the boxes of the scene that it left in front.
 use borrow.Author.Needs.{needs}
 use borrow.Author.Tests.{lt-ltb, le-ltb}
-use Rattle.boxed_import.specs.Boxing.{boxed-short, boxed-refused, boxed-refused-in, in-front, boxed-read}
+use Rattle.boxed_import.specs.Boxing.{boxed-short, boxed-refused, boxed-refused-in, import-in-front, import-drawn, boxed-read}
 use Rattle.boxed_import.proofs.import_boxed.Statement.{statement}
 use Rattle.boxed_import.proofs.import_boxed.Tie as tie
 
@@ -9,7 +9,11 @@ returns : tie.Need-returns
 returns c = boxed-short _ _ _ _ (lt-ltb _ _ (c .if1 .taken))
 
 fill-front-requires : tie.Need-fill-front-requires
-fill-front-requires c κs = in-front _ _ _ _ (le-ltb _ _ (c .before .before .before .before .before .before .before .before .before .before .before .before .before .before .before .before .before .before .before .if1 .left)) (c .before .before .before .before .before .before .before .before .before .before .before .before .before .before .import-scene .ensures) (c .before .before .before .before .before .c .given .1) (c .before .before .before .before .before .before .before .before .before .before .before .before .before .before .before .before .before .before .before .if1 .left)
+fill-front-requires c κs =
+    let enough = c .before .before .before .before .before .before .before .before .before .before .before .before .before .before .before .before .before .before .before .if1 .left in
+    let brought = c .before .before .before .before .before .before .before .before .before .before .before .before .before .before .import-scene .ensures in
+    let so = c .before .before .before .before .before .c .given .1 in
+    (import-in-front brought so, (import-drawn brought so, enough))
 
 returns-2 : tie.Need-returns-2
 returns-2 c = boxed-read _ _ _ _ (le-ltb _ _ (c .before .before .before .before .before .before .before .before .before .before .before .before .before .before .before .before .before .before .before .before .before .if1 .left)) (c .before .before .before .before .before .before .before .before .before .before .before .before .before .before .before .before .import-scene .ensures) (c .before .before .before .before .before .before .before .c .given .1) (c .before .fill-front .ensures)
