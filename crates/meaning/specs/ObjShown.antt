@@ -1,4 +1,4 @@
--- Lines of OBJ files, shown: what is read, how, and what is not.
+-- OBJ files, shown: what a line says, how it is read and what is not, and where two files differ.
 use mathlib.Core.Bool.{Bool, true, false}
 use mathlib.Core.List.{List, [], _∷_}
 use mathlib.Core.Path.{_≡_, refl}
@@ -7,6 +7,8 @@ use lib.IntN.{pos}
 use Rattle.decimals.specs.Value.{value, valueOn}
 use Rattle.meaning.specs.ObjLine.{placeOf, digitsAlone, withPart, onWhole, signedAs, decimalOf, says, vertexWith, faceWith}
 use Rattle.meaning.specs.ObjFile.{joined, edgesFrom, edgesOf, signed}
+use Rattle.meaning.specs.ObjPair.{sameNumbers, differing}
+use Rattle.meaning.specs.Scene.{Scene, sceneOf}
 use Rattle.meaning.specs.declared.Hundredths.{Hundredths}
 use Rattle.meaning.specs.declared.Decimal as Decimals
 use Rattle.meaning.specs.declared.Decimal.{Decimal}
@@ -75,3 +77,17 @@ lines-shown = (refl, refl, refl, refl, refl, refl, refl, refl, refl, refl, refl,
 pub edges-shown : edgesOf (0 ∷ 1 ∷ 2 ∷ 2 ∷ 1 ∷ 3 ∷ []) ≡ 0 ∷ 1 ∷ 1 ∷ 2 ∷ 2 ∷ 0 ∷ 1 ∷ 3 ∷ 3 ∷ 2 ∷ []
 unfolding edgesFrom joined
 edges-shown = refl
+
+abbrev withFaces : List ℕ → Scene
+withFaces t = sceneOf [] [] t []
+
+-- two files: the same faces; one whose corners begin elsewhere, or are written the other way round; two faces exchanged; a face more; a vertex more
+pub differing-shown :
+    (differing (withFaces (0 ∷ 1 ∷ 2 ∷ 2 ∷ 1 ∷ 3 ∷ [])) (withFaces (0 ∷ 1 ∷ 2 ∷ 2 ∷ 1 ∷ 3 ∷ [])) ≡ false)
+    × (differing (withFaces (0 ∷ 1 ∷ 2 ∷ [])) (withFaces (1 ∷ 2 ∷ 0 ∷ [])) ≡ true)
+    × (differing (withFaces (0 ∷ 1 ∷ 2 ∷ [])) (withFaces (2 ∷ 1 ∷ 0 ∷ [])) ≡ true)
+    × (differing (withFaces (0 ∷ 1 ∷ 2 ∷ 2 ∷ 1 ∷ 3 ∷ [])) (withFaces (2 ∷ 1 ∷ 3 ∷ 0 ∷ 1 ∷ 2 ∷ [])) ≡ true)
+    × (differing (withFaces (0 ∷ 1 ∷ 2 ∷ [])) (withFaces (0 ∷ 1 ∷ 2 ∷ 0 ∷ 1 ∷ 2 ∷ [])) ≡ true)
+    × (differing (withFaces []) (sceneOf (pos 0 ∷ pos 0 ∷ pos 0 ∷ pos 0 ∷ pos 0 ∷ pos 0 ∷ []) [] [] []) ≡ true)
+unfolding sameNumbers
+differing-shown = (refl, refl, refl, refl, refl, refl)
