@@ -1,12 +1,10 @@
 -- The log has kept the first hits: what it holds is the front of all that it took, in their order, and the rest is counted.
-use Prim.Native.Nat.{ℕ, _+_, _-_, _≤_, _<_, _^_, min}
-use mathlib.Core.Bool.{Bool, true, false, cond}
-use mathlib.Core.List.{List, [], _∷_, _++_, map, append-nil}
+use Prim.Native.Nat.{ℕ, _+_, _-_, _≤_, _<_, min}
+use mathlib.Core.List.{List, [], _∷_, _++_, map}
 use mathlib.Core.Path.{_≡_, refl, sym, ap, _∙_}
 use mathlib.Core.Logic.{⊎-elim}
 use native.Mathlib.Omega.{arith}
-use lib.Dec.{ltb}
-use lib.ListN.{length, take, drop, set, length-append, length-drop, length-set}
+use lib.ListN.{length, take, drop, set, length-append, length-map, length-take, length-drop, length-set}
 use lib.Seq.{take-all, take-set-le}
 use borrow.Author.Tests.{lt-ltb, le-ltb}
 use Rattle.sequences.specs.Mapped.{map-append}
@@ -14,7 +12,7 @@ use Rattle.sequences.specs.Parts.{take-next-set}
 use Rattle.sequences.specs.Range.{le-or-lt}
 use Rattle.meaning.specs.List.{pair}
 use Rattle.meaning.specs.Series.{HitAt, hitAt, logLimit, counted, logOf, laterOf}
-use Rattle.steps.specs.Front.{log-full, log-filled}
+use Rattle.steps.specs.Front.{log-full}
 use Rattle.first_causes.specs.Logged.{largest, oneMore, emptyLog, logged}
 use Rattle.first_causes.specs.declared.StepHit.{StepHit}
 use Rattle.first_causes.specs.declared.Log.{Log}
@@ -31,6 +29,18 @@ pub record LogOf (hs : List HitAt) (l : Log) : Type 0 where
   pub held : l .held ≡ min (length hs) logLimit
   pub entries : entriesOf l ≡ logOf hs
   pub later : l .later ≡ laterOf hs
+
+-- it holds as many entries as it says, in an array of 64
+pub record HeldRight (l : Log) : Type 0 where
+  pub room : length (l .hits) ≡ logLimit
+  pub held : l .held ≡ length (entriesOf l)
+
+pub held-few : {l : Log} → HeldRight l → l .held ≤ logLimit
+held-few {l} k = omega (arith, k .room, k .held, length-map (take (l .held) (l .hits)) hitOf, length-take (l .held) (l .hits))
+
+-- whatever it took
+pub log-held : {hs : List HitAt} {l : Log} → LogOf hs l → HeldRight l
+log-held {hs} k = record { room = k .room; held = omega (arith, k .held, ap length (k .entries), length-take logLimit hs) }
 
 -- a log that has taken none
 pub log-starts : LogOf [] emptyLog

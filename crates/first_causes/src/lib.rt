@@ -41,7 +41,7 @@ pub enum SeriesOutcome {
     Refused(Refusal, usize),
 }
 
-// What is told means nothing after a refusal.
+// After a refusal nothing is told: the log is empty and every number 0.
 pub struct SeriesAnswer {
     pub outcome: SeriesOutcome,
     pub told: SeriesTold,

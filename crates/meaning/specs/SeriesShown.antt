@@ -12,7 +12,7 @@ use Rattle.sequences.specs.Range.{over, times}
 use Rattle.meaning.specs.Scene.{Scene, sceneOf, stoodFor, someBelow}
 use Rattle.meaning.specs.Boxes.{meetOn}
 use Rattle.meaning.specs.Refusals.{Outcome, given, refused, shares}
-use Rattle.meaning.specs.List.{pair, pairs}
+use Rattle.meaning.specs.List.{pair, pairs, kindPart, number}
 use Rattle.meaning.specs.SceneWords.{byteOf}
 use Rattle.meaning.specs.Report.{isOne, howMany}
 use Rattle.meaning.specs.Text.{Entry, vertex, edge, triangle, seam, coordinates, coordinatesIn, endsIn, cornersIn, seamIn, late}
@@ -20,7 +20,7 @@ use Rattle.meaning.specs.declared.Kind.the-variants.{PointTriangle}
 use Rattle.meaning.specs.declared.Settled.{Settled}
 use Rattle.meaning.specs.declared.Settled.the-variants.{Hit, Touch}
 use Rattle.meaning.specs.Series.{Series, stepAfter, stepsFrom, lastFrom, stepsOf, lastStep, HitAt, hitAt, hitsHere, hitsIn, hitsFrom, logOf, laterOf, firstStep, listedIn, totalOf, toldOf}
-use Rattle.meaning.specs.SeriesText.{Item, of, ends, next, SoFar, nothingYet, withItem, seriesSoFar, sixNumbers, ItemFormed, wrongLength, itemChecks, seriesLines}
+use Rattle.meaning.specs.SeriesText.{Item, of, ends, next, SoFar, nothingYet, withItem, seriesSoFar, sixNumbers, ItemFormed, wrongLength, itemChecks, seriesLines, SeriesFaultyAt, Ended, SeriesIs, faulty, listLeft}
 use Rattle.meaning.specs.FirstFault.{firstHeld, noneOf, orElse, firstFault}
 
 abbrev pub height : ℕ → Vector
@@ -185,3 +185,24 @@ pub told-shown : toldOf falling words ≡ record {
 }
 unfolding stepsFrom stepAfter pairs gather over times shares meetOn stoodFor hitsFrom hitsIn hitsHere firstStep listedIn totalOf howMany isOne byteOf
 told-shown = refl
+
+-- ---- the list buffer: the list of the last step in front, and behind it what stood there, nothing of an earlier step
+
+-- the point leaves the triangle: it is listed in steps 1 and 2, and no more in step 3
+abbrev pub leaving : List (List ℤ) → Ended
+leaving blocks =
+    let x : Series = record {
+      scene = sceneOf (corners ++ coordinates (place (pos 1) (pos 1) (pos 1)) (place (pos 1) (pos 1) (pos 0))) [] (0 ∷ 1 ∷ 2 ∷ []) [];
+      blocks = blocks;
+    } in
+    record { series = x; told = toldOf x [] }
+
+pub list-shown : (listLeft (given (leaving (thenAt (pos 1) ∷ []))) (5 ∷ 6 ∷ []) ≡ 3_072 ∷ 6 ∷ [])
+    × (listLeft (given (leaving (thenAt (pos 1) ∷ thenAt (pos 2) ∷ []))) (5 ∷ 6 ∷ []) ≡ 5 ∷ 6 ∷ [])
+unfolding listLeft number kindPart lastFrom stepAfter pairs gather over times shares meetOn stoodFor
+list-shown = (refl, refl)
+
+-- ---- a fault of a line is answered whatever the room, so also where no step has any
+
+pub fault-before-room : (text : List ℕ) (room n line : ℕ) → SeriesFaultyAt text n line → SeriesIs text room (refused n line)
+fault-before-room text room n line f = faulty n line refl f

@@ -1,31 +1,29 @@
 -- What a caller hears of a series in the number, the rows, the counts and the eight numbers of its call is what the text's series has: no number
 -- of it is cut, and a refusal has its line or count as it is.
-use Prim.Native.Nat.{ℕ, zero, suc, _%_, _≤_, _<_, min}
+use Prim.Native.Nat.{ℕ, zero, suc, _%_, _<_}
 use mathlib.Core.List.{List, [], _∷_, _++_, map, List·Memᴰ, List·Memᴰ·head, List·Memᴰ·tail}
 use mathlib.Core.Path.{_≡_, refl, sym, ap, _∙_, subst}
-use mathlib.Core.Logic.{⊎-elim}
 use native.Mathlib.Omega.{arith}
 use lib.IntN.{ℤ}
-use lib.ListN.{length, take, length-map, length-take}
-use lib.Seq.{take-all, take-take}
-use Rattle.sequences.specs.Range.{le-or-lt}
+use lib.ListN.{length, take}
 use Rattle.sequences.specs.Wrote.{written}
 use Rattle.meaning.specs.Scene.{Scene}
 use Rattle.meaning.specs.Refusals.{Outcome, given, refused, numberOf}
 use Rattle.meaning.specs.List.{pair, pairs, number, roomOf}
-use Rattle.meaning.specs.Series.{HitAt, hitAt, logLimit, hitsOf, lastStep, Told}
+use Rattle.meaning.specs.Series.{HitAt, hitAt, lastStep, Told}
 use Rattle.meaning.specs.SeriesText.{Ended}
 use Rattle.meaning.specs.declared.SceneCounts.{SceneCounts}
 use Rattle.entries.specs.Entries.{pairOf, number-back}
-use Rattle.first_causes.specs.Kept.{hitOf}
+use Rattle.first_causes.specs.Kept.{hitOf, entriesOf}
 use Rattle.first_causes.specs.Told.{toldSays, outcomeSays}
 use Rattle.first_causes.specs.declared.StepHit.{StepHit}
 use Rattle.first_causes.specs.declared.SeriesTold.{SeriesTold}
 use Rattle.first_causes.specs.declared.SeriesOutcome as Outcomes
 use Rattle.first_causes.specs.declared.SeriesOutcome.{SeriesOutcome}
-use Rattle.series_told.specs.Called.{BoxedSeries, toldPart, countsPart, countsSaid, lastCount}
+use Rattle.series_told.specs.Called.{BoxedSeries, toldPart, ToldWhole, countsPart, countsSaid, lastCount}
 use Rattle.series_numbers.specs.Rows.{rowStep, rowsOf}
 use Rattle.series_numbers.specs.Into.{SeriesInto, answerNumber, countsLeft, rowsLeft, numbersLeft}
+use Rattle.told_demands.specs.OneCall.{told-refused}
 use Rattle.answer_numbers.specs.Numbers.{upper, numberFor}
 use Rattle.answer_numbers.specs.Small.{lineIn, number-in-table}
 use Rattle.answer_numbers.specs.Back.{heard, count, Clear, heard-number}
@@ -64,18 +62,6 @@ rows-back (h ∷ hs) rest all =
     let more : hitsOfRows (length hs) (hitRows hs ++ rest) ≡ hs = rows-back hs rest (λ g m. all g (List·Memᴰ·tail m)) in
     λ i. hitAt (h .step) (own i) ∷ more i
 
--- where no more than k stand in front, it is all one to stop at k
-stops : {A : Type 0} (n k : ℕ) (l : List A) → length (take n l) ≤ k → take (min n k) l ≡ take n l
-stops n k l few =
-    ⊎-elim
-    (λ below.
-    let here : min n k ≡ n = omega arith in
-    ap (λ (m : ℕ). take m l) here)
-    (λ past.
-    let here : min n k ≡ k = omega arith in
-    ap (λ (m : ℕ). take m l) here ∙ sym (take-take k n l (omega arith)) ∙ take-all k (take n l) few)
-    (le-or-lt n k)
-
 -- the log in front of the lent rows, or nothing changed
 unfoldable pub rowsAfter : Outcome Ended → List ℕ → List ℕ
 rowsAfter (given e) rows = written (hitRows (e .told .log)) rows
@@ -105,28 +91,12 @@ module _ {text : List ℕ} {e : Ended} (x : TextOf text e) where
   log-fits : (h : HitAt) → List·Memᴰ h (e .told .log) → Fits h
   log-fits h m = logged-fits (x .holds) (x .brief) (x .right) h m
 
-  log-short : length (e .told .log) ≤ logLimit
-  log-short =
-      omega (
-        arith,
-        ap (λ (t : Told). length (t .log)) (x .right .told),
-        length-take logLimit (hitsOf (e .series) (x .right .words)),
-      )
-
-  log-rows : (t : SeriesTold) → toldSays t ≡ e .told → rowsOf (take (min (t .log .held) logLimit) (t .log .hits)) ≡ hitRows (e .told .log)
+  log-rows : (t : SeriesTold) → toldSays t ≡ e .told → rowsOf (take (t .log .held) (t .log .hits)) ≡ hitRows (e .told .log)
   log-rows t same =
-      let held : List StepHit = take (t .log .held) (t .log .hits) in
-      let entries : map hitOf held ≡ e .told .log = ap (λ (u : Told). u .log) same in
-      let few : length held ≤ logLimit = omega (arith, log-short, ap length entries, length-map held hitOf) in
-      ap rowsOf (stops (t .log .held) logLimit (t .log .hits) few)
-      ∙ rows-whole held (λ h m. log-fits h (subst (List·Memᴰ h) entries m))
-      ∙ ap hitRows entries
+      let entries : entriesOf (t .log) ≡ e .told .log = ap (λ (u : Told). u .log) same in
+      rows-whole (take (t .log .held) (t .log .hits)) (λ h m. log-fits h (subst (List·Memᴰ h) entries m)) ∙ ap hitRows entries
 
 -- ---- told or refused, as the text is
-
--- nothing is told of a text that is refused, nor refused of one that is told
-told-refused : {A P : Type 0} {a : A} {n c : ℕ} → given a ≡ refused n c → P
-told-refused e = let bad : _≡_ {A = ℕ} 0 1 = cc in absurd (omega arith)
 
 rows-are : {text : List ℕ} (q : SeriesOutcome) (o : Outcome Ended) (t : SeriesTold) (rows : List ℕ) → outcomeSays q (toldSays t) ≡ toldPart o
     → ((e : Ended) → o ≡ given e → TextOf text e)
@@ -160,26 +130,18 @@ number-clear (Outcomes.the-variants.Refused f k) (refused n c) t says p few =
     let same : numberOf f ≡ n = cc in
     (omega (arith, same, number-in-table f .some), few)
 
--- no entry stands behind the count that is told
-held-covers : (q : SeriesOutcome) (t : SeriesTold) (e : Ended) → outcomeSays q (toldSays t) ≡ given (e .told) → length (e .told .log) ≤ t .log .held
-unfolding outcomeSays
-held-covers (Outcomes.the-variants.Told c) t e says =
-    let same : toldSays t ≡ e .told = cc in
-    let held : List StepHit = take (t .log .held) (t .log .hits) in
-    omega (arith, ap (λ (u : Told). length (u .log)) same, length-map held hitOf, length-take (t .log .held) (t .log .hits))
-held-covers (Outcomes.the-variants.Refused f k) t e says = told-refused (sym says)
-
 -- ---- the eight numbers
 
--- behind the count of the entries: what is told beside the log
-unfoldable pub numbersAfter : Outcome Told → ℕ → List ℕ → List ℕ
-numbersAfter (given t) held l = held ∷ t .later ∷ t .listed ∷ t .hits ∷ t .misses ∷ t .touches ∷ t .aparts ∷ t .first ∷ []
-numbersAfter (refused n c) held l = l
+-- how many entries the log has, and what is told beside it
+unfoldable pub numbersAfter : Outcome Told → List ℕ → List ℕ
+numbersAfter (given t) l = length (t .log) ∷ t .later ∷ t .listed ∷ t .hits ∷ t .misses ∷ t .touches ∷ t .aparts ∷ t .first ∷ []
+numbersAfter (refused n c) l = l
 
-numbers-are : (q : SeriesOutcome) (t : SeriesTold) (l : List ℕ) → numbersLeft q t l ≡ numbersAfter (outcomeSays q (toldSays t)) (t .log .held) l
-unfolding numbersLeft numbersAfter outcomeSays
-numbers-are (Outcomes.the-variants.Told c) t l = refl
-numbers-are (Outcomes.the-variants.Refused f k) t l = refl
+numbers-are : (q : SeriesOutcome) (t : SeriesTold) (l : List ℕ) → ToldWhole q t → numbersLeft q t l ≡ numbersAfter (outcomeSays q (toldSays t)) l
+unfolding ToldWhole numbersLeft numbersAfter outcomeSays
+numbers-are (Outcomes.the-variants.Told c) t l whole =
+    ap (λ (n : ℕ). n ∷ t .log .later ∷ t .listed ∷ t .hits ∷ t .misses ∷ t .touches ∷ t .aparts ∷ t .first ∷ []) (whole .held)
+numbers-are (Outcomes.the-variants.Refused f k) t l whole = refl
 
 -- ---- the call
 
@@ -194,9 +156,8 @@ pub record SeriesHeard (text : List ℕ) (lent : Scene) (b : List ℤ) (l c c′
   pub log : rows′ ≡ rowsAfter outcome rows
   pub again : (e : Ended) → outcome ≡ given e → hitsOfRows (length (e .told .log)) rows′ ≡ e .told .log
   pub counts : c′ ≡ countsAfter (countsPart outcome) c
-  pub held : ℕ
-  pub covers : (e : Ended) → outcome ≡ given e → length (e .told .log) ≤ held
-  pub numbers : told′ ≡ numbersAfter (toldPart outcome) held told
+  -- the first of the eight is how many entries the log has
+  pub numbers : told′ ≡ numbersAfter (toldPart outcome) told
 
 module _ {text : List ℕ} {lent left : Scene} {b b′ : List ℤ} {l l′ c c′ rows rows′ told told′ : List ℕ} {r : ℕ}
     (h : SeriesInto text lent left b b′ l l′ c c′ rows rows′ told told′ r) where
@@ -223,7 +184,5 @@ module _ {text : List ℕ} {lent left : Scene} {b b′ : List ℤ} {l l′ c c�
             ap (hitsOfRows (length (e .told .log))) (log ∙ ap (λ (z : Outcome Ended). rowsAfter z rows) is)
             ∙ rows-back (e .told .log) _ (log-fits (text-of e is));
         counts = h .counts ∙ counts-are q c ∙ ap (λ (z : Outcome SceneCounts). countsAfter z c) (k .counts);
-        held = t .log .held;
-        covers = λ e is. held-covers q t e (k .says ∙ ap toldPart is);
-        numbers = h .numbers ∙ numbers-are q t told ∙ ap (λ (z : Outcome Told). numbersAfter z (t .log .held) told) (k .says);
+        numbers = h .numbers ∙ numbers-are q t told (k .whole) ∙ ap (λ (z : Outcome Told). numbersAfter z told) (k .says);
       }

@@ -1,14 +1,12 @@
--- Two results that meet the promise of a series told in numbers are one: the number, the scene, the boxes, the list, the counts and the rows; of the
--- eight numbers those behind the first.
+-- Two results that meet the promise of a series told in numbers are one: the number, the scene, the boxes, the list, the counts, the rows and the
+-- eight numbers.
 use Prim.Native.Nat.{ℕ}
 use mathlib.Core.List.{List}
-use mathlib.Core.Path.{_≡_, refl, sym, ap, _∙_}
+use mathlib.Core.Path.{_≡_, sym, ap, _∙_}
 use lib.IntN.{ℤ}
-use lib.ListN.{drop}
 use Rattle.meaning.specs.Scene.{Scene}
-use Rattle.meaning.specs.Refusals.{Outcome, given, refused}
+use Rattle.meaning.specs.Refusals.{Outcome}
 use Rattle.meaning.specs.List.{roomOf}
-use Rattle.meaning.specs.Series.{Told}
 use Rattle.meaning.specs.SeriesText.{Ended}
 use Rattle.series_told.specs.Called.{toldPart, countsPart}
 use Rattle.series_numbers.specs.Into.{SeriesInto}
@@ -17,11 +15,6 @@ use Rattle.answer_numbers.specs.Numbers.{numberFor}
 use Rattle.answer_numbers.specs.Back.{count}
 use Rattle.row_demands.specs.Heard.{rowsAfter, lastCounted, countsAfter, numbersAfter, series-heard}
 
-behind-first : (o : Outcome Told) (m n : ℕ) (l : List ℕ) → drop 1 (numbersAfter o m l) ≡ drop 1 (numbersAfter o n l)
-unfolding numbersAfter
-behind-first (given t) m n l = refl
-behind-first (refused k c) m n l = refl
-
 pub record SameInto (r r′ : ℕ) (left left′ : Scene) (b b′ : List ℤ) (l l′ c c′ rows rows′ told told′ : List ℕ) : Type 0 where
   pub number : r ≡ r′
   pub scene : left ≡ left′
@@ -29,7 +22,7 @@ pub record SameInto (r r′ : ℕ) (left left′ : Scene) (b b′ : List ℤ) (l
   pub list : l ≡ l′
   pub counts : c ≡ c′
   pub log : rows ≡ rows′
-  pub numbers : drop 1 told ≡ drop 1 told′
+  pub numbers : told ≡ told′
 
 pub one-into : {text : List ℕ} {lent left₁ left₂ : Scene} {b b₁ b₂ : List ℤ} {l l₁ l₂ c c₁ c₂ rows rows₁ rows₂ told told₁ told₂ : List ℕ} {r₁ r₂ : ℕ}
     → SeriesInto text lent left₁ b b₁ l l₁ c c₁ rows rows₁ told told₁ r₁
@@ -47,8 +40,5 @@ one-into {text} {lent} {left₁} {left₂} {b} {b₁} {b₂} {l} {l₁} {l₂} {
       list = same .list;
       counts = h .counts ∙ ap (λ (z : Outcome Ended). countsAfter (countsPart z) c) o ∙ sym (k .counts);
       log = h .log ∙ ap (λ (z : Outcome Ended). rowsAfter z rows) o ∙ sym (k .log);
-      numbers = ap (drop 1) (h .numbers)
-          ∙ ap (λ (z : Outcome Ended). drop 1 (numbersAfter (toldPart z) (h .held) told)) o
-          ∙ behind-first (toldPart (k .outcome)) (h .held) (k .held) told
-          ∙ sym (ap (drop 1) (k .numbers));
+      numbers = h .numbers ∙ ap (λ (z : Outcome Ended). numbersAfter (toldPart z) told) o ∙ sym (k .numbers);
     }

@@ -1,7 +1,7 @@
 -- A series told into lent arrays.
-use Prim.Native.Nat.{ℕ, min}
+use Prim.Native.Nat.{ℕ, _≤_}
 use mathlib.Core.List.{List, [], _∷_}
-use mathlib.Core.Path.{_≡_, refl, sym, ap, _∙_}
+use mathlib.Core.Path.{_≡_, sym, ap, _∙_, subst}
 use lib.IntN.{ℤ}
 use lib.ListN.{take}
 use Rattle.sequences.specs.Wrote.{written}
@@ -9,10 +9,11 @@ use Rattle.meaning.specs.Scene.{Scene}
 use Rattle.meaning.specs.Series.{logLimit}
 use Rattle.meaning.specs.declared.SceneCounts.{SceneCounts}
 use Rattle.meaning.specs.declared.Refusal.{Refusal}
+use Rattle.first_causes.specs.Kept.{held-few}
 use Rattle.first_causes.specs.declared.SeriesTold.{SeriesTold}
 use Rattle.first_causes.specs.declared.SeriesOutcome as Outcomes
 use Rattle.first_causes.specs.declared.SeriesOutcome.{SeriesOutcome}
-use Rattle.series_told.specs.Called.{SeriesCounted}
+use Rattle.series_told.specs.Called.{ToldWhole, SeriesCounted}
 use Rattle.series_told.specs.declared.SeriesListed.{SeriesListed}
 use Rattle.series_numbers.specs.Rows.{rowsOf, numbersOf, refusedNumber}
 
@@ -26,7 +27,7 @@ countsLeft (Outcomes.the-variants.Told c) l = c .vertices ∷ c .edges ∷ c .tr
 countsLeft (Outcomes.the-variants.Refused f k) l = l
 
 unfoldable pub rowsLeft : SeriesOutcome → SeriesTold → List ℕ → List ℕ
-rowsLeft (Outcomes.the-variants.Told c) t l = written (rowsOf (take (min (t .log .held) logLimit) (t .log .hits))) l
+rowsLeft (Outcomes.the-variants.Told c) t l = written (rowsOf (take (t .log .held) (t .log .hits))) l
 rowsLeft (Outcomes.the-variants.Refused f k) t l = l
 
 unfoldable pub numbersLeft : SeriesOutcome → SeriesTold → List ℕ → List ℕ
@@ -40,6 +41,12 @@ pub record SeriesInto (text : List ℕ) (lent left : Scene) (b b′ : List ℤ) 
   pub counts : c′ ≡ countsLeft (all .answer .outcome) c
   pub log : rows′ ≡ rowsLeft (all .answer .outcome) (all .answer .told) rows
   pub numbers : told′ ≡ numbersLeft (all .answer .outcome) (all .answer .told) told
+
+-- a log that is told has room for what it holds
+pub told-few : {text : List ℕ} {lent left : Scene} {b b′ : List ℤ} {l l′ : List ℕ} (all : SeriesListed) {k : SceneCounts}
+    → SeriesCounted text lent left b b′ l l′ all → all .answer .outcome ≡ Outcomes.the-variants.Told k → all .answer .told .log .held ≤ logLimit
+unfolding ToldWhole
+told-few all h e = held-few (subst (λ (o : SeriesOutcome). ToldWhole o (all .answer .told)) e (h .called .whole))
 
 module _ {text : List ℕ} {lent left : Scene} {b b′ : List ℤ} {l l′ c rows told : List ℕ} (all : SeriesListed)
     (h : SeriesCounted text lent left b b′ l l′ all) where
@@ -58,7 +65,7 @@ module _ {text : List ℕ} {lent left : Scene} {b b′ : List ℤ} {l l′ c row
 
   pub into-told : {c′ rows′ told′ : List ℕ} {k : SceneCounts} {r : ℕ} → all .answer .outcome ≡ Outcomes.the-variants.Told k → r ≡ all .count
       → c′ ≡ k .vertices ∷ k .edges ∷ k .triangles ∷ k .seams ∷ []
-      → rows′ ≡ written (rowsOf (take (min (all .answer .told .log .held) logLimit) (all .answer .told .log .hits))) rows
+      → rows′ ≡ written (rowsOf (take (all .answer .told .log .held) (all .answer .told .log .hits))) rows
       → told′ ≡ numbersOf (all .answer .told)
       → SeriesInto text lent left b b′ l l′ c c′ rows rows′ told told′ r
   unfolding answerNumber countsLeft rowsLeft numbersLeft

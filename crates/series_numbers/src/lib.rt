@@ -1,6 +1,6 @@
 // What is told of a series, as numbers in lent arrays: neither a struct nor an enum crosses to C.
 
-ghost use Prim.Native.Nat.{_+_, _*_, _≤_, _<_, min};
+ghost use Prim.Native.Nat.{_+_, _*_, _≤_, _<_};
 ghost use mathlib.Core.List.{[], _∷_};
 ghost use mathlib.Core.Path.{_≡_};
 ghost use lib.ListN.{length, set, take};
@@ -32,19 +32,12 @@ fn put_row(hit: StepHit, rows: &mut [u32], at: usize)
     rows[at + 1] = entry;
 }
 
-// How many entries there are: no more than a log has room for.
-fn entries_held(held: usize) -> usize
-    ensures { λ r. ⌜ r ≡ min held logLimit ⌝ }
-{
-    if held < LOG_ROOM { held } else { LOG_ROOM }
-}
-
 // A row for each entry, and the rows behind them unchanged.
 fn put_log(log: Log, rows: &mut [u32])
-    requires { ⌜ 2 * logLimit ≤ length (now rows) ⌝ }
-    ensures { λ _. ⌜ now (rows .exit) ≡ written (rowsOf (take (min (log .held) logLimit) (log .hits))) (now (rows .entry)) ⌝ }
+    requires { ⌜ (2 * logLimit ≤ length (now rows)) × (log .held ≤ logLimit) ⌝ }
+    ensures { λ _. ⌜ now (rows .exit) ≡ written (rowsOf (take (log .held) (log .hits))) (now (rows .entry)) ⌝ }
 {
-    let held = entries_held(log.held);
+    let held = log.held;
     let mut k = 0;
     while k < held {
         let hit = log.hits[k];

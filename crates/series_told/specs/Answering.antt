@@ -1,6 +1,6 @@
 -- How the answer of the call is shown right, whichever way it comes about.
 use Prim.Native.Nat.{ℕ, _*_, _≤_, _<_}
-use mathlib.Core.Bool.{Bool, true, false, cond, _||_}
+use mathlib.Core.Bool.{Bool, true, false, _||_}
 use mathlib.Core.List.{List, [], _∷_, _++_}
 use mathlib.Core.Path.{_≡_, refl, sym, ap, _∙_, subst}
 use native.Mathlib.Omega.{arith}
@@ -11,39 +11,34 @@ use lib.Seq.{length-take-le, take-at}
 use borrow.Author.Tests.{lt-ltb, le-ltb, ltb-true, ltb-false}
 use Rattle.sequences.specs.Wrote.{written}
 use Rattle.seam_table.specs.Below.{or-left, or-rest}
-use Rattle.seam_table.specs.Table.{seamsOf}
 use Rattle.meaning.specs.Limits.{textLimit}
-use Rattle.meaning.specs.Scene.{Scene, sceneOf, vertexCount, Accepted}
-use Rattle.meaning.specs.Refusals.{Outcome, given, refused, Answers, numberOf}
+use Rattle.meaning.specs.Scene.{Scene, sceneOf, Accepted}
+use Rattle.meaning.specs.Refusals.{Outcome, given, refused, numberOf}
 use Rattle.meaning.specs.List.{pairs, entries, roomOf}
-use Rattle.meaning.specs.Text.{shortBuffer, longText, countsOf}
+use Rattle.meaning.specs.Text.{shortBuffer, countsOf}
 use Rattle.meaning.specs.StoredBoxes.{shortBoxes, boxNumbers, Filled}
 use Rattle.meaning.specs.Series.{Series, stepAfter, stepsOf, stepsFrom, lastFrom, lastStep, Told, ToldRight}
-use Rattle.meaning.specs.SeriesText.{HoldsSeries, Ended, SeriesIs, faulty, read, sceneLeft, listLeft}
+use Rattle.meaning.specs.SeriesText.{Ended, SeriesIs, faulty, read, sceneLeft, listLeft}
 use Rattle.meaning.specs.declared.SceneCounts.{SceneCounts}
 use Rattle.meaning.specs.declared.Refusal.{Refusal}
 use Rattle.meaning.specs.declared.Refusal.the-variants.{ShortBuffer, LongText}
 use Rattle.scene_line.specs.Above.{Bounded, Lengths, lengths-count}
 use Rattle.scene_draft.specs.Putting.{Roomy}
-use Rattle.scene_text.specs.Answering.{Copied, roomy}
+use Rattle.scene_text.specs.Answering.{roomy}
 use Rattle.series_front.specs.Fronts.{FrontRead, FrontIs}
 use Rattle.series_front.specs.declared.FrontAnswer as Fronts
 use Rattle.series_front.specs.declared.FrontAnswer.{FrontAnswer}
 use Rattle.first_causes.specs.Told.{toldSays, outcomeSays}
-use Rattle.first_causes.specs.declared.SeriesTold.{SeriesTold}
 use Rattle.first_causes.specs.declared.SeriesOutcome as Outcomes
 use Rattle.first_causes.specs.declared.SeriesOutcome.{SeriesOutcome}
 use Rattle.first_causes.specs.declared.SeriesAnswer.{SeriesAnswer}
 use Rattle.words_told.specs.Telling.{nothingTold}
 use Rattle.series_told.specs.declared.SeriesListed.{SeriesListed}
-use Rattle.steps_told.specs.Telling.{firstOver, over-gives}
+use Rattle.steps_told.specs.Telling.{firstOver, over-gives, refusedWith}
 use Rattle.scene_draft.specs.Reading.{total}
 use Rattle.steps_told.specs.Reading.{FirstStep, LastTold, StepsAre}
-use Rattle.series_told.specs.Called.{toldPart, countsPart, countsSaid, FillsLast, lastCount, SeriesCalled, SeriesCounted}
+use Rattle.series_told.specs.Called.{toldPart, ToldWhole, countsPart, countsSaid, FillsLast, lastCount, SeriesCalled, SeriesCounted}
 use Rattle.series_told.specs.Leaving.{frontOf, LeaveReady, LastLeft}
-
-abbrev pub refusedWith : Refusal → ℕ → SeriesAnswer
-refusedWith f n = record { outcome = Outcomes.the-variants.Refused f n; told = nothingTold }
 
 -- the lent buffers are large enough, and the text is not too long
 pub record AllLent (text : List ℕ) (lent : Scene) (b : List ℤ) : Type 0 where
@@ -61,6 +56,7 @@ pub record TextTold (text : List ℕ) (lent left : Scene) (b b′ : List ℤ) (l
   pub outcome : Outcome Ended
   pub right : SeriesIs text (roomOf l) outcome
   pub says : outcomeSays (r .outcome) (toldSays (r .told)) ≡ toldPart outcome
+  pub whole : ToldWhole (r .outcome) (r .told)
   pub counts : countsSaid (r .outcome) ≡ countsPart outcome
   pub leaves : left ≡ sceneLeft outcome lent
   pub boxes : FillsLast outcome b b′
@@ -70,35 +66,35 @@ pub record TextTold (text : List ℕ) (lent left : Scene) (b b′ : List ℤ) (l
 -- ---- refused
 
 module _ (text : List ℕ) (lent : Scene) (b : List ℤ) (l : List ℕ) where
-  pub text-refused : (f : Refusal) (n : ℕ) (told : SeriesTold) → SeriesIs text (roomOf l) (refused (numberOf f) n)
-      → TextTold text lent lent b b l l (record { outcome = Outcomes.the-variants.Refused f n; told = told }) 0
-  unfolding outcomeSays toldPart countsPart countsSaid sceneLeft listLeft FillsLast lastCount
-  text-refused f n told right =
-      record { outcome = refused (numberOf f) n; right = right; says = refl; counts = refl; leaves = refl; boxes = refl; list = refl; count = refl }
+  text-refused : (f : Refusal) (n : ℕ) → SeriesIs text (roomOf l) (refused (numberOf f) n) → TextTold text lent lent b b l l (refusedWith f n) 0
+  unfolding outcomeSays toldPart ToldWhole countsPart countsSaid sceneLeft listLeft FillsLast lastCount
+  text-refused f n right =
+      record { outcome = refused (numberOf f) n; right = right; says = refl; whole = refl; counts = refl; leaves = refl; boxes = refl; list = refl; count = refl }
 
   pub front-refused : (own : Scene) (table : List ℕ) {r : FrontAnswer} {f : Refusal} {n : ℕ} → FrontIs text own table r
       → r ≡ Fronts.the-variants.Refused f n → TextTold text lent lent b b l l (refusedWith f n) 0
   unfolding FrontIs
   front-refused own table {r} {f} {n} d e =
-      text-refused f n nothingTold (faulty (numberOf f) n refl (rw e at d))
+      text-refused f n (faulty (numberOf f) n refl (rw e at d))
 
   pub called-short : shortBoxes b || shortBuffer lent ≡ true → SeriesCounted text lent lent b b l l (record { answer = refusedWith ShortBuffer 0; count = 0 })
-  unfolding outcomeSays toldPart countsPart countsSaid sceneLeft listLeft FillsLast lastCount numberOf
+  unfolding outcomeSays toldPart ToldWhole countsPart countsSaid sceneLeft listLeft FillsLast lastCount numberOf
   called-short h =
       record {
-        called = record { outcome = refused 12 0; right = rw h refl; says = refl; counts = refl; leaves = refl; boxes = refl; list = refl };
+        called = record { outcome = refused 12 0; right = rw h refl; says = refl; whole = refl; counts = refl; leaves = refl; boxes = refl; list = refl };
         count = refl;
       }
 
   module _ (wide : shortBoxes b || shortBuffer lent ≡ false) where
     pub called-long : textLimit < length text → SeriesCounted text lent lent b b l l (record { answer = refusedWith LongText 0; count = 0 })
-    unfolding outcomeSays toldPart countsPart countsSaid sceneLeft listLeft FillsLast lastCount numberOf
+    unfolding outcomeSays toldPart ToldWhole countsPart countsSaid sceneLeft listLeft FillsLast lastCount numberOf
     called-long h =
         record {
           called = record {
             outcome = refused 8 0;
             right = rw (wide, lt-ltb textLimit (length text) h) refl;
             says = refl;
+            whole = refl;
             counts = refl;
             leaves = refl;
             boxes = refl;
@@ -123,6 +119,7 @@ module _ (text : List ℕ) (lent : Scene) (b : List ℤ) (l : List ℕ) where
             outcome = t .outcome;
             right = rw (wide, le-ltb textLimit (length text) brief) (t .right);
             says = t .says;
+            whole = t .whole;
             counts = t .counts;
             leaves = t .leaves;
             boxes = t .boxes;
@@ -134,7 +131,8 @@ module _ (text : List ℕ) (lent : Scene) (b : List ℤ) (l : List ℕ) where
 -- ---- told
 
 module _ (text : List ℕ) (room : ℕ) (own : Scene) (c : SceneCounts) (r : SeriesAnswer) (d : DraftTold text room own c r) where
-  pub draft-refused : {f : Refusal} {n : ℕ} → r .outcome ≡ Outcomes.the-variants.Refused f n → SeriesIs text room (refused (numberOf f) n)
+  pub draft-refused : {f : Refusal} {n : ℕ} → r .outcome ≡ Outcomes.the-variants.Refused f n
+      → SeriesIs text room (refused (numberOf f) n) × (r .told ≡ nothingTold)
   unfolding StepsAre
   draft-refused e = rw e at d
 
@@ -217,7 +215,7 @@ module _ {text : List ℕ} {at : ℕ} {c : SceneCounts} {before own : Scene} {ta
 
   pub text-given : {lent left : Scene} {b b′ : List ℤ} {l′ : List ℕ} {n : ℕ} {c′ : SceneCounts} → r .outcome ≡ Outcomes.the-variants.Told c′
       → LastLeft c own lent left b b′ l l′ n → TextTold text lent left b b′ l l′ r n
-  unfolding outcomeSays toldPart countsPart countsSaid sceneLeft listLeft FillsLast lastCount
+  unfolding outcomeSays toldPart ToldWhole countsPart countsSaid sceneLeft listLeft FillsLast lastCount
   text-given {lent} {left} {b} {b′} {l′} {n} {c′} e k =
       let (same-counts, h) = draft-last text (roomOf l) own c r d e in
       let x : Series = h .series in
@@ -230,6 +228,7 @@ module _ {text : List ℕ} {at : ℕ} {c : SceneCounts} {before own : Scene} {ta
         outcome = given ended;
         right = read x (h .holds) (over-gives (roomOf l) (λ (z : Ended). (z .series ≡ x) × ToldRight x (z .told)) (stepsOf x) ended (h .roomy) (refl, h .right));
         says = ap (λ (o : SeriesOutcome). outcomeSays o (toldSays (r .told))) e;
+        whole = subst (λ (o : SeriesOutcome). ToldWhole o (r .told)) (sym e) (h .held);
         counts = ap countsSaid e ∙ ap given (same-counts ∙ counts ∙ ap countsOf last);
         leaves = scene
             ∙ ap (λ (s : Scene). sceneOf (written (s .positions) (lent .positions)) (written (s .edges) (lent .edges)) (written (s .triangles) (lent .triangles)) (written (s .seams) (lent .seams))) last;
@@ -239,12 +238,14 @@ module _ {text : List ℕ} {at : ℕ} {c : SceneCounts} {before own : Scene} {ta
       }
 
   pub text-not-given : (lent : Scene) (b : List ℤ) {g : Refusal} {n : ℕ} → r .outcome ≡ Outcomes.the-variants.Refused g n → TextTold text lent lent b b l l r 0
-  unfolding outcomeSays toldPart countsPart countsSaid sceneLeft listLeft FillsLast lastCount
+  unfolding outcomeSays toldPart ToldWhole countsPart countsSaid sceneLeft listLeft FillsLast lastCount
   text-not-given lent b {g} {n} e =
+      let (right, none) = draft-refused text (roomOf l) own c r d e in
       record {
         outcome = refused (numberOf g) n;
-        right = draft-refused text (roomOf l) own c r d e;
+        right = right;
         says = ap (λ (o : SeriesOutcome). outcomeSays o (toldSays (r .told))) e;
+        whole = subst (λ (o : SeriesOutcome). ToldWhole o (r .told)) (sym e) none;
         counts = ap countsSaid e;
         leaves = refl;
         boxes = refl;

@@ -11,7 +11,8 @@ ghost use Rattle.meaning.specs.Scene.{sceneIn, sceneAtEntry, sceneAtExit};
 ghost use Rattle.scene_draft.specs.Putting.{Roomy};
 ghost use Rattle.series_front.specs.Fronts.{FrontRead};
 ghost use Rattle.series_told.specs.Called.{SeriesCalled, SeriesCounted};
-ghost use Rattle.series_told.specs.Answering.{refusedWith, AllLent, DraftTold, TextTold};
+ghost use Rattle.steps_told.specs.Telling.{refusedWith};
+ghost use Rattle.series_told.specs.Answering.{AllLent, DraftTold, TextTold};
 use first_causes::SeriesAnswer;
 use first_causes::SeriesOutcome;
 use leaving::leave_last;
@@ -27,7 +28,6 @@ use meaning::VERTEX_LIMIT;
 use series_front::FrontAnswer;
 use series_front::draft_front;
 use steps_told::tell_steps;
-use words_told::nothing_told;
 
 // The answer for a series, and how many pairs its last step lists: 0 after a refusal.
 pub struct SeriesListed {
@@ -35,16 +35,12 @@ pub struct SeriesListed {
     pub count: usize,
 }
 
-// A refusal, with its line or count; nothing is told.
+// A refusal, with its line or count; nothing is told and nothing listed.
 fn refused(refusal: Refusal, number: usize) -> SeriesListed
     ensures { λ r. ⌜ r ≡ record { answer = refusedWith refusal number; count = 0 } ⌝ }
 {
-    let answer = SeriesAnswer {
-        outcome: SeriesOutcome::Refused(refusal, number),
-        told: nothing_told(),
-    };
     SeriesListed {
-        answer: answer,
+        answer: steps_told::refused(refusal, number),
         count: 0,
     }
 }

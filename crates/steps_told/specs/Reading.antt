@@ -1,12 +1,11 @@
 -- The steps of a text, from its scene to its last block: which step the positions hold, and what is told of the steps so far.
-use Prim.Native.Nat.{ℕ, _+_, _*_, _≤_, _<_}
+use Prim.Native.Nat.{ℕ, _+_, _≤_, _<_}
 use mathlib.Core.Bool.{Bool, true, false, cond}
-use mathlib.Core.List.{List, [], _∷_, _++_, map}
+use mathlib.Core.List.{List, [], _∷_, _++_}
 use mathlib.Core.Path.{_≡_, refl, sym, ap, _∙_, subst}
-use mathlib.Core.Logic.{_⊎_, inl, inr, ⊎-elim}
+use mathlib.Core.Logic.{_⊎_, ⊎-elim}
 use native.Mathlib.Omega.{arith}
 use lib.IntN.{ℤ}
-use lib.Dec.{ltb}
 use lib.ListN.{length, length-append}
 use borrow.Author.Tests.{lt-ltb, le-ltb}
 use Rattle.sequences.specs.Range.{le-or-lt}
@@ -14,16 +13,15 @@ use Rattle.sequences.specs.Stands.{Stands}
 use Rattle.seam_table.specs.Alone.{tabled}
 use Rattle.seam_table.specs.Table.{seamsOf}
 use Rattle.meaning.specs.Limits.{textLimit}
-use Rattle.meaning.specs.Scene.{Scene, sceneOf, vertexCount, Accepted}
-use Rattle.meaning.specs.Refusals.{Outcome, given, refused, Answers, numberOf}
+use Rattle.meaning.specs.Scene.{Scene, sceneOf, Accepted}
+use Rattle.meaning.specs.Refusals.{refused, Answers, numberOf}
 use Rattle.meaning.specs.Lines.{afterAll, FaultyAt}
-use Rattle.meaning.specs.List.{pairs}
 use Rattle.meaning.specs.Series.{Series, stepAfter, stepsFrom, stepsOf, lastFrom, lastStep, Told, ToldRight}
-use Rattle.meaning.specs.SeriesText.{Item, of, ends, next, threeOf, itemLine, SoFar, nothingYet, blocksSoFar, seriesSoFar, withItem, seriesLines, HoldsSeries, SeriesFaultyAt, roomCheck, roomChecks, Ended, SeriesIs, faulty, read}
+use Rattle.meaning.specs.SeriesText.{Item, of, ends, next, threeOf, itemLine, SoFar, nothingYet, blocksSoFar, seriesSoFar, withItem, seriesLines, HoldsSeries, roomChecks, Ended, SeriesIs, faulty, read}
 use Rattle.meaning.specs.declared.SceneCounts.{SceneCounts}
 use Rattle.meaning.specs.declared.Refusal.{Refusal}
 use Rattle.meaning.specs.declared.Refusal.the-variants.{NoRoom}
-use Rattle.lines.specs.Going.{Reached, reached-end}
+use Rattle.lines.specs.Going.{reached-end}
 use Rattle.steps.specs.Longer.{nextSteps, steps-append, last-append, steps-count}
 use Rattle.steps.specs.Stepping.{step-edges, step-triangles}
 use Rattle.block_draft.specs.Taking.{faultNumber}
@@ -32,13 +30,14 @@ use Rattle.block_draft.specs.declared.BlockAnswer as Blocks
 use Rattle.block_draft.specs.declared.BlockAnswer.{BlockAnswer}
 use Rattle.block_draft.specs.declared.BlockFault.{BlockFault}
 use Rattle.series_front.specs.Fronts.{sceneAlone}
+use Rattle.first_causes.specs.Kept.{HeldRight, log-held}
 use Rattle.first_causes.specs.Told.{toldSays}
 use Rattle.first_causes.specs.declared.SeriesTold.{SeriesTold}
 use Rattle.first_causes.specs.declared.SeriesOutcome as Outcomes
 use Rattle.first_causes.specs.declared.SeriesOutcome.{SeriesOutcome}
 use Rattle.first_causes.specs.declared.SeriesAnswer.{SeriesAnswer}
 use Rattle.words_told.specs.Telling.{nothingTold}
-use Rattle.steps_told.specs.Telling.{firstOver, over-refuses, over-gives, told-right, TellsSteps, StepAdded, steps-start, RoomAnswer}
+use Rattle.steps_told.specs.Telling.{firstOver, over-refuses, told-right, TellsSteps, StepAdded, steps-start, RoomAnswer}
 use Rattle.steps_told.specs.declared.Telling.{Telling}
 
 -- ---- what is asked and promised
@@ -61,12 +60,14 @@ pub record LastTold (text : List ℕ) (room : ℕ) (p : List ℤ) (e t w : List 
   pub holds : HoldsSeries text series
   pub roomy : firstOver room (stepsOf series) ≡ 0
   pub right : ToldRight series (toldSays told)
+  pub held : HeldRight (told .log)
   pub last : lastStep series ≡ sceneOf p e t w
   pub accepted : Accepted (lastStep series)
 
 unfoldable pub StepsAre : List ℕ → ℕ → List ℤ → List ℕ → List ℕ → List ℕ → SceneCounts → SeriesOutcome → SeriesTold → Type 0
 StepsAre text room p e t w c (Outcomes.the-variants.Told c′) told = (c′ ≡ c) × LastTold text room p e t w told
-StepsAre text room p e t w c (Outcomes.the-variants.Refused f n) told = SeriesIs text room (refused (numberOf f) n)
+StepsAre text room p e t w c (Outcomes.the-variants.Refused f n) told =
+    SeriesIs text room (refused (numberOf f) n) × (told ≡ nothingTold)
 
 -- ---- no more steps than lines
 
@@ -165,11 +166,13 @@ module _ {text : List ℕ} {room at line step : ℕ} {p : List ℤ} {e t w table
     block-is : {r′ : BlockAnswer} → r ≡ r′ → BlockIs text (n .series) p′ w r′
     block-is q = subst (BlockIs text (n .series) p′ w) q (b (n .series) (n .scene) (at-next inside))
 
-    pub block-faulty : {f : BlockFault} {k : ℕ} (x : Refusal) (c : SceneCounts) (told : SeriesTold) → r ≡ Blocks.the-variants.Fault f k
-        → numberOf x ≡ faultNumber f → StepsAre text room p′ e t w c (Outcomes.the-variants.Refused x k) told
+    pub block-faulty : {f : BlockFault} {k : ℕ} (x : Refusal) (c : SceneCounts) → r ≡ Blocks.the-variants.Fault f k
+        → numberOf x ≡ faultNumber f → StepsAre text room p′ e t w c (Outcomes.the-variants.Refused x k) nothingTold
     unfolding StepsAre BlockIs
-    block-faulty {f} {k} x c told q same =
-        faulty (numberOf x) k refl (subst (λ (m : ℕ). FaultyAt seriesLines nothingYet text m k) (sym same) (block-is q))
+    block-faulty {f} {k} x c q same = (
+      faulty (numberOf x) k refl (subst (λ (m : ℕ). FaultyAt seriesLines nothingYet text m k) (sym same) (block-is q)),
+      refl,
+    )
 
     module _ {after last : ℕ} (q : r ≡ Blocks.the-variants.Whole after last) where
       next-step : NextStep text (n .series) p′ w after last
@@ -248,14 +251,16 @@ module _ {text : List ℕ} {room at line step : ℕ} {p : List ℤ} {e t w table
           series = ap seriesSoFar (n .here .reached .state);
         }
 
-    pub ends-full : (c : SceneCounts) (told : SeriesTold) → 0 < all .needed
-        → StepsAre text room p e t w c (Outcomes.the-variants.Refused NoRoom (all .needed)) told
+    pub ends-full : (c : SceneCounts) → 0 < all .needed
+        → StepsAre text room p e t w c (Outcomes.the-variants.Refused NoRoom (all .needed)) nothingTold
     unfolding StepsAre numberOf
-    ends-full c told h =
-        let over-all : 0 < firstOver room (stepsOf whole) = subst (λ (k : ℕ). 0 < k) (n .telling .needed) h in
-        read whole text-holds
-        (subst (λ (k : ℕ). Answers (roomChecks room whole) (λ (z : Ended). (z .series ≡ whole) × ToldRight whole (z .told)) (refused 7 k)) (sym (n .telling .needed))
-        (over-refuses room (λ (z : Ended). (z .series ≡ whole) × ToldRight whole (z .told)) (stepsOf whole) over-all))
+    ends-full c h =
+        let over-all : 0 < firstOver room (stepsOf whole) = subst (λ (k : ℕ). 0 < k) (n .telling .needed) h in (
+          read whole text-holds
+              (subst (λ (k : ℕ). Answers (roomChecks room whole) (λ (z : Ended). (z .series ≡ whole) × ToldRight whole (z .told)) (refused 7 k)) (sym (n .telling .needed))
+              (over-refuses room (λ (z : Ended). (z .series ≡ whole) × ToldRight whole (z .told)) (stepsOf whole) over-all)),
+          refl,
+        )
 
     pub ends-told : (c : SceneCounts) → all .needed ≡ 0 → StepsAre text room p e t w c (Outcomes.the-variants.Told c) (all .told)
     unfolding StepsAre
@@ -266,6 +271,7 @@ module _ {text : List ℕ} {room at line step : ℕ} {p : List ℤ} {e t w table
         holds = text-holds;
         roomy = sym (n .telling .needed) ∙ h;
         right = told-right whole (n .telling .told h);
+        held = log-held (n .telling .told h .tells .log);
         last = sym (n .here .step) ∙ sym (λ i. sceneOf (n .here .draft i) (n .edges i) (n .triangles i) (n .here .seams i));
         accepted = subst Accepted (n .here .step) (n .here .accepted);
       },
@@ -276,6 +282,6 @@ module _ {text : List ℕ} {room at line step : ℕ} {p : List ℤ} {e t w table
   ends-all over c r same =
       rw same
       (⊎-elim
-      (λ some. rw (lt-ltb 0 (all .needed) some) (ends-full over c (all .told) some))
+      (λ some. rw (lt-ltb 0 (all .needed) some) (ends-full over c some))
       (λ none. rw (le-ltb 0 (all .needed) (omega arith)) (ends-told over c (omega arith)))
       (le-or-lt 1 (all .needed)))

@@ -3,19 +3,17 @@ use Prim.Native.Nat.{ℕ, _+_, _≤_, _<_}
 use mathlib.Core.Bool.{Bool, true, false, cond}
 use mathlib.Core.List.{List, [], _∷_, _++_, map, append-assoc, append-nil}
 use mathlib.Core.Path.{_≡_, refl, sym, ap, _∙_, subst}
-use mathlib.Core.Logic.{⊎-elim}
 use native.Mathlib.Omega.{arith}
 use lib.Dec.{ltb}
 use lib.ListN.{length, length-append}
 use borrow.Author.Tests.{lt-ltb, le-ltb, ltb-true}
-use Rattle.sequences.specs.Range.{le-or-lt}
 use Rattle.scenes.specs.Answering.{refuses, lets-pass, gives}
 use Rattle.meaning.specs.Scene.{Scene}
-use Rattle.meaning.specs.Refusals.{Outcome, given, refused, Check, Answers, numberOf}
+use Rattle.meaning.specs.Refusals.{given, refused, Answers}
 use Rattle.meaning.specs.List.{pairs}
 use Rattle.meaning.specs.SceneWords.{AllSettled}
 use Rattle.meaning.specs.Report.{howMany}
-use Rattle.meaning.specs.Series.{Series, HitAt, stepsOf, hitsIn, hitsFrom, hitsOf, StepsSettled, listedIn, totalOf, counted, Told, toldOf, ToldRight}
+use Rattle.meaning.specs.Series.{Series, HitAt, stepsOf, hitsIn, hitsFrom, StepsSettled, listedIn, totalOf, counted, Told, ToldRight}
 use Rattle.meaning.specs.SeriesText.{roomCheck}
 use Rattle.meaning.specs.declared.SceneCounts.{SceneCounts}
 use Rattle.meaning.specs.declared.Refusal.{Refusal}
@@ -28,7 +26,7 @@ use Rattle.first_causes.specs.Told.{toldSays}
 use Rattle.first_causes.specs.declared.SeriesTold.{SeriesTold}
 use Rattle.first_causes.specs.declared.SeriesAnswer.{SeriesAnswer}
 use Rattle.first_causes.specs.declared.SeriesOutcome as Outcomes
-use Rattle.words_told.specs.Telling.{TellsOf, Further, nothingTold, told-none, many-behind}
+use Rattle.words_told.specs.Telling.{TellsOf, nothingTold, told-none, many-behind}
 use Rattle.step_told.specs.Rows.{TellsPairs}
 use Rattle.steps_told.specs.declared.Telling as Tellings
 use Rattle.steps_told.specs.declared.Telling.{Telling}
@@ -234,12 +232,9 @@ module _ {room n : ℕ} (s : Scene) {t : Telling} {u : SeriesTold} {count : ℕ}
 
 -- ---- the answer
 
-abbrev pub refusedAt : Refusal → ℕ → Telling → SeriesAnswer
-refusedAt f n t = record { outcome = Outcomes.the-variants.Refused f n; told = t .told }
+-- a refusal tells nothing
+abbrev pub refusedWith : Refusal → ℕ → SeriesAnswer
+refusedWith f n = record { outcome = Outcomes.the-variants.Refused f n; told = nothingTold }
 
 abbrev pub RoomAnswer : SceneCounts → Telling → SeriesAnswer
-RoomAnswer c t =
-    record {
-      outcome = cond (ltb 0 (t .needed)) (Outcomes.the-variants.Refused NoRoom (t .needed)) (Outcomes.the-variants.Told c);
-      told = t .told;
-    }
+RoomAnswer c t = cond (ltb 0 (t .needed)) (refusedWith NoRoom (t .needed)) (record { outcome = Outcomes.the-variants.Told c; told = t .told })

@@ -1,12 +1,11 @@
 // The steps of a series, told one behind the other as their blocks are read. All of it stands in arrays of the caller's own.
 
-ghost use Prim.Native.Nat.{_≤_};
 ghost use mathlib.Core.Path.{_≡_};
 ghost use Rattle.meaning.specs.Scene.{Accepted};
 ghost use Rattle.meaning.specs.Refusals.{numberOf};
 ghost use Rattle.seam_table.specs.Alone.{tabledIn, tabledAtEntry};
 ghost use Rattle.block_draft.specs.Taking.{faultNumber};
-ghost use Rattle.steps_told.specs.Telling.{StepAdded, refusedAt, RoomAnswer};
+ghost use Rattle.steps_told.specs.Telling.{StepAdded, refusedWith, RoomAnswer};
 ghost use Rattle.steps_told.specs.Reading.{FirstStep, StepsAre};
 use block_draft::BlockAnswer;
 use block_draft::BlockFault;
@@ -68,14 +67,13 @@ fn tell_next(
     }
 }
 
-// A faulty line: what was told of the steps above it means nothing.
-fn refused(refusal: Refusal, line: usize, past: Telling) -> SeriesAnswer
-    ensures { λ r. ⌜ r ≡ refusedAt refusal line past ⌝ }
+// A refusal, with its line or count; nothing is told, whatever was told before it.
+pub fn refused(refusal: Refusal, number: usize) -> SeriesAnswer
+    ensures { λ r. ⌜ r ≡ refusedWith refusal number ⌝ }
 {
-    let told = past.told;
     SeriesAnswer {
-        outcome: SeriesOutcome::Refused(refusal, line),
-        told: told,
+        outcome: SeriesOutcome::Refused(refusal, number),
+        told: nothing_told(),
     }
 }
 
@@ -83,13 +81,10 @@ fn refused(refusal: Refusal, line: usize, past: Telling) -> SeriesAnswer
 fn room_answer(c: SceneCounts, all: Telling) -> SeriesAnswer
     ensures { λ r. ⌜ r ≡ RoomAnswer c all ⌝ }
 {
-    let told = all.told;
     if 0 < all.needed {
-        return SeriesAnswer {
-            outcome: SeriesOutcome::Refused(Refusal::NoRoom, all.needed),
-            told: told,
-        };
+        return refused(Refusal::NoRoom, all.needed);
     }
+    let told = all.told;
     SeriesAnswer {
         outcome: SeriesOutcome::Told(c),
         told: told,
@@ -123,7 +118,7 @@ pub fn tell_steps(
     while next < text.len() {
         match read_block(text, next, read + 1, positions, seams) {
             BlockAnswer::Fault(fault, faulty) => {
-                return refused(refusal_of(fault), faulty, past);
+                return refused(refusal_of(fault), faulty);
             }
             BlockAnswer::Whole(after, last) => {
                 step += 1;

@@ -1,6 +1,6 @@
 -- `put_log`: the rows of the entries that were passed are written.
-use Prim.Native.Nat.{ℕ, _+_, _-_, _*_, _≤_, _<_, min}
-use mathlib.Core.Path.{_≡_, sym, ap, _∙_}
+use Prim.Native.Nat.{ℕ, _+_, _-_, _*_, _≤_, _<_}
+use mathlib.Core.Path.{_≡_, sym, ap}
 use native.Mathlib.Omega.{arith}
 use lib.ListN.{length, take, length-map}
 use borrow.Author.Needs.{needs}
@@ -18,35 +18,37 @@ abbrev μ-loop : tie.MeasureT-loop
 μ-loop rows₀ log held k₀ rows k = held - k
 
 loop-holds : tie.Need-loop-holds Inv-loop μ-loop
-loop-holds c = (omega arith, wrote-as (sym (rows-none (c .before .before .args .t1 .hits))) (wrote-none (c .before .before .args .rows .now) 0))
+loop-holds c = (omega arith, wrote-as (sym (rows-none (c .before .args .t1 .hits))) (wrote-none (c .before .args .rows .now) 0))
 
 element-copy-out-hit : tie.Need-element-copy-out-hit Inv-loop μ-loop
-element-copy-out-hit c = omega (arith, c .before .before .entries-held .ensures, c .before .loop .inv .0)
+element-copy-out-hit c = omega (arith, c .before .before .before .pre .1, c .before .loop .inv .0)
 
 mul-put-row : tie.Need-mul-put-row Inv-loop μ-loop
-mul-put-row c = record { fits = omega (arith, c .before .before .before .before .entries-held .ensures, c .before .before .loop-test .taken) }
+mul-put-row c = record { fits = omega (arith, c .before .before .before .before .before .pre .1, c .before .before .loop-test .taken) }
 
 put-row-requires : tie.Need-put-row-requires Inv-loop μ-loop
-put-row-requires c κs = omega (arith, c .before .before .before .before .before .before .pre, c .before .before .before .before .entries-held .ensures, c .before .before .loop-test .taken, c .before .before .before .loop .inv .1 .same)
+put-row-requires c κs =
+    let pre = c .before .before .before .before .before .pre in
+    omega (arith, pre .0, pre .1, c .before .before .loop-test .taken, c .before .before .before .loop .inv .1 .same)
 
 loop-again : tie.Need-loop-again Inv-loop μ-loop
 loop-again c =
-    let start = c .before .before .before .before .before .before .before .before .before in
+    let start = c .before .before .before .before .before .before .before .before in
     let i = c .before .before .before .before .before .before .loop .inv in
     let k = c .before .before .before .before .before .before .loop .k in
     let long : length (start .args .t1 .hits) ≡ logLimit = simp length-map at (start .good .0 .1 .1 .0 .1 .0 .1) in
-    let below : k < length (start .args .t1 .hits) = omega (arith, c .before .before .before .before .before .before .before .entries-held .ensures, c .before .before .before .before .before .loop-test .taken) in
+    let below : k < length (start .args .t1 .hits) = omega (arith, start .pre .1, c .before .before .before .before .before .loop-test .taken) in
     let place : 2 * (k + 1) ≡ 2 * k + 2 = omega arith in
-    (omega arith, rw (place, c .before .before .put-row .ensures) (wrote-as (rows-next (start .args .t1 .hits) k _ below) (wrote-then (i .1) (wrote-two _ (2 * k) _ _ (omega (arith, start .pre, c .before .before .before .before .before .before .before .entries-held .ensures, c .before .before .before .before .before .loop-test .taken, i .1 .same))))))
+    (omega arith, rw (place, c .before .before .put-row .ensures) (wrote-as (rows-next (start .args .t1 .hits) k _ below) (wrote-then (i .1) (wrote-two _ (2 * k) _ _ (omega (arith, start .pre .0, start .pre .1, c .before .before .before .before .before .loop-test .taken, i .1 .same))))))
 
 same-length : tie.Need-same-length Inv-loop μ-loop
 same-length c = c .before .loop .inv .1 .same
 
 returns : tie.Need-returns Inv-loop μ-loop
 returns c =
-    let start = c .before .before .before .before in
+    let start = c .before .before .before in
     let i = c .before .loop .inv in
-    let all : c .before .loop .k ≡ min (start .args .t1 .held) logLimit = omega (arith, c .before .before .entries-held .ensures, i .0, c .loop-test .left) in
+    let all : c .before .loop .k ≡ start .args .t1 .held = omega (arith, i .0, c .loop-test .left) in
     wrote-front (wrote-as (ap (λ (n : ℕ). rowsOf (take n (start .args .t1 .hits))) all) (i .1))
 
 pub put-log-spec : {M : Type 1} → statement M
@@ -55,7 +57,6 @@ put-log-spec =
     (tie.spec
     Inv-loop
     μ-loop
-    (λ c κs. search needs)
     loop-holds
     (λ c. search needs)
     element-copy-out-hit

@@ -1,9 +1,12 @@
 -- `series_into`: refused, or told and put into the arrays.
 use borrow.Author.Needs.{needs}
 use mathlib.Core.Path.{refl}
-use Rattle.series_numbers.specs.Into.{into-refused, into-told}
+use Rattle.series_numbers.specs.Into.{told-few, into-refused, into-told}
 use Rattle.series_numbers.proofs.series_into.Statement.{statement}
 use Rattle.series_numbers.proofs.series_into.Tie as tie
+
+put-log-requires : tie.Need-put-log-requires
+put-log-requires c κs = (search needs, told-few (c .before .before .before .before .before .before .before .before .before .before .before .before .before .before .before .before .before .before .list-series .result) (c .before .before .before .before .before .before .before .before .before .before .before .before .before .before .before .before .before .before .list-series .ensures) (c .before .before .before .before .outcome2 .given .1))
 
 returns : tie.Need-returns
 returns c = into-refused (c .before .before .before .before .before .before .before .before .before .before .before .before .before .before .before .before .list-series .result) (c .before .before .before .before .before .before .before .before .before .before .before .before .before .before .before .before .list-series .ensures) (c .before .before .outcome .given .1) (c .refused .ensures)
@@ -21,7 +24,7 @@ series-into-spec =
     (λ c κs. search needs)
     (λ c. search needs)
     (λ c κs. search needs)
-    (λ c κs. search needs)
+    put-log-requires
     (λ c κs. search needs)
     (λ c. search needs)
     (λ c. search needs)

@@ -42,7 +42,7 @@ same-length c = c .before .before .before .before .before .before .read-block .k
 returns : tie.Need-returns Inv-loop μ-loop
 returns c =
     rw (c .refused .ensures)
-    (block-faulty (c .before .before .before .before .before .before .before .before .before .loop .inv .0) (c .before .before .before .before .before .before .before .before .loop-test .taken) _ (c .before .before .before .before .before .before .read-block .ensures) (c .before .refusal-of .result) _ _ (c .before .before .before .fault .given .1) (c .before .refusal-of .ensures))
+    (block-faulty (c .before .before .before .before .before .before .before .before .before .loop .inv .0) (c .before .before .before .before .before .before .before .before .loop-test .taken) _ (c .before .before .before .before .before .before .read-block .ensures) (c .before .refusal-of .result) _ (c .before .before .before .fault .given .1) (c .before .refusal-of .ensures))
 
 add-step : tie.Need-add-step Inv-loop μ-loop
 add-step c =
