@@ -1,5 +1,5 @@
 -- A box is worked out in a list of one's own, and stored where its part has the vertex; every other box is kept.
-use Prim.Native.Nat.{ℕ, _+_, _*_, _-_, _≤_, _<_}
+use Prim.Native.Nat.{ℕ, _+_, _*_, _-_, _/_, _≤_, _<_}
 use mathlib.Core.Bool.{Bool, true, false, cond, not, _||_, true≢false}
 use mathlib.Core.List.{List}
 use mathlib.Core.Logic.{⊎-elim}
@@ -7,68 +7,98 @@ use mathlib.Core.Path.{_≡_, refl, sym, ap, _∙_, subst}
 use native.Mathlib.Nat.{not-suc-le-zero}
 use native.Mathlib.Omega.{arith}
 use lib.Dec.{eqb}
-use borrow.Author.Tests.{eqb-true, eqb-false}
 use lib.IntN.{ℤ, pos}
-use lib.ListN.{length, getD}
+use lib.ListN.{length, getD, take, drop}
+use lib.Seq.{getD-take, getD-drop}
+use lib.Signed.{leZ}
 use Rattle.sequences.specs.Range.{le-or-lt}
-use Rattle.sequences.specs.Pick.{either}
-use Rattle.meaning.specs.Limits.{vertexLimit}
-use Rattle.meaning.specs.Scene.{Scene, vertexCount}
-use Rattle.meaning.specs.StoredBoxes.{Box, spanAt, boxAt, Holds, KeptBehind, boxNumbers}
+use Rattle.meaning.specs.Boxes.{Span, joint}
+use Rattle.meaning.specs.Scene.{Scene, edgeCount, triangleCount}
+use Rattle.meaning.specs.StoredBoxes.{Box, spanAt, boxAt, vertexBox, Holds, KeptBehind, boxNumbers}
 use Rattle.meaning.specs.Dragging.{edgeHas, triangleHas}
+use Rattle.seam_table.specs.Alone.{onlyPositions}
 use Rattle.seam_table.specs.Below.{or-left, or-rest}
-use Rattle.boxes.specs.Kept.{jointBox}
+use Rattle.boxes.specs.Kept.{jointBox, between}
 use Rattle.boxes.specs.Storing.{BoxStored, withSpan, withBox, box-stored, others-kept, same-box}
 use Rattle.boxes.specs.Parts.{Drawn}
 
--- a box for each vertex, and one more
+-- the box of one vertex, and the joint box so far
 abbrev pub workNumbers : ℕ
-workNumbers = 6 * (vertexLimit + 1)
+workNumbers = 12
 
--- the last of one's own boxes is the wanted one
+-- the second of one's own boxes is the wanted one
 pub record WorkedOut (b : Box) (own : List ℤ) : Type 0 where
-  pub here : boxAt own vertexLimit ≡ b
+  pub here : boxAt own 1 ≡ b
   pub same : length own ≡ workNumbers
 
 pub record Workable (s : Scene) (own boxes : List ℤ) : Type 0 where
   pub drawn : Drawn s
-  pub few : vertexCount s ≤ vertexLimit
   pub long : length own ≡ workNumbers
   pub room : boxNumbers ≤ length boxes
 
 -- ---- working one out
 
--- a vertex's box stands, whichever vertex's box is stored then
-still : {l l′ : List ℤ} (f : ℕ → Box) (a b : ℕ) → BoxStored l b (f b) l′ → boxAt l a ≡ f a → boxAt l′ a ≡ f a
-still {l} {l′} f a b stored so =
-    ⊎-elim
-    (λ e. subst (λ (n : ℕ). boxAt l′ n ≡ f n) (sym (eqb-true a b e)) (stored .here))
-    (λ e. others-kept stored a (eqb-false a b e) ∙ so)
-    (either (eqb a b))
+-- the box of a vertex, told by the positions from its own on
+module _ (p : List ℤ) (v m : ℕ) (h : 6 ≤ m) where
+  own-number : (k n : ℕ) → k < m → 6 * v + k ≡ n → getD (take m (drop (6 * v) p)) k (pos 0) ≡ getD p n (pos 0)
+  own-number k n l e = getD-take m (drop (6 * v) p) k (pos 0) l ∙ getD-drop (6 * v) p k (pos 0) ∙ ap (λ (i : ℕ). getD p i (pos 0)) e
 
-module _ (f : ℕ → Box) {a b : ℕ} {l l₁ l₂ l₃ : List ℤ} where
-  pub two-worked : length l ≡ workNumbers → BoxStored l a (f a) l₁ → BoxStored l₁ b (f b) l₂
-      → BoxStored l₂ vertexLimit (jointBox (boxAt l₂ a) (boxAt l₂ b)) l₃ → WorkedOut (jointBox (f a) (f b)) l₃
-  two-worked long first second joined =
-      let one = still f a b second (first .here) in
-      let two = second .here in
-      record { here = joined .here ∙ λ t. jointBox (one t) (two t); same = joined .same ∙ second .same ∙ first .same ∙ long }
+  first-left : vertexBox (onlyPositions (take m (drop (6 * v) p))) 0 ≡ vertexBox (onlyPositions p) v
+  first-left =
+      let x = own-number 0 (6 * v) (omega arith) (omega arith) in
+      let y = own-number 1 (6 * v + 1) (omega arith) (omega arith) in
+      let z = own-number 2 (6 * v + 2) (omega arith) (omega arith) in
+      let xe = own-number 3 (6 * v + 3) (omega arith) (omega arith) in
+      let ye = own-number 4 (6 * v + 3 + 1) (omega arith) (omega arith) in
+      let ze = own-number 5 (6 * v + 3 + 2) (omega arith) (omega arith) in
+      λ t. record { x = between (x t) (xe t); y = between (y t) (ye t); z = between (z t) (ze t) }
 
-pub three-worked : {p q : Box} {c : ℕ} {l l₁ l₂ : List ℤ} → c < vertexLimit → WorkedOut p l → BoxStored l c q l₁
-    → BoxStored l₁ vertexLimit (jointBox (boxAt l₁ vertexLimit) (boxAt l₁ c)) l₂ → WorkedOut (jointBox p q) l₂
-three-worked away so stored joined =
-    let one = others-kept stored vertexLimit (omega arith) ∙ so .here in
+  pub vertex-taken : {l l′ : List ℤ} → BoxStored l 0 (vertexBox (onlyPositions (take m (drop (6 * v) p))) 0) l′
+      → BoxStored l 0 (vertexBox (onlyPositions p) v) l′
+  vertex-taken {l} {l′} = subst (λ (b : Box). BoxStored l 0 b l′) first-left
+
+-- a box joined with itself
+chosen-alike : (b : Bool) (z : ℤ) → cond b z z ≡ z
+chosen-alike true z = refl
+chosen-alike false z = refl
+
+joint-alike : (p : Span) → joint p p ≡ p
+joint-alike p =
+    let low = chosen-alike (leZ (p .low) (p .low)) (p .low) in
+    let high = chosen-alike (leZ (p .high) (p .high)) (p .high) in
+    λ t. record { low = low t; high = high t }
+
+box-alike : (b : Box) → jointBox b b ≡ b
+box-alike b =
+    let x = joint-alike (b .x) in
+    let y = joint-alike (b .y) in
+    let z = joint-alike (b .z) in
+    λ t. record { x = x t; y = y t; z = z t }
+
+pub one-more-joined : {p q : Box} {l l₁ l₂ : List ℤ} → WorkedOut p l → BoxStored l 0 q l₁ → BoxStored l₁ 1 (jointBox (boxAt l₁ 1) (boxAt l₁ 0)) l₂
+    → WorkedOut (jointBox p q) l₂
+one-more-joined so stored joined =
+    let one = others-kept stored 1 (omega arith) ∙ so .here in
     let two = stored .here in
     record { here = joined .here ∙ λ t. jointBox (one t) (two t); same = joined .same ∙ stored .same ∙ so .same }
 
+pub two-joined : {p q : Box} {l l₁ l₂ l₃ l₄ : List ℤ} → length l ≡ workNumbers → BoxStored l 0 p l₁ → BoxStored l₁ 1 (jointBox (boxAt l₁ 0) (boxAt l₁ 0)) l₂
+    → BoxStored l₂ 0 q l₃
+    → BoxStored l₃ 1 (jointBox (boxAt l₃ 1) (boxAt l₃ 0)) l₄
+    → WorkedOut (jointBox p q) l₄
+two-joined {p} {q} {l} {l₁} long first alone stored joined =
+    let one = first .here in
+    let so : WorkedOut p _ = record { here = alone .here ∙ box-alike (boxAt l₁ 0) ∙ one; same = alone .same ∙ first .same ∙ long } in
+    one-more-joined so stored joined
+
 -- copied span by span
-module _ (own l : List ℤ) (k : ℕ) {l₁ l₂ l₃ : List ℤ} (first : l₁ ≡ withSpan l (6 * k) (spanAt own (6 * vertexLimit)))
-    (second : l₂ ≡ withSpan l₁ (6 * k + 1) (spanAt own (6 * vertexLimit + 1))) (third : l₃ ≡ withSpan l₂ (6 * k + 2) (spanAt own (6 * vertexLimit + 2))) where
-  pub box-copied : 6 * k + 5 < length l → BoxStored l k (boxAt own vertexLimit) l₃
+module _ (own l : List ℤ) (k : ℕ) {l₁ l₂ l₃ : List ℤ} (first : l₁ ≡ withSpan l (6 * k) (spanAt own 6))
+    (second : l₂ ≡ withSpan l₁ (6 * k + 1) (spanAt own 7)) (third : l₃ ≡ withSpan l₂ (6 * k + 2) (spanAt own 8)) where
+  pub box-copied : 6 * k + 5 < length l → BoxStored l k (boxAt own 1) l₃
   box-copied h =
-      let front = second ∙ λ t. withSpan (first t) (6 * k + 1) (spanAt own (6 * vertexLimit + 1)) in
-      let whole : l₃ ≡ withBox l k (boxAt own vertexLimit) = third ∙ λ t. withSpan (front t) (6 * k + 2) (spanAt own (6 * vertexLimit + 2)) in
-      subst (BoxStored l k (boxAt own vertexLimit)) (sym whole) (box-stored l k (boxAt own vertexLimit) h)
+      let front = second ∙ λ t. withSpan (first t) (6 * k + 1) (spanAt own 7) in
+      let whole : l₃ ≡ withBox l k (boxAt own 1) = third ∙ λ t. withSpan (front t) (6 * k + 2) (spanAt own 8) in
+      subst (BoxStored l k (boxAt own 1)) (sym whole) (box-stored l k (boxAt own 1) h)
 
 -- ---- stored, or left
 
@@ -119,12 +149,48 @@ pub all-missing : {l : List ℕ} {from k v : ℕ} {found : Bool} (n : ℕ) → n
 all-missing {found = found} n room inside all so e =
     record { there = omega arith; none = λ i low high. so .none (not-found found e) i low (omega arith) }
 
-pub edges-missing : (s : Scene) (v j : ℕ) → Missing (s .edges) (2 * j) 16 v → (i : ℕ) → j ≤ i → i < j + 8 → edgeHas s v i ≡ false
-edges-missing s v j so i low high = rw (so .none (2 * i + 0) (omega arith) (omega arith), so .none (2 * i + 1) (omega arith) (omega arith))
+-- from a place on, as far as r, no number is v
+pub record Passed (l : List ℕ) (from v r : ℕ) : Type 0 where
+  pub onward : from ≤ r
+  pub inside : r ≤ length l
+  pub none : (i : ℕ) → from ≤ i → i < r → eqb (getD l i 0) v ≡ false
 
-pub triangles-missing : (s : Scene) (v j : ℕ) → Missing (s .triangles) (3 * j) 24 v → (i : ℕ) → j ≤ i → i < j + 8 → triangleHas s v i ≡ false
-triangles-missing s v j so i low high =
-    rw (so .none (3 * i + 0) (omega arith) (omega arith), so .none (3 * i + 1) (omega arith) (omega arith), so .none (3 * i + 2) (omega arith) (omega arith))
+pub none-passed : (l : List ℕ) (from v : ℕ) → from ≤ length l → Passed l from v from
+none-passed l from v h = record { onward = omega arith; inside = h; none = λ i low high. absurd (omega arith) }
+
+pub passed-on : {l : List ℕ} {from v at r : ℕ} → Passed l from v at → Passed l at v r → Passed l from v r
+passed-on {l} {from} {v} {at} {r} so more =
+    record {
+      onward = omega (arith, so .onward, more .onward);
+      inside = more .inside;
+      none = λ i low high. ⊎-elim (λ le. more .none i le high) (λ lt. so .none i low lt) (le-or-lt at i);
+    }
+
+pub missing-passed : {l : List ℕ} {at n v : ℕ} → Missing l at n v → Passed l at v (at + n)
+missing-passed so = record { onward = omega arith; inside = so .there; none = so .none }
+
+-- of the parts below `count` none from j on, as far as r, has the vertex
+pub record Skipped (count : ℕ) (has : ℕ → Bool) (j r : ℕ) : Type 0 where
+  pub onward : j ≤ r
+  pub inside : r ≤ count
+  pub none : (i : ℕ) → j ≤ i → i < r → has i ≡ false
+
+pub edges-skipped : (s : Scene) (v j : ℕ) {r : ℕ} → Passed (s .edges) (2 * j) v r → Skipped (edgeCount s) (edgeHas s v) j (r / 2)
+edges-skipped s v j {r} so =
+    record {
+      onward = omega (arith, so .onward);
+      inside = omega (arith, so .inside);
+      none = λ i low high. rw (so .none (2 * i + 0) (omega arith) (omega arith), so .none (2 * i + 1) (omega arith) (omega arith));
+    }
+
+pub triangles-skipped : (s : Scene) (v j : ℕ) {r : ℕ} → Passed (s .triangles) (3 * j) v r → Skipped (triangleCount s) (triangleHas s v) j (r / 3)
+triangles-skipped s v j {r} so =
+    record {
+      onward = omega (arith, so .onward);
+      inside = omega (arith, so .inside);
+      none = λ i low high.
+          rw (so .none (3 * i + 0) (omega arith) (omega arith), so .none (3 * i + 1) (omega arith) (omega arith), so .none (3 * i + 2) (omega arith) (omega arith));
+    }
 
 -- ---- one after the other
 
@@ -186,3 +252,8 @@ mended-passed {l} {l′} {first} {n} m so none =
 
 pub mended-all : {l l′ : List ℤ} {first n m : ℕ} {has : ℕ → Bool} {want : ℕ → Box} → n ≡ m → Mended l first n has want l′ → Mended l first m has want l′
 mended-all e so = rw e at so
+
+pub mended-skipped : {l l′ : List ℤ} {first count n r : ℕ} {has : ℕ → Bool} {want : ℕ → Box} → Mended l first n has want l′ → Skipped count has n r
+    → Mended l first r has want l′
+mended-skipped {n = n} {r = r} so gone =
+    mended-all (omega (arith, gone .onward)) (mended-passed (r - n) so (λ i low high. gone .none i low (omega (arith, gone .onward))))

@@ -14,23 +14,22 @@ ghost use Rattle.seam_table.specs.Alone.{onlyPositions, onlyEdges, onlyTriangle
 ghost use Rattle.boxes.specs.Kept.{jointBox};
 ghost use Rattle.boxes.specs.Storing.{BoxStored, withSpan};
 ghost use Rattle.boxes.specs.Parts.{Drawn};
-ghost use Rattle.mending.specs.Mending.{workNumbers, Missing, WorkedOut, Workable, Mended};
+ghost use Rattle.mending.specs.Mending.{workNumbers, Missing, Passed, Skipped, WorkedOut, Workable, Mended};
 use boxes::kept::store_joint_box;
 use boxes::kept::store_vertex;
-use meaning::VERTEX_LIMIT;
 use scene_parts::edge_count;
 use scene_parts::triangle_count;
 use scene_parts::vertex_count;
 use scene_parts::written::corner;
 use scene_parts::written::edge_end;
 
-// How many parts are passed at once where none of them has the vertex, told by all their numbers in a row.
-const PASSED: usize = 8;
+// So many numbers are passed at once where none of them is the vertex.
+const PASSED: usize = 16;
 
-// Room to work a box out: one for each vertex, and one more.
-const WORK_NUMBERS: usize = 6 * (VERTEX_LIMIT + 1);
+// Room to work a box out: the box of one vertex, and the joint box so far.
+const WORK_NUMBERS: usize = 12;
 
-// Whether so many numbers from a place on are there and none of them is v. A wrong no would cost time alone: then parts are asked one by one.
+// Whether so many numbers from a place on are there and none of them is v. A wrong no would cost time alone: then parts are asked that need not be.
 fn missing(list: &[u16], from: usize, numbers: usize, v: usize) -> bool
     requires { ⌜ (from ≤ length (now list)) × (v < vertexLimit) ⌝ }
     ensures { λ r. ⌜ (r ≡ true → Missing (now (list .entry)) from numbers v) ⌝ }
@@ -46,6 +45,42 @@ fn missing(list: &[u16], from: usize, numbers: usize, v: usize) -> bool
         k += 1;
     }
     !found
+}
+
+// As far as v is missing from a place on, told by so many numbers at once.
+fn passed(list: &[u16], from: usize, numbers: usize, v: usize) -> usize
+    requires { ⌜ (from ≤ length (now list)) × (v < vertexLimit) × (0 < numbers) ⌝ }
+    ensures { λ r. ⌜ Passed (now (list .entry)) from v r ⌝ }
+{
+    let mut at = from;
+    while missing(list, at, numbers, v) {
+        at += numbers;
+    }
+    at
+}
+
+// The same to the very place: many numbers at once, and from there on one by one. Which parts have a number among those passed is not asked.
+fn next_place(list: &[u16], from: usize, v: usize) -> usize
+    requires { ⌜ (from ≤ length (now list)) × (v < vertexLimit) ⌝ }
+    ensures { λ r. ⌜ Passed (now (list .entry)) from v r ⌝ }
+{
+    let near = passed(list, from, PASSED, v);
+    passed(list, near, 1, v)
+}
+
+// The first edge, from j on, and the first triangle that may have the vertex.
+fn next_edge(edges: &[u16], j: usize, v: usize) -> usize
+    requires { ⌜ (j ≤ edgeCount (onlyEdges (now edges))) × (v < vertexLimit) ⌝ }
+    ensures { λ r. ⌜ Skipped (edgeCount (onlyEdges (now (edges .entry)))) (edgeHas (onlyEdges (now (edges .entry))) v) j r ⌝ }
+{
+    next_place(edges, 2 * j, v) / 2
+}
+
+fn next_triangle(triangles: &[u16], j: usize, v: usize) -> usize
+    requires { ⌜ (j ≤ triangleCount (onlyTriangles (now triangles))) × (v < vertexLimit) ⌝ }
+    ensures { λ r. ⌜ Skipped (triangleCount (onlyTriangles (now (triangles .entry)))) (triangleHas (onlyTriangles (now (triangles .entry))) v) j r ⌝ }
+{
+    next_place(triangles, 3 * j, v) / 3
 }
 
 fn edge_has(edges: &[u16], v: usize, j: usize) -> bool
@@ -75,35 +110,43 @@ fn copy_span(own: &[i32], from: usize, boxes: &mut [i32], to: usize)
     boxes[to + 3] = own[from + 3];
 }
 
-// The last of one's own boxes, stored under a number.
+// The second of one's own boxes, stored under a number.
 fn copy_box(own: &[i32], boxes: &mut [i32], to: usize)
     requires { ⌜ (length (now own) ≡ workNumbers) × (6 * to + 5 < length (now boxes)) ⌝ }
-    ensures { λ _. ⌜ BoxStored (now (boxes .entry)) to (boxAt (now (own .entry)) vertexLimit) (now (boxes .exit)) ⌝ }
+    ensures { λ _. ⌜ BoxStored (now (boxes .entry)) to (boxAt (now (own .entry)) 1) (now (boxes .exit)) ⌝ }
 {
-    let from = 6 * VERTEX_LIMIT;
     let at = 6 * to;
-    copy_span(own, from, boxes, at);
-    copy_span(own, from + 1, boxes, at + 1);
-    copy_span(own, from + 2, boxes, at + 2);
+    copy_span(own, 6, boxes, at);
+    copy_span(own, 7, boxes, at + 1);
+    copy_span(own, 8, boxes, at + 2);
 }
 
-// The joint box of two vertices, and of three, worked out as the last of one's own.
+// The box of vertex v, as the first of one's own.
+fn take_vertex(positions: &[i32], v: usize, own: &mut [i32])
+    requires { ⌜ (v < vertexCount (onlyPositions (now positions))) × (length (now own) ≡ workNumbers) ⌝ }
+    ensures { λ _. ⌜ BoxStored (now (own .entry)) 0 (vertexBox (onlyPositions (now (positions .entry))) v) (now (own .exit)) ⌝ }
+{
+    store_vertex(&positions[6 * v..], 0, own);
+}
+
+// The joint box of two vertices, and of three, worked out as the second of one's own.
 fn work_two(positions: &[i32], a: usize, b: usize, own: &mut [i32])
-    requires { ⌜ (a < vertexCount (onlyPositions (now positions))) × (b < vertexCount (onlyPositions (now positions))) × (vertexCount (onlyPositions (now positions)) ≤ vertexLimit) × (length (now own) ≡ workNumbers) ⌝ }
+    requires { ⌜ (a < vertexCount (onlyPositions (now positions))) × (b < vertexCount (onlyPositions (now positions))) × (length (now own) ≡ workNumbers) ⌝ }
     ensures { λ _. ⌜ WorkedOut (jointBox (vertexBox (onlyPositions (now (positions .entry))) a) (vertexBox (onlyPositions (now (positions .entry))) b)) (now (own .exit)) ⌝ }
 {
-    store_vertex(positions, a, own);
-    store_vertex(positions, b, own);
-    store_joint_box(own, a, b, VERTEX_LIMIT);
+    take_vertex(positions, a, own);
+    store_joint_box(own, 0, 0, 1);
+    take_vertex(positions, b, own);
+    store_joint_box(own, 1, 0, 1);
 }
 
 fn work_three(positions: &[i32], a: usize, b: usize, c: usize, own: &mut [i32])
-    requires { ⌜ (a < vertexCount (onlyPositions (now positions))) × (b < vertexCount (onlyPositions (now positions))) × (c < vertexCount (onlyPositions (now positions))) × (vertexCount (onlyPositions (now positions)) ≤ vertexLimit) × (length (now own) ≡ workNumbers) ⌝ }
+    requires { ⌜ (a < vertexCount (onlyPositions (now positions))) × (b < vertexCount (onlyPositions (now positions))) × (c < vertexCount (onlyPositions (now positions))) × (length (now own) ≡ workNumbers) ⌝ }
     ensures { λ _. ⌜ WorkedOut (jointBox (jointBox (vertexBox (onlyPositions (now (positions .entry))) a) (vertexBox (onlyPositions (now (positions .entry))) b)) (vertexBox (onlyPositions (now (positions .entry))) c)) (now (own .exit)) ⌝ }
 {
     work_two(positions, a, b, own);
-    store_vertex(positions, c, own);
-    store_joint_box(own, VERTEX_LIMIT, c, VERTEX_LIMIT);
+    take_vertex(positions, c, own);
+    store_joint_box(own, 1, 0, 1);
 }
 
 // The box of edge j, if it has the vertex.
@@ -162,14 +205,10 @@ fn mend_edges(
     ensures { λ _. ⌜ Mended (now (boxes .entry)) (vertexCount (unsewnAtEntry positions edges triangles)) (edgeCount (unsewnAtEntry positions edges triangles)) (edgeHas (unsewnAtEntry positions edges triangles) v) (edgeBox (unsewnAtEntry positions edges triangles)) (now (boxes .exit)) × (length (now (own .exit)) ≡ workNumbers) ⌝ }
 {
     let count = edge_count(edges);
-    let mut j = 0;
+    let mut j = next_edge(edges, 0, v);
     while j < count {
-        if missing(edges, 2 * j, 2 * PASSED, v) {
-            j += PASSED;
-        } else {
-            mend_edge(positions, edges, triangles, v, j, own, boxes);
-            j += 1;
-        }
+        mend_edge(positions, edges, triangles, v, j, own, boxes);
+        j = next_edge(edges, j + 1, v);
     }
 }
 
@@ -185,14 +224,10 @@ fn mend_triangles(
     ensures { λ _. ⌜ Mended (now (boxes .entry)) (vertexCount (unsewnAtEntry positions edges triangles) + edgeCount (unsewnAtEntry positions edges triangles)) (triangleCount (unsewnAtEntry positions edges triangles)) (triangleHas (unsewnAtEntry positions edges triangles) v) (triangleBox (unsewnAtEntry positions edges triangles)) (now (boxes .exit)) ⌝ }
 {
     let count = triangle_count(triangles);
-    let mut j = 0;
+    let mut j = next_triangle(triangles, 0, v);
     while j < count {
-        if missing(triangles, 3 * j, 3 * PASSED, v) {
-            j += PASSED;
-        } else {
-            mend_triangle(positions, edges, triangles, v, j, own, boxes);
-            j += 1;
-        }
+        mend_triangle(positions, edges, triangles, v, j, own, boxes);
+        j = next_triangle(triangles, j + 1, v);
     }
 }
 

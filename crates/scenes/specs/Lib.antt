@@ -5,3 +5,4 @@ pub mod Accepting
 pub mod Facts
 pub mod Checking
 pub mod AsWritten
+pub mod InRows

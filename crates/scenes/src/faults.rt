@@ -1,6 +1,6 @@
 // What the refusals 1, 2, 3 and 4 ask of the whole scene; 15 is decided as the table of seams is made.
 
-ghost use Prim.Native.Nat.{_<_};
+ghost use Prim.Native.Nat.{_+_, _-_, _≤_, _<_};
 ghost use mathlib.Core.List.{[]};
 ghost use mathlib.Core.Path.{_≡_};
 ghost use lib.Dec.{leb};
@@ -9,6 +9,7 @@ ghost use lib.ListN.{length, getD};
 ghost use Rattle.meaning.specs.Scene.{sceneAtEntry, edgeCount, triangleCount, someBelow, wrongShape, outside, outOfRange, unknownIn, unknownVertex, twiceInEdge, twiceInTriangle, repeatedVertex};
 ghost use Rattle.seam_table.specs.Alone.{onlyPositions, onlyEdges, onlyTriangles, edgesSewn, trianglesSewn, tabled};
 ghost use Rattle.scenes.specs.AsWritten.{writtenTwiceInEdge, writtenTwiceInTriangle};
+ghost use Rattle.scenes.specs.InRows.{rowNumbers, writtenAgain};
 use meaning::COORDINATE_LIMIT;
 use meaning::EDGE_LIMIT;
 use meaning::SEAM_LIMIT;
@@ -19,6 +20,11 @@ use scene_parts::end_counts_as;
 use scene_parts::written::corner;
 use scene_parts::written::edge_end;
 use seam_table::wide;
+
+// So many triangles make a row, and so many numbers.
+const ROW_TRIANGLES: usize = 16;
+
+const ROW_NUMBERS: usize = 3 * ROW_TRIANGLES;
 
 // 1: a length that is no multiple, or a count over its size.
 pub fn wrong_shape(positions: &[i32], edges: &[u16], triangles: &[u16], seams: &[u16]) -> bool
@@ -159,17 +165,56 @@ fn written_in_edges(edges: &[u16]) -> bool
     found
 }
 
+// Whether number k of a row of triangles is written again in its triangle, at the next place or at the one after. Asked of one number after the
+// other, which the compiler takes eight at a time; to gather the first, the second and the third corners of eight triangles costs it more.
+fn written_again(triangles: &[u16], from: usize, k: usize) -> bool
+    requires { ⌜ (from + k + 2 < length (now triangles)) × (k < rowNumbers) ⌝ }
+    ensures { λ r. ⌜ r ≡ writtenAgain (now (triangles .entry)) from k ⌝ }
+{
+    let place = (k as u16) % 3;
+    let next = (triangles[from + k] == triangles[from + k + 1]) & (place != 2);
+    let after = (triangles[from + k] == triangles[from + k + 2]) & (place == 0);
+    next | after
+}
+
+fn written_in_row(triangles: &[u16], from: usize) -> bool
+    requires { ⌜ from + rowNumbers + 2 ≤ length (now triangles) ⌝ }
+    ensures { λ r. ⌜ r ≡ someBelow rowNumbers (writtenAgain (now (triangles .entry)) from) ⌝ }
+{
+    let mut found = false;
+    let mut k = 0;
+    while k < ROW_NUMBERS {
+        found = found | written_again(triangles, from, k);
+        k += 1;
+    }
+    found
+}
+
+fn written_behind(triangles: &[u16], first: usize) -> bool
+    requires { ⌜ first ≤ triangleCount (onlyTriangles (now triangles)) ⌝ }
+    ensures { λ r. ⌜ r ≡ someBelow (triangleCount (onlyTriangles (now (triangles .entry))) - first) (λ i. writtenTwiceInTriangle (now (triangles .entry)) (first + i)) ⌝ }
+{
+    let count = triangles.len() / 3 - first;
+    let mut found = false;
+    let mut i = 0;
+    while i < count {
+        found = found | written_twice_in_triangle(triangles, first + i);
+        i += 1;
+    }
+    found
+}
+
+// Row by row as long as two more numbers follow, and the rest triangle by triangle.
 fn written_in_triangles(triangles: &[u16]) -> bool
     ensures { λ r. ⌜ r ≡ someBelow (triangleCount (onlyTriangles (now (triangles .entry)))) (writtenTwiceInTriangle (now (triangles .entry))) ⌝ }
 {
-    let count = triangles.len() / 3;
     let mut found = false;
     let mut j = 0;
-    while j < count {
-        found = found | written_twice_in_triangle(triangles, j);
-        j += 1;
+    while ROW_NUMBERS + 2 <= triangles.len() - 3 * j {
+        found = found | written_in_row(triangles, 3 * j);
+        j += ROW_TRIANGLES;
     }
-    found
+    found | written_behind(triangles, j)
 }
 
 pub fn repeated_vertex(edges: &[u16], triangles: &[u16], stands: &[u16]) -> bool

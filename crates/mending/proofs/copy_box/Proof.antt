@@ -1,6 +1,5 @@
 -- `copy_box`: span by span.
 use borrow.Author.Needs.{needs}
-use native.Mathlib.Omega.{arith}
 use Rattle.mending.specs.Mending.{box-copied}
 use Rattle.mending.proofs.copy_box.Statement.{statement}
 use Rattle.mending.proofs.copy_box.Tie as tie
@@ -15,12 +14,9 @@ copy-box-spec =
     tie.close
     (tie.spec
     (λ c. search needs)
-    (λ c. search needs)
     (λ c κs. search needs)
     (λ c. search needs)
-    (λ c. search needs)
     (λ c κs. search needs)
-    (λ c. search needs)
     (λ c. search needs)
     (λ c κs. search needs)
     (λ c. search needs)

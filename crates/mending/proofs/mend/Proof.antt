@@ -9,13 +9,13 @@ use Rattle.mending.proofs.mend.Tie as tie
 mend-edges-requires : tie.Need-mend-edges-requires
 mend-edges-requires c κs =
     let start = c .before .before .before .before .before .before .before in
-    (record { drawn = start .pre .0; few = start .pre .1; long = search needs; room = omega (arith, start .pre .3, c .before .before .before .store-vertex .ensures .same) }, omega (arith, start .pre .1, start .pre .2))
+    (record { drawn = start .pre .0; long = search needs; room = omega (arith, start .pre .3, c .before .before .before .store-vertex .ensures .same) }, omega (arith, start .pre .1, start .pre .2))
 
 mend-triangles-requires : tie.Need-mend-triangles-requires
 mend-triangles-requires c κs =
     let start = c .before .before .before .before .before .before .before .before .before .before .before .before in
     let done = c .before .before .before .before .mend-edges .ensures in
-    (record { drawn = start .pre .0; few = start .pre .1; long = done .1; room = omega (arith, start .pre .3, c .before .before .before .before .before .before .before .before .store-vertex .ensures .same, done .0 .behind .same) }, omega (arith, start .pre .1, start .pre .2))
+    (record { drawn = start .pre .0; long = done .1; room = omega (arith, start .pre .3, c .before .before .before .before .before .before .before .before .store-vertex .ensures .same, done .0 .behind .same) }, omega (arith, start .pre .1, start .pre .2))
 
 returns : tie.Need-returns
 returns c =

@@ -19,7 +19,7 @@ work-two-requires c κs =
     let j = start .args .j in
     let one = known-inside (vertexCount s) (s .edges) (start .pre .0 .drawn .0) (2 * j + 0) (edge-inside s j 0 (start .pre .1) (omega arith)) in
     let two = known-inside (vertexCount s) (s .edges) (start .pre .0 .drawn .0) (2 * j + 1) (edge-inside s j 1 (start .pre .1) (omega arith)) in
-    (rw (c .before .before .edge-end .ensures) one, rw (c .before .edge-end2 .ensures) two, start .pre .0 .few, start .pre .0 .long)
+    (rw (c .before .before .edge-end .ensures) one, rw (c .before .edge-end2 .ensures) two, start .pre .0 .long)
 
 copy-box-requires : tie.Need-copy-box-requires
 copy-box-requires c κs =

@@ -21,7 +21,7 @@ work-three-requires c κs =
     let one = known (3 * j + 0) (triangle-inside s j 0 (start .pre .1) (omega arith)) in
     let two = known (3 * j + 1) (triangle-inside s j 1 (start .pre .1) (omega arith)) in
     let three = known (3 * j + 2) (triangle-inside s j 2 (start .pre .1) (omega arith)) in
-    (rw (c .before .before .before .corner .ensures) one, rw (c .before .before .corner2 .ensures) two, rw (c .before .corner3 .ensures) three, start .pre .0 .few, start .pre .0 .long)
+    (rw (c .before .before .before .corner .ensures) one, rw (c .before .before .corner2 .ensures) two, rw (c .before .corner3 .ensures) three, start .pre .0 .long)
 
 copy-box-requires : tie.Need-copy-box-requires
 copy-box-requires c κs =

@@ -8,7 +8,7 @@ use lib.ListN.{length}
 use Rattle.meaning.specs.Scene.{sceneOf, vertexCount, edgeCount, triangleCount}
 use Rattle.meaning.specs.StoredBoxes.{edgeBox, triangleBox}
 use Rattle.meaning.specs.Dragging.{edgeHas, triangleHas}
-use Rattle.mending.specs.Mending.{workNumbers, Mended, mended-none, mended-more, mended-passed, mended-all, triangles-missing}
+use Rattle.mending.specs.Mending.{workNumbers, Mended, mended-none, mended-more, mended-skipped, mended-all}
 use Rattle.mending.proofs.mend_triangles.Statement.{statement}
 use Rattle.mending.proofs.mend_triangles.Tie as tie
 
@@ -21,34 +21,28 @@ abbrev μ-loop : tie.MeasureT-loop
 μ-loop positions edges triangles v own₀ boxes₀ count j₀ own boxes j = count - j
 
 loop-holds : tie.Need-loop-holds Inv-loop μ-loop
-loop-holds c = (omega arith, c .before .before .before .pre .0 .long, mended-none _ _ _ _)
-
-missing-requires : tie.Need-missing-requires Inv-loop μ-loop
-missing-requires c κs = (omega arith, c .before .before .before .before .before .pre .1)
-
-loop-again : tie.Need-loop-again Inv-loop μ-loop
-loop-again c =
-    let a = c .before .before .before .before .before .before .before .args in
-    let at = c .before .before .before .loop in
-    let gone = c .before .missing .ensures (c .if1 .taken) in
-    (omega (arith, gone .there), at .inv .1, mended-passed 8 (at .inv .2) (triangles-missing (sceneOf (a .positions .now) (a .edges .now) (a .triangles .now) []) (a .v) (at .j) gone))
+loop-holds c =
+    let gone = c .next-triangle .ensures in
+    (omega (arith, gone .inside, c .before .triangle-count .ensures), c .before .before .before .before .pre .0 .long, mended-skipped (mended-none _ _ _ _) gone)
 
 mend-triangle-requires : tie.Need-mend-triangle-requires Inv-loop μ-loop
 mend-triangle-requires c κs =
-    let start = c .before .before .before .before .before .before .before .before .before in
-    let inv = c .before .before .before .before .before .loop .inv in
-    (record { drawn = start .pre .0 .drawn; few = start .pre .0 .few; long = inv .1; room = omega (arith, start .pre .0 .room, inv .2 .behind .same) }, omega arith)
+    let start = c .before .before .before .before .before .before .before .before in
+    let inv = c .before .before .before .loop .inv in
+    (record { drawn = start .pre .0 .drawn; long = inv .1; room = omega (arith, start .pre .0 .room, inv .2 .behind .same) }, omega (arith, c .before .before .before .before .before .triangle-count .ensures, c .before .before .loop-test .taken))
 
-loop-again-2 : tie.Need-loop-again-2 Inv-loop μ-loop
-loop-again-2 c =
-    let inv = c .before .before .before .before .before .before .before .before .loop .inv in
-    let done = c .before .before .mend-triangle .ensures in
-    (omega arith, done .1, mended-more (inv .2) (done .0))
+loop-less : tie.Need-loop-less Inv-loop μ-loop
+loop-less c = omega (arith, c .next-triangle2 .ensures .onward, c .before .before .before .before .before .before .loop-test .taken)
+
+loop-again : tie.Need-loop-again Inv-loop μ-loop
+loop-again c =
+    let gone = c .next-triangle2 .ensures in
+    let inv = c .before .before .before .before .before .before .before .loop .inv in
+    let done = c .before .before .before .mend-triangle .ensures in
+    (omega (arith, gone .inside, c .before .before .before .before .before .before .before .before .before .triangle-count .ensures), done .1, mended-skipped (mended-more (inv .2) (done .0)) gone)
 
 same-length : tie.Need-same-length Inv-loop μ-loop
-same-length c =
-    let inv = c .before .loop .inv in
-    omega (arith, inv .1, c .before .before .before .before .before .pre .0 .long)
+same-length c = omega (arith, c .before .loop .inv .1, c .before .before .before .before .before .before .pre .0 .long)
 
 same-length-2 : tie.Need-same-length-2 Inv-loop μ-loop
 same-length-2 c = c .before .loop .inv .2 .behind .same
@@ -63,17 +57,13 @@ mend-triangles-spec =
     Inv-loop
     μ-loop
     (λ c κs. search needs)
+    (λ c κs. (omega arith, c .before .before .before .pre .1))
     loop-holds
-    (λ c. omega arith)
-    (λ c. omega arith)
-    missing-requires
-    (λ c. omega arith)
-    (λ c. omega arith)
-    loop-again
     mend-triangle-requires
     (λ c. omega arith)
-    (λ c. omega arith)
-    loop-again-2
+    (λ c κs. (omega (arith, c .before .before .before .before .before .before .before .before .triangle-count .ensures, c .before .before .before .before .before .loop-test .taken), c .before .before .before .before .before .before .before .before .before .before .before .pre .1))
+    loop-less
+    loop-again
     same-length
     same-length-2
     returns)

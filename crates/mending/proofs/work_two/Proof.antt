@@ -1,21 +1,19 @@
--- `work_two`: the boxes of two vertices, then their joint box.
+-- `work_two`: the first by itself, and the second joined.
 use borrow.Author.Needs.{needs}
 use native.Mathlib.Omega.{arith}
-use Rattle.meaning.specs.StoredBoxes.{vertexBox}
-use Rattle.seam_table.specs.Alone.{onlyPositions}
-use Rattle.mending.specs.Mending.{two-worked}
+use Rattle.mending.specs.Mending.{two-joined}
 use Rattle.mending.proofs.work_two.Statement.{statement}
 use Rattle.mending.proofs.work_two.Tie as tie
 
 returns : tie.Need-returns
 returns c =
-    let start = c .before .before .before .before .before .before .before .before .before in
-    two-worked (vertexBox (onlyPositions (start .args .positions .now))) (start .pre .3) (c .before .before .before .before .before .before .before .store-vertex .ensures) (c .before .before .before .before .store-vertex2 .ensures) (c .before .store-joint-box .ensures)
+    two-joined (c .before .before .before .before .before .before .before .before .before .before .before .before .pre .2) (c .before .before .before .before .before .before .before .before .before .before .take-vertex .ensures) (c .before .before .before .before .before .before .before .store-joint-box .ensures) (c .before .before .before .before .take-vertex2 .ensures) (c .before .store-joint-box2 .ensures)
 
 pub work-two-spec : {M : Type 1} → statement M
 work-two-spec =
     tie.close
     (tie.spec
+    (λ c κs. search needs)
     (λ c κs. search needs)
     (λ c κs. search needs)
     (λ c κs. search needs)
