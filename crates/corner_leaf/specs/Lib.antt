@@ -2,6 +2,7 @@
 pub mod Points
 pub mod First
 pub mod Answer
+pub mod Seen
 pub mod Base
 pub mod Tests
 pub mod Right

@@ -42,7 +42,7 @@ fn skip(i: usize, k: usize) -> usize
 }
 
 // The k-th of the places other than s and e.
-fn other(s: usize, e: usize, k: usize) -> usize
+pub fn other(s: usize, e: usize, k: usize) -> usize
     requires { ⌜ k < 4 ⌝ }
     ensures { λ r. ⌜ (r ≡ skip (max s e) (skip (min s e) k)) × (r < 6) ⌝ }
 {
@@ -83,7 +83,7 @@ fn base(ends: &[bool; 6], left: &[bool; 6], end: bool) -> usize
 }
 
 // The base of a corner's time.
-fn base_of(end: bool, s: usize, e: usize) -> usize
+pub fn base_of(end: bool, s: usize, e: usize) -> usize
     requires { ⌜ (s < 6) × (e < 6) ⌝ }
     ensures { λ r. ⌜ (r ≡ cond end e s) × (r < 6) ⌝ }
 {
@@ -205,7 +205,7 @@ fn level(positions: &[i32], at: &[usize; 6], axis: usize) -> bool
 }
 
 // The turn to begin with. Cloth that lies flat across an axis has a volume only with that axis, so the turn that puts it into a slot decides.
-fn across(positions: &[i32], at: &[usize; 6]) -> usize
+pub fn across(positions: &[i32], at: &[usize; 6]) -> usize
     requires { ⌜ Placed (now positions) (now at) ⌝ }
     ensures { λ r. ⌜ (r ≡ acrossOf (now (positions .entry)) (now (at .entry))) × (r < 3) ⌝ }
 {
