@@ -7,3 +7,4 @@ pub mod Base
 pub mod Tests
 pub mod Right
 pub mod Slotted
+pub mod InPlane

@@ -256,7 +256,7 @@ module _ (ps : List ℤ) {six : SixPoints} (h : Timed six) (left : List Bool) wh
       ∙ ap (λ z. otherwise z c) (swapped f g (turn f) (turn g) (turn-is f) (turn-is g))
       ∙ joined (turn g) (turn f) c
 
-  pub from-any-turn : (f : ℕ) → f < 3 → otherwise (turn f) (otherwise (turn (f + 1)) (turn (f + 2))) ≡ leafOf ps six left
+  from-any-turn : (f : ℕ) → f < 4 → otherwise (turn f) (otherwise (turn (f + 1)) (turn (f + 2))) ≡ leafOf ps six left
   unfolding leafOf
   from-any-turn zero h = refl
   from-any-turn (suc zero) h =
@@ -267,7 +267,13 @@ module _ (ps : List ℤ) {six : SixPoints} (h : Timed six) (left : List Bool) wh
       (λ i. otherwise (turn 2) (otherwise (turn-round 0 i) (turn-round 1 i)))
       ∙ brought 2 0 (turn 1)
       ∙ ap (otherwise (turn 0)) (swapped 2 1 (turn 2) (turn 1) (turn-is 2) (turn-is 1))
-  from-any-turn (suc (suc (suc f))) h = absurd (omega arith)
+  from-any-turn (suc (suc (suc zero))) h = λ i. otherwise (turn-round 0 i) (otherwise (turn-round 1 i) (turn-round 2 i))
+  from-any-turn (suc (suc (suc (suc f)))) h = absurd (omega arith)
+
+  -- and the second of them last
+  pub in-any-order : (f : ℕ) → f < 4 → otherwise (turn f) (otherwise (turn (f + 2)) (turn (f + 1))) ≡ leafOf ps six left
+  in-any-order f h =
+      ap (otherwise (turn f)) (swapped (f + 2) (f + 1) (turn (f + 2)) (turn (f + 1)) (turn-is (f + 2)) (turn-is (f + 1))) ∙ from-any-turn f h
 
   -- ---- it decides exactly where the corners left allow at most one solution
 

@@ -35,12 +35,12 @@ pub fn piece_touches(positions: &[i32], six: SixPoints) -> bool
     let at = six.at;
     let ends = six.ends;
     let split = six.first;
-    let axis = across(positions, &at);
-    if parted(positions, &at, &ends, split, axis) {
+    let plane = across(positions, &at);
+    if parted(positions, &at, &ends, split, plane) {
         return false;
     }
     let every = [true; 6];
-    first(positions, &at, &ends, split, &every, false)
+    first(positions, &at, &ends, split, &every, false, plane)
 }
 
 // The word of a piece, from its verdict: only a degenerate one goes on, to touch if weights exist, else to apart.
@@ -74,5 +74,6 @@ pub fn starts_touch(positions: &[i32], six: SixPoints) -> bool
     let ends = six.ends;
     let split = six.first;
     let left = starts(&ends);
-    first(positions, &at, &ends, split, &left, false)
+    let plane = across(positions, &at);
+    first(positions, &at, &ends, split, &left, false, plane)
 }

@@ -13,5 +13,5 @@ piece-touches-spec =
     (λ c κs. placed (c .before .before .before .pre))
     (λ c κs. c .before .before .before .before .before .before .pre)
     (λ c. let b = c .before .before .before .before .before .before .before .before in none-tells _ (b .args .six) (c .before .parted .ensures (c .if1 .taken)))
-    (λ c κs. c .before .before .before .before .before .before .before .before .before .before .before .pre)
+    (λ c κs. (c .before .before .before .before .before .before .before .before .before .before .before .pre, c .before .before .before .before .before .before .before .across .ensures))
     (λ c. says-tells _ (c .first .ensures)))
