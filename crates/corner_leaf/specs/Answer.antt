@@ -1,8 +1,8 @@
 -- What the corners left say by themselves, computed: a base at the start and one at the end, the four volumes in up to three turns of the axes,
 -- and the signs of the first that are not all 0.
-use Prim.Native.Nat.{ℕ, _+_}
+use Prim.Native.Nat.{ℕ, _+_, _<_}
 use mathlib.Core.Path.{_≡_, sym, _∙_, ap}
-use mathlib.Core.Bool.{Bool, true, false, not, cond, _&&_}
+use mathlib.Core.Bool.{Bool, true, false, not, cond, _&&_, _||_}
 use mathlib.Core.List.{List}
 use lib.Dec.{ltb}
 use lib.IntN.{ℤ, pos}
@@ -91,12 +91,7 @@ module _ (ends : List Bool) (first : ℕ) (left : List Bool) (s e : ℕ) (q : Fo
   pub judged-no : zeroBut none n ≡ false → fittingIn ends first left s e q n ≡ false → No ≡ judgedIn ends first left s e q n
   judged-no = judged false false
 
--- ---- with no corner left out one turn is as good as another
-
-abbrev pub allLeft : List Bool → Bool
-allLeft left = isLeft left 0 && isLeft left 1 && isLeft left 2 && isLeft left 3 && isLeft left 4 && isLeft left 5
-
--- ---- the axis that all six points lie across: where one turn is to begin, since in such a plane only that axis leaves a volume
+-- ---- the axis that all six points lie across: where one turn is to begin, since in such a plane only that axis leaves a volume; and where it is all three
 
 abbrev pub alikeAt : List ℤ → ℕ → ℕ → Bool
 alikeAt ps i j = leZ (getD ps i (pos 0)) (getD ps j (pos 0)) && leZ (getD ps j (pos 0)) (getD ps i (pos 0))
@@ -107,5 +102,13 @@ levelAlong ps at axis = alike 1 && alike 2 && alike 3 && alike 4 && alike 5
     alike : ℕ → Bool
     alike i = alikeAt ps (getD at 0 0 + axis) (getD at i 0 + axis)
 
-abbrev pub acrossOf : List ℤ → List ℕ → ℕ
-acrossOf ps at = cond (levelAlong ps at 2) 2 (cond (levelAlong ps at 1) 1 0)
+-- all six lie across the axis 0, 1 or 2; 3 stands for none, of which nothing is said
+pub record Across (ps : List ℤ) (at : List ℕ) (plane : ℕ) : Type 0 where
+  pub few : plane < 4
+  pub level : plane < 3 → levelAlong ps at plane ≡ true
+
+-- none of the four others is left out; or one is, and the six lie across an axis
+abbrev pub oneTurn : Four Bool → ℕ → Bool
+oneTurn l plane =
+    (l .v0 && l .v1 && l .v2 && l .v3)
+    || (((l .v0 && l .v1 && (l .v2 || l .v3)) || ((l .v0 || l .v1) && l .v2 && l .v3)) && ltb plane 3)

@@ -43,6 +43,22 @@ pub record BaseIs (six : SixPoints) (left : List Bool) (end : Bool) (r : ℕ) : 
   pub time : atEnd six r ≡ end
   pub preferred : isLeft left r ≡ false → (i : ℕ) → i < 6 → atEnd six i ≡ end → isLeft left i ≡ false
 
+-- ---- any corner at the start and any at the end will do
+
+module _ (ps : List ℤ) (six : SixPoints) where
+  time-at : {c : Bool} (i : ℕ) → i < 6 → atEnd six i ≡ c → eventIn (pieceAt ps six .first ++ pieceAt ps six .second) i .time ≡ clock c
+  time-at i k e = ap (λ (v : Event). v .time) (six-at ps six i k) ∙ ap clock e
+
+  pub based-at : (s e : ℕ) → s < 6 → e < 6 → atEnd six s ≡ false → atEnd six e ≡ true → Based (pieceAt ps six .first ++ pieceAt ps six .second) s e (othersOf s e)
+  based-at s e h k p q = record {
+    six = six-long ps six;
+    order = order-of s e h k (λ r. never (sym q ∙ ap (atEnd six) (sym r) ∙ p));
+    starts = time-at s h p;
+    ends = time-at e k q;
+  }
+
+-- ---- the ones that are taken
+
 module _ (ps : List ℤ) {six : SixPoints} (h : Timed six) (left : List Bool) where
   pub base-is : (end : Bool) → BaseIs six left end (baseOf six left end)
   unfolding baseIn
@@ -77,19 +93,8 @@ module _ (ps : List ℤ) {six : SixPoints} (h : Timed six) (left : List Bool) wh
   abbrev pub endBase : ℕ
   endBase = baseOf six left true
 
-  apart : startBase ≢ endBase
-  apart e = never (sym (base-is true .time) ∙ ap (atEnd six) (sym e) ∙ base-is false .time)
-
-  time-at : {c : Bool} (i : ℕ) → i < 6 → atEnd six i ≡ c → eventIn (pieceAt ps six .first ++ pieceAt ps six .second) i .time ≡ clock c
-  time-at i k e = ap (λ (v : Event). v .time) (six-at ps six i k) ∙ ap clock e
-
   pub based : Based (pieceAt ps six .first ++ pieceAt ps six .second) startBase endBase (othersOf startBase endBase)
-  based = record {
-    six = six-long ps six;
-    order = order-of startBase endBase (base-is false .there) (base-is true .there) apart;
-    starts = time-at startBase (base-is false .there) (base-is false .time);
-    ends = time-at endBase (base-is true .there) (base-is true .time);
-  }
+  based = based-at ps six startBase endBase (base-is false .there) (base-is true .there) (base-is false .time) (base-is true .time)
 
   pub preferred : Preferred (pieceAt ps six .first ++ pieceAt ps six .second) (isLeft left) startBase endBase (othersOf startBase endBase)
   preferred = record {
@@ -98,9 +103,9 @@ module _ (ps : List ℤ) {six : SixPoints} (h : Timed six) (left : List Bool) wh
   }
     where
       at-start : isLeft left startBase ≡ false → (k : Place) (c : Bool) → atEnd six (pick k (othersOf startBase endBase)) ≡ c → (isLeft left (pick k (othersOf startBase endBase)) ≡ false) ⊎ (eventIn (pieceAt ps six .first ++ pieceAt ps six .second) (pick k (othersOf startBase endBase)) .time ≡ pos 1)
-      at-start n k true e = inr (time-at (pick k (othersOf startBase endBase)) (based .order .there k) e)
+      at-start n k true e = inr (time-at ps six (pick k (othersOf startBase endBase)) (based .order .there k) e)
       at-start n k false e = inl (base-is false .preferred n (pick k (othersOf startBase endBase)) (based .order .there k) e)
 
       at-end : isLeft left endBase ≡ false → (k : Place) (c : Bool) → atEnd six (pick k (othersOf startBase endBase)) ≡ c → (isLeft left (pick k (othersOf startBase endBase)) ≡ false) ⊎ (eventIn (pieceAt ps six .first ++ pieceAt ps six .second) (pick k (othersOf startBase endBase)) .time ≡ pos 0)
       at-end n k true e = inl (base-is true .preferred n (pick k (othersOf startBase endBase)) (based .order .there k) e)
-      at-end n k false e = inr (time-at (pick k (othersOf startBase endBase)) (based .order .there k) e)
+      at-end n k false e = inr (time-at ps six (pick k (othersOf startBase endBase)) (based .order .there k) e)

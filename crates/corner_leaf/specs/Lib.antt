@@ -2,7 +2,9 @@
 pub mod Points
 pub mod First
 pub mod Answer
+pub mod Seen
 pub mod Base
 pub mod Tests
 pub mod Right
 pub mod Slotted
+pub mod InPlane

@@ -9,14 +9,11 @@ use lib.Dec.{T, ltb}
 use lib.IntN.{ℤ, pos, _-ℤ_}
 use lib.ListN.{length}
 use mir.Facts.{and-yes, yes-and, or-yes}
-use Rattle.whole.specs.Vector.{Vector, minus}
 use Rattle.whole.specs.Cramer.{Four, each, weigh, volumes, dot4, Place, p0, p1, p2, p3, pick}
 use Rattle.meaning.specs.Pieces.{Event}
-use Rattle.exact.specs.Places.{placeAt}
 use Rattle.sign_sums.specs.BySigns.{sum, kept}
 use Rattle.sign_sums.specs.BySignsLaws.{clock, sum-starts, sum-ends}
 use Rattle.sign_sums.specs.OneWay.{oneWay, zeroBut, allNotBelow}
-use Rattle.theory.specs.Differences.{difference, difference-start, difference-end}
 use Rattle.theory.specs.Spread.{startShare, endShare}
 use Rattle.corner_leaf.specs.declared.SixPoints.{SixPoints}
 use Rattle.corner_leaf.specs.declared.Leaf.{Leaf}
@@ -31,9 +28,10 @@ use Rattle.corner_laws.specs.Dependent.{Some, Vanish}
 use Rattle.corner_laws.specs.Flat.{zero-or}
 use Rattle.corner_laws.specs.Opened.{open-leaves, open-not-one}
 use Rattle.corner_laws.specs.AtMostOne.{AtMostOne}
-use Rattle.corner_leaf.specs.Points.{offset, atEnd, isLeft, eventAt, pieceAt, TouchLeft, Timed, six-at, first-long}
+use Rattle.corner_leaf.specs.Points.{atEnd, isLeft, pieceAt, TouchLeft, Timed, six-at, first-long}
 use Rattle.corner_leaf.specs.Answer.{sameBool, seenFrom, slotsAt, none, fitting, judgedIn, judgedBy, judged-open, turnOf, otherwise, leafOf, baseOf}
 use Rattle.corner_leaf.specs.Base.{base-is, based, preferred}
+use Rattle.corner_leaf.specs.Seen.{four-seen}
 use Rattle.corner_leaf.specs.Tests.{Along, along-is, zero-but-is}
 
 -- yes: there are weights; no: there are none; open: where there are, one more corner can be left out
@@ -100,18 +98,11 @@ module _ (ps : List ℤ) {six : SixPoints} (h : Timed six) (left : List Bool) wh
 
   -- ---- the differences are those that code takes
 
-  seen : (i : ℕ) → i < 6 → seenFrom ps six s e i ≡ difference (eventIn (a ++ b) s .place) (eventIn (a ++ b) e .place) (eventIn (a ++ b) i)
-  seen i k = rw (six-at ps six s (base-is ps h left false .there), six-at ps six e (base-is ps h left true .there), six-at ps six i k) (go (atEnd six i))
-    where
-      go : (c : Bool) → minus (placeAt ps (offset six i)) (placeAt ps (offset six (cond c e s))) ≡ difference (placeAt ps (offset six s)) (placeAt ps (offset six e)) (record { place = placeAt ps (offset six i); time = clock c })
-      go true = sym (difference-end (placeAt ps (offset six s)) (placeAt ps (offset six e)) (placeAt ps (offset six i)))
-      go false = sym (difference-start (placeAt ps (offset six s)) (placeAt ps (offset six e)) (placeAt ps (offset six i)))
-
   below : (k : Place) → pick k q < 6
   below = based ps h left .order .there
 
   all-seen : each (seenFrom ps six s e) q ≡ differencesIn (a ++ b) s e q
-  all-seen = λ i. record { v0 = seen (q .v0) (below p0) i; v1 = seen (q .v1) (below p1) i; v2 = seen (q .v2) (below p2) i; v3 = seen (q .v3) (below p3) i }
+  all-seen = four-seen ps six s e (base-is ps h left false .there) (base-is ps h left true .there) q below
 
   in-place : (f : ℕ) → InPlace (a ++ b) (isLeft left) s e q (slotsAt ps six left s e f)
   in-place f = record {
@@ -265,7 +256,7 @@ module _ (ps : List ℤ) {six : SixPoints} (h : Timed six) (left : List Bool) wh
       ∙ ap (λ z. otherwise z c) (swapped f g (turn f) (turn g) (turn-is f) (turn-is g))
       ∙ joined (turn g) (turn f) c
 
-  pub from-any-turn : (f : ℕ) → f < 3 → otherwise (turn f) (otherwise (turn (f + 1)) (turn (f + 2))) ≡ leafOf ps six left
+  from-any-turn : (f : ℕ) → f < 4 → otherwise (turn f) (otherwise (turn (f + 1)) (turn (f + 2))) ≡ leafOf ps six left
   unfolding leafOf
   from-any-turn zero h = refl
   from-any-turn (suc zero) h =
@@ -276,7 +267,13 @@ module _ (ps : List ℤ) {six : SixPoints} (h : Timed six) (left : List Bool) wh
       (λ i. otherwise (turn 2) (otherwise (turn-round 0 i) (turn-round 1 i)))
       ∙ brought 2 0 (turn 1)
       ∙ ap (otherwise (turn 0)) (swapped 2 1 (turn 2) (turn 1) (turn-is 2) (turn-is 1))
-  from-any-turn (suc (suc (suc f))) h = absurd (omega arith)
+  from-any-turn (suc (suc (suc zero))) h = λ i. otherwise (turn-round 0 i) (otherwise (turn-round 1 i) (turn-round 2 i))
+  from-any-turn (suc (suc (suc (suc f)))) h = absurd (omega arith)
+
+  -- and the second of them last
+  pub in-any-order : (f : ℕ) → f < 4 → otherwise (turn f) (otherwise (turn (f + 2)) (turn (f + 1))) ≡ leafOf ps six left
+  in-any-order f h =
+      ap (otherwise (turn f)) (swapped (f + 2) (f + 1) (turn (f + 2)) (turn (f + 1)) (turn-is (f + 2)) (turn-is (f + 1))) ∙ from-any-turn f h
 
   -- ---- it decides exactly where the corners left allow at most one solution
 

@@ -4,13 +4,13 @@ ghost use mathlib.Core.Bool.{cond, _&&_};
 ghost use mathlib.Core.Path.{_≡_};
 ghost use Prim.Native.Nat.{_+_, _≤_, _<_, min, max};
 ghost use lib.ListN.{length};
-ghost use Rattle.whole.specs.Cramer.{volumes};
+ghost use Rattle.whole.specs.Cramer.{each, volumes};
 ghost use Rattle.exact.specs.Volumes.{four, fourOf, Small};
 ghost use Rattle.exact.specs.Arrows.{Points};
 ghost use Rattle.corner_laws.specs.Others.{skip, othersOf};
 ghost use Rattle.corner_laws.specs.Filled.{slot, next};
 ghost use Rattle.corner_leaf.specs.Points.{isLeft, pointsOf, Placed, SixIn};
-ghost use Rattle.corner_leaf.specs.Answer.{sameBool, allLeft, baseIn, seenIn, judgedIn, turnOf, alikeAt, levelAlong, acrossOf, leafOf};
+ghost use Rattle.corner_leaf.specs.Answer.{sameBool, baseIn, seenIn, judgedIn, turnOf, alikeAt, levelAlong, Across, oneTurn, leafOf};
 use exact::Volumes;
 use exact::arrows::Arrow;
 use exact::arrows::arrow_along;
@@ -42,7 +42,7 @@ fn skip(i: usize, k: usize) -> usize
 }
 
 // The k-th of the places other than s and e.
-fn other(s: usize, e: usize, k: usize) -> usize
+pub fn other(s: usize, e: usize, k: usize) -> usize
     requires { ⌜ k < 4 ⌝ }
     ensures { λ r. ⌜ (r ≡ skip (max s e) (skip (min s e) k)) × (r < 6) ⌝ }
 {
@@ -83,7 +83,7 @@ fn base(ends: &[bool; 6], left: &[bool; 6], end: bool) -> usize
 }
 
 // The base of a corner's time.
-fn base_of(end: bool, s: usize, e: usize) -> usize
+pub fn base_of(end: bool, s: usize, e: usize) -> usize
     requires { ⌜ (s < 6) × (e < 6) ⌝ }
     ensures { λ r. ⌜ (r ≡ cond end e s) × (r < 6) ⌝ }
 {
@@ -159,7 +159,7 @@ fn turn(
     e: usize,
     f: usize,
 ) -> Leaf
-    requires { ⌜ Placed (now positions) (now at) × (s < 6) × (e < 6) × (f < 5) ⌝ }
+    requires { ⌜ Placed (now positions) (now at) × (s < 6) × (e < 6) × (f < 6) ⌝ }
     ensures { λ r. ⌜ r ≡ turnOf (now (positions .entry)) (pointsOf (now (at .entry)) (now (ends .entry)) first) (now (left .entry)) s e f ⌝ }
 {
     let q0 = other(s, e, 0);
@@ -175,13 +175,6 @@ fn turn(
     let a3 = arrow(positions, at, ends, left, s, e, q3, f3);
     let v = arrow_volumes(a0, a1, a2, a3);
     judge(ends, first, left, s, e, q0, q1, q2, q3, v)
-}
-
-// Is no corner left out? Then no axis stands in a slot, and one turn is as good as another.
-fn all_left(left: &[bool; 6]) -> bool
-    ensures { λ r. ⌜ r ≡ allLeft (now (left .entry)) ⌝ }
-{
-    left[0] & left[1] & left[2] & left[3] & left[4] & left[5]
 }
 
 fn alike(positions: &[i32], i: usize, j: usize) -> bool
@@ -204,41 +197,58 @@ fn level(positions: &[i32], at: &[usize; 6], axis: usize) -> bool
         & alike(positions, first, at[5] + axis)
 }
 
-// The turn to begin with. Cloth that lies flat across an axis has a volume only with that axis, so the turn that puts it into a slot decides.
-fn across(positions: &[i32], at: &[usize; 6]) -> usize
+// The axis that all six points lie across, or 3 where there is none: the turn to begin with. Cloth that lies flat across an axis has a volume only with
+// that axis, so the turn that puts it into a slot decides.
+pub fn across(positions: &[i32], at: &[usize; 6]) -> usize
     requires { ⌜ Placed (now positions) (now at) ⌝ }
-    ensures { λ r. ⌜ (r ≡ acrossOf (now (positions .entry)) (now (at .entry))) × (r < 3) ⌝ }
+    ensures { λ r. ⌜ Across (now (positions .entry)) (now (at .entry)) r ⌝ }
 {
     if level(positions, at, 2) {
         return 2;
     }
-    if level(positions, at, 1) { 1 } else { 0 }
+    if level(positions, at, 1) {
+        return 1;
+    }
+    if level(positions, at, 0) { 0 } else { 3 }
 }
 
-// Weights, no weights, or nothing yet: the first of three turns that says more than nothing.
+// Is the first turn all three? It is where none of the four others is left out, for then no axis stands in a slot; and where one is and all six
+// points lie across an axis, for with another axis in its slot there is no volume.
+fn one_turn(left: &[bool; 6], s: usize, e: usize, plane: usize) -> bool
+    ensures { λ r. ⌜ r ≡ oneTurn (each (isLeft (now (left .entry))) (othersOf s e)) plane ⌝ }
+{
+    let a = left[other(s, e, 0)];
+    let b = left[other(s, e, 1)];
+    let c = left[other(s, e, 2)];
+    let d = left[other(s, e, 3)];
+    (a & b & c & d) | (((a & b & (c | d)) | ((a | b) & c & d)) & (plane < 3))
+}
+
+// Weights, no weights, or nothing yet: the first of three turns that says more than nothing, beginning with that of the plane. Where the points lie
+// across an axis, the turn behind it says least, and comes last.
 pub fn ask(
     positions: &[i32],
     at: &[usize; 6],
     ends: &[bool; 6],
     first: usize,
     left: &[bool; 6],
+    plane: usize,
 ) -> Leaf
-    requires { ⌜ SixIn (now positions) (pointsOf (now at) (now ends) first) ⌝ }
+    requires { ⌜ SixIn (now positions) (pointsOf (now at) (now ends) first) × Across (now positions) (now at) plane ⌝ }
     ensures { λ r. ⌜ r ≡ leafOf (now (positions .entry)) (pointsOf (now (at .entry)) (now (ends .entry)) first) (now (left .entry)) ⌝ }
 {
-    let f = across(positions, at);
     let s = base(ends, left, false);
     let e = base(ends, left, true);
-    let answer = turn(positions, at, ends, first, left, s, e, f);
+    let answer = turn(positions, at, ends, first, left, s, e, plane);
     let Leaf::Open = answer else {
         return answer;
     };
-    if all_left(left) {
+    if one_turn(left, s, e, plane) {
         return answer;
     }
-    let second = turn(positions, at, ends, first, left, s, e, f + 1);
+    let second = turn(positions, at, ends, first, left, s, e, plane + 2);
     let Leaf::Open = second else {
         return second;
     };
-    turn(positions, at, ends, first, left, s, e, f + 2)
+    turn(positions, at, ends, first, left, s, e, plane + 1)
 }

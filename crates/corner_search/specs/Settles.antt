@@ -16,7 +16,7 @@ use Rattle.meaning.specs.declared.Settled.{Settled}
 use Rattle.corner_leaf.specs.declared.SixPoints.{SixPoints}
 use Rattle.corner_laws.specs.Left.{TouchIn, fewer, touch-in-is}
 use Rattle.corner_leaf.specs.Points.{isLeft, pieceAt, TouchLeft, six-long}
-use Rattle.corner_search.specs.Says.{Says, says-yes, says-no}
+use Rattle.corner_search.specs.Says.{Tells}
 
 -- the word of a piece that is not degenerate
 abbrev pub kept : Verdict → Settled
@@ -46,15 +46,20 @@ module _ (ps : List ℤ) (six : SixPoints) where
     λ t. record { weights = fewer (λ i k e. absurd (subst T (sym (every i k) ∙ e) tt)) (touch-in-is .0 t) },
   )
 
-  -- what the search says of all the points settles a degenerate piece
-  module _ {verdict : Verdict} (is : PieceIs (pieceAt ps six) verdict) (e : verdict ≡ Verdict.Degenerate) {lo hi : ℕ} {r : Bool} (said : Says ps six everyLeft lo hi false r) where
+  -- where a piece has no weights, there are none for all its points
+  pub none-tells : ¬ Touches (pieceAt ps six) → Tells ps six everyLeft false
+  unfolding Tells
+  none-tells n t = n (every-left-is .0 t)
+
+  -- what is told of all the points settles a degenerate piece
+  module _ {verdict : Verdict} (is : PieceIs (pieceAt ps six) verdict) (e : verdict ≡ Verdict.Degenerate) (r : Bool) (told : Tells ps six everyLeft r) where
     degenerate : PieceIs (pieceAt ps six) Verdict.Degenerate
     degenerate = subst (PieceIs (pieceAt ps six)) e is
 
     pub settles-touch : r ≡ true → PieceSettled (pieceAt ps six) Settled.Touch
-    unfolding PieceSettled
-    settles-touch k = (degenerate, every-left-is .0 (says-yes (subst (Says ps six everyLeft lo hi false) k said)))
+    unfolding PieceSettled Tells
+    settles-touch k = (degenerate, every-left-is .0 (subst (Tells ps six everyLeft) k told))
 
     pub settles-apart : r ≡ false → PieceSettled (pieceAt ps six) Settled.Apart
-    unfolding PieceSettled
-    settles-apart k = (degenerate, λ t. says-no (subst (Says ps six everyLeft lo hi false) k said) .0 refl (every-left-is .1 t))
+    unfolding PieceSettled Tells
+    settles-apart k = (degenerate, λ t. subst (Tells ps six everyLeft) k told (every-left-is .1 t))

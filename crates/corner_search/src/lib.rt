@@ -7,11 +7,13 @@ ghost use Rattle.meaning.specs.Verdicts.{PieceIs};
 ghost use Rattle.meaning.specs.Resting.{PieceSettled};
 ghost use Rattle.corner_leaf.specs.Points.{pieceAt, SixIn};
 ghost use Rattle.corner_search.specs.Says.{Tells};
-ghost use Rattle.corner_search.specs.Settles.{kept};
+ghost use Rattle.corner_search.specs.Settles.{kept, everyLeft};
 ghost use Rattle.corner_search.specs.Starts.{startsAmong};
 use corner_leaf::SixPoints;
+use corner_leaf::across;
 use meaning::Settled;
 use meaning::Verdict;
+use one_side::parted;
 use search::first;
 
 // Hit and miss stay as they are.
@@ -25,6 +27,22 @@ fn keep(verdict: Verdict) -> Settled
     }
 }
 
+// Are there weights for the points of a piece? The quick look tells most pieces that have none, and the search decides the others.
+pub fn piece_touches(positions: &[i32], six: SixPoints) -> bool
+    requires { ⌜ SixIn (now positions) six ⌝ }
+    ensures { λ r. ⌜ Tells (now (positions .entry)) six everyLeft r ⌝ }
+{
+    let at = six.at;
+    let ends = six.ends;
+    let split = six.first;
+    let plane = across(positions, &at);
+    if parted(positions, &at, &ends, split, plane) {
+        return false;
+    }
+    let every = [true; 6];
+    first(positions, &at, &ends, split, &every, false, plane)
+}
+
 // The word of a piece, from its verdict: only a degenerate one goes on, to touch if weights exist, else to apart.
 pub fn settle_piece(positions: &[i32], six: SixPoints, verdict: Verdict) -> Settled
     requires { ⌜ SixIn (now positions) six × PieceIs (pieceAt (now positions) six) verdict ⌝ }
@@ -33,11 +51,7 @@ pub fn settle_piece(positions: &[i32], six: SixPoints, verdict: Verdict) -> Sett
     let Verdict::Degenerate = verdict else {
         return keep(verdict);
     };
-    let at = six.at;
-    let ends = six.ends;
-    let split = six.first;
-    let left = [true; 6];
-    if first(positions, &at, &ends, split, &left, false) {
+    if piece_touches(positions, six) {
         Settled::Touch
     } else {
         Settled::Apart
@@ -60,5 +74,6 @@ pub fn starts_touch(positions: &[i32], six: SixPoints) -> bool
     let ends = six.ends;
     let split = six.first;
     let left = starts(&ends);
-    first(positions, &at, &ends, split, &left, false)
+    let plane = across(positions, &at);
+    first(positions, &at, &ends, split, &left, false, plane)
 }

@@ -6,7 +6,7 @@ ghost use mathlib.Core.Path.{_≡_};
 ghost use Prim.Native.Nat.{_<_};
 ghost use lib.ListN.{set};
 ghost use Rattle.corner_leaf.specs.Points.{pointsOf, SixIn};
-ghost use Rattle.corner_leaf.specs.Answer.{leafOf};
+ghost use Rattle.corner_leaf.specs.Answer.{leafOf, Across};
 ghost use Rattle.corner_search.specs.Says.{isYes, Says};
 use corner_leaf::Leaf;
 use corner_leaf::ask;
@@ -29,14 +29,15 @@ fn ask_once(
     split: usize,
     left: &[bool; 6],
     tried: bool,
+    plane: usize,
 ) -> Leaf
-    requires { ⌜ SixIn (now positions) (pointsOf (now at) (now ends) split) ⌝ }
+    requires { ⌜ SixIn (now positions) (pointsOf (now at) (now ends) split) × Across (now positions) (now at) plane ⌝ }
     ensures { λ r. ⌜ r ≡ cond tried Leaf.Open (leafOf (now (positions .entry)) (pointsOf (now (at .entry)) (now (ends .entry)) split) (now (left .entry))) ⌝ }
 {
     if tried {
         Leaf::Open
     } else {
-        ask(positions, at, ends, split, left)
+        ask(positions, at, ends, split, left, plane)
     }
 }
 
@@ -49,7 +50,7 @@ fn without(left: &[bool; 6], i: usize) -> [bool; 6]
     less
 }
 
-// Are there weights for the points left? Tries the corners of the first simplex.
+// Are there weights for the points left? Tries the corners of the first simplex. The plane that all six lie in is looked for once, and handed on.
 pub(crate) fn first(
     positions: &[i32],
     at: &[usize; 6],
@@ -57,11 +58,12 @@ pub(crate) fn first(
     split: usize,
     left: &[bool; 6],
     tried: bool,
+    plane: usize,
 ) -> bool
-    requires { ⌜ SixIn (now positions) (pointsOf (now at) (now ends) split) ⌝ }
+    requires { ⌜ SixIn (now positions) (pointsOf (now at) (now ends) split) × Across (now positions) (now at) plane ⌝ }
     ensures { λ r. ⌜ Says (now (positions .entry)) (pointsOf (now (at .entry)) (now (ends .entry)) split) (now (left .entry)) 0 split tried r ⌝ }
 {
-    let answer = ask_once(positions, at, ends, split, left, tried);
+    let answer = ask_once(positions, at, ends, split, left, tried, plane);
     let Leaf::Open = answer else {
         return is_yes(answer);
     };
@@ -69,7 +71,7 @@ pub(crate) fn first(
     while i < split {
         if left[i] {
             let less = without(left, i);
-            if second(positions, at, ends, split, &less, false) {
+            if second(positions, at, ends, split, &less, false, plane) {
                 return true;
             }
         }
@@ -78,7 +80,7 @@ pub(crate) fn first(
     if tried {
         return false;
     }
-    second(positions, at, ends, split, left, true)
+    second(positions, at, ends, split, left, true, plane)
 }
 
 // The same, trying the corners of the second simplex.
@@ -89,11 +91,12 @@ pub(crate) fn second(
     split: usize,
     left: &[bool; 6],
     tried: bool,
+    plane: usize,
 ) -> bool
-    requires { ⌜ SixIn (now positions) (pointsOf (now at) (now ends) split) ⌝ }
+    requires { ⌜ SixIn (now positions) (pointsOf (now at) (now ends) split) × Across (now positions) (now at) plane ⌝ }
     ensures { λ r. ⌜ Says (now (positions .entry)) (pointsOf (now (at .entry)) (now (ends .entry)) split) (now (left .entry)) split 6 tried r ⌝ }
 {
-    let answer = ask_once(positions, at, ends, split, left, tried);
+    let answer = ask_once(positions, at, ends, split, left, tried, plane);
     let Leaf::Open = answer else {
         return is_yes(answer);
     };
@@ -101,7 +104,7 @@ pub(crate) fn second(
     while i < 6 {
         if left[i] {
             let less = without(left, i);
-            if first(positions, at, ends, split, &less, false) {
+            if first(positions, at, ends, split, &less, false, plane) {
                 return true;
             }
         }
@@ -110,5 +113,5 @@ pub(crate) fn second(
     if tried {
         return false;
     }
-    first(positions, at, ends, split, left, true)
+    first(positions, at, ends, split, left, true, plane)
 }

@@ -1,5 +1,6 @@
 -- From verdicts and six points to the four words.
 pub mod Six
 pub mod Words
+pub mod Singular
 pub mod Rests
 pub mod Deciding

@@ -13,19 +13,14 @@ use Rattle.meaning.specs.declared.Verdict.{Verdict}
 use Rattle.meaning.specs.declared.Settled.{Settled}
 use Rattle.at_rest.specs.Rests.{pairRests, all-still}
 use Rattle.corner_leaf.specs.declared.SixPoints.{SixPoints}
-use Rattle.corner_laws.specs.Flat.{zero-or}
 use Rattle.corner_search.specs.Says.{Tells}
 use Rattle.corner_search.specs.Sixes.{sixOf, six-piece}
 use Rattle.corner_search.specs.Starts.{startsAmong, first-there, starts-are-weights, weights-on-starts}
 use Rattle.four_words.specs.Words.{TouchSaid, some, none}
+use Rattle.four_words.specs.Singular.{touch-settled}
 
 module _ (s : Scene) where
   module _ (kind : Kind) (i j : ℕ) where
-    -- a piece that has weights is degenerate where no piece is hit
-    touch-settled : PairIs s kind i j Verdict.Degenerate → (k : ℕ) → k < pieceCount kind → Touches (pieceOf s kind i j k) → PieceSettled (pieceOf s kind i j k) Settled.Touch
-    unfolding PairIs PieceIs PieceSettled
-    touch-settled h k l t = ⊎-elim (λ z. (z, t)) (λ n. absurd (h .0 (record { which = k; there = l; has = (n, t) }))) (zero-or (determinantOf (pieceOf s kind i j k)))
-
     pub starts-said : PairIs s kind i j Verdict.Degenerate → {c : Bool} → c ≡ pairRests s kind i j → c ≡ true → {six : SixPoints} → six ≡ sixOf s kind i j 0
         → (r : Bool) → Tells (s .positions) six (startsAmong (six .ends)) r → TouchSaid s kind i j r
     unfolding Tells PieceSettled
@@ -38,6 +33,6 @@ module _ (s : Scene) where
         go true t = some (record {
           which = 0;
           there = first-there kind;
-          has = touch-settled h 0 (first-there kind) (subst Touches (six-piece s kind i j 0) (starts-are-weights (s .positions) first _ t));
+          has = touch-settled s kind i j h 0 (first-there kind) (subst Touches (six-piece s kind i j 0) (starts-are-weights (s .positions) first _ t));
         })
         go false t = none (λ u. t (weights-on-starts s kind i j (u .which) (all-still s kind i j (sym e ∙ f)) (u .has .1)))

@@ -13,7 +13,7 @@ use Rattle.meaning.specs.declared.Kind.{Kind}
 use Rattle.meaning.specs.declared.Verdict.{Verdict}
 use Rattle.meaning.specs.declared.Settled.{Settled}
 use Rattle.meaning.specs.declared.Settled.the-variants.{Hit, Miss, Touch, Apart}
-use Rattle.corner_search.specs.Decided.{one-piece-word, some-hit}
+use Rattle.corner_search.specs.Decided.{some-hit}
 
 -- whether the pieces of a pair with this verdict are looked at again, and the word of one whose are not
 unfoldable pub isSingular : Verdict → Bool
@@ -40,18 +40,15 @@ module _ (s : Scene) (kind : Kind) (i j : ℕ) where
   pub none-before : NoneBefore s kind i j 0
   none-before = record { at = λ m h. absurd (not-suc-le-zero h) }
 
-  pub one-more : {k : ℕ} (w : Settled) → NoneBefore s kind i j k → PieceSettled (pieceOf s kind i j k) w → ¬ (w ≡ Touch) → NoneBefore s kind i j (k + 1)
-  one-more {k} w h p n = record { at = λ m l. ⊎-elim (λ q. subst (λ m. ¬ PieceSettled (pieceOf s kind i j m) Touch) (sym q) here) (h .at m) (split m l) }
+  pub one-more : {k : ℕ} → NoneBefore s kind i j k → ¬ PieceSettled (pieceOf s kind i j k) Touch → NoneBefore s kind i j (k + 1)
+  one-more {k} h n = record { at = λ m l. ⊎-elim (λ q. subst (λ m. ¬ PieceSettled (pieceOf s kind i j m) Touch) (sym q) n) (h .at m) (split m l) }
     where
-      here : ¬ PieceSettled (pieceOf s kind i j k) Touch
-      here t = n (one-piece-word (pieceOf s kind i j k) w Touch p t)
-
       split : (m : ℕ) → m < k + 1 → (m ≡ k) ⊎ (m < k)
       split m l = eq-or-lt-of-le (omega arith)
 
   module _ {n : ℕ} (c : n ≡ pieceCount kind) where
-    pub touch-found : (k : ℕ) (w : Settled) → k < n → PieceSettled (pieceOf s kind i j k) w → w ≡ Touch → TouchSaid s kind i j true
-    touch-found k w l p e = some (record { which = k; there = subst (λ m. k < m) c l; has = subst (PieceSettled (pieceOf s kind i j k)) e p })
+    pub touch-found : (k : ℕ) → k < n → (k < pieceCount kind → PieceSettled (pieceOf s kind i j k) Touch) → TouchSaid s kind i j true
+    touch-found k l p = let there = subst (λ m. k < m) c l in some (record { which = k; there = there; has = p there })
 
     pub none-found : (k : ℕ) → n ≤ k → NoneBefore s kind i j k → TouchSaid s kind i j false
     none-found k l h = none (λ t. h .at (t .which) (lt-of-lt-of-le (t .there) (subst (λ m. m ≤ k) c l)) (t .has))

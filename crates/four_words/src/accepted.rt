@@ -35,25 +35,7 @@ pub(crate) fn piece_word(
     corner_search::settle_piece(positions, six, verdict)
 }
 
-// One piece of a pair.
-pub fn piece(
-    positions: &[i32],
-    edges: &[u16],
-    triangles: &[u16],
-    stands: &[u16],
-    kind: Kind,
-    i: usize,
-    j: usize,
-    k: usize,
-) -> Settled
-    requires { ⌜ Accepted (tabledIn positions edges triangles stands) × (notThere (tabledIn positions edges triangles stands) kind i j ≡ false) ⌝ }
-    ensures { λ r. ⌜ PieceSettled (pieceOf (tabledAtEntry positions edges triangles stands) kind i j k) r ⌝ }
-{
-    let verdict = three_words::accepted::piece(positions, edges, triangles, stands, kind, i, j, k);
-    piece_word(positions, edges, triangles, stands, kind, i, j, k, verdict)
-}
-
-// Does some piece of the pair touch?
+// Does some piece of a degenerate pair touch? No piece is hit there, so one that has weights touches, and its own verdict is not asked for.
 fn some_piece_touches(
     positions: &[i32],
     edges: &[u16],
@@ -63,14 +45,14 @@ fn some_piece_touches(
     i: usize,
     j: usize,
 ) -> bool
-    requires { ⌜ Accepted (tabledIn positions edges triangles stands) × (notThere (tabledIn positions edges triangles stands) kind i j ≡ false) ⌝ }
+    requires { ⌜ Accepted (tabledIn positions edges triangles stands) × (notThere (tabledIn positions edges triangles stands) kind i j ≡ false) × PairIs (tabledIn positions edges triangles stands) kind i j Degenerate ⌝ }
     ensures { λ r. ⌜ TouchSaid (tabledAtEntry positions edges triangles stands) kind i j r ⌝ }
 {
     let count = three_words::accepted::piece_count(kind);
     let mut k = 0;
     while k < count {
-        let word = piece(positions, edges, triangles, stands, kind, i, j, k);
-        if let Settled::Touch = word {
+        let six = six_of(positions, edges, triangles, stands, kind, i, j, k);
+        if corner_search::piece_touches(positions, six) {
             return true;
         }
         k += 1;

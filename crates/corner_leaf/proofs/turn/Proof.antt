@@ -27,7 +27,7 @@ turn-spec =
     (λ c. c .before .before .before .before .other2 .ensures .1)
     (λ c κs. below (c .before .next .ensures .1) (lt-trans (c .before .before .before .before .before .before .before .pre .3) (lit< tt)))
     (λ c. c .before .before .before .before .before .other3 .ensures .1)
-    (λ c κs. below (c .before .next2 .ensures .1) (lt-trans (below (c .before .before .before .next .ensures .1) (c .before .before .before .before .before .before .before .before .before .pre .3)) (lit< tt)))
+    (λ c κs. below (c .before .next2 .ensures .1) (below (c .before .before .before .next .ensures .1) (c .before .before .before .before .before .before .before .before .before .pre .3)))
     (λ c κs. let o = c .before .before .before .before .before .before in let p = o .before .before .before .before .pre in (p .0, p .1, p .2, o .before .before .before .other .ensures .1))
     (λ c κs. let o = c .before .before .before .before .before .before .before in let p = o .before .before .before .before .pre in (p .0, p .1, p .2, o .before .before .other2 .ensures .1))
     (λ c κs. let o = c .before .before .before .before .before .before .before .before in let p = o .before .before .before .before .pre in (p .0, p .1, p .2, o .before .other3 .ensures .1))

@@ -33,10 +33,10 @@ settle-piece-spec =
     (λ c. c .match .keys1)
     (λ c κs. tt)
     (λ c. rw (c .keep .ensures) (stays _ _ (c .before .before .pre .1) (c .before .match .keys2)))
-    (λ c κs. c .before .before .before .before .before .before .before .pre .0)
+    (λ c κs. c .before .before .pre .0)
     (λ c.
-    let m = c .before .before .before .before .before .before .before .before in
-    settles-touch _ (m .before .args .six) (m .before .pre .1) (goes-on _ (m .match .keys1)) (c .before .first .ensures) (c .if1 .taken))
+    let m = c .before .before .before in
+    settles-touch _ (m .before .args .six) (m .before .pre .1) (goes-on _ (m .match .keys1)) _ (c .before .piece-touches .ensures) (c .if1 .taken))
     (λ c.
-    let m = c .before .before .before .before .before .before .before .before in
-    settles-apart _ (m .before .args .six) (m .before .pre .1) (goes-on _ (m .match .keys1)) (c .before .first .ensures) (c .if1 .left)))
+    let m = c .before .before .before in
+    settles-apart _ (m .before .args .six) (m .before .pre .1) (goes-on _ (m .match .keys1)) _ (c .before .piece-touches .ensures) (c .if1 .left)))

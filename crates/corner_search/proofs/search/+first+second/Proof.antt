@@ -42,16 +42,16 @@ abbrev second-below : ℕ → In 4 second-kinds.ps
 second-below t = and 4 second-kinds.ps (falls 4 second-kinds.ps _<_ μ-second t) second.Pre
 
 abbrev first-Inv-loop : first-lts.InvT-loop
-first-Inv-loop positions at ends split left tried i₀ i = (i ≤ split) × NoneWithout positions (pointsOf at ends split) left 0 i
+first-Inv-loop positions at ends split left tried plane i₀ i = (i ≤ split) × NoneWithout positions (pointsOf at ends split) left 0 i
 
 abbrev first-μ-loop : first-lts.MeasureT-loop
-first-μ-loop positions at ends split left tried i₀ i = split - i
+first-μ-loop positions at ends split left tried plane i₀ i = split - i
 
 abbrev second-Inv-loop : second-lts.InvT-loop
-second-Inv-loop positions at ends split left tried i₀ i = (i ≤ 6) × NoneWithout positions (pointsOf at ends split) left split i
+second-Inv-loop positions at ends split left tried plane i₀ i = (i ≤ 6) × NoneWithout positions (pointsOf at ends split) left split i
 
 abbrev second-μ-loop : second-lts.MeasureT-loop
-second-μ-loop positions at ends split left tried i₀ i = 6 - i
+second-μ-loop positions at ends split left tried plane i₀ i = 6 - i
 
 pub +first+second-spec : {M : Type 1} → statement M
 +first+second-spec =
@@ -67,15 +67,15 @@ pub +first+second-spec : {M : Type 1} → statement M
     (λ c κs. tt)
     (λ c.
     let a = c .before .before in
-    rw (c .is-yes .ensures) (says-answer _ (a .before .pre .1 .timed) _ _ _ _ _ (a .ask-once .ensures) (decided _ (c .before .match .keys2))))
+    rw (c .is-yes .ensures) (says-answer _ (a .before .pre .1 .0 .timed) _ _ _ _ _ (a .ask-once .ensures) (decided _ (c .before .match .keys2))))
     (λ c. (zero-le, none-yet _ _))
-    (λ c. lt-of-lt-of-le (c .loop-test .taken) (c .before .before .before .before .before .pre .1 .timed .split))
-    (λ c κs. lt-of-lt-of-le (c .before .before .loop-test .taken) (c .before .before .before .before .before .before .before .pre .1 .timed .split))
+    (λ c. lt-of-lt-of-le (c .loop-test .taken) (c .before .before .before .before .before .pre .1 .0 .timed .split))
+    (λ c κs. lt-of-lt-of-le (c .before .before .loop-test .taken) (c .before .before .before .before .before .before .before .pre .1 .0 .timed .split))
     (λ c κs.
     let s = c .before .before .before .before .before .before .before .before .before in
     (falls-without _ _ _ _ (s .pre .0) (c .before .without .ensures) (c .before .before .if1 .taken), s .pre .1))
     (λ c. found _ _ (c .before .before .before .without .ensures) (c .before .second .ensures) _ _ _ (c .if2 .taken))
-    (λ c. let h = c .before .before .loop-test .taken in let k = c .before .before .before .before .before .before .before .pre .1 .timed .split in omega arith)
+    (λ c. let h = c .before .before .loop-test .taken in let k = c .before .before .before .before .before .before .before .pre .1 .0 .timed .split in omega arith)
     (λ c. let h = c .before .before .loop-test .taken in omega arith)
     (λ c.
     let l = c .before .before .before .loop in
@@ -86,13 +86,13 @@ pub +first+second-spec : {M : Type 1} → statement M
     ))
     (λ c.
     let l = c .before .before in
-    says-tried _ (l .before .before .before .before .pre .1 .timed) _ _ _ _ _ (c .if3 .taken) (le-antisymm (l .loop .inv .0) (c .before .loop-test .left)) (l .loop .inv .1))
+    says-tried _ (l .before .before .before .before .pre .1 .0 .timed) _ _ _ _ _ (c .if3 .taken) (le-antisymm (l .loop .inv .0) (c .before .loop-test .left)) (l .loop .inv .1))
     (λ c κs. let s = c .before .before .before .before .before .before in (falls-handed _ _ (s .pre .0) (c .if3 .left), s .pre .1))
     (λ c.
     let l = c .before .before .before in
     let m = l .before .before in
     let s = m .before .before in
-    says-last _ (s .pre .1 .timed) _ _ _ _ _ _ (on-a-side _) _ (c .before .if3 .left) _ (m .before .ask-once .ensures) (is-open _ (m .match .keys1)) (le-antisymm (l .loop .inv .0) (c .before .before .loop-test .left)) (l .loop .inv .1) _ (c .second2 .ensures)))
+    says-last _ (s .pre .1 .0 .timed) _ _ _ _ _ _ (on-a-side _) _ (c .before .if3 .left) _ (m .before .ask-once .ensures) (is-open _ (m .match .keys1)) (le-antisymm (l .loop .inv .0) (c .before .before .loop-test .left)) (l .loop .inv .1) _ (c .second2 .ensures)))
     (λ t. second-lts.spec
     (ask-once-reads.Asked, ask-once-reads.Learnt, is-yes-reads.Asked, is-yes-reads.Learnt, without-reads.Asked, without-reads.Learnt, first-below t, first.Post)
     (second-at t)
@@ -104,15 +104,15 @@ pub +first+second-spec : {M : Type 1} → statement M
     (λ c κs. tt)
     (λ c.
     let a = c .before .before in
-    rw (c .is-yes .ensures) (says-answer _ (a .before .pre .1 .timed) _ _ _ _ _ (a .ask-once .ensures) (decided _ (c .before .match .keys2))))
-    (λ c. let h = c .before .before .before .pre .1 .timed .split in (omega arith, none-yet _ _))
+    rw (c .is-yes .ensures) (says-answer _ (a .before .pre .1 .0 .timed) _ _ _ _ _ (a .ask-once .ensures) (decided _ (c .before .match .keys2))))
+    (λ c. let h = c .before .before .before .pre .1 .0 .timed .split in (omega arith, none-yet _ _))
     (λ c. c .loop-test .taken)
     (λ c κs. c .before .before .loop-test .taken)
     (λ c κs.
     let s = c .before .before .before .before .before .before .before .before .before in
     (falls-without _ _ _ _ (s .pre .0) (c .before .without .ensures) (c .before .before .if1 .taken), s .pre .1))
     (λ c. found _ _ (c .before .before .before .without .ensures) (c .before .first .ensures) _ _ _ (c .if2 .taken))
-    (λ c. let h = c .before .before .loop-test .taken in let k = c .before .before .before .before .before .before .before .pre .1 .timed .split in omega arith)
+    (λ c. let h = c .before .before .loop-test .taken in let k = c .before .before .before .before .before .before .before .pre .1 .0 .timed .split in omega arith)
     (λ c. let h = c .before .before .loop-test .taken in omega arith)
     (λ c.
     let l = c .before .before .before .loop in
@@ -123,10 +123,10 @@ pub +first+second-spec : {M : Type 1} → statement M
     ))
     (λ c.
     let l = c .before .before in
-    says-tried _ (l .before .before .before .before .pre .1 .timed) _ _ _ _ _ (c .if3 .taken) (le-antisymm (l .loop .inv .0) (c .before .loop-test .left)) (l .loop .inv .1))
+    says-tried _ (l .before .before .before .before .pre .1 .0 .timed) _ _ _ _ _ (c .if3 .taken) (le-antisymm (l .loop .inv .0) (c .before .loop-test .left)) (l .loop .inv .1))
     (λ c κs. let s = c .before .before .before .before .before .before in (falls-handed _ _ (s .pre .0) (c .if3 .left), s .pre .1))
     (λ c.
     let l = c .before .before .before in
     let m = l .before .before in
     let s = m .before .before in
-    says-last _ (s .pre .1 .timed) _ _ _ _ _ _ (λ j k. ⊎-swap (on-a-side _ j k)) _ (c .before .if3 .left) _ (m .before .ask-once .ensures) (is-open _ (m .match .keys1)) (le-antisymm (l .loop .inv .0) (c .before .before .loop-test .left)) (l .loop .inv .1) _ (c .first2 .ensures)))
+    says-last _ (s .pre .1 .0 .timed) _ _ _ _ _ _ (λ j k. ⊎-swap (on-a-side _ j k)) _ (c .before .if3 .left) _ (m .before .ask-once .ensures) (is-open _ (m .match .keys1)) (le-antisymm (l .loop .inv .0) (c .before .before .loop-test .left)) (l .loop .inv .1) _ (c .first2 .ensures)))
