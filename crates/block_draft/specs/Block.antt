@@ -25,7 +25,7 @@ use Rattle.scenes.specs.Answering.{refuses, is-refused, is-past, is-given, lets
 use Rattle.seam_table.specs.Below.{or-left, or-rest}
 use Rattle.scenes.specs.Checking.{sewable}
 use Rattle.seam_table.specs.Sewing.{seamsAlone, Sewable, blank-table}
-use Rattle.scene_draft.specs.Putting.{pointFrom, signedAt, signed-at}
+use Rattle.line_draft.specs.Putting.{pointFrom, signedAt, signed-at}
 use Rattle.meaning.specs.Series.{lastFrom, stepAfter, lastStep}
 use Rattle.meaning.specs.SeriesText.{Item, ends, next, threeOf, itemLine, SoFar, blocksSoFar, seriesSoFar, withItem, ItemFormed, blockFull, blockShort, wrongLength, farEnd, comesApartNow, itemChecks, seriesLines}
 use Rattle.steps.specs.Longer.{last-append}

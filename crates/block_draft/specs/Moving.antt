@@ -16,7 +16,7 @@ use Rattle.meaning.specs.Limits.{coordinateLimit, vertexLimit}
 use Rattle.meaning.specs.Scene.{brokenSeam}
 use Rattle.meaning.specs.Refusals.{Outcome, given, refused, Check, Answers}
 use Rattle.seam_table.specs.Sewing.{seamsAlone, Sewable}
-use Rattle.scene_draft.specs.Putting.{pointFrom, Near}
+use Rattle.line_draft.specs.Putting.{pointFrom, Near}
 use Rattle.block_draft.specs.declared.moving.EndTaken.{EndTaken}
 use Rattle.block_draft.specs.declared.moving.EndTaken.the-variants.{Good, Length, Far, Apart}
 

@@ -7,11 +7,11 @@ ghost use Rattle.sequences.specs.Wrote.{Wrote};
 ghost use Rattle.meaning.specs.Limits.{vertexLimit};
 ghost use Rattle.meaning.specs.Scene.{brokenSeam};
 ghost use Rattle.seam_table.specs.Sewing.{seamsAlone, Sewable};
-ghost use Rattle.scene_draft.specs.Putting.{Near};
+ghost use Rattle.line_draft.specs.Putting.{Near};
 ghost use Rattle.block_draft.specs.Moving.{threeAt, movedOn, farThree, wrongHere, lastHere, EndReady, EndIs};
+use line_draft::place::put_point;
 use meaning::COORDINATE_LIMIT;
 use meaning::VERTEX_LIMIT;
-use scene_draft::place::put_point;
 use seam_table::sew_all;
 
 // The largest size of a coordinate, as sizes are held.

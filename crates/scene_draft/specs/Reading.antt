@@ -19,13 +19,15 @@ use Rattle.meaning.specs.declared.TextAnswer.the-variants.{Read, Refused}
 use Rattle.lines.specs.Going.{Reached, reached-first, reached-none, reached-next, reached-longer, reached-fault, reached-end}
 use Rattle.scene_line.specs.Rendered.{scene-readable}
 use Rattle.scene_line.specs.Reading.{sortOf}
-use Rattle.scene_line.specs.Above.{above-none, noCounts, countedBy}
+use Rattle.scene_line.specs.Above.{Bounded, above-none, noCounts, countedBy}
 use Rattle.scene_line.specs.declared.Sort.{Sort}
 use Rattle.scene_line.specs.declared.Sort.the-variants.{Vertex, Edge, Triangle, Seam}
-use Rattle.scene_draft.specs.Putting.{Roomy}
-use Rattle.scene_draft.specs.Drafting.{Drafted, DraftOf, TakenAs, LineTaken, TookLine}
-use Rattle.scene_draft.specs.declared.Taken.{Taken}
-use Rattle.scene_draft.specs.declared.Taken.the-variants.{Fault, Next}
+use Rattle.line_draft.specs.Putting.{Roomy}
+use Rattle.line_draft.specs.Drafting.{Drafted, DraftOf, FaultHere, TakenAs, LineTaken, TookLine}
+use Rattle.line_draft.specs.declared.Taken.{Taken}
+use Rattle.line_draft.specs.declared.Taken.the-variants.{Fault, Next}
+use Rattle.scene_draft.specs.declared.LinesDrafted as Lines
+use Rattle.scene_draft.specs.declared.LinesDrafted.{LinesDrafted}
 
 -- a table of no seams, with a place for each vertex
 pub record BlankTable (table : List ℕ) : Type 0 where
@@ -112,6 +114,19 @@ pub record Drafting (text : List ℕ) (b : Scene) (table : List ℕ) (c : SceneC
   pub drafted : Drafted b table scene c
   pub lines : total c ≡ length (reached .above)
 
+-- the first line at fault, below those lines
+pub record StoppedAt (text : List ℕ) (b : Scene) (table : List ℕ) (f : Refusal) (c : SceneCounts) (at : ℕ) : Type 0 where
+  pub scene : Scene
+  pub reached : Reached sceneLines none text scene at
+  pub lines : total c ≡ length (reached .above)
+  pub bounded : Bounded c
+  pub inside : at < length text
+  pub here : FaultHere text at c scene b table f
+
+unfoldable pub LinesAre : List ℕ → Scene → List ℕ → LinesDrafted → Type 0
+LinesAre text b table (Lines.the-variants.Fault f c at) = StoppedAt text b table f c at
+LinesAre text b table (Lines.the-variants.All c at) = Drafting text b table c at × (length text ≤ at)
+
 pub draft-starts : (text : List ℕ) (b : Scene) (table : List ℕ) → BlankTable table → Drafting text b table noCounts 0
 draft-starts text b table blank =
     record {
@@ -150,16 +165,46 @@ module _ {text : List ℕ} {b : Scene} {table : List ℕ} {c : SceneCounts} {at 
           further,
         )
 
-    pub draft-fails : {f : Refusal} {line : ℕ} → r ≡ Fault f → line ≡ total c + 1 → DraftIs text b′ table′ (Refused f line)
-    unfolding TakenAs DraftIs
-    draft-fails {f} {line} e l =
+    pub draft-stops : {f : Refusal} → at < length text → r ≡ Fault f → LinesAre text b′ table′ (Lines.the-variants.Fault f c at)
+    unfolding TakenAs LinesAre
+    draft-stops {f} h e =
         let any : TakenAs text at c (i .scene) b′ table′ r = taken (i .scene) (i .drafted) in
-        let fault : Text.Fault (i .scene) (drop at text) (numberOf f) = rw e at any in
-        reached-fault (i .reached) fault (l ∙ ap (λ (k : ℕ). k + 1) (i .lines))
+        let here : FaultHere text at c (i .scene) b′ table′ f = rw e at any in
+        record {
+          scene = i .scene;
+          reached = i .reached;
+          lines = i .lines;
+          bounded = i .drafted .above .bounded;
+          inside = h;
+          here = here;
+        }
 
-  pub draft-ends : length text ≤ at → DraftIs text b table (Read c)
+  pub draft-ends : length text ≤ at → LinesAre text b table (Lines.the-variants.All c at)
+  unfolding LinesAre
+  draft-ends h = (i, h)
+
+-- ---- a scene's text, from its lines
+
+module _ (text : List ℕ) (b : Scene) (table : List ℕ) {r : LinesDrafted} (all : LinesAre text b table r) where
+  pub stopped-at : {f : Refusal} {c : SceneCounts} {at : ℕ} → r ≡ Lines.the-variants.Fault f c at → StoppedAt text b table f c at
+  unfolding LinesAre
+  stopped-at e = rw e at all
+
+  pub went-on : {c : SceneCounts} {at : ℕ} → r ≡ Lines.the-variants.All c at → Drafting text b table c at × (length text ≤ at)
+  unfolding LinesAre
+  went-on e = rw e at all
+
+  pub text-refused : {f : Refusal} {c : SceneCounts} {at line : ℕ} → r ≡ Lines.the-variants.Fault f c at → line ≡ total c + 1
+      → DraftIs text b table (Refused f line)
   unfolding DraftIs
-  draft-ends h =
+  text-refused {f} {c} {at} e l =
+      let s : StoppedAt text b table f c at = stopped-at e in
+      reached-fault (s .reached) (s .here .fault) (l ∙ ap (λ (k : ℕ). k + 1) (s .lines))
+
+  pub text-read : {c : SceneCounts} {at : ℕ} → r ≡ Lines.the-variants.All c at → DraftIs text b table (Read c)
+  unfolding DraftIs
+  text-read {c} {at} e =
+      let (i, h) = went-on e in
       record {
         scene = i .scene;
         holds = record { entries = i .reached .above; records = reached-end (i .reached) h; scene = i .reached .state };

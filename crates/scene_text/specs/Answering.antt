@@ -19,8 +19,8 @@ use Rattle.meaning.specs.declared.SceneCounts.{SceneCounts}
 use Rattle.meaning.specs.declared.TextAnswer.{TextAnswer}
 use Rattle.meaning.specs.declared.TextAnswer.the-variants.{Read, Refused}
 use Rattle.scene_line.specs.Above.{Bounded, lengths-count}
-use Rattle.scene_draft.specs.Putting.{Roomy}
-use Rattle.scene_draft.specs.Drafting.{Fronts}
+use Rattle.line_draft.specs.Putting.{Roomy}
+use Rattle.line_draft.specs.Drafting.{Fronts}
 use Rattle.scene_draft.specs.Reading.{DraftRead, DraftIs}
 
 pub roomy : (lent : Scene) → shortBuffer lent ≡ false → Roomy lent

@@ -5,7 +5,7 @@ ghost use mathlib.Core.Path.{_≡_};
 ghost use Rattle.sequences.specs.Wrote.{written};
 ghost use Rattle.meaning.specs.Scene.{sceneIn, sceneAtEntry, sceneAtExit};
 ghost use Rattle.scene_line.specs.Above.{Bounded};
-ghost use Rattle.scene_draft.specs.Putting.{Roomy};
+ghost use Rattle.line_draft.specs.Putting.{Roomy};
 ghost use Rattle.scene_text.specs.Answering.{Copied};
 use meaning::SceneCounts;
 

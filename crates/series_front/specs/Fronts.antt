@@ -1,7 +1,7 @@
 -- A scene's lines in front of a series: what a reader of scenes finds in them is what the grammar of series says.
 use Prim.Native.Nat.{ℕ, _+_, _*_, _≤_, _<_}
 use mathlib.Core.Bool.{Bool, true, false, true≢false, _&&_}
-use mathlib.Core.List.{List, [], _∷_, _++_, map, flatMap}
+use mathlib.Core.List.{List, [], _∷_, _++_, map, flatMap, head-eq-of-cons-eq}
 use mathlib.Core.Path.{_≡_, refl, sym, ap, _∙_, subst}
 use mathlib.Core.Logic.{_⊎_, inl, inr}
 use native.Mathlib.Omega.{arith}
@@ -11,19 +11,18 @@ use Rattle.meaning.specs.Scene.{Scene, vertexCount}
 use Rattle.meaning.specs.Refusals.{given, refused, numberOf}
 use Rattle.meaning.specs.Lines.{Fault, unformed, misplaced, linesOf, afterAll, Sound, FaultyAt}
 use Rattle.meaning.specs.Text as Text
-use Rattle.meaning.specs.Text.{Entry, none, sceneWith, sceneLines}
+use Rattle.meaning.specs.Text.{Entry, none, sceneWith, sceneLines, lineFeed}
 use Rattle.meaning.specs.declared.Refusal.{Refusal}
 use Rattle.meaning.specs.declared.SceneCounts.{SceneCounts}
 use Rattle.scenes.specs.Answering.{lets-pass}
 use Rattle.lines.specs.Unique.{records-few}
 use Rattle.lines.specs.Going.{Reached, reached-fault}
-use Rattle.scene_draft.specs.Drafting.{Drafted, TakenAs, LineTaken}
-use Rattle.scene_draft.specs.Reading.{Drafting, total}
-use Rattle.scene_draft.specs.declared.Taken as Takes
-use Rattle.scene_draft.specs.declared.Taken.{Taken}
+use Rattle.line_draft.specs.Drafting.{Drafted}
+use Rattle.scene_draft.specs.Reading.{Drafting, StoppedAt, total}
 use Rattle.meaning.specs.Series.{lastFrom}
 use Rattle.meaning.specs.SeriesText.{Item, of, ends, next, itemLine, SoFar, nothingYet, withItem, ItemFormed, itemChecks, seriesLines}
-use Rattle.series_line.specs.Rendered.{series-readable}
+use Rattle.scene_line.specs.Rendered.{line-is}
+use Rattle.series_line.specs.Rendered.{series-readable, letter-not-next}
 use Rattle.series_line.specs.Reading.{nextHere, next-stands, no-next}
 use Rattle.block_draft.specs.Reading.{StepHere}
 use Rattle.series_front.specs.declared.FrontAnswer as Answers′
@@ -136,15 +135,29 @@ module _ {text : List ℕ} {b : Scene} {table : List ℕ} {c : SceneCounts} {at 
   unfolding FrontIs
   front-ends h = front-read (inl h)
 
+next-first : (text : List ℕ) (at : ℕ) → nextHere text at ≡ true → drop at text ≡ 110 ∷ (lineFeed ∷ drop (at + 2) text)
+unfolding itemLine
+next-first text at here = next-stands text at here .here
+
+-- an `n` is no record of a scene, so that a scene is at fault there with 9
+next-is-nine : (text : List ℕ) (at : ℕ) (s : Scene) {n : ℕ} → nextHere text at ≡ true → Text.Fault s (drop at text) n → n ≡ 9
+next-is-nine text at s here (unformed e some never) = e
+next-is-nine text at s here (misplaced r rest formed eq j) =
+    absurd (letter-not-next r (head-eq-of-cons-eq (sym (line-is r rest) ∙ sym eq ∙ next-first text at here)))
+
+module _ {text : List ℕ} {b : Scene} {table : List ℕ} {f : Refusal} {c : SceneCounts} {at : ℕ} (i : StoppedAt text b table f c at) where
   pub front-next : nextHere text at ≡ true → FrontIs text b table (Answers′.the-variants.Read c at)
   unfolding FrontIs
-  front-next h = front-read (inr (next-stands text at h))
+  front-next h =
+      front-read (record {
+        scene = i .scene;
+        reached = i .reached;
+        drafted = i .here .kept (next-is-nine text at (i .scene) h (i .here .fault));
+        lines = i .lines;
+      }) (inr (next-stands text at h))
 
-  pub front-fails : (b′ : Scene) (table′ : List ℕ) {t : Taken} {f : Refusal} {line : ℕ} → nextHere text at ≡ false → LineTaken text at c b table b′ table′ t
-      → t ≡ Takes.the-variants.Fault f → line ≡ total c + 1 → FrontIs text b′ table′ (Answers′.the-variants.Refused f line)
-  unfolding FrontIs TakenAs of-reached
-  front-fails b′ table′ {t} {f} no-n taken e l =
-      let any : TakenAs text at c (i .scene) b′ table′ t = taken (i .scene) (i .drafted) in
-      let fault : Text.Fault (i .scene) (drop at text) (numberOf f) = rw e at any in
+  pub front-fails : {line : ℕ} → nextHere text at ≡ false → line ≡ total c + 1 → FrontIs text b table (Answers′.the-variants.Refused f line)
+  unfolding FrontIs of-reached
+  front-fails no-n l =
       let many : total c ≡ length (map of (i .reached .above)) = i .lines ∙ sym (length-map (i .reached .above) of) in
-      reached-fault (of-reached (i .reached)) (of-fault text at (i .scene) no-n fault) (l ∙ ap (λ (k : ℕ). k + 1) many)
+      reached-fault (of-reached (i .reached)) (of-fault text at (i .scene) no-n (i .here .fault)) (l ∙ ap (λ (k : ℕ). k + 1) many)

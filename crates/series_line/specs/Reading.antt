@@ -1,14 +1,14 @@
 -- What the reader of a block's line promises, and how the tests of the code are those of the definition.
-use mathlib.Core.Bool.{Bool, true, false, true≢false, cond, _&&_}
+use mathlib.Core.Bool.{Bool, true, false, true≢false, _&&_}
 use mathlib.Core.List.{List, [], _∷_, _++_, head-eq-of-cons-eq}
 use mathlib.Core.Path.{_≡_, refl, sym, ap, _∙_, subst}
-use mathlib.Core.Logic.{_≢_, _⊎_, inl, inr, ⊎-elim}
+use mathlib.Core.Logic.{_≢_}
 use Prim.Native.Nat.{ℕ, _+_, _≤_, _<_}
 use native.Mathlib.Omega.{arith}
 use lib.Dec.{eqb}
 use lib.IntN.{ℤ, pos}
 use lib.ListN.{length, drop, length-drop}
-use borrow.Author.Tests.{eq-eqb, ne-eqb, eqb-true}
+use borrow.Author.Tests.{eq-eqb, eqb-true}
 use Rattle.whole.specs.Vector.{Vector}
 use Rattle.sequences.specs.Pick.{both}
 use Rattle.sequences.specs.Stands.{Stands, stands-one, stands-then, stands-apart, stands-from}
@@ -20,20 +20,14 @@ use Rattle.fields.specs.Tabbed.{tab-parts, line-ends, first-of}
 use Rattle.fields.specs.declared.Ending.{Ending}
 use Rattle.fields.specs.declared.Ending.the-variants.{At, Nowhere}
 use Rattle.meaning.specs.Limits.{digitLimit}
-use Rattle.meaning.specs.Refusals.{Outcome, given, refused, Check, Answers, numberOf}
+use Rattle.meaning.specs.Refusals.{refused}
 use Rattle.meaning.specs.Lines.{Fault, unformed, misplaced}
 use Rattle.meaning.specs.Text as Text
-use Rattle.meaning.specs.Text.{Entry, vertex, edge, triangle, seam, letterOf, numbersOf, lineOf, lineFeed, Short, none, entryChecks, EntryJudged}
-use Rattle.meaning.specs.declared.Refusal.{Refusal}
-use Rattle.scenes.specs.Answering.{refuses, is-refused, is-past}
+use Rattle.meaning.specs.Text.{Entry, vertex, edge, triangle, seam, letterOf, numbersOf, lineOf, lineFeed, Short, entryChecks}
+use Rattle.scenes.specs.Answering.{refuses}
 use Rattle.scene_line.specs.Rendered.{coordinateForm, line-is}
-use Rattle.scene_line.specs.Reading.{LineGot}
-use Rattle.scene_line.specs.Above.{noCounts, above-none}
-use Rattle.scene_line.specs.Stepping.{Stepped, LineStepped}
+use Rattle.scene_line.specs.Reading.{letter, many, formOf, lineEnded, LineRead, line-got, line-other}
 use Rattle.scene_line.specs.declared.Sort.{Sort}
-use Rattle.scene_line.specs.declared.Step.{Step}
-use Rattle.scene_line.specs.declared.Step as Steps
-use Rattle.meaning.specs.declared.SceneCounts.{SceneCounts}
 use Rattle.meaning.specs.SeriesText.{Item, of, ends, next, threeOf, itemLine, SoFar, sixNumbers, ItemFormed, itemChecks, seriesLines}
 use Rattle.series_line.specs.Rendered.{ends-line-is, letter-of-six, letter-not-next, six-not-here}
 use Rattle.series_line.specs.declared.BlockLine as Blocks
@@ -48,8 +42,15 @@ unfoldable pub endsFound : Ending → BlockLine
 endsFound (At n) = Ends n
 endsFound Nowhere = Bad
 
-abbrev pub otherFound : Refusal → BlockLine
-otherFound r = cond (eqb (numberOf r) 9) Bad Late
+unfoldable pub partFound : Ending → BlockLine
+partFound (At n) = Late
+partFound Nowhere = Bad
+
+-- a line that is no `v` line and no `n`
+pub record OtherHere (text : List ℕ) (at : ℕ) : Type 0 where
+  pub inside : at < length text
+  pub no-n : nextHere text at ≡ false
+  pub no-v : byteAt text at ≡ 118 → ⊥
 
 -- ---- the promise
 
@@ -175,30 +176,6 @@ ends-got {text} {at} {sizes} {sizes′} {minus} {minus′} {e} {r} h b row is = 
 
 -- ---- any other line
 
--- a refusal of a list of checks has the number of one of them
-unfoldable Among : ℕ → List Check → Type 0
-Among n [] = ⊥
-Among n (k ∷ ks) = (n ≡ k .number) ⊎ Among n ks
-
-refused-among : (ks : List Check) (n c : ℕ) → Answers {A = Unit {0}} ks (λ t. Unit {0}) (refused n c) → Among n ks
-unfolding Answers Among
-refused-among [] n c a = a
-refused-among (k ∷ ks) n c a = go (k .holds) refl (refused-among ks n c)
-  where
-    go : (b : Bool) → k .holds ≡ b → (Answers {A = Unit {0}} ks (λ t. Unit {0}) (refused n c) → Among n ks) → (n ≡ k .number) ⊎ Among n ks
-    go true h more =
-        inl (let e : _≡_ {A = Outcome (Unit {0})} (refused n c) (refused (k .number) (k .carries)) = is-refused (λ t. Unit {0}) k ks (refused n c) h a in cc)
-    go false h more = inr (more (is-past (λ t. Unit {0}) k ks (refused n c) h a))
-
--- no check of a record is 9
-never-nine : (r : Entry) → EntryJudged none r (refused 9 0) → ⊥
-unfolding Among
-never-nine r j =
-    ⊎-elim (λ e. omega (arith, e))
-    (⊎-elim (λ e. omega (arith, e))
-    (⊎-elim (λ e. omega (arith, e)) (⊎-elim (λ e. omega (arith, e)) (⊎-elim (λ e. omega (arith, e)) (⊎-elim (λ e. omega (arith, e)) (λ e. e))))))
-    (refused-among (entryChecks none r) 9 0 j)
-
 not-six : (r : Entry) → (letterOf r ≡ 118 → ⊥) → sixNumbers r ≡ false
 unfolding letterOf sixNumbers
 not-six (vertex p q) never = absurd (never refl)
@@ -206,12 +183,12 @@ not-six (edge a b) never = refl
 not-six (triangle a b c) never = refl
 not-six (seam i j) never = refl
 
-module _ (text : List ℕ) (at : ℕ) (h : at < length text) (no-n : nextHere text at ≡ false) (other : byteAt text at ≡ 118 → ⊥) where
+module _ (text : List ℕ) (at : ℕ) (h : OtherHere text at) where
   -- a record of a scene stands here: 10
   late-line : (r : Entry) (rest : List ℕ) → Short digitLimit (numbersOf r) → drop at text ≡ lineOf r ++ rest → BlockFault text at 10
   unfolding ItemFormed itemLine itemChecks
   late-line r rest short eq x begun =
-      let six : sixNumbers r ≡ false = not-six r (λ e. other (first-byte text at _ (eq ∙ line-is r rest) ∙ e)) in
+      let six : sixNumbers r ≡ false = not-six r (λ e. h .no-v (first-byte text at _ (eq ∙ line-is r rest) ∙ e)) in
       let formed : x .begun && sixNumbers r ≡ false = rw (begun, six) in
       misplaced (of r) rest (formed, short) eq
       (refuses (λ t. Unit {0}) (record { number = 10; holds = x .begun; carries = 0 }) (entryChecks (x .scene) r) (refused 10 0) begun refl)
@@ -219,39 +196,31 @@ module _ (text : List ℕ) (at : ℕ) (h : at < length text) (no-n : nextHere te
   -- none does: 9
   bad-line : ((r : Entry) (rest : List ℕ) → Short digitLimit (numbersOf r) → drop at text ≡ lineOf r ++ rest → ⊥) → BlockFault text at 9
   unfolding ItemFormed
-  bad-line nothing x begun = unformed refl (some-left text at h) never
+  bad-line nothing x begun = unformed refl (some-left text at (h .inside)) never
     where
       never : (i : Item) (rest : List ℕ) → ItemFormed x i → drop at text ≡ itemLine i ++ rest → ⊥
       never (of a) rest f eq = nothing a rest (f .1) (eq ∙ ap (λ (l : List ℕ). l ++ rest) (of-line a))
-      never (ends p) rest f eq = other (first-byte text at _ (eq ∙ ends-line-is p rest))
-      never next rest f eq = no-next text at no-n rest eq
+      never (ends p) rest f eq = h .no-v (first-byte text at _ (eq ∙ ends-line-is p rest))
+      never next rest f eq = no-next text at (h .no-n) rest eq
 
-  -- what a scene's line says: that no record stands here, or one with a fault
-  pub other-fault : (sizes : List ℕ) (minus : List Bool) (f : Refusal) → Text.Fault none (drop at text) (numberOf f)
-      → BlockLineRead text at sizes minus (otherFound f)
+  -- the letter of a kind stands here: what is read of the row behind it decides
+  pub part-got : (sort : Sort) {sizes sizes′ : List ℕ} {minus minus′ : List Bool} {e : Ending} {r : BlockLine} → byteAt text at ≡ letter sort
+      → RowEnded text (at + 1) (formOf sort) (many sort) sizes sizes′ minus minus′ e → r ≡ partFound e
+      → BlockLineRead text at sizes′ minus′ r
+  unfolding BlockLineRead partFound LineRead lineEnded
+  part-got sort {sizes} {sizes′} {minus} {minus′} {e} {r} b row is = rw is (by-ending e refl)
+    where
+      by-ending : (x : Ending) → e ≡ x → BlockLineRead text at sizes′ minus′ (partFound x)
+      by-ending (At after) q =
+          let got : LineRead text at sizes′ minus′ (lineEnded sort (At after)) = line-got sort (h .inside) b row (ap (lineEnded sort) (sym q)) in
+          late-line (got .entry) _ (got .short) (got .stands .here)
+      by-ending Nowhere q =
+          let none-here : LineRead text at sizes′ minus′ (lineEnded sort Nowhere) = line-got sort (h .inside) b row (ap (lineEnded sort) (sym q)) in
+          bad-line (λ r rest short eq. none-here r _ short (stands-from text at (lineOf r) rest eq))
+
+  -- no letter of a record stands here
+  pub no-part : (sizes : List ℕ) (minus : List Bool) → (byteAt text at ≡ 101 → ⊥) → (byteAt text at ≡ 116 → ⊥) → (byteAt text at ≡ 119 → ⊥)
+      → BlockLineRead text at sizes minus Bad
   unfolding BlockLineRead
-  other-fault sizes minus f (unformed e some never) = rw (eq-eqb (numberOf f) 9 e) (bad-line never)
-  other-fault sizes minus f (misplaced r rest formed eq j) =
-      let not-nine : numberOf f ≡ 9 → ⊥ = λ e. never-nine r (subst (λ (n : ℕ). EntryJudged none r (refused n 0)) e j) in
-      rw (ne-eqb (numberOf f) 9 not-nine) (late-line r rest formed eq)
-
-  -- or one without
-  pub other-taken : (sizes sizes′ : List ℕ) (minus minus′ : List Bool) {sort : Sort} {after : ℕ} → LineGot text at sizes′ minus′ sort after
-      → BlockLineRead text at sizes minus Late
-  unfolding BlockLineRead
-  other-taken sizes sizes′ minus minus′ got = late-line (got .entry) _ (got .short) (got .stands .here)
-
-  -- from the step over a scene's first line
-  pub fault-found : (sizes : List ℕ) (minus : List Bool) {step : Step} {f : Refusal} {r : BlockLine} → LineStepped text at noCounts sizes minus step
-      → step ≡ Steps.the-variants.Fault f → r ≡ otherFound f → BlockLineRead text at sizes minus r
-  unfolding Stepped
-  fault-found sizes minus {step} {f} stepped is e =
-      let fault : Stepped text at none noCounts sizes minus (Steps.the-variants.Fault f) = rw is at (stepped none above-none) in
-      rw e (other-fault sizes minus f fault)
-
-  pub record-found : (sizes : List ℕ) (minus : List Bool) {step : Step} {sort : Sort} {c : SceneCounts} {after : ℕ}
-      → LineStepped text at noCounts sizes minus step → step ≡ Steps.the-variants.Taken sort c after → BlockLineRead text at sizes minus Late
-  unfolding Stepped
-  record-found sizes minus {step} {sort} {c} {after} stepped is =
-      let took : Stepped text at none noCounts sizes minus (Steps.the-variants.Taken sort c after) = rw is at (stepped none above-none) in
-      other-taken sizes sizes minus minus (took .line)
+  no-part sizes minus e t w =
+      bad-line (λ r rest short eq. line-other text at (h .no-v) e t w r _ short (stands-from text at (lineOf r) rest eq))

@@ -3,15 +3,10 @@
 ghost use Prim.Native.Nat.{_≤_, _<_};
 ghost use lib.ListN.{length};
 ghost use mathlib.Core.Path.{_≡_};
-ghost use Rattle.series_line.specs.Reading.{nextHere, endsFound, otherFound, BlockLineRead};
+ghost use Rattle.series_line.specs.Reading.{nextHere, endsFound, partFound, OtherHere, BlockLineRead};
 use fields::Ending;
 use fields::Form;
 use meaning::DIGIT_LIMIT;
-use meaning::Refusal;
-use meaning::SceneCounts;
-use scene_line::Step;
-use scene_line::next_line;
-use wording::number_of;
 
 // What stands in a line below an `n`: the next end of a vertex, or another `n`, each with the place of the line behind it; a record that may
 // not stand there; or nothing of a series.
@@ -41,15 +36,39 @@ fn ends_found(ending: Ending) -> BlockLine
     }
 }
 
-// A line that is no `v` line and no `n`: whether it is a record of a scene is all that is asked, so that it is read as a scene's first.
-fn other_found(refusal: Refusal) -> BlockLine
-    ensures { λ r. ⌜ r ≡ otherFound refusal ⌝ }
+fn part_found(ending: Ending) -> BlockLine
+    ensures { λ r. ⌜ r ≡ partFound ending ⌝ }
 {
-    if number_of(refusal) == 9 {
-        BlockLine::Bad
-    } else {
-        BlockLine::Late
+    match ending {
+        Ending::At(_) => BlockLine::Late,
+        Ending::Nowhere => BlockLine::Bad,
     }
+}
+
+// A line that is no `v` line and no `n`: whether it is a record of a scene is all that is asked. It is not asked of the reader of scenes, whose loop
+// would be slower if its lines were read from here too.
+fn other_line(text: &[u8], at: usize, sizes: &mut [u64], minus: &mut [bool]) -> BlockLine
+    requires { ⌜ OtherHere (now text) at ⌝ }
+    requires { ⌜ 6 ≤ length (now sizes) ⌝ }
+    requires { ⌜ 6 ≤ length (now minus) ⌝ }
+    ensures { λ r. ⌜ BlockLineRead (now (text .entry)) at (now (sizes .exit)) (now (minus .exit)) r ⌝ }
+{
+    let letter = text[at];
+    let form = Form {
+        separator: b'\t',
+        signed: false,
+        most: DIGIT_LIMIT,
+    };
+    if letter == b'e' {
+        return part_found(fields::read_row(text, at + 1, form, 2, sizes, minus));
+    }
+    if letter == b't' {
+        return part_found(fields::read_row(text, at + 1, form, 3, sizes, minus));
+    }
+    if letter == b'w' {
+        return part_found(fields::read_row(text, at + 1, form, 2, sizes, minus));
+    }
+    BlockLine::Bad
 }
 
 // The line at a place below an `n`. The numbers of a `v` line are then in front of the buffers.
@@ -71,14 +90,5 @@ pub fn block_line(text: &[u8], at: usize, sizes: &mut [u64], minus: &mut [bool])
         };
         return ends_found(fields::read_row(text, at + 1, form, 3, sizes, minus));
     }
-    let none = SceneCounts {
-        vertices: 0,
-        edges: 0,
-        triangles: 0,
-        seams: 0,
-    };
-    match next_line(text, at, none, sizes, minus) {
-        Step::Fault(refusal) => other_found(refusal),
-        Step::Taken(_, _, _) => BlockLine::Late,
-    }
+    other_line(text, at, sizes, minus)
 }

@@ -23,7 +23,7 @@ use Rattle.meaning.specs.declared.SceneCounts.{SceneCounts}
 use Rattle.meaning.specs.declared.Refusal.{Refusal}
 use Rattle.meaning.specs.declared.Refusal.the-variants.{ShortBuffer, LongText}
 use Rattle.scene_line.specs.Above.{Bounded, Lengths, lengths-count}
-use Rattle.scene_draft.specs.Putting.{Roomy}
+use Rattle.line_draft.specs.Putting.{Roomy}
 use Rattle.scene_text.specs.Answering.{roomy}
 use Rattle.series_front.specs.Fronts.{FrontRead, FrontIs}
 use Rattle.series_front.specs.declared.FrontAnswer as Fronts

@@ -22,7 +22,7 @@ use Rattle.boxes.specs.Parts.{Drawn, accepted-drawn}
 use borrow.Author.Tests.{le-ltb}
 use Rattle.listing.specs.Answering.{roomChecks, IsCount, ListedIn}
 use Rattle.scene_line.specs.Above.{Bounded}
-use Rattle.scene_draft.specs.Putting.{Roomy}
+use Rattle.line_draft.specs.Putting.{Roomy}
 use Rattle.scene_text.specs.Answering.{Copied}
 
 -- so many numbers of each list

@@ -8,7 +8,7 @@ ghost use mathlib.Core.Path.{_≡_};
 ghost use lib.ListN.{length};
 ghost use Rattle.meaning.specs.Limits.{textLimit};
 ghost use Rattle.meaning.specs.Scene.{sceneIn, sceneAtEntry, sceneAtExit};
-ghost use Rattle.scene_draft.specs.Putting.{Roomy};
+ghost use Rattle.line_draft.specs.Putting.{Roomy};
 ghost use Rattle.series_front.specs.Fronts.{FrontRead};
 ghost use Rattle.series_told.specs.Called.{SeriesCalled, SeriesCounted};
 ghost use Rattle.steps_told.specs.Telling.{refusedWith};

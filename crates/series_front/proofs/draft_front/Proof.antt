@@ -1,153 +1,59 @@
--- `series_front::draft_front` meets its contract: the lines before the place are a scene's records, none at fault, and the draft holds their scene. Each
--- turn takes a line, until an `n` stands there.
-use mathlib.Core.Path.{_≡_, sym, _∙_}
-use Prim.Native.Nat.{_-_}
-use native.Mathlib.Omega.{arith}
-use lib.ListN.{length}
+-- `series_front::draft_front` meets its contract: a scene's lines go on to the end, or to the first at fault, where an `n` may stand.
+use mathlib.Core.Path.{sym, _∙_}
 use borrow.Author.Needs.{needs}
-use Rattle.meaning.specs.Scene.{sceneOf}
-use Rattle.scene_draft.specs.Reading.{Drafting, SameRoom, same-room, room-then, same-roomy, draft-starts, draft-of, draft-goes}
+use Rattle.scene_draft.specs.Reading.{stopped-at, went-on}
 use Rattle.series_front.specs.Fronts.{front-ends, front-next, front-fails}
 use Rattle.series_front.proofs.draft_front.Statement.{statement}
 use Rattle.series_front.proofs.draft_front.Tie as tie
 
-abbrev Inv-loop : tie.InvT-loop
-Inv-loop text positions₀ edges₀ triangles₀ seams₀ stands₀ sizes₀ minus₀ c₀ at₀ positions edges triangles seams stands sizes minus c at =
-    Drafting text (sceneOf positions edges triangles seams) stands c at
-    × SameRoom (sceneOf positions₀ edges₀ triangles₀ seams₀) stands₀ (sceneOf positions edges triangles seams) stands
-    × (length sizes ≡ 6)
-    × (length minus ≡ 6)
+next-here-requires : tie.Need-next-here-requires
+next-here-requires c κs = stopped-at _ _ _ (c .before .before .before .before .before .before .before .before .before .before .before .before .draft-lines .ensures) (c .before .fault .given .1) .inside
 
-abbrev μ-loop : tie.MeasureT-loop
-μ-loop text positions₀ edges₀ triangles₀ seams₀ stands₀ sizes₀ minus₀ c₀ at₀ positions edges triangles seams stands sizes minus c at =
-    length text - at
+line-number-requires : tie.Need-line-number-requires
+line-number-requires c κs =
+    let told = c .before .before .before in
+    stopped-at _ _ _ (told .before .before .before .before .before .before .before .before .before .before .before .draft-lines .ensures) (told .fault .given .1) .bounded
 
-loop-holds : tie.Need-loop-holds Inv-loop μ-loop
-loop-holds c = (draft-starts _ _ _ (c .before .before .before .before .before .pre .1), same-room _ _, search needs, search needs)
+returns : tie.Need-returns
+returns c =
+    let (i, ended) = went-on _ _ _ (c .before .before .before .before .before .before .before .before .before .before .before .before .draft-lines .ensures) (c .before .c .given .1) in
+    front-ends i ended
 
-same-length : tie.Need-same-length Inv-loop μ-loop
-same-length c = c .before .before .before .loop .inv .1 .positions
-
-same-length-2 : tie.Need-same-length-2 Inv-loop μ-loop
-same-length-2 c = c .before .before .before .loop .inv .1 .edges
-
-same-length-3 : tie.Need-same-length-3 Inv-loop μ-loop
-same-length-3 c = c .before .before .before .loop .inv .1 .triangles
-
-same-length-4 : tie.Need-same-length-4 Inv-loop μ-loop
-same-length-4 c = c .before .before .before .loop .inv .1 .seams
-
-same-length-5 : tie.Need-same-length-5 Inv-loop μ-loop
-same-length-5 c = c .before .before .before .loop .inv .1 .sewn
-
-returns : tie.Need-returns Inv-loop μ-loop
-returns c = front-next (c .before .before .before .loop .inv .0) (sym (c .before .next-here .ensures) ∙ c .if1 .taken)
-
-take-line-requires : tie.Need-take-line-requires Inv-loop μ-loop
-take-line-requires c κs =
-    let i = c .before .before .before .before .before .before .before .before .before .before .loop .inv in
-    record {
-      inside = c .before .before .before .before .before .before .before .before .before .loop-test .taken;
-      sized = omega (arith, i .2);
-      signed = omega (arith, i .3);
-      roomy = same-roomy (c .before .before .before .before .before .before .before .before .before .before .before .before .before .before .before .before .pre .0) (i .1);
-      draft = draft-of (i .0);
-    }
-
-line-below-requires : tie.Need-line-below-requires Inv-loop μ-loop
-line-below-requires c κs = c .before .before .before .before .before .before .before .before .before .before .before .before .before .before .before .before .before .before .before .before .before .before .before .before .before .loop .inv .0 .drafted .above .bounded
-
-same-length-6 : tie.Need-same-length-6 Inv-loop μ-loop
-same-length-6 c = c .before .before .before .before .before .before .before .before .before .before .before .before .before .before .before .take-line .kept .1 .1 .1 .1 .1 .0 ∙ c .before .before .before .before .before .before .before .before .before .before .before .before .before .before .before .before .before .before .before .before .before .before .before .before .before .before .loop .inv .1 .positions
-
-same-length-7 : tie.Need-same-length-7 Inv-loop μ-loop
-same-length-7 c = c .before .before .before .before .before .before .before .before .before .before .before .before .before .before .before .take-line .kept .1 .1 .1 .1 .1 .1 .0 ∙ c .before .before .before .before .before .before .before .before .before .before .before .before .before .before .before .before .before .before .before .before .before .before .before .before .before .before .loop .inv .1 .edges
-
-same-length-8 : tie.Need-same-length-8 Inv-loop μ-loop
-same-length-8 c = c .before .before .before .before .before .before .before .before .before .before .before .before .before .before .before .take-line .kept .1 .1 .1 .1 .1 .1 .1 .0 ∙ c .before .before .before .before .before .before .before .before .before .before .before .before .before .before .before .before .before .before .before .before .before .before .before .before .before .before .loop .inv .1 .triangles
-
-same-length-9 : tie.Need-same-length-9 Inv-loop μ-loop
-same-length-9 c = c .before .before .before .before .before .before .before .before .before .before .before .before .before .before .before .take-line .kept .1 .1 .1 .1 .1 .1 .1 .1 .0 ∙ c .before .before .before .before .before .before .before .before .before .before .before .before .before .before .before .before .before .before .before .before .before .before .before .before .before .before .loop .inv .1 .seams
-
-same-length-10 : tie.Need-same-length-10 Inv-loop μ-loop
-same-length-10 c = c .before .before .before .before .before .before .before .before .before .before .before .before .before .before .before .take-line .kept .1 .1 .1 .1 .1 .1 .1 .1 .1 .0 ∙ c .before .before .before .before .before .before .before .before .before .before .before .before .before .before .before .before .before .before .before .before .before .before .before .before .before .before .loop .inv .1 .sewn
-
-returns-2 : tie.Need-returns-2 Inv-loop μ-loop
+returns-2 : tie.Need-returns-2
 returns-2 c =
-    front-fails (c .before .before .before .before .before .before .before .before .before .before .before .before .before .before .before .before .before .before .before .before .before .before .before .before .before .before .loop .inv .0) _ _ (sym (c .before .before .before .before .before .before .before .before .before .before .before .before .before .before .before .before .before .before .before .before .before .before .before .before .next-here .ensures) ∙ c .before .before .before .before .before .before .before .before .before .before .before .before .before .before .before .before .before .before .before .before .before .before .before .if1 .left) (c .before .before .before .before .before .before .before .before .before .before .before .before .before .before .before .take-line .ensures) (c .before .before .fault .given .1)
-    (c .line-below .ensures)
+    let told = c .before .before .before in
+    front-next (stopped-at _ _ _ (told .before .before .before .before .before .before .before .before .before .before .before .draft-lines .ensures) (told .fault .given .1)) (sym (c .before .next-here .ensures) ∙ c .if1 .taken)
 
-loop-less : tie.Need-loop-less Inv-loop μ-loop
-loop-less c =
-    let i = c .before .before .before .before .before .before .before .before .before .before .before .before .before .before .before .before .before .before .before .before .before .before .before .before .before .loop .inv .0 in
-    let on = draft-goes i _ _ (c .before .before .before .before .before .before .before .before .before .before .before .before .before .before .take-line .ensures) (c .before .after .given .1) in
-    omega (arith, on .1, i .reached .within, on .0 .reached .within)
-
-loop-again : tie.Need-loop-again Inv-loop μ-loop
-loop-again c =
-    let take = c .before .before .before .before .before .before .before .before .before .before .before .before .before .before in
-    let i = c .before .before .before .before .before .before .before .before .before .before .before .before .before .before .before .before .before .before .before .before .before .before .before .before .before .loop .inv in (
-      draft-goes (i .0) _ _ (take .take-line .ensures) (c .before .after .given .1) .0,
-      room-then (record {
-        positions = take .take-line .kept .1 .1 .1 .1 .1 .0;
-        edges = take .take-line .kept .1 .1 .1 .1 .1 .1 .0;
-        triangles = take .take-line .kept .1 .1 .1 .1 .1 .1 .1 .0;
-        seams = take .take-line .kept .1 .1 .1 .1 .1 .1 .1 .1 .0;
-        sewn = take .take-line .kept .1 .1 .1 .1 .1 .1 .1 .1 .1 .0;
-      }) (i .1),
-      take .take-line .kept .1 .1 .1 .0 ∙ i .2,
-      take .take-line .kept .1 .1 .1 .1 .0 ∙ i .3,
-    )
-
-same-length-11 : tie.Need-same-length-11 Inv-loop μ-loop
-same-length-11 c = c .before .loop .inv .1 .positions
-
-same-length-12 : tie.Need-same-length-12 Inv-loop μ-loop
-same-length-12 c = c .before .loop .inv .1 .edges
-
-same-length-13 : tie.Need-same-length-13 Inv-loop μ-loop
-same-length-13 c = c .before .loop .inv .1 .triangles
-
-same-length-14 : tie.Need-same-length-14 Inv-loop μ-loop
-same-length-14 c = c .before .loop .inv .1 .seams
-
-same-length-15 : tie.Need-same-length-15 Inv-loop μ-loop
-same-length-15 c = c .before .loop .inv .1 .sewn
-
-returns-3 : tie.Need-returns-3 Inv-loop μ-loop
-returns-3 c = front-ends (c .before .loop .inv .0) (c .loop-test .left)
+returns-3 : tie.Need-returns-3
+returns-3 c =
+    let told = c .before .before .before .before in
+    front-fails (stopped-at _ _ _ (told .before .before .before .before .before .before .before .before .before .before .before .draft-lines .ensures) (told .fault .given .1))
+    (sym (c .before .before .next-here .ensures) ∙ c .before .if1 .left) (c .line-number .ensures)
 
 pub draft-front-spec : {M : Type 1} → statement M
 draft-front-spec =
     tie.close
     (tie.spec
-    Inv-loop
-    μ-loop
-    loop-holds
     (λ c κs. search needs)
-    same-length
-    same-length-2
-    same-length-3
-    same-length-4
-    same-length-5
+    (λ c. search needs)
+    (λ c. search needs)
+    next-here-requires
+    line-number-requires
+    (λ c. search needs)
+    (λ c. search needs)
+    (λ c. search needs)
+    (λ c. search needs)
+    (λ c. search needs)
     returns
     (λ c. search needs)
     (λ c. search needs)
-    take-line-requires
     (λ c. search needs)
-    line-below-requires
-    same-length-6
-    same-length-7
-    same-length-8
-    same-length-9
-    same-length-10
+    (λ c. search needs)
+    (λ c. search needs)
     returns-2
     (λ c. search needs)
-    loop-less
-    loop-again
-    same-length-11
-    same-length-12
-    same-length-13
-    same-length-14
-    same-length-15
+    (λ c. search needs)
+    (λ c. search needs)
+    (λ c. search needs)
+    (λ c. search needs)
     returns-3)

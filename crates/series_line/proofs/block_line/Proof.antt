@@ -1,7 +1,7 @@
--- `series_line::block_line` meets its contract: an `n`, a `v` line of three numbers, or what a scene's first line would be.
+-- `series_line::block_line` meets its contract: an `n`, a `v` line of three numbers, or any other line.
 use borrow.Author.Needs.{needs}
 use mathlib.Core.Path.{sym, _∙_}
-use Rattle.series_line.specs.Reading.{BlockLineRead, next-stands, ends-got, fault-found, record-found}
+use Rattle.series_line.specs.Reading.{BlockLineRead, next-stands, ends-got}
 use Rattle.series_line.proofs.block_line.Statement.{statement}
 use Rattle.series_line.proofs.block_line.Tie as tie
 
@@ -15,22 +15,14 @@ returns-2 c =
     let test = row .before .before .before in
     ends-got (test .before .before .before .before .before .before .before .pre .0) (test .if2 .taken) (row .read-row .ensures) (c .ends-found .ensures)
 
-returns-3 : tie.Need-returns-3
-returns-3 c =
-    let told = c .before .before in
-    let step = c .before .before .before .before .before .before .before .before in
-    let test = step .before .before .before in
+other-line-requires : tie.Need-other-line-requires
+other-line-requires c κs =
+    let test = c .before .before in
     let first = test .before .before in
-    fault-found _ _ (first .before .before .before .before .before .pre .0) (sym (first .before .next-here .ensures) ∙ first .if1 .left) (test .if2 .left) _ _ (step .next-line .ensures)
-    (told .refusal .given .1) (c .other-found .ensures)
-
-returns-4 : tie.Need-returns-4
-returns-4 c =
-    let step = c .before .before .before .before .before .before in
-    let test = step .before .before .before in
-    let first = test .before .before in
-    record-found _ _ (first .before .before .before .before .before .pre .0) (sym (first .before .next-here .ensures) ∙ first .if1 .left) (test .if2 .left) _ _ (step .next-line .ensures)
-    (c .enum-told .given .1)
+    let given = first .before .before .before .before .before .pre in (
+      record { inside = given .0; no-n = sym (first .before .next-here .ensures) ∙ first .if1 .left; no-v = test .if2 .left },
+      given .1,
+    )
 
 pub block-line-spec : {M : Type 1} → statement M
 block-line-spec =
@@ -46,13 +38,7 @@ block-line-spec =
     (λ c. search needs)
     (λ c. search needs)
     returns-2
-    (λ c κs. search needs)
-    (λ c. search needs)
-    (λ c κs. search needs)
+    other-line-requires
     (λ c. search needs)
     (λ c. search needs)
-    (λ c. search needs)
-    returns-3
-    (λ c. search needs)
-    (λ c. search needs)
-    returns-4)
+    (λ c. search needs))

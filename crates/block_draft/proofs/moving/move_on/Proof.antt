@@ -6,7 +6,7 @@ use Rattle.block_draft.proofs.moving.move_on.Tie as tie
 use Rattle.block_draft.proofs.moving.move_on.Reads as reads
 use Rattle.block_draft.proofs.moving.move_on.Lts as lts
 use Rattle.block_draft.proofs.moving.start_from_end.Reads as start-from-end-reads
-use Rattle.scene_draft.proofs.place.put_point.Reads as put-point-reads
+use Rattle.line_draft.proofs.place.put_point.Reads as put-point-reads
 
 mul-start-from-end : tie.Need-mul-start-from-end
 mul-start-from-end c = search needs
