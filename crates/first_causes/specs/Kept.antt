@@ -57,6 +57,11 @@ count-more n =
     stays : oneMore largest ≡ largest
     stays = refl
 
+-- a full log counts a hit, whichever it is
+pub logged-full : (l : Log) (h : StepHit) → logLimit ≤ l .held → logged l h ≡ record { hits = l .hits; held = l .held; later = oneMore (l .later) }
+unfolding logged
+logged-full l h past = rw (le-ltb (l .held) logLimit past) refl
+
 module _ {hs : List HitAt} {l : Log} (k : LogOf hs l) (h : StepHit) where
   abbrev all : List HitAt
   all = hs ++ (hitOf h ∷ [])

@@ -48,7 +48,7 @@ pub struct SeriesAnswer {
 }
 
 // One more, but a count at its largest value stays there.
-fn one_more(n: u64) -> u64
+pub fn one_more(n: u64) -> u64
     ensures { λ r. ⌜ r ≡ oneMore n ⌝ }
 {
     if n < 18446744073709551615 { n + 1 } else { n }

@@ -26,7 +26,7 @@ use Rattle.wording.specs.Tallied.{oneMore, tallied}
 use Rattle.wording.specs.declared.tally.Tally.{Tally}
 use Rattle.steps.specs.Front.{first-in-log}
 use Rattle.first_causes.specs.Logged.{emptyLog, logged}
-use Rattle.first_causes.specs.Kept.{hitOf, entriesOf, LogOf, log-starts, count-more, log-goes}
+use Rattle.first_causes.specs.Kept.{hitOf, entriesOf, LogOf, log-starts, count-more, logged-full, log-goes}
 use Rattle.first_causes.specs.declared.StepHit.{StepHit}
 use Rattle.first_causes.specs.declared.Log.{Log}
 use Rattle.first_causes.specs.declared.SeriesTold.{SeriesTold}
@@ -99,6 +99,13 @@ module _ (n : ℕ) (p : Pair) (b : ℕ) (l : Log) where
   log-hit h e is =
       rw (hit-word e)
       (record { long = refl; goes = λ hs k. subst (λ (x : HitAt). LogOf (hs ++ (x ∷ [])) (logged l h)) is (log-goes k h) })
+
+  -- where the log is full it is counted
+  pub log-counts : b ≡ 0 → logLimit ≤ l .held
+      → LogGoes n (p ∷ []) (wordOfByte b ∷ []) l (record { hits = l .hits; held = l .held; later = oneMore (l .later) })
+  log-counts e past =
+      let h : StepHit = record { step = n; kind = p .kind; first = p .first; second = p .second } in
+      subst (LogGoes n (p ∷ []) (wordOfByte b ∷ []) l) (logged-full l h past) (log-hit h e refl)
 
   no-hits : (x y : Bool) → hitsHere n p (cond x Miss (cond y Touch Apart)) ≡ []
   unfolding hitsHere

@@ -8,9 +8,11 @@ ghost use Rattle.meaning.specs.Series.{hitAt};
 ghost use Rattle.scene_words.specs.Listed.{wordOfByte, pairsIn};
 ghost use Rattle.first_causes.specs.Kept.{hitOf};
 ghost use Rattle.words_told.specs.Telling.{wordsIn, LogGoes, TallyGoes, FirstIs, nothingTold, Further};
+use first_causes::LOG_ROOM;
 use first_causes::Log;
 use first_causes::SeriesTold;
 use first_causes::StepHit;
+use first_causes::one_more;
 use meaning::Settled;
 use scene_words::ByteAnswer;
 use scene_words::byte_of;
@@ -38,7 +40,7 @@ fn hit_of(step: usize, entry: u32) -> StepHit
     }
 }
 
-// The log takes each of the first `count` entries whose byte says hit.
+// The log takes each of the first `count` entries whose byte says hit. Where it is full it only counts, so that it need not be copied.
 fn log_hits(list: &[u32], bytes: &[u8], count: usize, step: usize, log: Log) -> Log
     requires { ⌜ (count ≤ length (now list)) × (count ≤ length (now bytes)) ⌝ }
     ensures { λ r. ⌜ LogGoes step (pairsIn count (now (list .entry))) (wordsIn count (now (bytes .entry))) log r ⌝ }
@@ -50,7 +52,11 @@ fn log_hits(list: &[u32], bytes: &[u8], count: usize, step: usize, log: Log) -> 
         let at = k;
         k += 1;
         if bytes[at] == hit {
-            next = next.add(hit_of(step, list[at]));
+            if next.held < LOG_ROOM {
+                next = next.add(hit_of(step, list[at]));
+            } else {
+                next.later = one_more(next.later);
+            }
         }
     }
     next

@@ -7,7 +7,7 @@ use borrow.Author.Tests.{ne-eqb}
 use Rattle.meaning.specs.SceneWords.{byteOf}
 use Rattle.entries.specs.Entries.{pairAt}
 use Rattle.scene_words.specs.Listed.{pairsIn}
-use Rattle.words_told.specs.Telling.{wordsIn, LogGoes, pairs-next, words-next, log-none, log-then, log-hit, log-passes}
+use Rattle.words_told.specs.Telling.{wordsIn, LogGoes, pairs-next, words-next, log-none, log-then, log-hit, log-counts, log-passes}
 use Rattle.words_told.proofs.log_hits.Statement.{statement}
 use Rattle.words_told.proofs.log_hits.Tie as tie
 use Rattle.words_told.proofs.log_hits.Reads as reads
@@ -38,7 +38,7 @@ mul-hit-of : tie.Need-mul-hit-of Inv-loop μ-loop
 mul-hit-of c = search needs
 
 shared-slice-read-hit-of : tie.Need-shared-slice-read-hit-of Inv-loop μ-loop
-shared-slice-read-hit-of c = omega (arith, c .before .before .before .before .before .before .before .before .pre .0)
+shared-slice-read-hit-of c = omega (arith, c .before .before .before .before .before .before .before .before .before .before .pre .0)
 
 hit-of-requires : tie.Need-hit-of-requires Inv-loop μ-loop
 hit-of-requires c κs = search needs
@@ -52,13 +52,16 @@ loop-less c = omega arith
 loop-again : tie.Need-loop-again Inv-loop μ-loop
 unfolding byteOf
 loop-again c =
-    let start = c .before .before .before .before .before .before .before .before .before .before in
+    let start = c .before .before .before .before .before .before .before .before .before .before .before .before in
     let l = start .args .list .now in
     let b = start .args .bytes .now in
-    let inv = c .before .before .before .before .before .before .loop .inv in
-    let k = c .before .before .before .before .before .before .loop .k in
-    let is = c .before .before .before .if1 .taken ∙ c .before .before .before .before .before .before .before .byte-of .ensures in
+    let inv = c .before .before .before .before .before .before .before .before .loop .inv in
+    let k = c .before .before .before .before .before .before .before .before .loop .k in
+    let is = c .before .before .before .before .before .if1 .taken ∙ c .before .before .before .before .before .before .before .before .before .byte-of .ensures in
     (omega arith, rw (pairs-next k l (omega (arith, start .pre .0)), words-next k b (omega (arith, start .pre .1)), c .add .ensures) (log-then (inv .1) (log-hit (start .args .step) (pairAt l k) (getD b k 0) _ _ is (c .before .hit-of .ensures))))
+
+one-more-requires : tie.Need-one-more-requires Inv-loop μ-loop
+one-more-requires c κs = search needs
 
 loop-less-2 : tie.Need-loop-less-2 Inv-loop μ-loop
 loop-less-2 c = omega arith
@@ -66,6 +69,20 @@ loop-less-2 c = omega arith
 loop-again-2 : tie.Need-loop-again-2 Inv-loop μ-loop
 unfolding byteOf
 loop-again-2 c =
+    let start = c .before .before .before .before .before .before .before .before .before .before in
+    let l = start .args .list .now in
+    let b = start .args .bytes .now in
+    let inv = c .before .before .before .before .before .before .loop .inv in
+    let k = c .before .before .before .before .before .before .loop .k in
+    let is = c .before .before .before .if1 .taken ∙ c .before .before .before .before .before .before .before .byte-of .ensures in
+    (omega arith, rw (pairs-next k l (omega (arith, start .pre .0)), words-next k b (omega (arith, start .pre .1)), c .one-more .ensures) (log-then (inv .1) (log-counts (start .args .step) (pairAt l k) (getD b k 0) _ is (c .before .if2 .left))))
+
+loop-less-3 : tie.Need-loop-less-3 Inv-loop μ-loop
+loop-less-3 c = omega arith
+
+loop-again-3 : tie.Need-loop-again-3 Inv-loop μ-loop
+unfolding byteOf
+loop-again-3 c =
     let start = c .before .before .before .before .before .before .before in
     let l = start .args .list .now in
     let b = start .args .bytes .now in
@@ -95,6 +112,9 @@ log-hits-spec =
     add-requires
     loop-less
     loop-again
+    one-more-requires
     loop-less-2
     loop-again-2
+    loop-less-3
+    loop-again-3
     returns)
