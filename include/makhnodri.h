@@ -110,7 +110,7 @@ extern "C" {
  *     contact_scene    86,584      contact_pt, contact_ee       2,976
  *     saved_length      1,480      save_scene                   1,592
  *     settle_list       3,184      contact_list                 3,296
- *     fill_boxes        1,384      move_vertex                 12,760
+ *     fill_boxes        1,384      move_vertex                  1,480
  *     count_stored     53,320      list_stored                 86,216
  *     settle_stored    87,600      read_boxed                  23,760
  *     import_scene     39,560      tell_series                175,856
