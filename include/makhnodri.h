@@ -99,7 +99,7 @@ extern "C" {
  * corner, in turn of the one simplex and of the other, and call each other on the rest. A piece has six corners to leave out, and
  * with the same corners left each step is asked once at most, so that the calls are never more than 14 deep.
  * MAKHNODRI_STACK bytes of stack are enough for any call. As measured by `examples/c/run stack` on x86-64, in bytes; on aarch64 it
- * was less for each but those of the last four rows, which were not measured there:
+ * was less for each but count_stored and list_stored, of which the rows have what it was there:
  *
  *     check_scene       1,320      judge_pt, judge_pt_piece     1,792
  *     count_pairs      53,384      judge_ee, judge_ee_piece     1,824
@@ -110,8 +110,8 @@ extern "C" {
  *     contact_scene    86,584      contact_pt, contact_ee       2,976
  *     saved_length      1,480      save_scene                   1,592
  *     settle_list       3,184      contact_list                 3,296
- *     fill_boxes        1,384      move_vertex                 12,760
- *     count_stored     53,320      list_stored                 86,216
+ *     fill_boxes        1,384      move_vertex                  1,480
+ *     count_stored     54,016      list_stored                 86,880
  *     settle_stored    87,600      read_boxed                  23,760
  *     import_scene     39,560      tell_series                175,856
  *

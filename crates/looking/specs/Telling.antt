@@ -1,5 +1,5 @@
--- A number is the smaller of others exactly when one of them is at most it and it is at most all of them; so a stored span is told by comparing.
-use mathlib.Core.Bool.{Bool, true, false, not, cond, _&&_, _||_}
+-- Numbers, spans and boxes between which no difference is found are the same.
+use mathlib.Core.Bool.{Bool, true, false, not, _&&_, _||_}
 use mathlib.Core.Path.{_≡_, refl, sym, _∙_}
 use native.Mathlib.Omega.{arith}
 use lib.Dec.{T}
@@ -7,91 +7,10 @@ use lib.IntN.{ℤ}
 use lib.Signed.{leZ, ltZ, _≤ℤ_, _<ℤ_, clashℤ}
 use Rattle.whole.specs.Order.{ord}
 use Rattle.meaning.specs.Scene.{differ}
-use Rattle.meaning.specs.Boxes.{Span, smaller, larger}
+use Rattle.meaning.specs.Boxes.{Span}
 use Rattle.meaning.specs.StoredBoxes.{Box, otherSpan, otherBox}
 use Rattle.sequences.specs.Pick.{neither}
 use Rattle.theory.specs.Spans.{Compared, ordered, reversed, compared}
-
--- ---- what the order of two numbers says of tests
-
-pub at-most : (a b : ℤ) → a ≤ℤ b → leZ a b ≡ true
-at-most a b h = go (leZ a b) (compared a b)
-  where
-    go : (c : Bool) → Compared a b c → c ≡ true
-    go true k = refl
-    go false (reversed k) = clashℤ k h
-
-pub above : (a b : ℤ) → b <ℤ a → leZ a b ≡ false
-above a b h = go (leZ a b) (compared a b)
-  where
-    go : (c : Bool) → Compared a b c → c ≡ false
-    go true (ordered k) = clashℤ h k
-    go false k = refl
-
--- ---- the smaller and the larger, compared with another number
-
-module _ (k a b : ℤ) where
-  below-smaller : leZ k (smaller a b) ≡ leZ k a && leZ k b
-  below-smaller = go (leZ a b) (compared a b)
-    where
-      go : (c : Bool) → Compared a b c → leZ k (cond c a b) ≡ leZ k a && leZ k b
-      go true (ordered h) = by (leZ k a) (compared k a)
-        where
-          by : (d : Bool) → Compared k a d → d ≡ d && leZ k b
-          by true (ordered l) = sym (at-most k b (omega (arith, ord)))
-          by false l = refl
-      go false (reversed h) = by (leZ k a) (compared k a)
-        where
-          by : (d : Bool) → Compared k a d → leZ k b ≡ d && leZ k b
-          by true l = refl
-          by false (reversed l) = above k b (omega (arith, ord))
-
-  smaller-below : leZ (smaller a b) k ≡ leZ a k || leZ b k
-  smaller-below = go (leZ a b) (compared a b)
-    where
-      go : (c : Bool) → Compared a b c → leZ (cond c a b) k ≡ leZ a k || leZ b k
-      go true (ordered h) = by (leZ a k) (compared a k)
-        where
-          by : (d : Bool) → Compared a k d → d ≡ d || leZ b k
-          by true l = refl
-          by false (reversed l) = sym (above b k (omega (arith, ord)))
-      go false (reversed h) = by (leZ a k) (compared a k)
-        where
-          by : (d : Bool) → Compared a k d → leZ b k ≡ d || leZ b k
-          by true (ordered l) = at-most b k (omega (arith, ord))
-          by false l = refl
-
-  larger-below : leZ (larger a b) k ≡ leZ a k && leZ b k
-  larger-below = go (leZ a b) (compared a b)
-    where
-      go : (c : Bool) → Compared a b c → leZ (cond c b a) k ≡ leZ a k && leZ b k
-      go true (ordered h) = by (leZ a k) (compared a k)
-        where
-          by : (d : Bool) → Compared a k d → leZ b k ≡ d && leZ b k
-          by true l = refl
-          by false (reversed l) = above b k (omega (arith, ord))
-      go false (reversed h) = by (leZ a k) (compared a k)
-        where
-          by : (d : Bool) → Compared a k d → d ≡ d && leZ b k
-          by true (ordered l) = sym (at-most b k (omega (arith, ord)))
-          by false l = refl
-
-  below-larger : leZ k (larger a b) ≡ leZ k a || leZ k b
-  below-larger = go (leZ a b) (compared a b)
-    where
-      go : (c : Bool) → Compared a b c → leZ k (cond c b a) ≡ leZ k a || leZ k b
-      go true (ordered h) = by (leZ k a) (compared k a)
-        where
-          by : (d : Bool) → Compared k a d → leZ k b ≡ d || leZ k b
-          by true (ordered l) = at-most k b (omega (arith, ord))
-          by false l = refl
-      go false (reversed h) = by (leZ k a) (compared k a)
-        where
-          by : (d : Bool) → Compared k a d → d ≡ d || leZ k b
-          by true l = refl
-          by false (reversed l) = sym (above k b (omega (arith, ord)))
-
--- ---- a span, number by number
 
 -- two numbers differ unless each is at most the other
 not-less : (y z : ℤ) → ltZ y z ≡ not (leZ z y)
@@ -121,51 +40,6 @@ unless-both false q = refl
 
 differ-is : (k m : ℤ) → differ k m ≡ not (leZ m k && leZ k m)
 differ-is k m = rw (not-less k m, not-less m k) (unless-both (leZ m k) (leZ k m))
-
--- one is at most k and k is at most all, or the other way round: of two numbers, and of three
-abbrev pub isLow : ℤ → ℤ → ℤ → Bool
-isLow k a b = (leZ a k || leZ b k) && (leZ k a && leZ k b)
-
-abbrev pub isHigh : ℤ → ℤ → ℤ → Bool
-isHigh k a b = (leZ a k && leZ b k) && (leZ k a || leZ k b)
-
-abbrev pub isLowest : ℤ → ℤ → ℤ → ℤ → Bool
-isLowest k a b c = ((leZ a k || leZ b k) || leZ c k) && ((leZ k a && leZ k b) && leZ k c)
-
-abbrev pub isHighest : ℤ → ℤ → ℤ → ℤ → Bool
-isHighest k a b c = ((leZ a k && leZ b k) && leZ c k) && ((leZ k a || leZ k b) || leZ k c)
-
-module _ (k a b : ℤ) where
-  other-smaller : differ k (smaller a b) ≡ not (isLow k a b)
-  other-smaller = differ-is k (smaller a b) ∙ rw (smaller-below k a b, below-smaller k a b) refl
-
-  other-larger : differ k (larger a b) ≡ not (isHigh k a b)
-  other-larger = differ-is k (larger a b) ∙ rw (larger-below k a b, below-larger k a b) refl
-
-  pub told-low : {r : Bool} → r ≡ not (isLow k a b) → r ≡ differ k (smaller a b)
-  told-low e = e ∙ sym other-smaller
-
-  pub told-high : {r : Bool} → r ≡ not (isHigh k a b) → r ≡ differ k (larger a b)
-  told-high e = e ∙ sym other-larger
-
-module _ (k a b c : ℤ) where
-  other-smallest : differ k (smaller (smaller a b) c) ≡ not (isLowest k a b c)
-  other-smallest =
-      differ-is k (smaller (smaller a b) c)
-      ∙ rw (smaller-below k (smaller a b) c, below-smaller k (smaller a b) c) (rw (smaller-below k a b, below-smaller k a b) refl)
-
-  other-largest : differ k (larger (larger a b) c) ≡ not (isHighest k a b c)
-  other-largest =
-      differ-is k (larger (larger a b) c)
-      ∙ rw (larger-below k (larger a b) c, below-larger k (larger a b) c) (rw (larger-below k a b, below-larger k a b) refl)
-
-  pub told-lowest : {r : Bool} → r ≡ not (isLowest k a b c) → r ≡ differ k (smaller (smaller a b) c)
-  told-lowest e = e ∙ sym other-smallest
-
-  pub told-highest : {r : Bool} → r ≡ not (isHighest k a b c) → r ≡ differ k (larger (larger a b) c)
-  told-highest e = e ∙ sym other-largest
-
--- ---- a box that is not another is the same
 
 same-number : (y z : ℤ) → differ y z ≡ false → y ≡ z
 same-number y z e = both-ways (not-not (leZ z y && leZ y z) (sym (differ-is y z) ∙ e))

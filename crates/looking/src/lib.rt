@@ -1,6 +1,5 @@
-// One look over stored boxes: whether each is the one worked out from the positions. A number is known to be the smaller or the larger of others by
-// comparing it with them, so nothing is worked out a second time; and once the boxes of all vertices are known to be right, those of edges
-// and triangles are held against them.
+// One look over stored boxes: whether each is the one worked out from the positions. Each number is held against the one that it should be, and
+// nothing is stored; once the boxes of all vertices are known to be right, those of edges and triangles are held against them.
 
 mod spans; // spans.rt: one span against the numbers that it is made of
 

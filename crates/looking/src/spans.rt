@@ -1,48 +1,74 @@
 // Whether a stored span is another than the one that it should be: the low stands at a place, and the high three places behind it. A number is
-// the smaller of two exactly when one of them is at most it and it is at most both: nothing is chosen, so nothing branches.
+// held against the one that it should be, which two tests choose; where both are at hand the compiler makes a choice of it and no branch.
 
 ghost use Prim.Native.Nat.{_+_, _<_};
-ghost use mathlib.Core.Bool.{not};
 ghost use mathlib.Core.Path.{_≡_};
 ghost use lib.IntN.{pos};
 ghost use lib.ListN.{length, getD};
-ghost use Rattle.meaning.specs.Boxes.{joint};
+ghost use lib.Signed.{leZ};
+ghost use Rattle.meaning.specs.Scene.{differ};
+ghost use Rattle.meaning.specs.Boxes.{smaller, larger, joint};
 ghost use Rattle.meaning.specs.StoredBoxes.{spanAt, otherSpan};
 ghost use Rattle.boxes.specs.Kept.{numbersBetween};
-ghost use Rattle.looking.specs.Telling.{isLow, isHigh, isLowest, isHighest};
 
-// Whether number k of one list is not the smaller, and not the larger, of two numbers of another.
-fn other_low(list: &[i32], k: usize, from: &[i32], i: usize, j: usize) -> bool
-    requires { ⌜ (k < length (now list)) × (i < length (now from)) × (j < length (now from)) ⌝ }
-    ensures { λ r. ⌜ r ≡ not (isLow (getD (now (list .entry)) k (pos 0)) (getD (now (from .entry)) i (pos 0)) (getD (now (from .entry)) j (pos 0))) ⌝ }
+fn at_most(list: &[i32], i: usize, j: usize) -> bool
+    requires { ⌜ (i < length (now list)) × (j < length (now list)) ⌝ }
+    ensures { λ r. ⌜ r ≡ leZ (getD (now (list .entry)) i (pos 0)) (getD (now (list .entry)) j (pos 0)) ⌝ }
 {
-    !(((from[i] <= list[k]) | (from[j] <= list[k])) & ((list[k] <= from[i]) & (list[k] <= from[j])))
+    list[i] <= list[j]
 }
 
-fn other_high(list: &[i32], k: usize, from: &[i32], i: usize, j: usize) -> bool
-    requires { ⌜ (k < length (now list)) × (i < length (now from)) × (j < length (now from)) ⌝ }
-    ensures { λ r. ⌜ r ≡ not (isHigh (getD (now (list .entry)) k (pos 0)) (getD (now (from .entry)) i (pos 0)) (getD (now (from .entry)) j (pos 0))) ⌝ }
+fn unequal(list: &[i32], k: usize, from: &[i32], i: usize) -> bool
+    requires { ⌜ (k < length (now list)) × (i < length (now from)) ⌝ }
+    ensures { λ r. ⌜ r ≡ differ (getD (now (list .entry)) k (pos 0)) (getD (now (from .entry)) i (pos 0)) ⌝ }
 {
-    !(((from[i] <= list[k]) & (from[j] <= list[k])) & ((list[k] <= from[i]) | (list[k] <= from[j])))
+    (list[k] < from[i]) | (from[i] < list[k])
+}
+
+// Whether a number of one list is not the smaller, and not the larger, of two numbers of another.
+fn other_low(list: &[i32], k: usize, from: &[i32], i: usize, j: usize) -> bool
+    requires { ⌜ (k < length (now list)) × (i < length (now from)) × (j < length (now from)) ⌝ }
+    ensures { λ r. ⌜ r ≡ differ (getD (now (list .entry)) k (pos 0)) (smaller (getD (now (from .entry)) i (pos 0)) (getD (now (from .entry)) j (pos 0))) ⌝ }
+{
+    if at_most(from, i, j) {
+        unequal(list, k, from, i)
+    } else {
+        unequal(list, k, from, j)
+    }
+}
+
+fn other_high(list: &[i32], at: usize, from: &[i32], i: usize, j: usize) -> bool
+    requires { ⌜ (at < length (now list)) × (i < length (now from)) × (j < length (now from)) ⌝ }
+    ensures { λ r. ⌜ r ≡ differ (getD (now (list .entry)) at (pos 0)) (larger (getD (now (from .entry)) i (pos 0)) (getD (now (from .entry)) j (pos 0))) ⌝ }
+{
+    if at_most(from, i, j) {
+        unequal(list, at, from, j)
+    } else {
+        unequal(list, at, from, i)
+    }
 }
 
 // Whether number k is not the smallest, and not the largest, of three.
 fn other_lowest(list: &[i32], k: usize, i: usize, j: usize, l: usize) -> bool
     requires { ⌜ (k < length (now list)) × (i < length (now list)) × (j < length (now list)) × (l < length (now list)) ⌝ }
-    ensures { λ r. ⌜ r ≡ not (isLowest (getD (now (list .entry)) k (pos 0)) (getD (now (list .entry)) i (pos 0)) (getD (now (list .entry)) j (pos 0)) (getD (now (list .entry)) l (pos 0))) ⌝ }
+    ensures { λ r. ⌜ r ≡ differ (getD (now (list .entry)) k (pos 0)) (smaller (smaller (getD (now (list .entry)) i (pos 0)) (getD (now (list .entry)) j (pos 0))) (getD (now (list .entry)) l (pos 0))) ⌝ }
 {
-    let one = ((list[i] <= list[k]) | (list[j] <= list[k])) | (list[l] <= list[k]);
-    let all = ((list[k] <= list[i]) & (list[k] <= list[j])) & (list[k] <= list[l]);
-    !(one & all)
+    if at_most(list, i, j) {
+        other_low(list, k, list, i, l)
+    } else {
+        other_low(list, k, list, j, l)
+    }
 }
 
 fn other_highest(list: &[i32], k: usize, i: usize, j: usize, l: usize) -> bool
     requires { ⌜ (k < length (now list)) × (i < length (now list)) × (j < length (now list)) × (l < length (now list)) ⌝ }
-    ensures { λ r. ⌜ r ≡ not (isHighest (getD (now (list .entry)) k (pos 0)) (getD (now (list .entry)) i (pos 0)) (getD (now (list .entry)) j (pos 0)) (getD (now (list .entry)) l (pos 0))) ⌝ }
+    ensures { λ r. ⌜ r ≡ differ (getD (now (list .entry)) k (pos 0)) (larger (larger (getD (now (list .entry)) i (pos 0)) (getD (now (list .entry)) j (pos 0))) (getD (now (list .entry)) l (pos 0))) ⌝ }
 {
-    let all = ((list[i] <= list[k]) & (list[j] <= list[k])) & (list[l] <= list[k]);
-    let one = ((list[k] <= list[i]) | (list[k] <= list[j])) | (list[k] <= list[l]);
-    !(all & one)
+    if at_most(list, i, j) {
+        other_high(list, k, list, j, l)
+    } else {
+        other_high(list, k, list, i, l)
+    }
 }
 
 // Than that of a vertex, whose start and end values stand three places apart too.

@@ -1,50 +1,15 @@
--- `spans::other_highest`: six numbers are compared.
+-- `spans::other_highest`: held against the largest.
 use borrow.Author.Needs.{needs}
-use native.Mathlib.Omega.{arith}
-use lib.IntN.{pos}
-use lib.ListN.{getD}
-use mathlib.Core.Path.{refl}
-use mir.Facts.{toZ-ofZ}
-use borrow.Author.Needs.{sfits-of}
+use mathlib.Core.Path.{sym, _∙_}
 use Rattle.looking.proofs.spans.other_highest.Statement.{statement}
 use Rattle.looking.proofs.spans.other_highest.Tie as tie
-
-returns : tie.Need-returns
-returns c =
-    let a = c .before .before .before .before .before .before .before .before .before .before .before .before .args in
-    rw (
-      toZ-ofZ {z = getD (a .list .now) (a .i) (pos 0)} (sfits-of (c .before .before .before .before .before .before .before .before .before .before .before .all .given)),
-      toZ-ofZ {z = getD (a .list .now) (a .k) (pos 0)} (sfits-of (c .before .before .before .before .before .before .before .before .before .before .all2 .given)),
-      toZ-ofZ {z = getD (a .list .now) (a .j) (pos 0)} (sfits-of (c .before .before .before .before .before .before .before .before .before .all3 .given)),
-      toZ-ofZ {z = getD (a .list .now) (a .l) (pos 0)} (sfits-of (c .before .before .before .before .before .before .before .all5 .given)),
-    ) refl
 
 pub other-highest-spec : {M : Type 1} → statement M
 other-highest-spec =
     tie.close
     (tie.spec
-    (λ c. search needs)
-    (λ c. search needs)
-    (λ c. search needs)
-    (λ c. search needs)
-    (λ c. search needs)
-    (λ c. search needs)
-    (λ c. search needs)
-    (λ c. search needs)
-    (λ c. search needs)
-    (λ c. search needs)
-    (λ c. search needs)
-    (λ c. search needs)
-    (λ c. search needs)
-    (λ c. search needs)
-    (λ c. search needs)
-    (λ c. search needs)
-    (λ c. search needs)
-    (λ c. search needs)
-    (λ c. search needs)
-    (λ c. search needs)
-    (λ c. search needs)
-    (λ c. search needs)
-    (λ c. search needs)
-    (λ c. search needs)
-    returns)
+    (λ c κs. search needs)
+    (λ c κs. search needs)
+    (λ c κs. search needs)
+    (λ c. rw (sym (c .before .before .at-most .ensures) ∙ c .before .if1 .taken) (c .other-high .ensures))
+    (λ c. rw (sym (c .before .before .at-most .ensures) ∙ c .before .if1 .left) (c .other-high2 .ensures)))

@@ -1,17 +1,10 @@
 -- `spans::other_triple`: the low by itself, and the high.
 use borrow.Author.Needs.{needs}
-use native.Mathlib.Omega.{arith}
-use lib.IntN.{pos}
-use lib.ListN.{getD}
-use Prim.Native.Nat.{_+_}
-use Rattle.looking.specs.Telling.{told-lowest, told-highest}
 use Rattle.looking.proofs.spans.other_triple.Statement.{statement}
 use Rattle.looking.proofs.spans.other_triple.Tie as tie
 
 returns : tie.Need-returns
-returns c =
-    let a = c .before .before .args in
-    rw (told-lowest (getD (a .list .now) (a .at) (pos 0)) (getD (a .list .now) (a .i) (pos 0)) (getD (a .list .now) (a .j) (pos 0)) (getD (a .list .now) (a .l) (pos 0)) (c .before .other-lowest .ensures), told-highest (getD (a .list .now) (a .at + 3) (pos 0)) (getD (a .list .now) (a .i + 3) (pos 0)) (getD (a .list .now) (a .j + 3) (pos 0)) (getD (a .list .now) (a .l + 3) (pos 0)) (c .other-highest .ensures))
+returns c = rw (c .before .other-lowest .ensures, c .other-highest .ensures)
 
 pub other-triple-spec : {M : Type 1} → statement M
 other-triple-spec =
