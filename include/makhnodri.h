@@ -105,7 +105,7 @@ extern "C" {
  *     count_pairs      53,384      judge_ee, judge_ee_piece     1,824
  *     list_pairs       86,328      settle_pt, settle_pt_piece   2,624
  *     settle_scene     87,709      settle_ee, settle_ee_piece   2,624
- *     read_scene       26,184      write_report               124,368
+ *     read_scene       23,288      write_report               124,368
  *     turn_scene          312      check_claims                 2,032
  *     contact_scene    86,584      contact_pt, contact_ee       2,976
  *     saved_length      1,480      save_scene                   1,592
@@ -113,7 +113,7 @@ extern "C" {
  *     fill_boxes        1,384      move_vertex                  1,480
  *     count_stored     54,016      list_stored                 86,880
  *     settle_stored    87,600      read_boxed                  23,760
- *     import_scene     39,560      tell_series                175,856
+ *     import_scene     47,752      tell_series                175,856
  *
  * ---- An answer ----
  *

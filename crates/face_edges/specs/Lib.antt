@@ -1,3 +1,3 @@
 -- Edges of faces.
-pub mod Joined
+pub mod Chains
 pub mod Sides

@@ -28,6 +28,7 @@ use Rattle.meaning.specs.ObjFile.{placeAt, withSides, faceAdded, sceneAfter, li
 use Rattle.meaning.specs.declared.Hundredths.{Hundredths}
 use Rattle.meaning.specs.declared.ObjLine as Said
 use Rattle.meaning.specs.declared.ObjLine.{ObjLine}
+use Rattle.face_edges.specs.Chains.{Knows}
 use Rattle.obj_records.specs.Faults.{VertexFault, FaceFault, faultless}
 use Rattle.obj_records.specs.Adding.{VertexPut, VertexAdded, FaceRoom, sidesWith, FaceOver, FacePut, FaceAdded}
 use Rattle.obj_records.specs.declared.Added as Addeds
@@ -40,13 +41,14 @@ use Rattle.obj_scenes.specs.Judged.{vertex-judged, face-judged}
 use Rattle.obj_draft.specs.declared.Taken.{Taken}
 use Rattle.obj_draft.specs.declared.Taken.the-variants.{Fault, Next}
 
--- the arrays hold this scene in front
+-- the arrays hold this scene in front, and the table behind its edges knows them
 pub record Drafted (p : List ℤ) (e t : List ℕ) (s : Scene) (c : SceneCounts) : Type 0 where
   pub above : Above s c
   pub positions : take (6 * c .vertices) p ≡ s .positions
   pub edges : take (2 * c .edges) e ≡ s .edges
   pub triangles : take (3 * c .triangles) t ≡ s .triangles
   pub seamless : s .seams ≡ []
+  pub knows : Knows e (c .edges)
 
 pub record DraftRoom (p : List ℤ) (e t : List ℕ) : Type 0 where
   pub positions : 6 * vertexLimit ≤ length p
@@ -67,6 +69,7 @@ module _ {p p′ : List ℤ} {e t : List ℕ} {s : Scene} {c k : SceneCounts} {x
         edges = d .edges ∙ sym (append-nil (s .edges));
         triangles = d .triangles ∙ sym (append-nil (s .triangles));
         seamless = append-nil (s .seams) ∙ d .seamless;
+        knows = d .knows;
       }
 
   pub vertex-drafted : Drafted p′ e t (sceneAfter s (Said.the-variants.Vertex x y z)) k
@@ -127,6 +130,7 @@ module _ {p : List ℤ} {e t e′ t′ : List ℕ} {s : Scene} {c k : SceneCount
         edges = w .sides ∙ sym new-sides;
         triangles = w .put .front ∙ ap (λ (l : List ℕ). l ++ ((a - 1) ∷ (b - 1) ∷ (f - 1) ∷ [])) (d .triangles);
         seamless = new-seams;
+        knows = w .knows;
       }
 
   pub face-drafted : Drafted p e′ t′ (sceneAfter s (Said.the-variants.Face a b f)) k
@@ -198,6 +202,7 @@ pub record LineReady (text : List ℕ) (at : ℕ) (c : SceneCounts) (p : List �
   pub inside : at < length text
   pub room : DraftRoom p e t
   pub bounded : Bounded c
+  pub knows : Knows e (c .edges)
 
 pub record TookLine (text : List ℕ) (at : ℕ) (p : List ℤ) (e t : List ℕ) (s : Scene) (k : SceneCounts) (next : ℕ) : Type 0 where
   pub body : List ℕ

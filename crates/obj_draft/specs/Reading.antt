@@ -19,6 +19,7 @@ use Rattle.scene_line.specs.Above.{above-none, noCounts}
 use Rattle.meaning.specs.ObjLine.{says}
 use Rattle.meaning.specs.ObjFile.{sceneAfter, objLines}
 use Rattle.obj_scenes.specs.Ended.{obj-readable}
+use Rattle.face_edges.specs.Chains.{Knows}
 use Rattle.obj_records.specs.Adding.{FaceRoom}
 use Rattle.obj_draft.specs.Drafting.{Drafted, DraftRoom, TakenAs, LineTaken, TookLine}
 use Rattle.obj_draft.specs.declared.Taken.{Taken}
@@ -67,12 +68,12 @@ pub record Drafting (text : List ℕ) (p : List ℤ) (e t : List ℕ) (c : Scene
   pub place : line ≡ length (reached .above) + 1
   pub few : line ≤ at + 1
 
-pub draft-starts : (text : List ℕ) (p : List ℤ) (e t : List ℕ) → Drafting text p e t noCounts 0 1
-draft-starts text p e t =
+pub draft-starts : (text : List ℕ) (p : List ℤ) (e t : List ℕ) → Knows e 0 → Drafting text p e t noCounts 0 1
+draft-starts text p e t blank =
     record {
       scene = none;
       reached = reached-first objLines none text;
-      drafted = record { above = above-none; positions = refl; edges = refl; triangles = refl; seamless = refl };
+      drafted = record { above = above-none; positions = refl; edges = refl; triangles = refl; seamless = refl; knows = blank };
       place = ap (λ (k : ℕ). k + 1) (sym (reached-none objLines none text));
       few = omega arith;
     }

@@ -1,5 +1,6 @@
-// An OBJ file is read into a draft, in one pass: arrays of the reader's own that hold the scene of the lines above in front.
+// An OBJ file is read into a draft, in one pass: arrays of the reader's own that hold the scene of the lines above in front, and a table of its edges.
 ghost use mathlib.Core.Path.{_≡_};
+ghost use Rattle.face_edges.specs.Chains.{Knows};
 ghost use Rattle.obj_draft.specs.Drafting.{DraftRoom, LineReady, LineTaken, nextAfter};
 ghost use Rattle.obj_draft.specs.Reading.{DraftIs};
 use hundredths::place_of;
@@ -58,6 +59,7 @@ pub fn draft_file(
     triangles: &mut [u16],
 ) -> TextAnswer
     requires { ⌜ DraftRoom (now positions) (now edges) (now triangles) ⌝ }
+    requires { ⌜ Knows (now edges) 0 ⌝ }
     ensures { λ r. ⌜ DraftIs (now (text .entry)) (now (positions .exit)) (now (edges .exit)) (now (triangles .exit)) r ⌝ }
 {
     let mut c = SceneCounts {

@@ -33,11 +33,11 @@ use Rattle.obj_pair.specs.Between.{six-each}
 use Rattle.obj_pair.specs.Ending.{Lent, Untouched, EndRead, EndDiffers, EndIs, EndImported}
 
 -- the arrays of a draft have room
-pub own-room : DraftRoom (replicate 3072 (pos 0)) (replicate 2054 0) (replicate 1536 0)
+pub own-room : DraftRoom (replicate 3072 (pos 0)) (replicate 4105 0) (replicate 1536 0)
 own-room =
     record {
       positions = omega (arith, length-replicate {A = ℤ} 3072 (pos 0));
-      faces = record { sides = omega (arith, length-replicate {A = ℕ} 2054 0); corners = omega (arith, length-replicate {A = ℕ} 1536 0) };
+      faces = record { sides = omega (arith, length-replicate {A = ℕ} 4105 0); corners = omega (arith, length-replicate {A = ℕ} 1536 0) };
     }
 
 pub lent-room : (lent : Scene) → shortBuffer lent ≡ false → Lent (lent .positions) (lent .edges) (lent .triangles)

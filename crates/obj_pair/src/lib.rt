@@ -11,6 +11,7 @@ ghost use Rattle.obj_pair.specs.Ending.{Lent, OnStart, EndImported};
 mod copying; // copying.rt: from two drafts to the lent buffers
 
 use copying::copy_pair;
+use face_edges::TABLED;
 use meaning::EDGE_NUMBERS;
 use meaning::ImportAnswer;
 use meaning::POSITION_NUMBERS;
@@ -22,9 +23,6 @@ use meaning::TRIANGLE_NUMBERS;
 use meaning::TextAnswer;
 use meaning::WhichFile;
 use obj_draft::draft_file;
-
-// The ends of as many edges as there may be, and of three more.
-const SIDE_NUMBERS: usize = EDGE_NUMBERS + 6;
 
 fn same_numbers(a: &[u16], b: &[u16]) -> bool
     ensures { λ r. ⌜ r ≡ sameNumbers (now (a .entry)) (now (b .entry)) ⌝ }
@@ -58,7 +56,7 @@ fn import_end(
     ensures { λ r. ⌜ EndImported c (now (p .entry)) (now (e .entry)) (now (t .entry)) (now (end .entry)) (now (positions .entry)) (now (edges .entry)) (now (triangles .entry)) (now (positions .exit)) (now (edges .exit)) (now (triangles .exit)) r ⌝ }
 {
     let mut q = [0i32; POSITION_NUMBERS];
-    let mut f = [0u16; SIDE_NUMBERS];
+    let mut f = [0u16; TABLED];
     let mut u = [0u16; TRIANGLE_NUMBERS];
     match draft_file(end, &mut q, &mut f, &mut u) {
         TextAnswer::Refused(fault, line) => ImportAnswer::RefusedIn(WhichFile::End, fault, line),
@@ -98,7 +96,7 @@ pub fn import_scene(
         return ImportAnswer::RefusedIn(WhichFile::End, Refusal::LongText, 0);
     }
     let mut p = [0i32; POSITION_NUMBERS];
-    let mut e = [0u16; SIDE_NUMBERS];
+    let mut e = [0u16; TABLED];
     let mut t = [0u16; TRIANGLE_NUMBERS];
     match draft_file(start, &mut p, &mut e, &mut t) {
         TextAnswer::Refused(fault, line) => ImportAnswer::RefusedIn(WhichFile::Start, fault, line),

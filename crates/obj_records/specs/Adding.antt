@@ -24,7 +24,8 @@ use Rattle.scene_line.specs.Above.{Bounded}
 use Rattle.scene_line.specs.Judging.{judgedSays}
 use Rattle.scene_line.specs.declared.Judged as Judgements
 use Rattle.scene_line.specs.declared.Judged.{Judged}
-use Rattle.face_edges.specs.Sides.{SidesAdded}
+use Rattle.face_edges.specs.Chains.{tabled, Knows}
+use Rattle.face_edges.specs.Sides.{Tabled, SidesAdded}
 use Rattle.obj_records.specs.Faults.{VertexFault, FaceFault, Faultless, faultless}
 use Rattle.obj_records.specs.declared.Added.{Added}
 use Rattle.obj_records.specs.declared.Added.the-variants.{Fault, Counts}
@@ -85,9 +86,9 @@ pub record Positive (a b d : ℕ) : Type 0 where
   pub second : 0 < b
   pub third : 0 < d
 
--- room for every face, and for three edges more than there may be
+-- room for every face, for three edges more than there may be, and for their table
 pub record FaceRoom (edges triangles : List ℕ) : Type 0 where
-  pub sides : 2 * edgeLimit + 6 ≤ length edges
+  pub sides : tabled ≤ length edges
   pub corners : 3 * triangleLimit ≤ length triangles
 
 abbrev pub sidesWith : SceneCounts → List ℕ → ℕ → ℕ → ℕ → List ℕ
@@ -103,6 +104,7 @@ pub record FacePut (c : SceneCounts) (a b d : ℕ) (e t e′ t′ : List ℕ) (k
   pub sides : take (2 * k .edges) e′ ≡ sidesWith c e a b d
   pub long : length (sidesWith c e a b d) ≡ 2 * k .edges
   pub within : k .edges ≤ edgeLimit
+  pub knows : Knows e′ (k .edges)
   pub put : Wrote t (3 * c .triangles) ((a - 1) ∷ (b - 1) ∷ (d - 1) ∷ []) t′ (3 * (c .triangles + 1))
   pub counts : k ≡ record { vertices = c .vertices; edges = k .edges; triangles = c .triangles + 1; seams = c .seams }
 
@@ -133,7 +135,15 @@ module _ (c : SceneCounts) (a b d : ℕ) {j : Judged} (judged : FaceFault c (a -
         leb-false _ _ (search (or-left, or-rest)),
       )
 
-  module _ {e e′ : List ℕ} {count : ℕ} (bounded : Bounded c) (room : 2 * edgeLimit + 6 ≤ length e) (q : j ≡ Judgements.the-variants.Good)
+  pub sides-ready : {e : List ℕ} → Bounded c → tabled ≤ length e → Knows e (c .edges) → j ≡ Judgements.the-variants.Good
+      → Tabled e (c .edges) 1_024 × ((a - 1 < 512) × (b - 1 < 512) × (d - 1 < 512))
+  sides-ready bounded room known q =
+      let (u, v, w) = face-known q in (
+        record { knows = known; few = bounded .edges; room = room },
+        (omega (arith, u, bounded .vertices), omega (arith, v, bounded .vertices), omega (arith, w, bounded .vertices)),
+      )
+
+  module _ {e e′ : List ℕ} {count : ℕ} (bounded : Bounded c) (room : tabled ≤ length e) (q : j ≡ Judgements.the-variants.Good)
       (sides : SidesAdded (a - 1) (b - 1) (d - 1) e (c .edges) e′ count) where
     counted : length (sidesWith c e a b d) ≡ 2 * count
     counted =
@@ -149,4 +159,4 @@ module _ (c : SceneCounts) (a b d : ℕ) {j : Judged} (judged : FaceFault c (a -
     unfolding FaceAdded
     face-put {t} {t′} h w =
         let three : 3 * c .triangles + 3 ≡ 3 * (c .triangles + 1) = omega arith in
-        record { good = face-good q; sides = sides .front; long = counted; within = h; put = rw three at w; counts = refl }
+        record { good = face-good q; sides = sides .front; long = counted; within = h; knows = sides .knows; put = rw three at w; counts = refl }

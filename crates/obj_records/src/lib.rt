@@ -8,6 +8,7 @@ ghost use Rattle.sequences.specs.Wrote.{Wrote};
 ghost use Rattle.meaning.specs.Limits.{coordinateLimit};
 ghost use Rattle.meaning.specs.ObjFile.{signed};
 ghost use Rattle.scene_line.specs.Above.{Bounded};
+ghost use Rattle.face_edges.specs.Chains.{Knows};
 ghost use Rattle.scene_line.specs.Judging.{FaultIs, judgedSays};
 ghost use Rattle.obj_records.specs.Faults.{VertexFault, FaceFault};
 ghost use Rattle.obj_records.specs.Adding.{Near, pointOf, VertexAdded, Positive, FaceRoom, FaceAdded};
@@ -136,7 +137,7 @@ pub fn add_vertex(
     }
 }
 
-// A face by vertices counted from 1: its corners, and its sides where they are new.
+// A face by vertices counted from 1: its corners, and its sides where they are new, with the table that knows them.
 pub fn add_face(
     c: SceneCounts,
     a: u64,
@@ -148,6 +149,7 @@ pub fn add_face(
     requires { ⌜ Positive a b d ⌝ }
     requires { ⌜ Bounded c ⌝ }
     requires { ⌜ FaceRoom (now edges) (now triangles) ⌝ }
+    requires { ⌜ Knows (now edges) (c .edges) ⌝ }
     ensures { λ r. ⌜ FaceAdded c a b d (now (edges .entry)) (now (triangles .entry)) (now (edges .exit)) (now (triangles .exit)) r ⌝ }
 {
     let i = a - 1;

@@ -17,15 +17,16 @@ abbrev μ-loop : tie.MeasureT-loop
 μ-loop text positions₀ edges₀ triangles₀ c₀ at₀ line₀ positions edges triangles c at line = length text - at
 
 loop-holds : tie.Need-loop-holds Inv-loop μ-loop
-loop-holds c = (draft-starts _ _ _ _, same-room _ _ _)
+loop-holds c = (draft-starts _ _ _ _ (c .before .before .before .pre .1), same-room _ _ _)
 
 take-line-requires : tie.Need-take-line-requires Inv-loop μ-loop
 take-line-requires c κs =
     let i = c .before .before .before .before .loop .inv in
     record {
       inside = c .before .before .before .loop-test .taken;
-      room = same-roomy (c .before .before .before .before .before .before .before .before .pre) (i .1);
+      room = same-roomy (c .before .before .before .before .before .before .before .before .pre .0) (i .1);
       bounded = i .0 .drafted .above .bounded;
+      knows = i .0 .drafted .knows;
     }
 
 same-length : tie.Need-same-length Inv-loop μ-loop

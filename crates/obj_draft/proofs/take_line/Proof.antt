@@ -29,7 +29,7 @@ add-face-requires c κs =
     let p = c .before .before .before .before .before .before .before .before .before .before .before .before .before .pre in
     let a = c .before .before .before .before .before .before .before .before .before .before .before .before .before .args in
     let line = take (a .at + c .before .before .before .before .before .before .before .before .place-of .result - a .at) (drop (a .at) (a .text .now)) in
-    (face-positive line (sym (c .before .before .before .before .before .line-of .ensures) ∙ c .before .before .before .a .given .1), (p .bounded, p .room .faces))
+    (face-positive line (sym (c .before .before .before .before .before .line-of .ensures) ∙ c .before .before .before .a .given .1), (p .bounded, (p .room .faces, p .knows)))
 
 returns-2 : tie.Need-returns-2
 returns-2 c = take-bad (c .before .before .before .before .before .before .before .before .before .before .args .text .now) (c .before .before .before .before .before .before .before .before .before .before .args .at) (c .before .before .before .before .before .before .before .before .before .before .args .c) (c .before .before .before .before .before .place-of .ensures) refl (c .before .before .before .before .before .before .before .before .before .before .args .positions .now) (c .before .before .before .before .before .before .before .before .before .before .args .edges .now) (c .before .before .before .before .before .before .before .before .before .before .args .triangles .now) (c .before .before .before .before .before .before .before .before .before .before .pre .inside) (c .before .before .before .before .if1 .left) (c .before .before .line-of .ensures) (c .enum-told .given .1)

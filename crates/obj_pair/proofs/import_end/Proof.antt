@@ -4,12 +4,13 @@ use native.Mathlib.Omega.{arith}
 use lib.Seq.{length-take-le}
 use borrow.Author.Needs.{needs}
 use Rattle.obj_pair.specs.Ending.{end-faulty, end-bounded, end-differs, end-read}
+use Rattle.face_edges.specs.Chains.{blank-knows}
 use Rattle.obj_pair.specs.Importing.{own-room}
 use Rattle.obj_pair.proofs.import_end.Statement.{statement}
 use Rattle.obj_pair.proofs.import_end.Tie as tie
 
 draft-file-requires : tie.Need-draft-file-requires
-draft-file-requires c κs = own-room
+draft-file-requires c κs = (own-room, blank-knows)
 
 mul-others : tie.Need-mul-others
 mul-others c = omega (arith, end-bounded _ _ _ _ (c .before .before .before .before .before .before .before .before .draft-file .ensures) (c .before .before .before .d .given .1) .triangles)

@@ -2,6 +2,7 @@
 use native.Mathlib.Omega.{arith}
 use borrow.Author.Needs.{needs}
 use Rattle.meaning.specs.Scene.{sceneOf}
+use Rattle.face_edges.specs.Chains.{blank-knows}
 use Rattle.obj_pair.specs.Importing.{own-room, lent-room, start-bounded, import-short, import-long-start, import-long-end, import-faulty, import-ended}
 use Rattle.obj_pair.proofs.import_scene.Statement.{statement}
 use Rattle.obj_pair.proofs.import_scene.Tie as tie
@@ -16,7 +17,7 @@ returns-3 : tie.Need-returns-3
 returns-3 c = import-long-end _ _ _ (c .before .before .if1 .left) (c .before .if2 .left) (c .if3 .taken)
 
 draft-file-requires : tie.Need-draft-file-requires
-draft-file-requires c κs = own-room
+draft-file-requires c κs = (own-room, blank-knows)
 
 import-end-requires : tie.Need-import-end-requires
 import-end-requires c κs =

@@ -1,7 +1,7 @@
 -- `obj_records::add_face` meets its contract: the face is at fault; or its sides and its corners are put, and there are too many edges or not.
 use native.Mathlib.Omega.{arith}
 use borrow.Author.Needs.{needs}
-use Rattle.obj_records.specs.Adding.{face-fault, face-place, face-known, face-over, face-put}
+use Rattle.obj_records.specs.Adding.{face-fault, face-place, face-known, sides-ready, face-over, face-put}
 use Rattle.obj_records.proofs.add_face.Statement.{statement}
 use Rattle.obj_records.proofs.add_face.Tie as tie
 
@@ -27,7 +27,10 @@ cast-add-sides-3 c =
     omega (arith, c .before .before .before .before .before .before .pre .1 .0 .vertices, face-known (c .before .before .before .before .before .before .args .c) (c .before .before .before .before .before .before .args .a) (c .before .before .before .before .before .before .args .b) (c .before .before .before .before .before .before .args .d) (c .before .before .before .judge-face .ensures) (c .before .enum-told .given .1) .2)
 
 add-sides-requires : tie.Need-add-sides-requires
-add-sides-requires c κs = omega (arith, c .before .before .before .before .before .before .pre .1 .0 .edges, c .before .before .before .before .before .before .pre .1 .1 .sides)
+add-sides-requires c κs =
+    let g = c .before .before .before .before .before .before in
+    let p = g .pre in
+    sides-ready (g .args .c) (g .args .a) (g .args .b) (g .args .d) (c .before .before .before .judge-face .ensures) (p .1 .0) (p .1 .1 .0 .sides) (p .1 .1 .1) (c .before .enum-told .given .1)
 
 cast-put-triangle : tie.Need-cast-put-triangle
 cast-put-triangle c =
@@ -43,11 +46,11 @@ cast-put-triangle-3 c =
 
 put-triangle-requires : tie.Need-put-triangle-requires
 put-triangle-requires c κs =
-    omega (arith, face-place (c .before .before .before .before .before .before .before .before .before .before .before .args .c) (c .before .before .before .before .before .before .before .before .before .before .before .args .a) (c .before .before .before .before .before .before .before .before .before .before .before .args .b) (c .before .before .before .before .before .before .before .before .before .before .before .args .d) (c .before .before .before .before .before .before .before .before .judge-face .ensures) (c .before .before .before .before .before .before .enum-told .given .1), c .before .before .before .before .before .before .before .before .before .before .before .pre .1 .1 .corners)
+    omega (arith, face-place (c .before .before .before .before .before .before .before .before .before .before .before .args .c) (c .before .before .before .before .before .before .before .before .before .before .before .args .a) (c .before .before .before .before .before .before .before .before .before .before .before .args .b) (c .before .before .before .before .before .before .before .before .before .before .before .args .d) (c .before .before .before .before .before .before .before .before .judge-face .ensures) (c .before .before .before .before .before .before .enum-told .given .1), c .before .before .before .before .before .before .before .before .before .before .before .pre .1 .1 .0 .corners)
 
 returns : tie.Need-returns
 returns c =
-    face-over (c .before .before .before .before .before .before .before .before .before .before .before .before .before .before .before .args .c) (c .before .before .before .before .before .before .before .before .before .before .before .before .before .before .before .args .a) (c .before .before .before .before .before .before .before .before .before .before .before .before .before .before .before .args .b) (c .before .before .before .before .before .before .before .before .before .before .before .before .before .before .before .args .d) (c .before .before .before .before .before .before .before .before .before .before .before .before .judge-face .ensures) (c .before .before .before .before .before .before .before .before .before .before .before .before .before .before .before .pre .1 .0) (c .before .before .before .before .before .before .before .before .before .before .before .before .before .before .before .pre .1 .1 .sides) (c .before .before .before .before .before .before .before .before .before .before .enum-told .given .1)
+    face-over (c .before .before .before .before .before .before .before .before .before .before .before .before .before .before .before .args .c) (c .before .before .before .before .before .before .before .before .before .before .before .before .before .before .before .args .a) (c .before .before .before .before .before .before .before .before .before .before .before .before .before .before .before .args .b) (c .before .before .before .before .before .before .before .before .before .before .before .before .before .before .before .args .d) (c .before .before .before .before .before .before .before .before .before .before .before .before .judge-face .ensures) (c .before .before .before .before .before .before .before .before .before .before .before .before .before .before .before .pre .1 .0) (c .before .before .before .before .before .before .before .before .before .before .before .before .before .before .before .pre .1 .1 .0 .sides) (c .before .before .before .before .before .before .before .before .before .before .enum-told .given .1)
     (c .before .before .before .before .before .before .before .before .add-sides .ensures) _ _ (c .if1 .taken)
 
 returns-2 : tie.Need-returns-2
@@ -55,7 +58,7 @@ returns-2 c = face-fault (c .before .before .before .before .before .before .arg
 
 returns-3 : tie.Need-returns-3
 returns-3 c =
-    face-put (c .before .before .before .before .before .before .before .before .before .before .before .before .before .before .before .before .args .c) (c .before .before .before .before .before .before .before .before .before .before .before .before .before .before .before .before .args .a) (c .before .before .before .before .before .before .before .before .before .before .before .before .before .before .before .before .args .b) (c .before .before .before .before .before .before .before .before .before .before .before .before .before .before .before .before .args .d) (c .before .before .before .before .before .before .before .before .before .before .before .before .before .judge-face .ensures) (c .before .before .before .before .before .before .before .before .before .before .before .before .before .before .before .before .pre .1 .0) (c .before .before .before .before .before .before .before .before .before .before .before .before .before .before .before .before .pre .1 .1 .sides) (c .before .before .before .before .before .before .before .before .before .before .before .enum-told .given .1)
+    face-put (c .before .before .before .before .before .before .before .before .before .before .before .before .before .before .before .before .args .c) (c .before .before .before .before .before .before .before .before .before .before .before .before .before .before .before .before .args .a) (c .before .before .before .before .before .before .before .before .before .before .before .before .before .before .before .before .args .b) (c .before .before .before .before .before .before .before .before .before .before .before .before .before .before .before .before .args .d) (c .before .before .before .before .before .before .before .before .before .before .before .before .before .judge-face .ensures) (c .before .before .before .before .before .before .before .before .before .before .before .before .before .before .before .before .pre .1 .0) (c .before .before .before .before .before .before .before .before .before .before .before .before .before .before .before .before .pre .1 .1 .0 .sides) (c .before .before .before .before .before .before .before .before .before .before .before .enum-told .given .1)
     (c .before .before .before .before .before .before .before .before .before .add-sides .ensures) (c .before .if1 .left) (c .before .before .before .before .put-triangle .ensures)
 
 pub add-face-spec : {M : Type 1} → statement M
