@@ -99,7 +99,7 @@ extern "C" {
  * corner, in turn of the one simplex and of the other, and call each other on the rest. A piece has six corners to leave out, and
  * with the same corners left each step is asked once at most, so that the calls are never more than 14 deep.
  * MAKHNODRI_STACK bytes of stack are enough for any call. As measured by `examples/c/run stack` on x86-64, in bytes; on aarch64 it
- * was less for each but count_stored and list_stored, of which the rows have what it was there:
+ * was less for each but the count and the list from stored boxes, whose rows have what it was there:
  *
  *     check_scene       1,320      judge_pt, judge_pt_piece     1,792
  *     count_pairs      53,384      judge_ee, judge_ee_piece     1,824
