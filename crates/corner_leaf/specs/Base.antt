@@ -3,7 +3,7 @@ use Prim.Native.Nat.{ℕ, zero, suc, _+_, _≤_, _<_}
 use native.Mathlib.Nat.{eq-or-lt-of-le}
 use native.Mathlib.Omega.{arith}
 use mathlib.Core.Path.{_≡_, refl, sym, _∙_, ap, subst}
-use mathlib.Core.Logic.{_≢_, _⊎_, inl, inr, ⊎-elim}
+use mathlib.Core.Logic.{_⊎_, inl, inr, ⊎-elim}
 use mathlib.Core.Bool.{Bool, true, false, cond, _&&_}
 use mathlib.Core.List.{List, _++_}
 use lib.IntN.{ℤ, pos}
@@ -11,7 +11,7 @@ use Rattle.whole.specs.Cramer.{Place, pick}
 use Rattle.meaning.specs.Pieces.{Event}
 use Rattle.sign_sums.specs.BySignsLaws.{clock}
 use Rattle.corner_leaf.specs.declared.SixPoints.{SixPoints}
-use Rattle.corner_laws.specs.Others.{Order, order-of, othersOf}
+use Rattle.corner_laws.specs.Others.{order-of, othersOf}
 use Rattle.corner_laws.specs.Slots.{Based, eventIn, Preferred}
 use Rattle.corner_leaf.specs.Points.{atEnd, isLeft, eventAt, pieceAt, Timed, six-long, six-at}
 use Rattle.corner_leaf.specs.First.{Passed, Failed, found-or}

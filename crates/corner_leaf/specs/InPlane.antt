@@ -2,13 +2,13 @@
 -- turns that put another axis into its slot say nothing, and the turn with this axis is all three. With no corner left out no axis stands in a slot,
 -- and one turn is as good as another, whatever the points.
 use Prim.Native.Nat.{ℕ, zero, suc, _+_, _<_}
-use native.Mathlib.Nat.{le-antisymm, add-zero}
+use native.Mathlib.Nat.{add-zero}
 use native.Mathlib.Omega.{arith}
 use mathlib.Core.Path.{_≡_, refl, sym, _∙_, ap, subst}
 use mathlib.Core.Bool.{Bool, true, false, cond, _&&_}
 use mathlib.Core.List.{List, [], _∷_}
-use lib.Dec.{T, ltb, ltb→lt, leb→le}
-use lib.IntN.{ℤ, pos, negsuc, negℤ, _-ℤ_, _*ℤ_}
+use lib.Dec.{T, ltb, ltb→lt}
+use lib.IntN.{ℤ, pos, negℤ, _-ℤ_, _*ℤ_}
 use lib.ListN.{getD}
 use lib.Signed.{leZ, _≤ℤ_}
 use Rattle.whole.specs.Order.{ord}
@@ -22,10 +22,9 @@ use Rattle.exact.specs.Places.{placeAt, along}
 use Rattle.sign_sums.specs.OneWay.{zeroBut}
 use Rattle.corner_laws.specs.Others.{othersOf}
 use Rattle.corner_laws.specs.Slots.{pick-each}
-use Rattle.corner_laws.specs.Filled.{slot, next, filled, NoneOut}
+use Rattle.corner_laws.specs.Filled.{slot, next, filled}
 use Rattle.corner_laws.specs.Dependent.{Vanish}
 use Rattle.corner_leaf.specs.declared.SixPoints.{SixPoints}
-use Rattle.corner_leaf.specs.declared.Leaf.{Leaf}
 use Rattle.corner_leaf.specs.declared.Leaf.the-variants.{Yes, No, Open}
 use Rattle.corner_leaf.specs.Points.{offset, atEnd, isLeft}
 use Rattle.corner_leaf.specs.Answer.{none, fitting, judgedIn, judged-open, turnOf, seenFrom, alikeAt, levelAlong, Across, oneTurn}

@@ -4,7 +4,7 @@ use mathlib.Core.Path.{_≡_, sym}
 use mathlib.Core.Bool.{Bool, true, false, cond}
 use mathlib.Core.List.{List, _++_}
 use lib.IntN.{ℤ}
-use Rattle.whole.specs.Vector.{Vector, minus}
+use Rattle.whole.specs.Vector.{minus}
 use Rattle.whole.specs.Cramer.{Four, each, Place, p0, p1, p2, p3, pick}
 use Rattle.meaning.specs.Pieces.{Event}
 use Rattle.exact.specs.Places.{placeAt}

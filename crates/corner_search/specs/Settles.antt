@@ -14,7 +14,7 @@ use Rattle.meaning.specs.Resting.{PieceSettled}
 use Rattle.meaning.specs.declared.Verdict.{Verdict}
 use Rattle.meaning.specs.declared.Settled.{Settled}
 use Rattle.corner_leaf.specs.declared.SixPoints.{SixPoints}
-use Rattle.corner_laws.specs.Left.{TouchIn, fewer, touch-in-is}
+use Rattle.corner_laws.specs.Left.{fewer, touch-in-is}
 use Rattle.corner_leaf.specs.Points.{isLeft, pieceAt, TouchLeft, six-long}
 use Rattle.corner_search.specs.Says.{Tells}
 

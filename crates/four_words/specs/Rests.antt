@@ -1,16 +1,13 @@
 -- Where all vertices of a degenerate pair rest, the starts of its first piece say whether some piece touches.
-use Prim.Native.Nat.{ℕ, _<_}
+use Prim.Native.Nat.{ℕ}
 use mathlib.Core.Path.{_≡_, sym, _∙_, subst}
-use mathlib.Core.Logic.{⊎-elim}
 use mathlib.Core.Bool.{Bool, true, false}
 use Rattle.meaning.specs.Scene.{Scene}
-use Rattle.meaning.specs.Pieces.{pieceOf, pieceCount}
-use Rattle.meaning.specs.Equations.{determinantOf, Touches}
-use Rattle.meaning.specs.Verdicts.{PieceIs, PairIs}
+use Rattle.meaning.specs.Equations.{Touches}
+use Rattle.meaning.specs.Verdicts.{PairIs}
 use Rattle.meaning.specs.Resting.{PieceSettled}
 use Rattle.meaning.specs.declared.Kind.{Kind}
 use Rattle.meaning.specs.declared.Verdict.{Verdict}
-use Rattle.meaning.specs.declared.Settled.{Settled}
 use Rattle.at_rest.specs.Rests.{pairRests, all-still}
 use Rattle.corner_leaf.specs.declared.SixPoints.{SixPoints}
 use Rattle.corner_search.specs.Says.{Tells}

@@ -1,14 +1,14 @@
 -- A start and an end of a piece as bases, and the four other corners seen from the base of their time, those of the second simplex backwards.
 -- Weights of the piece combine these four to the origin. So where their shadows lie on one side, their weights are 0, then those of the bases too,
 -- and there are none. That the corners are in one plane is not asked for.
-use Prim.Native.Nat.{ℕ, zero, suc, _+_, _<_}
+use Prim.Native.Nat.{ℕ, _+_, _<_}
 use native.Mathlib.Omega.{arith}
 use mathlib.Core.Path.{_≡_, refl, sym, _∙_, ap, subst}
 use mathlib.Core.Logic.{inl}
 use mathlib.Core.Bool.{Bool, true, false, not, cond, _&&_, _||_}
 use mathlib.Core.List.{List, [], _∷_, _++_}
 use lib.Dec.{T, ltb}
-use lib.IntN.{ℤ, pos, negℤ, natAbs, _+ℤ_, _*ℤ_, zero-*ℤ}
+use lib.IntN.{ℤ, pos, negℤ, _+ℤ_, _*ℤ_, zero-*ℤ}
 use lib.ListN.{length, length-append, getD}
 use lib.Signed.{_≤ℤ_, _<ℤ_}
 use mir.Facts.{and-yes}
@@ -115,9 +115,6 @@ module _ (ps : List ℤ) {six : SixPoints} (h : Timed six) (s e : ℕ) (hs : s <
 
     flat : weigh (each N q) (each (seenFrom ps six s e) q) ≡ origin
     flat = ap (weigh (each N q)) (four-seen ps six s e hs he q (B .order .there)) ∙ level .1
-
-    weights : Four ℤ
-    weights = each (λ i. pos (t .w i)) q
 
     module _ (f : Vector → ℤ) (back : (u v : Vector) → f (minus v u) ≡ negℤ (f (minus u v))) where
       one-weighs : (i : ℕ) → pos (t .w i) *ℤ f (facing ps six s e i) ≡ N i *ℤ f (seenFrom ps six s e i)

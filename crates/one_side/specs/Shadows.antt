@@ -10,7 +10,7 @@ use Rattle.whole.specs.Cramer.{Four, each, weigh, dot4}
 use Rattle.exact.specs.Limits.{differenceLimit}
 use Rattle.one_side.specs.declared.Shadow.{Shadow}
 use Rattle.one_side.specs.declared.Crosses.{Crosses}
-use Rattle.one_side.specs.Pivot.{Sides, sidesOf, crossOf}
+use Rattle.one_side.specs.Pivot.{Sides, sidesOf}
 
 -- the coordinates along the two other axes, in their order round
 abbrev pub shadowX : ℕ → Vector → ℤ

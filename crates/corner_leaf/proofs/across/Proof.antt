@@ -1,5 +1,4 @@
 -- z, else y, else x, else none.
-use borrow.Author.Needs.{needs}
 use native.Mathlib.Omega.{arith}
 use mathlib.Core.Path.{sym, _∙_}
 use lib.Dec.{lit<}

@@ -1,5 +1,5 @@
 -- Three turns, from any one of them on: what the first that is not open says. Where the first is all of them, it is asked alone.
-use mathlib.Core.Path.{_≡_, refl, sym, _∙_, ap}
+use mathlib.Core.Path.{_≡_, sym, _∙_, ap}
 use mathlib.Core.Bool.{Bool, true, false}
 use mathlib.Core.List.{List}
 use borrow.Author.Needs.{needs}

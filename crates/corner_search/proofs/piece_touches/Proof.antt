@@ -1,5 +1,4 @@
 -- Where the quick look tells that there are no weights there are none; else the search says.
-use borrow.Author.Needs.{needs}
 use Rattle.corner_leaf.specs.Points.{placed}
 use Rattle.corner_search.specs.Says.{says-tells}
 use Rattle.corner_search.specs.Settles.{none-tells}

@@ -5,10 +5,8 @@ use Prim.Native.Nat.{ℕ, _≤_, _<_}
 use mathlib.Core.Path.{_≡_, sym, _∙_, ap, subst}
 use mathlib.Core.Bool.{Bool, false, cond}
 use mathlib.Core.List.{List}
-use lib.Dec.{ltb}
 use lib.IntN.{ℤ}
 use lib.ListN.{getD}
-use Rattle.whole.specs.Vector.{Vector}
 use Rattle.exact.specs.Places.{apart}
 use Rattle.exact.specs.Arrows.{vectorOf, Points, points-same, points-short}
 use Rattle.exact.specs.declared.arrows.Arrow.{Arrow}
