@@ -99,7 +99,7 @@ extern "C" {
  * corner, in turn of the one simplex and of the other, and call each other on the rest. A piece has six corners to leave out, and
  * with the same corners left each step is asked once at most, so that the calls are never more than 14 deep.
  * MAKHNODRI_STACK bytes of stack are enough for any call. As measured by `examples/c/run stack` on x86-64, in bytes; on aarch64 it
- * was less for each but those of the last four rows, which were not measured there:
+ * was less for each but two, the calls that count and list from stored boxes, whose numbers are of aarch64:
  *
  *     check_scene       1,320      judge_pt, judge_pt_piece     1,792
  *     count_pairs      53,384      judge_ee, judge_ee_piece     1,824
@@ -111,7 +111,7 @@ extern "C" {
  *     saved_length      1,480      save_scene                   1,592
  *     settle_list       3,184      contact_list                 3,296
  *     fill_boxes        1,384      move_vertex                 12,760
- *     count_stored     53,320      list_stored                 86,216
+ *     count_stored     53,440      list_stored                 86,304
  *     settle_stored    87,600      read_boxed                  23,760
  *     import_scene     47,752      tell_series                175,856
  *
