@@ -26,8 +26,8 @@ extern "C" {
 
 #define MAKHNODRI_VERSION_MAJOR 0
 #define MAKHNODRI_VERSION_MINOR 6
-#define MAKHNODRI_VERSION_PATCH 0
-#define MAKHNODRI_VERSION "0.6.0"
+#define MAKHNODRI_VERSION_PATCH 1
+#define MAKHNODRI_VERSION "0.6.1"
 
 /* ---- Sizes ---- */
 
@@ -98,22 +98,22 @@ extern "C" {
  * None of these calls itself, and none calls back. Inside, one search does: where a piece is degenerate, two steps leave out a
  * corner, in turn of the one simplex and of the other, and call each other on the rest. A piece has six corners to leave out, and
  * with the same corners left each step is asked once at most, so that the calls are never more than 14 deep.
- * MAKHNODRI_STACK bytes of stack are enough for any call. As measured by `examples/c/run stack` on x86-64, in bytes; on aarch64 it
- * was less for each but the count and the list from stored boxes, whose rows have what it was there:
+ * MAKHNODRI_STACK bytes of stack are enough for any call. As measured by `examples/c/run stack` on x86-64 and on aarch64, in bytes, the
+ * greater of the two rounded up:
  *
- *     check_scene       1,320      judge_pt, judge_pt_piece     1,792
- *     count_pairs      53,384      judge_ee, judge_ee_piece     1,824
- *     list_pairs       86,328      settle_pt, settle_pt_piece   2,624
- *     settle_scene     87,709      settle_ee, settle_ee_piece   2,624
- *     read_scene       23,288      write_report               124,368
- *     turn_scene          312      check_claims                 2,032
- *     contact_scene    86,584      contact_pt, contact_ee       2,976
- *     saved_length      1,480      save_scene                   1,592
- *     settle_list       3,184      contact_list                 3,296
- *     fill_boxes        1,384      move_vertex                  1,480
- *     count_stored     54,016      list_stored                 86,880
- *     settle_stored    87,600      read_boxed                  23,760
- *     import_scene     47,752      tell_series                175,856
+ *     check_scene       1,536      judge_pt, judge_pt_piece     2,048
+ *     count_pairs      53,760      judge_ee, judge_ee_piece     2,048
+ *     list_pairs       86,784      settle_pt, settle_pt_piece   2,816
+ *     settle_scene     88,064      settle_ee, settle_ee_piece   2,816
+ *     read_scene       23,808      write_report               124,928
+ *     turn_scene          512      check_claims                 2,304
+ *     contact_scene    87,040      contact_pt, contact_ee       3,328
+ *     saved_length      1,792      save_scene                   1,792
+ *     settle_list       3,328      contact_list                 3,584
+ *     fill_boxes        1,536      move_vertex                  1,792
+ *     count_stored     54,272      list_stored                 87,296
+ *     settle_stored    88,320      read_boxed                  24,064
+ *     import_scene     48,128      tell_series                176,384
  *
  * ---- An answer ----
  *

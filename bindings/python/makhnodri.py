@@ -27,7 +27,7 @@ import pathlib
 import platform
 import sys
 
-VERSION_MAJOR, VERSION_MINOR, VERSION_PATCH = 0, 6, 0
+VERSION_MAJOR, VERSION_MINOR, VERSION_PATCH = 0, 6, 1
 VERSION = f"{VERSION_MAJOR}.{VERSION_MINOR}.{VERSION_PATCH}"
 
 # ---- Sizes, as the header has them
