@@ -15,8 +15,8 @@ use meaning::ContactNumbers;
 use meaning::Kind;
 use meaning::Settled;
 use meaning::WholeContact;
-use three_words::accepted::larger;
-use three_words::accepted::smaller;
+use scene_parts::asked::larger;
+use scene_parts::asked::smaller;
 
 // The numbers of a pair that is hit.
 fn contact_numbers(

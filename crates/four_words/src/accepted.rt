@@ -52,7 +52,7 @@ fn some_piece_touches(
         × PairIs (tabledIn positions edges triangles stands) kind i j Degenerate ⌝ }
     ensures { λ r. ⌜ TouchSaid (tabledAtEntry positions edges triangles stands) kind i j r ⌝ }
 {
-    let count = three_words::accepted::piece_count(kind);
+    let count = scene_parts::asked::piece_count(kind);
     let mut k = 0;
     while k < count {
         let six = six_of(positions, edges, triangles, stands, kind, i, j, k);

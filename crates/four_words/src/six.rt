@@ -15,8 +15,8 @@ use corner_leaf::SixPoints;
 use meaning::Corners;
 use meaning::Ends;
 use meaning::Kind;
-use three_words::accepted::larger;
-use three_words::accepted::smaller;
+use scene_parts::asked::larger;
+use scene_parts::asked::smaller;
 
 // The point between the lower vertex at the start and the higher at the end.
 fn between(low: usize, high: usize, end: bool) -> usize

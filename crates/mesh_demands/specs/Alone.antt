@@ -294,7 +294,7 @@ module _ {s : Scene} (mesh : Mesh s) where
       met-alone r answered x =
           let gives = gives-exactly (WholeContactIs (alone s kind i j) kind (aloneFirst s kind i j) (aloneSecond kind)) (one-whole-contact (alone s kind i j) kind (aloneFirst s kind i j) (aloneSecond kind))
           (contactChecks (alone s kind i j) kind (aloneFirst s kind i j) (aloneSecond kind)) (wholeContactSays r) answered x in
-          (λ e. alone-says-the-same .contact x .0 (gives .0 e .1), λ h. gives .1 (none-refuses, alone-says-the-same .contact x .1 h))
+          (λ e. alone-says-the-same .wholeContact x .0 (gives .0 e .1), λ h. gives .1 (none-refuses, alone-says-the-same .wholeContact x .1 h))
 
       pub contact-alone : (r : ContactAnswer) → ContactGiven (alone s kind i j) kind (aloneFirst s kind i j) (aloneSecond kind) r
           → (c : Contact) → (contactSays r ≡ given c) ↔ ContactIs s kind i j c

@@ -83,7 +83,7 @@ module _ {s : Scene} (ps : PartsOf s) where
         at-whole : WholeContactIs (ps .scene n) (h .own .kind) (h .own .first) (h .own .second) x ↔ WholeContactIs s (q .kind) (q .first) (q .second) x
         at-whole =
             subst (λ (p : Pair). WholeContactIs (ps .scene n) (h .own .kind) (h .own .first) (h .own .second) x ↔ WholeContactIs s (p .kind) (p .first) (p .second) x) (h .is)
-            (a-part-says-the-same (ps .part n below) (ps .mesh n below) (h .own .kind) (h .own .first) (h .own .second) (h .there) .contact x)
+            (a-part-says-the-same (ps .part n below) (ps .mesh n below) (h .own .kind) (h .own .first) (h .own .second) (h .there) .wholeContact x)
 
   -- ---- the theorem
 

@@ -59,7 +59,7 @@ module _ {p s : Scene} {q x : Pair} (mesh : Mesh s) (h : Holds p s q x) where
   packed-contact =
       ap (wholeContactOfPair p) (sym (h .is))
       ∙ whole-contact-is s (x .kind) (x .first) (x .second) (wholeContactOfPair p standsAt) .0
-      (packed-says-the-same .contact (wholeContactOfPair p standsAt) .0 (met-pair p (x .kind) (standsAt .first) (standsAt .second)))
+      (packed-says-the-same .wholeContact (wholeContactOfPair p standsAt) .0 (met-pair p (x .kind) (standsAt .first) (standsAt .second)))
 
 -- ---- a list of one's own
 

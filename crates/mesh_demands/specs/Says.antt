@@ -37,7 +37,7 @@ pub record SaysTheSame (p s : Scene) (kind : Kind) (i j a b : ℕ) : Type 0 wher
   pub pieceWords : (k : ℕ) (w : Settled) → PieceSettled (pieceOf p kind i j k) w ↔ PieceSettled (pieceOf s kind a b k) w
   pub verdict : (v : Verdict) → PairIs p kind i j v ↔ PairIs s kind a b v
   pub word : (w : Settled) → PairSettled p kind i j w ↔ PairSettled s kind a b w
-  pub contact : (x : WholeContact) → WholeContactIs p kind i j x ↔ WholeContactIs s kind a b x
+  pub wholeContact : (x : WholeContact) → WholeContactIs p kind i j x ↔ WholeContactIs s kind a b x
   pub contact : (c : Contact) → ContactIs p kind i j c ↔ ContactIs s kind a b c
   pub shared : shares s kind a b ≡ shares p kind i j
   pub meet : boxesMeet s kind a b ≡ boxesMeet p kind i j
@@ -55,10 +55,10 @@ says-by {p} {s} {kind} {i} {j} {a} {b} points shared meet =
       pieceWords = λ k w. alike-word (alike-same (sym (points k))) w;
       verdict = λ v. alike-pair kind p s i j a b (piece-for-piece (λ k below. alike-same (sym (points k)))) v;
       word = word;
-      contact = contact;
+      wholeContact = wholeContact;
       contact = λ c. (
-        λ h. record { contact = h .contact; right = contact (h .contact) .0 (h .right); is = h .is },
-        λ h. record { contact = h .contact; right = contact (h .contact) .1 (h .right); is = h .is },
+        λ h. record { contact = h .contact; right = wholeContact (h .contact) .0 (h .right); is = h .is },
+        λ h. record { contact = h .contact; right = wholeContact (h .contact) .1 (h .right); is = h .is },
       );
       shared = shared;
       meet = meet;
@@ -69,8 +69,8 @@ says-by {p} {s} {kind} {i} {j} {a} {b} points shared meet =
     word : (w : Settled) → PairSettled p kind i j w ↔ PairSettled s kind a b w
     word w = alike-pair-word kind p s i j a b (piece-for-piece (λ k below. alike-same (sym (points k)))) w
 
-    contact : (x : WholeContact) → WholeContactIs p kind i j x ↔ WholeContactIs s kind a b x
-    contact x = (
+    wholeContact : (x : WholeContact) → WholeContactIs p kind i j x ↔ WholeContactIs s kind a b x
+    wholeContact x = (
       whole-contact-carried p s kind i j a b (λ k below. carries-same (sym (points k))) (λ w. word w .0) x,
       whole-contact-carried s p kind a b i j (λ k below. carries-same (points k)) (λ w. word w .1) x,
     )

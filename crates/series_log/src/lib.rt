@@ -15,37 +15,35 @@ pub fn one_more(n: u64) -> u64
     if n < 18446744073709551615 { n + 1 } else { n }
 }
 
-impl Log {
-    // A log that has taken no hit.
-    pub fn empty() -> Log
-        ensures { λ r. ⌜ r ≡ emptyLog ⌝ }
-    {
-        let none = StepHit {
-            step: 0,
-            kind: Kind::PointTriangle,
-            first: 0,
-            second: 0,
-        };
-        let hits = [none; LOG_ROOM];
-        Log {
-            hits: hits,
-            held: 0,
-            later: 0,
-        }
+// A log that has taken no hit.
+pub fn empty_log() -> Log
+    ensures { λ r. ⌜ r ≡ emptyLog ⌝ }
+{
+    let none = StepHit {
+        step: 0,
+        kind: Kind::PointTriangle,
+        first: 0,
+        second: 0,
+    };
+    let hits = [none; LOG_ROOM];
+    Log {
+        hits: hits,
+        held: 0,
+        later: 0,
     }
+}
 
-    // Takes one hit and hands back the log after it.
-    pub fn add(self, hit: StepHit) -> Log
-        ensures { λ r. ⌜ r ≡ logged self hit ⌝ }
-    {
-        let mut next = self;
-        let held = self.held;
-        if held < LOG_ROOM {
-            next.hits[held] = hit;
-            next.held = held + 1;
-            return next;
-        }
-        next.later = one_more(self.later);
-        next
+// Takes one hit and hands back the log after it.
+pub fn add_hit(log: Log, hit: StepHit) -> Log
+    ensures { λ r. ⌜ r ≡ logged log hit ⌝ }
+{
+    let mut next = log;
+    let held = log.held;
+    if held < LOG_ROOM {
+        next.hits[held] = hit;
+        next.held = held + 1;
+        return next;
     }
+    next.later = one_more(log.later);
+    next
 }

@@ -17,6 +17,8 @@ use meaning::Log;
 use meaning::SeriesTold;
 use meaning::Settled;
 use meaning::StepHit;
+use series_log::add_hit;
+use series_log::empty_log;
 use series_log::one_more;
 use tally::Tally;
 
@@ -55,7 +57,7 @@ fn log_hits(list: &[u32], bytes: &[u8], count: usize, step: usize, log: Log) -> 
         k += 1;
         if bytes[at] == hit {
             if next.held < LOG_ROOM {
-                next = next.add(hit_of(step, list[at]));
+                next = add_hit(next, hit_of(step, list[at]));
             } else {
                 next.later = one_more(next.later);
             }
@@ -94,7 +96,7 @@ pub fn nothing_told() -> SeriesTold
     ensures { λ r. ⌜ r ≡ nothingTold ⌝ }
 {
     SeriesTold {
-        log: Log::empty(),
+        log: empty_log(),
         listed: 0,
         hits: 0,
         misses: 0,

@@ -12,7 +12,7 @@ use Rattle.series_words.proofs.log_hits.Statement.{statement}
 use Rattle.series_words.proofs.log_hits.Tie as tie
 use Rattle.series_words.proofs.log_hits.Reads as reads
 use Rattle.series_words.proofs.log_hits.Lts as lts
-use Rattle.series_log.proofs.Log.add.Reads as add-reads
+use Rattle.series_log.proofs.add_hit.Reads as add-hit-reads
 use Rattle.list_words.proofs.byte_of.Reads as byte-of-reads
 use Rattle.series_words.proofs.hit_of.Reads as hit-of-reads
 
@@ -43,8 +43,8 @@ shared-slice-read-hit-of c = omega (arith, c .before .before .before .before .be
 hit-of-requires : tie.Need-hit-of-requires Inv-loop μ-loop
 hit-of-requires c κs = search needs
 
-add-requires : tie.Need-add-requires Inv-loop μ-loop
-add-requires c κs = search needs
+add-hit-requires : tie.Need-add-hit-requires Inv-loop μ-loop
+add-hit-requires c κs = search needs
 
 loop-less : tie.Need-loop-less Inv-loop μ-loop
 loop-less c = omega arith
@@ -58,7 +58,7 @@ loop-again c =
     let inv = c .before .before .before .before .before .before .before .before .loop .inv in
     let k = c .before .before .before .before .before .before .before .before .loop .k in
     let is = c .before .before .before .before .before .if1 .taken ∙ c .before .before .before .before .before .before .before .before .before .byte-of .ensures in
-    (omega arith, rw (pairs-next k l (omega (arith, start .pre .0)), words-next k b (omega (arith, start .pre .1)), c .add .ensures) (log-then (inv .1) (log-hit (start .args .step) (pairAt l k) (getD b k 0) _ _ is (c .before .hit-of .ensures))))
+    (omega arith, rw (pairs-next k l (omega (arith, start .pre .0)), words-next k b (omega (arith, start .pre .1)), c .add-hit .ensures) (log-then (inv .1) (log-hit (start .args .step) (pairAt l k) (getD b k 0) _ _ is (c .before .hit-of .ensures))))
 
 one-more-requires : tie.Need-one-more-requires Inv-loop μ-loop
 one-more-requires c κs = search needs
@@ -109,7 +109,7 @@ log-hits-spec =
     mul-hit-of
     shared-slice-read-hit-of
     hit-of-requires
-    add-requires
+    add-hit-requires
     loop-less
     loop-again
     one-more-requires

@@ -1,10 +1,10 @@
 use borrow.Author.Needs.{needs}
 use borrow.Author.Tests.{lt-ltb, le-ltb}
 use Rattle.series_log.specs.Logged.{logged}
-use Rattle.series_log.proofs.Log.add.Statement.{statement}
-use Rattle.series_log.proofs.Log.add.Tie as tie
-use Rattle.series_log.proofs.Log.add.Reads as reads
-use Rattle.series_log.proofs.Log.add.Lts as lts
+use Rattle.series_log.proofs.add_hit.Statement.{statement}
+use Rattle.series_log.proofs.add_hit.Tie as tie
+use Rattle.series_log.proofs.add_hit.Reads as reads
+use Rattle.series_log.proofs.add_hit.Lts as lts
 use Rattle.series_log.proofs.one_more.Reads as one-more-reads
 
 mul-hit : tie.Need-mul-hit
@@ -27,5 +27,5 @@ returns-2 : tie.Need-returns-2
 unfolding logged
 returns-2 c = simp (le-ltb _ _ (c .before .if1 .left), c .one-more .ensures)
 
-pub add-spec : {M : Type 1} → statement M
-add-spec = tie.close (tie.spec mul-hit element-set-from-hit add-next returns one-more-requires returns-2)
+pub add-hit-spec : {M : Type 1} → statement M
+add-hit-spec = tie.close (tie.spec mul-hit element-set-from-hit add-next returns one-more-requires returns-2)
