@@ -5,7 +5,7 @@ import pathlib
 import re
 
 TOP = pathlib.Path(__file__).resolve().parents[1]
-WORD = r"[\w′″₀-₉⁺⁻-]+"
+WORD = r"[\w′″₀-₉⁺⁻*-]+"
 HEAD = re.compile(rf"((?:(?:pub|abbrev|unfoldable|record|data) )*)({WORD}|_\S+|\S+_)(?=[ :])")
 USE = re.compile(r"^(?:ghost )?(?:pub )?use Rattle·(\w+)(?:·specs\.specs|\.specs)\.([\w.-]+?)(?:\.\{(.*)\}| as (\w+))?;?$")
 DEFINING = {"record", "data", "abbrev", "unfoldable"}
@@ -34,13 +34,14 @@ def indent(line):
 
 
 def begins(line, current):
-    """The keywords and the name of the declaration that a line begins, if it begins another one than the current."""
+    """The keywords and the names of the declaration that a line begins, if it begins another one than the current."""
     head = HEAD.match(line.strip())
     if not head or head.group(2) in ("use", "module", "unfolding", "mod"):
         return None
     words, name = head.group(1).split(), head.group(2)
-    is_equation = not words and current is not None and current.name == name and not re.match(rf"{re.escape(name)} :", line.strip())
-    return None if is_equation else (words, name)
+    row = re.match(rf"((?:{WORD} )+):", line.strip().removeprefix(head.group(1)))
+    is_equation = not words and current is not None and current.name == name and not row
+    return None if is_equation else (words, row.group(1).split() if row and not DEFINING & {"record", "data"} & set(words) else [name])
 
 
 def kind_of(words):
@@ -51,26 +52,44 @@ def without_comments(source):
     return [line.rstrip() for line in source.splitlines() if line.strip() and not line.strip().startswith("--")]
 
 
+class Reader:
+    """Reads the declarations of a file, line by line. A section `module _ ... where` has its declarations two columns further in than itself."""
+
+    def __init__(self, crate, file):
+        self.crate, self.file = crate, file
+        self.found, self.current = [], None
+        self.sections = []  # those that the line stands in, as [column, head]
+
+    def leave_sections(self, column):
+        while self.sections and column <= self.sections[-1][0]:
+            self.sections.pop()
+
+    def read(self, line):
+        column = indent(line)
+        if self.sections and not self.sections[-1][1].endswith("where"):
+            self.sections[-1][1] += " " + line.strip()
+            return
+        self.leave_sections(column)
+        level = self.sections[-1][0] + 2 if self.sections else 0
+        start = begins(line, self.current) if column == level else None
+        if column == level and line.strip().startswith("module "):
+            self.sections.append([column, line.strip()])
+            self.current = None
+        elif start:
+            head = " ".join(section for _, section in self.sections)
+            made = [Declaration(self.crate, self.file, name, kind_of(start[0]), line, head) for name in start[1]]
+            self.found += made
+            self.current = made[0]
+        elif self.current is not None and not line.startswith("use "):
+            self.current.text += "\n" + line
+
+
 def declarations_in(crate, file, source):
-    """The declarations of a file, in its order. A section `module _ ... where` has its declarations two columns further in."""
-    found, current, level, section = [], None, 0, ""
+    """The declarations of a file, in its order."""
+    reader = Reader(crate, file)
     for line in without_comments(source):
-        if indent(line) == 0:
-            level, section = 0, ""
-        if line.startswith("module "):
-            section, current = line, None
-            continue
-        if section and current is None and not section.endswith("where"):
-            section += " " + line.strip()
-            continue
-        level = 2 if section else 0
-        start = begins(line, current) if indent(line) == level else None
-        if start:
-            current = Declaration(crate, file, start[1], kind_of(start[0]), line, section)
-            found.append(current)
-        elif current is not None and not line.startswith("use "):
-            current.text += "\n" + line
-    return found
+        reader.read(line)
+    return reader.found
 
 
 def uses_in(source):
@@ -126,7 +145,7 @@ def declared():
 def cases_of(one):
     """The names of a data type's cases, or of an enum's variants."""
     if one.kind == "data":
-        return re.findall(rf"^ +({WORD}) :", one.text, re.M)
+        return [name for row in re.findall(rf"^ +((?:{WORD} )+):", one.text, re.M) for name in row.split()]
     return re.findall(r"^ +(\w+)[,(]", one.text, re.M) if one.kind == "enum" else []
 
 
@@ -139,7 +158,7 @@ def origin_of(crate, path, name=""):
     """The declaration that a name stands for in a file: itself, the type that it is a case of, or, of a path `declared.Type`, the type."""
     parts = path.split(".")
     if parts[0] == "declared":
-        return declared().get((crate, "declared", parts[1]))
+        return declared().get((crate, "declared", [part for part in parts if part != "the-variants"][-1]))
     file = "/".join(parts)
     return declared().get((crate, file, name)) or cases().get((crate, file, name))
 
@@ -186,6 +205,12 @@ def named_by_declaration(one):
     if one.kind in ("struct", "enum"):
         return named_by_type(one)
     return named_by(one.crate, one.file, spec_files()[one.crate, one.file], f"{one.head}\n{one.text}")
+
+
+def not_found(crate, file):
+    """The names that a file takes from others of the house and that this reader finds nowhere."""
+    names, _ = uses_in(spec_files()[crate, file])
+    return [name for name, origin in names.items() if origin_of(*origin) is None]
 
 
 def reached_from(roots):
