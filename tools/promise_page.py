@@ -3,6 +3,7 @@ first lines of the edits that change it. tools/promises writes the page, .ci/aft
 
 docs/promises/CRATE.txt has a paragraph for each function: its name, then lines `  word: said`, which go on in lines further in. The words are
 
+    words   what it does, where the comment above it does not say as much as a caller wants to know
     called  by integrators, where they may call it: then it has no `requires`
     laws    the definitions and theorems that tie the promise to the meaning
     fixed   how two results that meet the promise are one: `equation`, a theorem `crate/File.name`, or `open: ` and what is left open, and why
@@ -22,7 +23,7 @@ from functions import TOP
 WIDTH = 160
 DATA = TOP / "docs/promises"
 PAGE = TOP / "docs/PROMISES.md"
-WORDS = ("about", "called", "laws", "fixed", "wrong", "edits", "caught")
+WORDS = ("about", "words", "called", "laws", "fixed", "wrong", "edits", "caught")
 
 
 def entries_in(text):
@@ -132,7 +133,10 @@ def other_edits(crate):
 
 
 def wrapped(words, first="", later=""):
-    return textwrap.wrap(words, WIDTH, initial_indent=first, subsequent_indent=later, break_long_words=False, break_on_hyphens=False)
+    """The words in lines of the page's width; what stands in backquotes stays in one line."""
+    kept = re.sub(r"`[^`]*`", lambda quoted: quoted.group().replace(" ", "\0"), words)
+    lines = textwrap.wrap(kept, WIDTH, initial_indent=first, subsequent_indent=later, break_long_words=False, break_on_hyphens=False)
+    return [line.replace("\0", " ") for line in lines]
 
 
 def sentence(words):
@@ -171,8 +175,9 @@ def comment_of(function):
 
 def function_lines(function):
     mark = " (integrators call it)" if is_called(function) else ""
-    comment = comment_of(function) or "(no comment)"
-    return [f"#### `{function.full}`{mark}", "", *wrapped(comment), "", *contract_of(function), *notes_on(function), ""]
+    told = [words for words in (comment_of(function), entry_of(function).get("words", "")) if words]
+    lines = [line for words in told for line in [*wrapped(words), ""]]
+    return [f"#### `{function.full}`{mark}", "", *lines, *contract_of(function), *notes_on(function), ""]
 
 
 def is_called(function):
