@@ -120,26 +120,27 @@ def types_in(crate, source):
     return found
 
 
+def place_of(file):
+    """The crate of a file of specs, and its name there: `File`, or `shown/File`."""
+    parts = file.relative_to(TOP).with_suffix("").parts
+    return parts[1], "/".join(parts[3:])
+
+
 @functools.cache
 def spec_files():
-    return {
-        (file.relative_to(TOP).parts[1], str(file.relative_to(TOP / "crates" / file.relative_to(TOP).parts[1] / "specs").with_suffix(""))): file.read_text(encoding="utf-8")
-        for file in sorted(TOP.glob("crates/*/specs/**/*.antt"))
-    }
+    return {place_of(file): file.read_text(encoding="utf-8") for file in sorted(TOP.glob("crates/*/specs/**/*.antt"))}
+
+
+def types_of_code():
+    files = sorted(TOP.glob("crates/*/src/**/*.rt"))
+    return [one for file in files for one in types_in(file.relative_to(TOP).parts[1], file.read_text(encoding="utf-8"))]
 
 
 @functools.cache
 def declared():
     """Each declaration of the house, by crate, file and name."""
-    found = {}
-    for (crate, file), source in spec_files().items():
-        for one in declarations_in(crate, file, source):
-            found[crate, file, one.name] = one
-    for file in sorted(TOP.glob("crates/*/src/**/*.rt")):
-        crate = file.relative_to(TOP).parts[1]
-        for one in types_in(crate, file.read_text(encoding="utf-8")):
-            found[crate, "declared", one.name] = one
-    return found
+    found = [one for place, source in spec_files().items() for one in declarations_in(*place, source)]
+    return {(one.crate, one.file, one.name): one for one in [*found, *types_of_code()]}
 
 
 def cases_of(one):
