@@ -14,7 +14,7 @@ use Rattle.meaning.specs.Lines.{AllSound}
 use Rattle.meaning.specs.Claims.{Claim, pieceMeant, AnswerIs, claimLines, AllAnswered, answerByte}
 use Rattle.meaning.specs.declared.Kind.{Kind}
 use Rattle.meaning.specs.declared.Refusal.{Refusal}
-use Rattle.lines.specs.Ahead.{Ahead, ahead-first, ahead-none, ahead-never, ahead-next}
+use Rattle.text_laws.specs.Ahead.{Ahead, ahead-first, ahead-none, ahead-never, ahead-next}
 use Rattle.claim_line.specs.Rendered.{claims-readable}
 use Rattle.claim_line.specs.Stepping.{Stepped, Took}
 use Rattle.claim_line.specs.declared.Step.{Step}

@@ -7,11 +7,11 @@ use native.Mathlib.Omega.{arith}
 use lib.Dec.{ltb}
 use lib.ListN.{length}
 use borrow.Author.Tests.{lt-ltb, le-ltb, ltb-false}
-use Rattle.scenes.specs.Answering.{refuses, lets-pass, gives, is-given, one-answer}
-use Rattle.seam_table.specs.Alone.{tabled}
-use Rattle.scenes.specs.Checking.{Stitched, from-table}
-use Rattle.scenes.specs.Accepting.{after-accepted, after-refused}
-use Rattle.scenes.specs.Speaking.{one-number}
+use Rattle.answers.specs.Answering.{refuses, lets-pass, gives, is-given, one-answer}
+use Rattle.scene_seams.specs.Alone.{tabled}
+use Rattle.scene_checks.specs.Checking.{Stitched, from-table}
+use Rattle.scene_checks.specs.Accepting.{after-accepted, after-refused}
+use Rattle.answers.specs.Speaking.{one-number}
 use Rattle.meaning.specs.Limits.{textLimit}
 use Rattle.meaning.specs.Scene.{Scene, Accepted}
 use Rattle.meaning.specs.Pieces.{Piece}
@@ -26,7 +26,7 @@ use Rattle.meaning.specs.declared.SceneAnswer as SceneAnswers
 use Rattle.meaning.specs.declared.SceneAnswer.{SceneAnswer}
 use Rattle.meaning.specs.declared.ClaimsAnswer as ClaimsAnswers
 use Rattle.meaning.specs.declared.ClaimsAnswer.{ClaimsAnswer}
-use Rattle.lines.specs.Unique.{records-unique, sound-or-faulty, faulty-unique}
+use Rattle.text_laws.specs.Unique.{records-unique, sound-or-faulty, faulty-unique}
 use Rattle.claim_line.specs.Rendered.{claims-readable}
 use Rattle.claim_answers.specs.Inspecting.{Inspected, countTold}
 use Rattle.claim_answers.specs.Answering.{Roomy, Answered, all-many}

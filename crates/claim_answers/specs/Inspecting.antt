@@ -14,7 +14,7 @@ use Rattle.meaning.specs.declared.Kind.{Kind}
 use Rattle.meaning.specs.declared.Refusal.{Refusal}
 use Rattle.meaning.specs.declared.ClaimsAnswer.{ClaimsAnswer}
 use Rattle.meaning.specs.declared.ClaimsAnswer.the-variants.{Answered, Refused}
-use Rattle.lines.specs.Going.{Reached, reached-first, reached-none, reached-next, reached-longer, reached-fault, reached-end}
+use Rattle.text_laws.specs.Going.{Reached, reached-first, reached-none, reached-next, reached-longer, reached-fault, reached-end}
 use Rattle.claim_line.specs.Rendered.{claims-readable}
 use Rattle.claim_line.specs.Stepping.{Stepped, Took}
 use Rattle.claim_line.specs.declared.Step.{Step}

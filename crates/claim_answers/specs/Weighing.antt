@@ -8,9 +8,9 @@ use native.Mathlib.Omega.{arith}
 use lib.Dec.{leb}
 use lib.IntN.{ℤ, pos, natAbs}
 use lib.ListN.{length, getD, List·getD-map}
-use Rattle.seam_table.specs.Below.{or-left}
-use Rattle.scenes.specs.Answering.{is-given}
-use Rattle.fields.specs.Tabbed.{sized-at}
+use Rattle.answers.specs.Below.{or-left}
+use Rattle.answers.specs.Answering.{is-given}
+use Rattle.text_fields.specs.Tabbed.{sized-at}
 use Rattle.meaning.specs.Scene.{Scene, Accepted}
 use Rattle.meaning.specs.Pieces.{Piece, pieceOf, pieceCount}
 use Rattle.meaning.specs.Refusals.{notThere}

@@ -8,12 +8,13 @@ ghost use Rattle.meaning.specs.Scene.{sceneAtEntry, Accepted};
 ghost use Rattle.meaning.specs.Pieces.{pieceOf};
 ghost use Rattle.meaning.specs.Refusals.{notThere};
 ghost use Rattle.meaning.specs.Claims.{AnswerIs, answerByte, ClaimsChecked};
-ghost use Rattle.seam_table.specs.Alone.{tabledIn, tabledAtEntry};
-ghost use Rattle.seam_table.specs.Sewing.{Blank};
-ghost use Rattle.scenes.specs.Checking.{Stitched};
+ghost use Rattle.scene_seams.specs.Alone.{tabledIn, tabledAtEntry};
+ghost use Rattle.scene_seams.specs.Sewing.{Blank};
+ghost use Rattle.scene_checks.specs.Checking.{Stitched};
 ghost use Rattle.claim_answers.specs.Inspecting.{Inspected};
 ghost use Rattle.claim_answers.specs.Weighing.{weightsFrom};
 ghost use Rattle.claim_answers.specs.Answering.{Roomy, Answered};
+ghost use Rattle.sequences.specs.Lent.{atEntry, atExit};
 use claim_line::Step;
 use claim_line::next_claim;
 use claim_sums::borne_out;
@@ -33,7 +34,7 @@ fn inspect(
     stands: &[u16],
     text: &[u8],
 ) -> ClaimsAnswer
-    ensures { λ r. ⌜ Inspected (tabledAtEntry positions edges triangles stands) (now (text .entry)) r ⌝ }
+    ensures { λ r. ⌜ Inspected (tabledAtEntry positions edges triangles stands) (atEntry text) r ⌝ }
 {
     let mut sizes = [0u64; 9];
     let mut minus = [false; 9];
@@ -72,8 +73,11 @@ fn answer(
     numbers: &[u64; 9],
 ) -> bool
     requires { ⌜ Accepted (tabledIn positions edges triangles stands) ⌝ }
-    requires { ⌜ notThere (tabledIn positions edges triangles stands) kind (getD (now numbers) 0 0) (getD (now numbers) 1 0) ≡ false ⌝ }
-    ensures { λ r. ⌜ AnswerIs (pieceOf (tabledAtEntry positions edges triangles stands) kind (getD (now (numbers .entry)) 0 0) (getD (now (numbers .entry)) 1 0) (getD (now (numbers .entry)) 2 0)) (weightsFrom (now (numbers .entry))) r ⌝ }
+    requires { ⌜ notThere (tabledIn positions edges triangles stands) kind (getD (now numbers) 0 0)
+        (getD (now numbers) 1 0) ≡ false ⌝ }
+    ensures { λ r. ⌜ AnswerIs (pieceOf (tabledAtEntry positions edges triangles stands) kind
+        (getD (atEntry numbers) 0 0) (getD (atEntry numbers) 1 0) (getD (atEntry numbers) 2 0))
+        (weightsFrom (atEntry numbers)) r ⌝ }
 {
     let i = numbers[0] as usize;
     let j = numbers[1] as usize;
@@ -108,7 +112,8 @@ fn answer_all(
 )
     requires { ⌜ Accepted (tabledIn positions edges triangles stands) ⌝ }
     requires { ⌜ Roomy (tabledIn positions edges triangles stands) (now text) (now answers) ⌝ }
-    ensures { λ _. ⌜ Answered (tabledAtEntry positions edges triangles stands) (now (text .entry)) (now (answers .entry)) (now (answers .exit)) ⌝ }
+    ensures { λ _. ⌜ Answered (tabledAtEntry positions edges triangles stands) (atEntry text) (atEntry answers)
+        (atExit answers) ⌝ }
 {
     let mut sizes = [0u64; 9];
     let mut minus = [false; 9];
@@ -148,9 +153,10 @@ fn check_into(
     answers: &mut [u8],
 ) -> ClaimsAnswer
     requires { ⌜ Blank (now seams) (now stands) ⌝ }
-    ensures { λ r. ⌜ ClaimsChecked (sceneAtEntry positions edges triangles seams) (now (text .entry)) (now (answers .entry)) (now (answers .exit)) r × Stitched (sceneAtEntry positions edges triangles seams) (now (stands .entry)) (now (stands .exit)) ⌝ }
+    ensures { λ r. ⌜ ClaimsChecked (sceneAtEntry positions edges triangles seams) (atEntry text) (atEntry answers)
+        (atExit answers) r × Stitched (sceneAtEntry positions edges triangles seams) (atEntry stands) (atExit stands) ⌝ }
 {
-    if let SceneAnswer::Refused(refusal) = scenes::check_into(
+    if let SceneAnswer::Refused(refusal) = scene_checks::check_into(
         positions,
         edges,
         triangles,
@@ -184,7 +190,8 @@ pub fn check_claims(
     text: &[u8],
     answers: &mut [u8],
 ) -> ClaimsAnswer
-    ensures { λ r. ⌜ ClaimsChecked (sceneAtEntry positions edges triangles seams) (now (text .entry)) (now (answers .entry)) (now (answers .exit)) r ⌝ }
+    ensures { λ r. ⌜ ClaimsChecked (sceneAtEntry positions edges triangles seams) (atEntry text) (atEntry answers)
+        (atExit answers) r ⌝ }
 {
     if seams.len() == 0 {
         let mut none = [0u16; 0];

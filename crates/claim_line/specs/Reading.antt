@@ -14,13 +14,13 @@ use Rattle.sequences.specs.Stands.{Stands, stands-one, stands-then, stands-apar
 use Rattle.decimals.specs.Byte.{byteAt, byte-inside}
 use Rattle.decimals.specs.Digits.{digits}
 use Rattle.decimals.specs.Value.{digits-length, digits-below}
-use Rattle.seam_table.specs.Below.{or-left, or-rest}
-use Rattle.fields.specs.Field.{Allowed, front-byte}
-use Rattle.fields.specs.Rows.{EachAllowed, rowOf, RowStands, row-cancel}
-use Rattle.fields.specs.Ended.{RowEnded, LineStands, InFront, row-ended, row-unended}
-use Rattle.fields.specs.declared.Ending.{Ending}
-use Rattle.fields.specs.declared.Ending.the-variants.{At, Nowhere}
-use Rattle.fields.specs.Tabbed.{tab-parts, line-ends, SizedAs, sized-at, first-of}
+use Rattle.answers.specs.Below.{or-left, or-rest}
+use Rattle.text_fields.specs.Field.{Allowed, front-byte}
+use Rattle.text_fields.specs.Rows.{EachAllowed, rowOf, RowStands, row-cancel}
+use Rattle.text_fields.specs.Ended.{RowEnded, LineStands, InFront, row-ended, row-unended}
+use Rattle.text_fields.specs.declared.Ending.{Ending}
+use Rattle.text_fields.specs.declared.Ending.the-variants.{At, Nowhere}
+use Rattle.text_fields.specs.Tabbed.{tab-parts, line-ends, SizedAs, sized-at, first-of}
 use Rattle.meaning.specs.Limits.{digitLimit, weightDigits}
 use Rattle.meaning.specs.Text.{Short, tab, lineFeed}
 use Rattle.meaning.specs.Report.{kindWord}

@@ -6,9 +6,9 @@ use Prim.Native.Nat.{ℕ, _<_}
 use native.Mathlib.Omega.{arith}
 use lib.IntN.{ℤ, pos, natAbs}
 use lib.ListN.{length, length-map, length-append}
-use Rattle.fields.specs.Tabbed.{tab-parts, line-ends}
-use Rattle.fields.specs.Rows.{rowOf, row-cancel}
-use Rattle.fields.specs.declared.Form.{Form}
+use Rattle.text_fields.specs.Tabbed.{tab-parts, line-ends}
+use Rattle.text_fields.specs.Rows.{rowOf, row-cancel}
+use Rattle.text_fields.specs.declared.Form.{Form}
 use Rattle.meaning.specs.Limits.{weightDigits}
 use Rattle.meaning.specs.Scene.{Scene}
 use Rattle.meaning.specs.Text.{tab, lineFeed, numeral}
@@ -16,7 +16,7 @@ use Rattle.meaning.specs.Report.{kindWord}
 use Rattle.meaning.specs.Claims.{Claim, placesIn, weightsIn, claimLine, ClaimFormed, claimLines}
 use Rattle.meaning.specs.declared.Kind.{Kind}
 use Rattle.meaning.specs.declared.Kind.the-variants.{PointTriangle, EdgeEdge}
-use Rattle.lines.specs.Unique.{Readable}
+use Rattle.text_laws.specs.Unique.{Readable}
 
 abbrev pub weightForm : Form
 weightForm = record { separator = tab; signed = false; most = weightDigits }

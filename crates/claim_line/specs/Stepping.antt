@@ -8,8 +8,8 @@ use native.Mathlib.Omega.{arith}
 use lib.Dec.{leb}
 use lib.ListN.{length, getD, drop, length-drop}
 use Rattle.sequences.specs.Stands.{stands-from}
-use Rattle.scenes.specs.Answering.{refuses, lets-pass, gives}
-use Rattle.fields.specs.Tabbed.{sized-at}
+use Rattle.answers.specs.Answering.{refuses, lets-pass, gives}
+use Rattle.text_fields.specs.Tabbed.{sized-at}
 use Rattle.meaning.specs.Scene.{Scene}
 use Rattle.meaning.specs.Pieces.{pieceCount}
 use Rattle.meaning.specs.Refusals.{Outcome, given, refused, numberOf, Answers, notThere, shares, pieceAsked}

@@ -2,15 +2,16 @@
 ghost use Prim.Native.Nat.{_≤_, _<_};
 ghost use lib.ListN.{length};
 ghost use mathlib.Core.Path.{_≡_};
-ghost use Rattle.seam_table.specs.Alone.{tabledAtEntry};
+ghost use Rattle.scene_seams.specs.Alone.{tabledAtEntry};
 ghost use Rattle.claim_line.specs.Reading.{wideIn, NumbersRead, lineEnded, LineRead};
 ghost use Rattle.claim_line.specs.Stepping.{judgedSays, AskedIs, Stepped};
-use fields::Ending;
-use fields::Form;
+ghost use Rattle.sequences.specs.Lent.{atEntry, atExit};
 use meaning::Kind;
 use meaning::Refusal;
 use meaning::WEIGHT_DIGITS;
-use three_words::accepted;
+use scene_parts::asked;
+use text_fields::Ending;
+use text_fields::Form;
 
 // A place or a piece has at most nine digits.
 const PLACE_LIMIT: u64 = 1000000000;
@@ -33,7 +34,7 @@ fn line_ended(kind: Kind, ending: Ending) -> Line
 // Has one of the first three numbers more than nine digits?
 fn wide(sizes: &[u64]) -> bool
     requires { ⌜ 9 ≤ length (now sizes) ⌝ }
-    ensures { λ r. ⌜ r ≡ wideIn (now (sizes .entry)) ⌝ }
+    ensures { λ r. ⌜ r ≡ wideIn (atEntry sizes) ⌝ }
 {
     (PLACE_LIMIT <= sizes[0]) | (PLACE_LIMIT <= sizes[1]) | (PLACE_LIMIT <= sizes[2])
 }
@@ -42,14 +43,14 @@ fn wide(sizes: &[u64]) -> bool
 fn read_numbers(text: &[u8], at: usize, sizes: &mut [u64], minus: &mut [bool]) -> Ending
     requires { ⌜ 9 ≤ length (now sizes) ⌝ }
     requires { ⌜ 9 ≤ length (now minus) ⌝ }
-    ensures { λ r. ⌜ NumbersRead (now (text .entry)) at (now (sizes .exit)) (now (minus .exit)) r ⌝ }
+    ensures { λ r. ⌜ NumbersRead (atEntry text) at (atExit sizes) (atExit minus) r ⌝ }
 {
     let form = Form {
         separator: b'\t',
         signed: false,
         most: WEIGHT_DIGITS,
     };
-    let ending = fields::read_row(text, at, form, 9, sizes, minus);
+    let ending = text_fields::read_row(text, at, form, 9, sizes, minus);
     if wide(sizes) {
         return Ending::Nowhere;
     }
@@ -61,7 +62,7 @@ fn read_line(text: &[u8], at: usize, sizes: &mut [u64], minus: &mut [bool]) -> L
     requires { ⌜ at < length (now text) ⌝ }
     requires { ⌜ 9 ≤ length (now sizes) ⌝ }
     requires { ⌜ 9 ≤ length (now minus) ⌝ }
-    ensures { λ r. ⌜ LineRead (now (text .entry)) at (now (sizes .exit)) (now (minus .exit)) r ⌝ }
+    ensures { λ r. ⌜ LineRead (atEntry text) at (atExit sizes) (atExit minus) r ⌝ }
 {
     let first = decimals::byte_at(text, at);
     let second = decimals::byte_at(text, at + 1);
@@ -96,13 +97,13 @@ fn judge(
 ) -> Judged
     ensures { λ r. ⌜ AskedIs (tabledAtEntry positions edges triangles stands) kind i j k (judgedSays r) ⌝ }
 {
-    if accepted::not_there(positions, edges, triangles, kind, i, j) {
+    if asked::not_there(positions, edges, triangles, kind, i, j) {
         return Judged::Fault(Refusal::NotThere);
     }
-    if accepted::piece_count(kind) <= k {
+    if asked::piece_count(kind) <= k {
         return Judged::Fault(Refusal::NotThere);
     }
-    if accepted::shares_vertex(positions, edges, triangles, stands, kind, i, j) {
+    if asked::shares_vertex(positions, edges, triangles, stands, kind, i, j) {
         return Judged::Fault(Refusal::SharedVertex);
     }
     Judged::Good
@@ -128,7 +129,8 @@ pub fn next_claim(
     requires { ⌜ at < length (now text) ⌝ }
     requires { ⌜ 9 ≤ length (now sizes) ⌝ }
     requires { ⌜ 9 ≤ length (now minus) ⌝ }
-    ensures { λ r. ⌜ Stepped (tabledAtEntry positions edges triangles stands) (now (text .entry)) at (now (sizes .exit)) (now (minus .exit)) r ⌝ }
+    ensures { λ r. ⌜ Stepped (tabledAtEntry positions edges triangles stands) (atEntry text) at (atExit sizes)
+        (atExit minus) r ⌝ }
 {
     match read_line(text, at, sizes, minus) {
         Line::Bad => Step::Fault(Refusal::BadLine),

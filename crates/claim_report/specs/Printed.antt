@@ -24,8 +24,8 @@ use Rattle.meaning.specs.declared.ClaimsAnswer.{ClaimsAnswer}
 use Rattle.meaning.specs.declared.ClaimsAnswer.the-variants.{Answered, Refused}
 use Rattle.meaning.specs.declared.TextAnswer as TextAnswers
 use Rattle.meaning.specs.declared.TextAnswer.{TextAnswer}
-use Rattle.scene_text.specs.Using.{Came, byBuffers, byLength, byLines, read-refusal-of}
-use Rattle.wording.specs.Lines.{wrote-as}
+use Rattle.text_scene.specs.Using.{Came, byBuffers, byLength, byLines, read-refusal-of}
+use Rattle.report_words.specs.Lines.{wrote-as}
 use Rattle.claim_answers.specs.Checking.{few-told}
 
 abbrev pub answersLength : ℕ

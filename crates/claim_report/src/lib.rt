@@ -9,6 +9,8 @@ ghost use Rattle.meaning.specs.Limits.{claimRoom};
 ghost use Rattle.meaning.specs.Scene.{sceneAtEntry};
 ghost use Rattle.meaning.specs.Claims.{AnswersReported};
 ghost use Rattle.claim_report.specs.Printed.{answersLength, lineAt, SceneAnswered};
+ghost use Rattle.sequences.specs.Lent.{atEntry, atExit};
+use answers::number_of;
 use meaning::CLAIM_ROOM;
 use meaning::ClaimsAnswer;
 use meaning::EDGE_NUMBERS;
@@ -16,9 +18,8 @@ use meaning::POSITION_NUMBERS;
 use meaning::SEAM_NUMBERS;
 use meaning::TRIANGLE_NUMBERS;
 use meaning::TextAnswer;
-use wording::lines::answer_line;
-use wording::lines::refused_line;
-use wording::number_of;
+use report_words::lines::answer_line;
+use report_words::lines::refused_line;
 
 // The bytes that hold the answers to any claims: `yes` and LF for each.
 pub const ANSWERS_BYTES: usize = 4 * CLAIM_ROOM;
@@ -26,7 +27,7 @@ pub const ANSWERS_BYTES: usize = 4 * CLAIM_ROOM;
 // A line for each of the first `count` answers.
 fn answer_lines(answers: &[u8], count: usize, out: &mut [u8]) -> usize
     requires { ⌜ (count ≤ length (now answers)) × (count ≤ claimRoom) × (length (now out) ≡ answersLength) ⌝ }
-    ensures { λ r. ⌜ Wrote (now (out .entry)) 0 (gather (lineAt (now (answers .entry))) 0 count) (now (out .exit)) r ⌝ }
+    ensures { λ r. ⌜ Wrote (atEntry out) 0 (gather (lineAt (atEntry answers)) 0 count) (atExit out) r ⌝ }
 {
     let mut next = 0;
     let mut k = 0;
@@ -47,7 +48,8 @@ fn scene_answers(
     out: &mut [u8],
 ) -> usize
     requires { ⌜ length (now out) ≡ answersLength ⌝ }
-    ensures { λ r. ⌜ SceneAnswered (sceneAtEntry positions edges triangles seams) (now (claims .entry)) (now (out .entry)) (now (out .exit)) r ⌝ }
+    ensures { λ r. ⌜ SceneAnswered (sceneAtEntry positions edges triangles seams) (atEntry claims) (atEntry out)
+        (atExit out) r ⌝ }
 {
     let mut answers = [0u8; CLAIM_ROOM];
     match claim_answers::check_claims(positions, edges, triangles, seams, claims, &mut answers) {
@@ -60,13 +62,13 @@ fn scene_answers(
 
 // The answers to the claims of one text beside the scene of another.
 pub fn write_answers(scene: &[u8], claims: &[u8], out: &mut [u8; ANSWERS_BYTES]) -> usize
-    ensures { λ r. ⌜ AnswersReported (now (scene .entry)) (now (claims .entry)) (now (out .entry)) (now (out .exit)) r ⌝ }
+    ensures { λ r. ⌜ AnswersReported (atEntry scene) (atEntry claims) (atEntry out) (atExit out) r ⌝ }
 {
     let mut positions = [0i32; POSITION_NUMBERS];
     let mut edges = [0u16; EDGE_NUMBERS];
     let mut triangles = [0u16; TRIANGLE_NUMBERS];
     let mut seams = [0u16; SEAM_NUMBERS];
-    match scene_text::read_scene(
+    match text_scene::read_scene(
         scene,
         &mut positions,
         &mut edges,

@@ -17,7 +17,7 @@ use Rattle.meaning.specs.Equations.{one, xOf, yOf, zOf, timeOf, total, Balanced
 use Rattle.meaning.specs.Claims.{weightAt, ofFirstSimplex, ofSecondSimplex, BorneOut, AnswerIs}
 use Rattle.corner_leaf.specs.declared.SixPoints.{SixPoints}
 use Rattle.corner_leaf.specs.Points.{pieceAt}
-use Rattle.seam_table.specs.Below.{or-left, or-rest}
+use Rattle.answers.specs.Below.{or-left, or-rest}
 use Rattle.claim_sums.specs.Sums.{heavy, Light, reading, side, agrees, passes}
 use Rattle.claim_sums.specs.Sides.{side-first, side-second}
 

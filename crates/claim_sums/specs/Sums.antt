@@ -12,7 +12,7 @@ use Rattle.meaning.specs.Pieces.{Event}
 use Rattle.meaning.specs.Equations.{one, xOf, yOf, zOf, timeOf, total}
 use Rattle.meaning.specs.Claims.{weightAt}
 use Rattle.exact.specs.Places.{placeAt}
-use Rattle.sign_sums.specs.BySignsLaws.{clock}
+use Rattle.exact_signs.specs.BySignsLaws.{clock}
 use Rattle.corner_leaf.specs.declared.SixPoints.{SixPoints}
 use Rattle.corner_leaf.specs.Points.{sixEvents}
 

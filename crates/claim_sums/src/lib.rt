@@ -10,6 +10,7 @@ ghost use Rattle.meaning.specs.Claims.{weightAt, AnswerIs};
 ghost use Rattle.exact.specs.Places.{Bounded};
 ghost use Rattle.corner_leaf.specs.Points.{eventAt, pieceAt, SixIn};
 ghost use Rattle.claim_sums.specs.Sums.{shareLimit, sideLimit, heavy, Light, reading, pointAt, side, agrees, passes};
+ghost use Rattle.sequences.specs.Lent.{atEntry};
 use corner_leaf::SixPoints;
 use meaning::WEIGHT_LIMIT;
 
@@ -20,7 +21,7 @@ const ONE: usize = 4;
 
 // Is a weight above its limit?
 fn heavy(weights: &[u64; 6]) -> bool
-    ensures { λ r. ⌜ r ≡ heavy (now (weights .entry)) ⌝ }
+    ensures { λ r. ⌜ r ≡ heavy (atEntry weights) ⌝ }
 {
     (WEIGHT_LIMIT < weights[0])
         | (WEIGHT_LIMIT < weights[1])
@@ -33,7 +34,7 @@ fn heavy(weights: &[u64; 6]) -> bool
 // What a point has in a row: a coordinate, its time, or one.
 fn reading(positions: &[i32], at: usize, end: bool, row: usize) -> i64
     requires { ⌜ (at + 3 ≤ length (now positions)) × Bounded coordinateLimit (now positions) ⌝ }
-    ensures { λ r. ⌜ Is coordinateLimit r (reading row (pointAt (now (positions .entry)) at end)) ⌝ }
+    ensures { λ r. ⌜ Is coordinateLimit r (reading row (pointAt (atEntry positions) at end)) ⌝ }
 {
     if row < TIME {
         return positions[at + row] as i64;
@@ -44,7 +45,8 @@ fn reading(positions: &[i32], at: usize, end: bool, row: usize) -> i64
 // What point i adds to its side: its weight times what it has in the row.
 fn share(positions: &[i32], six: SixPoints, weights: &[u64; 6], i: usize, row: usize) -> i64
     requires { ⌜ SixIn (now positions) six × Light (now weights) × (i < 6) ⌝ }
-    ensures { λ r. ⌜ Is shareLimit r (pos (weightAt (now (weights .entry)) i) *ℤ reading row (eventAt (now (positions .entry)) six i)) ⌝ }
+    ensures { λ r. ⌜ Is shareLimit r (pos (weightAt (atEntry weights) i) *ℤ reading row
+        (eventAt (atEntry positions) six i)) ⌝ }
 {
     weights[i] as i64 * reading(positions, six.at[i], six.ends[i], row)
 }
@@ -59,7 +61,7 @@ fn side(
     row: usize,
 ) -> i64
     requires { ⌜ SixIn (now positions) six × Light (now weights) × (from ≤ to) × (to ≤ 6) ⌝ }
-    ensures { λ r. ⌜ Is sideLimit r (side (now (positions .entry)) six (now (weights .entry)) from to row) ⌝ }
+    ensures { λ r. ⌜ Is sideLimit r (side (atEntry positions) six (atEntry weights) from to row) ⌝ }
 {
     let mut sum: i64 = 0;
     let mut i = from;
@@ -73,7 +75,7 @@ fn side(
 // Have the two simplices the same sum in a row?
 fn agree(positions: &[i32], six: SixPoints, weights: &[u64; 6], row: usize) -> bool
     requires { ⌜ SixIn (now positions) six × Light (now weights) ⌝ }
-    ensures { λ r. ⌜ r ≡ agrees (now (positions .entry)) six (now (weights .entry)) row ⌝ }
+    ensures { λ r. ⌜ r ≡ agrees (atEntry positions) six (atEntry weights) row ⌝ }
 {
     let first = side(positions, six, weights, 0, six.first, row);
     let second = side(positions, six, weights, six.first, 6, row);
@@ -83,7 +85,7 @@ fn agree(positions: &[i32], six: SixPoints, weights: &[u64; 6], row: usize) -> b
 // Have the two simplices the same sum above 0, and do x, y, z and time agree?
 fn balanced(positions: &[i32], six: SixPoints, weights: &[u64; 6]) -> bool
     requires { ⌜ SixIn (now positions) six × Light (now weights) ⌝ }
-    ensures { λ r. ⌜ r ≡ passes (now (positions .entry)) six (now (weights .entry)) ⌝ }
+    ensures { λ r. ⌜ r ≡ passes (atEntry positions) six (atEntry weights) ⌝ }
 {
     let x = agree(positions, six, weights, 0);
     let y = agree(positions, six, weights, 1);
@@ -97,7 +99,7 @@ fn balanced(positions: &[i32], six: SixPoints, weights: &[u64; 6]) -> bool
 // Is the claim borne out by its weights: none above its limit, and they balance?
 pub fn borne_out(positions: &[i32], six: SixPoints, weights: &[u64; 6]) -> bool
     requires { ⌜ SixIn (now positions) six ⌝ }
-    ensures { λ r. ⌜ AnswerIs (pieceAt (now (positions .entry)) six) (now (weights .entry)) r ⌝ }
+    ensures { λ r. ⌜ AnswerIs (pieceAt (atEntry positions) six) (atEntry weights) r ⌝ }
 {
     if heavy(weights) {
         return false;

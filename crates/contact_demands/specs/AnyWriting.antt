@@ -9,13 +9,13 @@ use Rattle.meaning.specs.Limits.{contactLimit}
 use Rattle.meaning.specs.Scene.{Scene, reachesBeyond, Accepted}
 use Rattle.meaning.specs.Refusals.{Outcome, given, refused, Answers}
 use Rattle.meaning.specs.List.{Pair, pairs, entries, listSays, leaves}
-use Rattle.meaning.specs.Meetings.{metRoom, metChecks, rowsAfter, MetScene}
+use Rattle.meaning.specs.WholeContacts.{contactRoom, contactListChecks, rowsAfter, ContactsListed}
 use Rattle.meaning.specs.declared.ListAnswer.{ListAnswer}
 use Rattle.theory.specs.Rewritten.{Rewritten}
-use Rattle.scenes.specs.Answering.{is-past, is-given}
-use Rattle.listing.specs.Once.{list-says-one}
-use Rattle.scene_contacts.specs.Listed.{metByte, all-met-one}
-use Rattle.demands.specs.Deciding.{holds-or-not}
+use Rattle.answers.specs.Answering.{is-past, is-given}
+use Rattle.list_pairs.specs.Once.{list-says-one}
+use Rattle.contact_scene.specs.Listed.{contactByte, all-met-one}
+use Rattle.answers.specs.Deciding.{holds-or-not}
 use Rattle.demands.specs.Demand1.{SceneRows}
 use Rattle.demands.specs.StillAccepted.{rewritten-accepted, refused-alike}
 use Rattle.demands.specs.AnyWriting.{rewritten-list}
@@ -32,7 +32,7 @@ last-given s (given n) p = ap given p
 last-given s (refused n c) p = absurd p
 
 met-given : (s : Scene) (room : ℕ) (o : Outcome ℕ) → Accepted s → reachesBeyond contactLimit s ≡ false → ltb room (length (pairs s)) ≡ false
-    → Answers (metChecks s room) (Counts s) o → o ≡ given (length (pairs s))
+    → Answers (contactListChecks s room) (Counts s) o → o ≡ given (length (pairs s))
 met-given s room o a near fits p =
     let p1 = is-past (Counts s) _ _ o (a .shapely) p in
     let p2 = is-past (Counts s) _ _ o (a .inRange) p1 in
@@ -43,7 +43,7 @@ met-given s room o a near fits p =
     last-given s o (is-past (Counts s) _ [] o fits p6)
 
 -- and where it is given, the scene was accepted
-given-accepted : (s : Scene) (room n : ℕ) → Answers (metChecks s room) (Counts s) (given n) → Accepted s
+given-accepted : (s : Scene) (room n : ℕ) → Answers (contactListChecks s room) (Counts s) (given n) → Accepted s
 given-accepted s room n p =
     let (h1, p1) = is-given (Counts s) _ _ n p in
     let (h2, p2) = is-given (Counts s) _ _ n p1 in
@@ -55,14 +55,14 @@ given-accepted s room n p =
 rows : {s : Scene} {room : ℕ} {o : Outcome ℕ} → SceneContactTable s room o → SceneRows s o
 rows t = record { no1 = t .no1; no2 = t .no2; no3 = t .no3; no15 = t .no15; no4 = t .no4 }
 
-module _ {s t : Scene} (h : Rewritten s t) (o o′ o″ b b′ b″ c c′ c″ : List ℕ) (r r′ : ListAnswer) (p : MetScene s o o′ b b′ c c′ r) (q : MetScene t o o″ b b″ c c″ r′) where
+module _ {s t : Scene} (h : Rewritten s t) (o o′ o″ b b′ b″ c c′ c″ : List ℕ) (r r′ : ListAnswer) (p : ContactsListed s o o′ b b′ c c′ r) (q : ContactsListed t o o″ b b″ c c″ r′) where
   count : length (pairs t) ≡ length (pairs s)
   count = ap (length {A = Pair}) (rewritten-list h)
 
-  one : SceneContactTable s (metRoom o b c) (listSays r)
+  one : SceneContactTable s (contactRoom o b c) (listSays r)
   one = demand1-met-scene s o o′ b b′ c c′ r p
 
-  other : SceneContactTable t (metRoom o b c) (listSays r′)
+  other : SceneContactTable t (contactRoom o b c) (listSays r′)
   other = demand1-met-scene t o o″ b b″ c c″ r′ q
 
   decided : Accepted s → listSays r ≡ listSays r′
@@ -73,29 +73,29 @@ module _ {s t : Scene} (h : Rewritten s t) (o o′ o″ b b′ b″ c c′ c″ 
       one .no16 .1 (a .shapely, (a .inRange, (a .known, (a .sewnWell, (a .distinct, far)))))
       ∙ sym (other .no16 .1 (d .shapely, (d .inRange, (d .known, (d .sewnWell, (d .distinct, range-alike h ∙ far)))))))
       (λ near.
-      holds-or-not (ltb (metRoom o b c) (length (pairs s)))
+      holds-or-not (ltb (contactRoom o b c) (length (pairs s)))
       (λ e.
       one .no7 .1 (a .shapely, (a .inRange, (a .known, (a .sewnWell, (a .distinct, (near, e))))))
       ∙ ap (refused 7) (sym count)
       ∙ sym (other .no7 .1 (d .shapely, (d .inRange, (d .known, (d .sewnWell, (d .distinct, (range-alike h ∙ near, rw count e))))))))
       (λ e.
-      met-given s (metRoom o b c) (listSays r) a near e (p .answer)
+      met-given s (contactRoom o b c) (listSays r) a near e (p .answer)
       ∙ ap given (sym count)
-      ∙ sym (met-given t (metRoom o b c) (listSays r′) d (range-alike h ∙ near) (rw count e) (q .answer))))
+      ∙ sym (met-given t (contactRoom o b c) (listSays r′) d (range-alike h ∙ near) (rw count e) (q .answer))))
 
   same : r ≡ r′
   same = list-says-one r r′ (refused-alike h (rows one) (rows other) decided)
 
-  met-alike : (n : ℕ) → listSays r ≡ given n → p .meetings ≡ q .meetings
+  met-alike : (n : ℕ) → listSays r ≡ given n → p .contacts ≡ q .contacts
   met-alike n e =
-      let a : Accepted s = given-accepted s (metRoom o b c) n (rw e at (p .answer)) in
-      all-met-one s (pairs s) (p .meetings) (p .right) ∙ sym (all-met-one s (pairs s) (q .meetings) (contacts-as-written h a (q .meetings) (q .right)))
+      let a : Accepted s = given-accepted s (contactRoom o b c) n (rw e at (p .answer)) in
+      all-met-one s (pairs s) (p .contacts) (p .right) ∙ sym (all-met-one s (pairs s) (q .contacts) (contacts-as-written h a (q .contacts) (q .right)))
 
   words : (x : Outcome ℕ) → listSays r ≡ x → b′ ≡ b″
   unfolding leaves
   words (given n) e =
       let ms = met-alike n e in
-      p .bytes ∙ (λ i. leaves (listSays (same i)) (map metByte (ms i)) b) ∙ sym (q .bytes)
+      p .bytes ∙ (λ i. leaves (listSays (same i)) (map contactByte (ms i)) b) ∙ sym (q .bytes)
   words (refused n d) e =
       let kept : b′ ≡ b = rw e at (p .bytes) in
       let kept″ : b″ ≡ b = rw (ap listSays (sym same) ∙ e) at (q .bytes) in

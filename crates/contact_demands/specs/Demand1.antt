@@ -10,19 +10,19 @@ use Rattle.meaning.specs.Limits.{contactLimit}
 use Rattle.meaning.specs.Scene.{Scene, reachesBeyond, wrongShape, outOfRange, unknownVertex, brokenSeam, repeatedVertex}
 use Rattle.meaning.specs.Refusals.{Outcome, given, refused, Answers, notThere, shares}
 use Rattle.meaning.specs.List.{pairs, listSays}
-use Rattle.meaning.specs.Meetings.{MeetingIs, contactChecks, meetingSays, MeetingFound, metRoom, metChecks, MetScene}
+use Rattle.meaning.specs.WholeContacts.{WholeContactIs, contactChecks, wholeContactSays, WholeContactFound, contactRoom, contactListChecks, ContactsListed}
 use Rattle.meaning.specs.declared.Kind.{Kind}
-use Rattle.meaning.specs.declared.Meeting.{Meeting}
-use Rattle.meaning.specs.declared.MeetingAnswer.{MeetingAnswer}
+use Rattle.meaning.specs.declared.WholeContact.{WholeContact}
+use Rattle.meaning.specs.declared.WholeContactAnswer.{WholeContactAnswer}
 use Rattle.meaning.specs.declared.ListAnswer.{ListAnswer}
-use Rattle.demands.specs.Deciding.{Refuses, carriedBy, NoneHolds, absent, distinct, refused-exactly, number-known}
+use Rattle.answers.specs.Deciding.{Refuses, carriedBy, NoneHolds, absent, distinct, refused-exactly, number-known}
 
 -- none of the scene's five, and then
 abbrev ThenIs : Scene → Type 0 → Type 0
 ThenIs s R = (wrongShape s ≡ false) × ((outOfRange s ≡ false) × ((unknownVertex s ≡ false) × ((brokenSeam s ≡ false) × ((repeatedVertex s ≡ false) × R))))
 
 -- each number exactly when its condition holds and no check before it does
-pub record ContactTable (s : Scene) (missing shared : Bool) (o : Outcome Meeting) : Type 0 where
+pub record ContactTable (s : Scene) (missing shared : Bool) (o : Outcome WholeContact) : Type 0 where
   pub no1 : (o ≡ refused 1 0) ↔ (wrongShape s ≡ true)
   pub no2 : (o ≡ refused 2 0) ↔ ((wrongShape s ≡ false) × (outOfRange s ≡ true))
   pub no3 : (o ≡ refused 3 0) ↔ ((wrongShape s ≡ false) × ((outOfRange s ≡ false) × (unknownVertex s ≡ true)))
@@ -33,10 +33,10 @@ pub record ContactTable (s : Scene) (missing shared : Bool) (o : Outcome Meeting
   pub no16 : (o ≡ refused 16 0) ↔ ThenIs s ((missing ≡ false) × ((shared ≡ false) × (reachesBeyond contactLimit s ≡ true)))
   pub only : (n c : ℕ) → o ≡ refused n c → List·Memᴰ n (1 ∷ 2 ∷ 3 ∷ 15 ∷ 4 ∷ 5 ∷ 6 ∷ 16 ∷ [])
 
-pub demand1-contact : (s : Scene) (kind : Kind) (i j : ℕ) (r : MeetingAnswer) → MeetingFound s kind i j r → ContactTable s (notThere s kind i j) (shares s kind i j) (meetingSays r)
+pub demand1-contact : (s : Scene) (kind : Kind) (i j : ℕ) (r : WholeContactAnswer) → WholeContactFound s kind i j r → ContactTable s (notThere s kind i j) (shares s kind i j) (wholeContactSays r)
 unfolding Refuses carriedBy absent distinct
 demand1-contact s kind i j r p =
-    let row = refused-exactly (MeetingIs s kind i j) (contactChecks s kind i j) (meetingSays r) refl p in
+    let row = refused-exactly (WholeContactIs s kind i j) (contactChecks s kind i j) (wholeContactSays r) refl p in
     record {
       no1 = row 1;
       no2 = row 2;
@@ -46,7 +46,7 @@ demand1-contact s kind i j r p =
       no5 = row 5;
       no6 = row 6;
       no16 = row 16;
-      only = number-known (MeetingIs s kind i j) (contactChecks s kind i j) (meetingSays r) p;
+      only = number-known (WholeContactIs s kind i j) (contactChecks s kind i j) (wholeContactSays r) p;
     }
 
 pub record SceneContactTable (s : Scene) (room : ℕ) (o : Outcome ℕ) : Type 0 where
@@ -59,10 +59,10 @@ pub record SceneContactTable (s : Scene) (room : ℕ) (o : Outcome ℕ) : Type 0
   pub no7 : (o ≡ refused 7 (length (pairs s))) ↔ ThenIs s ((reachesBeyond contactLimit s ≡ false) × (ltb room (length (pairs s)) ≡ true))
   pub only : (n c : ℕ) → o ≡ refused n c → List·Memᴰ n (1 ∷ 2 ∷ 3 ∷ 15 ∷ 4 ∷ 16 ∷ 7 ∷ [])
 
-pub demand1-met-scene : (s : Scene) (o o′ b b′ c c′ : List ℕ) (r : ListAnswer) → MetScene s o o′ b b′ c c′ r → SceneContactTable s (metRoom o b c) (listSays r)
+pub demand1-met-scene : (s : Scene) (o o′ b b′ c c′ : List ℕ) (r : ListAnswer) → ContactsListed s o o′ b b′ c c′ r → SceneContactTable s (contactRoom o b c) (listSays r)
 unfolding Refuses carriedBy absent distinct
 demand1-met-scene s o o′ b b′ c c′ r p =
-    let row = refused-exactly (λ n. n ≡ length (pairs s)) (metChecks s (metRoom o b c)) (listSays r) refl (p .answer) in
+    let row = refused-exactly (λ n. n ≡ length (pairs s)) (contactListChecks s (contactRoom o b c)) (listSays r) refl (p .answer) in
     record {
       no1 = row 1;
       no2 = row 2;
@@ -71,5 +71,5 @@ demand1-met-scene s o o′ b b′ c c′ r p =
       no4 = row 4;
       no16 = row 16;
       no7 = row 7;
-      only = number-known (λ n. n ≡ length (pairs s)) (metChecks s (metRoom o b c)) (listSays r) (p .answer);
+      only = number-known (λ n. n ≡ length (pairs s)) (contactListChecks s (contactRoom o b c)) (listSays r) (p .answer);
     }

@@ -2,7 +2,6 @@
 pub mod Carried
 pub mod Demand3
 pub mod Numbers
-pub mod OneContact
 pub mod Demand1
 pub mod OnePrinted
 pub mod AnyWriting

@@ -6,31 +6,32 @@ use mathlib.Core.List.{List, [], _∷_, _++_, List·Memᴰ, List·Memᴰ·head, 
 use mathlib.Core.Path.{_≡_, refl, sym, _∙_, ap, subst}
 use native.Mathlib.Omega.{arith}
 use lib.ListN.{length, take}
-use Rattle.sequences.specs.Wrote.{written}
 use Rattle.meaning.specs.Limits.{contactLimit}
 use Rattle.meaning.specs.Scene.{Scene, reachesBeyond, Accepted}
 use Rattle.meaning.specs.Refusals.{notThere}
 use Rattle.meaning.specs.List.{Pair, pairs}
 use Rattle.meaning.specs.Report.{refusedLine}
-use Rattle.meaning.specs.ReadShown.{front-read}
-use Rattle.meaning.specs.Meetings.{AllMet}
+use Rattle.meaning.specs.shown.ReadShown.{front-read}
+use Rattle.meaning.specs.WholeContacts.{AllContacts}
 use Rattle.meaning.specs.ContactLines.{contactLines, contactTotal, ContactsOf, tooLong, faulty, beyondOldRange, noRoom, told, ContactsReported, ContactsRead}
-use Rattle.meaning.specs.declared.Meeting.{Meeting}
+use Rattle.meaning.specs.declared.WholeContact.{WholeContact}
 use Rattle.theory.specs.Rewritten.{Rewritten, rewritten-back}
-use Rattle.listing.specs.InOrder.{list-is}
-use Rattle.scene_text.specs.Accepted.{text-accepted}
-use Rattle.scene_contacts.specs.Listed.{all-met-one}
-use Rattle.demands.specs.OneText.{same-scene, held-or-faulty, faulty-one, many-or-few}
+use Rattle.list_pairs.specs.InOrder.{list-is}
+use Rattle.text_scene.specs.Accepted.{text-accepted}
+use Rattle.contact_scene.specs.Listed.{all-met-one}
+use Rattle.text_scene.specs.OneReading.{same-scene, held-or-faulty, faulty-one}
+use Rattle.list_pairs.specs.OneRoom.{many-or-few}
 use Rattle.demands.specs.AnyWriting.{rewritten-list}
 use Rattle.demands.specs.AnyText.{DifferInOrder, differ-long, faulty-alike, holds-alike}
 use Rattle.contact_demands.specs.Demand3.{contact-as-written}
+use Rattle.answers.specs.Printed.{one-in-front}
 
 -- ---- of one text
 
-met-one : {s t : Scene} (ms ns : List Meeting) → s ≡ t → AllMet s (pairs s) ms → AllMet t (pairs t) ns
+met-one : {s t : Scene} (ms ns : List WholeContact) → s ≡ t → AllContacts s (pairs s) ms → AllContacts t (pairs t) ns
     → contactLines (pairs s) ms ++ contactTotal ms ≡ contactLines (pairs t) ns ++ contactTotal ns
 met-one {s} {t} ms ns e h k =
-    let h′ : AllMet t (pairs t) ms = rw e at h in
+    let h′ : AllContacts t (pairs t) ms = rw e at h in
     let f : ms ≡ ns = all-met-one t (pairs t) ms h′ ∙ sym (all-met-one t (pairs t) ns k) in
     λ i. contactLines (pairs (e i)) (f i) ++ contactTotal (f i)
 
@@ -68,10 +69,7 @@ one-contacts (told s ms h a near n v) (told t ns k b also m w) = met-one ms ns (
 
 pub one-contacts-reported : (text o o′ o″ : List ℕ) (n n′ : ℕ) → ContactsReported text o o′ n → ContactsReported text o o″ n′ → (n ≡ n′) × (o′ ≡ o″)
 one-contacts-reported text o o′ o″ n n′ p q =
-    let same : p .report ≡ q .report = one-contacts (p .right) (q .right) in (
-      p .length-is ∙ ap (length {A = ℕ}) same ∙ sym (q .length-is),
-      p .buffer ∙ ap (λ (r : List ℕ). written r o) same ∙ sym (q .buffer),
-    )
+    one-in-front (ContactsOf text) (λ l k h j. one-contacts h j) p q
 
 -- of what was read: there is always a text of which that was read
 pub one-contacts-read : (buffer o o′ o″ : List ℕ) (count n n′ : ℕ) → ContactsRead buffer count o o′ n → ContactsRead buffer count o o″ n′ → (n ≡ n′) × (o′ ≡ o″)
@@ -81,9 +79,9 @@ one-contacts-read buffer o o′ o″ count n n′ p q =
 -- ---- in any order of writing
 
 module _ {s t : Scene} (h : Rewritten s t) (a : Accepted s) where
-  met-alike : (ps : List Pair) → ((p : Pair) → List·Memᴰ p ps → notThere s (p .kind) (p .first) (p .second) ≡ false) → (ms : List Meeting)
-      → AllMet t ps ms → AllMet s ps ms
-  unfolding AllMet
+  met-alike : (ps : List Pair) → ((p : Pair) → List·Memᴰ p ps → notThere s (p .kind) (p .first) (p .second) ≡ false) → (ms : List WholeContact)
+      → AllContacts t ps ms → AllContacts s ps ms
+  unfolding AllContacts
   met-alike [] there [] m = tt
   met-alike [] there (x ∷ ms) m = absurd m
   met-alike (p ∷ ps) there [] m = absurd m
@@ -93,9 +91,9 @@ module _ {s t : Scene} (h : Rewritten s t) (a : Accepted s) where
   )
 
   -- the contacts of the one list are those of the other
-  pub contacts-as-written : (ms : List Meeting) → AllMet t (pairs t) ms → AllMet s (pairs s) ms
+  pub contacts-as-written : (ms : List WholeContact) → AllContacts t (pairs t) ms → AllContacts s (pairs s) ms
   contacts-as-written ms k =
-      met-alike (pairs s) (λ p m. list-is s .stands p .0 m .there) ms (subst (λ (ps : List Pair). AllMet t ps ms) (rewritten-list h) k)
+      met-alike (pairs s) (λ p m. list-is s .stands p .0 m .there) ms (subst (λ (ps : List Pair). AllContacts t ps ms) (rewritten-list h) k)
 
 pub range-alike : {s t : Scene} → Rewritten s t → reachesBeyond contactLimit t ≡ reachesBeyond contactLimit s
 range-alike h = rw (h .positions) refl

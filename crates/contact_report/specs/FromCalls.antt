@@ -20,9 +20,9 @@ use Rattle.meaning.specs.declared.ListAnswer as ListAnswers
 use Rattle.meaning.specs.declared.ListAnswer.{ListAnswer}
 use Rattle.meaning.specs.declared.TextAnswer as TextAnswers
 use Rattle.meaning.specs.declared.TextAnswer.{TextAnswer}
-use Rattle.scenes.specs.Answering.{is-refused, is-past}
-use Rattle.listing.specs.Answering.{roomChecks, IsCount, ListedIn}
-use Rattle.scene_text.specs.Using.{Came, byBuffers, byLength, byLines, read-refusal-of}
+use Rattle.answers.specs.Answering.{is-refused, is-past}
+use Rattle.list_pairs.specs.Answering.{roomChecks, IsCount, ListedIn}
+use Rattle.text_scene.specs.Using.{Came, byBuffers, byLength, byLines, read-refusal-of}
 
 -- the program's own list has room for 3,072 pairs
 pub own-room : roomOf (replicate 3072 0) ≡ reportRoom

@@ -15,26 +15,26 @@ use Rattle.meaning.specs.List.{Pair, pairs}
 use Rattle.meaning.specs.Text.{further}
 use Rattle.meaning.specs.SceneWords.{byteOf}
 use Rattle.meaning.specs.Report.{totalWord, reportLine, isOne, howMany}
-use Rattle.meaning.specs.Meetings.{MeetingIs, wordOf}
+use Rattle.meaning.specs.WholeContacts.{WholeContactIs, wordOf}
 use Rattle.meaning.specs.ContactLines.{shareFields, contactLine, contactLines, contactTotal}
 use Rattle.meaning.specs.declared.Kind.{Kind}
 use Rattle.meaning.specs.declared.Kind.the-variants.{PointTriangle, EdgeEdge}
 use Rattle.meaning.specs.declared.Settled as Settleds
-use Rattle.meaning.specs.declared.Moment.{Moment}
-use Rattle.meaning.specs.declared.Meeting.{Meeting}
-use Rattle.meaning.specs.declared.Meeting.the-variants.{Hit, Miss, Touch, Apart}
-use Rattle.entries.specs.Entries.{pairAt, places-small}
-use Rattle.scene_words.specs.Listed.{noPair, ListStands}
-use Rattle.scene_contacts.specs.Computed.{SmallNumbers, contact-small, met-pair}
-use Rattle.scene_contacts.specs.Rows.{meeting-small, small-hit}
-use Rattle.scene_contacts.specs.Listed.{meetingsOf, meetings-length, meetings-at}
-use Rattle.wording.specs.Lines.{wrote-as, kind-short}
+use Rattle.meaning.specs.declared.ContactNumbers.{ContactNumbers}
+use Rattle.meaning.specs.declared.WholeContact.{WholeContact}
+use Rattle.meaning.specs.declared.WholeContact.the-variants.{Hit, Miss, Touch, Apart}
+use Rattle.list_entries.specs.Entries.{pairAt, places-small}
+use Rattle.list_words.specs.Listed.{noPair, ListStands}
+use Rattle.contact_scene.specs.Computed.{SmallNumbers, contact-small, met-pair}
+use Rattle.contact_scene.specs.Rows.{whole-contact-small, small-hit}
+use Rattle.contact_scene.specs.Listed.{contactsOf, contacts-length, contacts-at}
+use Rattle.report_words.specs.Lines.{wrote-as, kind-short}
 
 abbrev pub hit : Settleds.Settled
 hit = Settleds.the-variants.Hit
 
 -- how many of the contacts are hits
-abbrev pub hitsOf : List Meeting → ℕ
+abbrev pub hitsOf : List WholeContact → ℕ
 hitsOf ms = howMany hit (map wordOf ms)
 
 -- ---- a line is at most 47 bytes: two letters, two places, the piece, k and three shares, and the LF
@@ -42,14 +42,14 @@ hitsOf ms = howMany hit (map wordOf ms)
 number-short : (n : ℕ) → n ≤ unit → length (digits n) ≤ 7
 number-short n h = digits-length 7 n (omega arith) (omega arith)
 
-shares-short : (kind : Kind) (m : Moment) → SmallNumbers m → length (further 9 (shareFields kind m)) ≤ 24
+shares-short : (kind : Kind) (m : ContactNumbers) → SmallNumbers m → length (further 9 (shareFields kind m)) ≤ 24
 unfolding further shareFields
 shares-short PointTriangle m h =
     simp length-append (omega (arith, number-short (m .first) (h .first-small), number-short (m .second) (h .second-small), number-short (m .third) (h .third-small)))
 shares-short EdgeEdge m h =
     simp length-append (omega (arith, number-short (m .first) (h .first-small), number-short (m .second) (h .second-small)))
 
-hit-short : (p : Pair) (m : Moment) → p .first < 1_024 → p .second < 1_024 → m .piece < 4 → SmallNumbers m → length (contactLine p (Hit m)) ≤ 47
+hit-short : (p : Pair) (m : ContactNumbers) → p .first < 1_024 → p .second < 1_024 → m .piece < 4 → SmallNumbers m → length (contactLine p (Hit m)) ≤ 47
 unfolding contactLine further
 hit-short p m f s piece h =
     simp length-append
@@ -64,9 +64,9 @@ hit-short p m f s piece h =
     ))
 
 module _ (s : Scene) (kind : Kind) (i j : ℕ) where
-  pub line-short : (p : Pair) (m : Meeting) → p .first < 1_024 → p .second < 1_024 → MeetingIs s kind i j m → length (contactLine p m) ≤ 47
-  unfolding contactLine MeetingIs
-  line-short p (Hit m) f g h = hit-short p m f g (small-hit (Hit m) [] 0 refl (meeting-small s kind i j (Hit m) h)) (contact-small s kind i j m h)
+  pub line-short : (p : Pair) (m : WholeContact) → p .first < 1_024 → p .second < 1_024 → WholeContactIs s kind i j m → length (contactLine p m) ≤ 47
+  unfolding contactLine WholeContactIs
+  line-short p (Hit m) f g h = hit-short p m f g (small-hit (Hit m) [] 0 refl (whole-contact-small s kind i j (Hit m) h)) (contact-small s kind i j m h)
   line-short p Miss f g h = omega arith
   line-short p Touch f g h = omega arith
   line-short p Apart f g h = omega arith
@@ -74,19 +74,19 @@ module _ (s : Scene) (kind : Kind) (i j : ℕ) where
 -- ---- one pair more
 
 -- a hit is one hit
-abbrev pub oneHit : Meeting → ℕ
+abbrev pub oneHit : WholeContact → ℕ
 oneHit m = isOne hit (wordOf m)
 
 -- and it has its line
-pub hit-told : {m : Meeting} {h : Moment} {p q : Pair} → m ≡ Hit h → p ≡ q → contactLine p (Hit h) ≡ contactLine q m
+pub hit-told : {m : WholeContact} {h : ContactNumbers} {p q : Pair} → m ≡ Hit h → p ≡ q → contactLine p (Hit h) ≡ contactLine q m
 hit-told {m} {h} {p} {q} e same = λ t. contactLine (same t) (sym e t)
 
-pub hit-counts : {m : Meeting} {h : Moment} → m ≡ Hit h → oneHit m ≡ 1
+pub hit-counts : {m : WholeContact} {h : ContactNumbers} → m ≡ Hit h → oneHit m ≡ 1
 unfolding isOne wordOf byteOf
 hit-counts e = rw e refl
 
 -- another word has no line, and is none
-pub record NotHit (m : Meeting) : Type 0 where
+pub record NotHit (m : WholeContact) : Type 0 where
   pub noLine : (p : Pair) → contactLine p m ≡ []
   pub none : oneHit m ≡ 0
 
@@ -103,7 +103,7 @@ unfolding contactLine isOne wordOf byteOf
 apart-told = record { noLine = λ p. refl; none = refl }
 
 -- one pair is at most one hit
-pub one-hit : (m : Meeting) → oneHit m ≤ 1
+pub one-hit : (m : WholeContact) → oneHit m ≤ 1
 one-hit (Hit h) = omega (arith, hit-counts {h = h} refl)
 one-hit Miss = omega (arith, miss-told .none)
 one-hit Touch = omega (arith, touch-told .none)
@@ -112,8 +112,8 @@ one-hit Apart = omega (arith, apart-told .none)
 -- ---- a list of pairs from a place on
 
 module _ (s : Scene) where
-  abbrev pub met : List Meeting
-  met = meetingsOf s (pairs s)
+  abbrev pub met : List WholeContact
+  met = contactsOf s (pairs s)
 
   -- the lines of the pairs from place k on
   abbrev pub linesFrom : ℕ → List ℕ
@@ -123,7 +123,7 @@ module _ (s : Scene) where
   unfolding contactLines
   lines-next k h =
       let ps = drop-next (pairs s) k noPair h in
-      let ms = drop-next met k Miss (rw (meetings-length s (pairs s)) h) in
+      let ms = drop-next met k Miss (rw (contacts-length s (pairs s)) h) in
       λ t. contactLines (ps t) (ms t)
 
   pub lines-end : (k : ℕ) → length (pairs s) ≤ k → linesFrom k ≡ []
@@ -136,18 +136,18 @@ module _ (s : Scene) where
 
   pub hits-next : (k : ℕ) → k < length (pairs s) → hitsFrom k ≡ oneHit (getD met k Miss) + hitsFrom (k + 1)
   unfolding howMany
-  hits-next k h = ap hitsOf (drop-next met k Miss (rw (meetings-length s (pairs s)) h))
+  hits-next k h = ap hitsOf (drop-next met k Miss (rw (contacts-length s (pairs s)) h))
 
   pub hits-end : (k : ℕ) → length (pairs s) ≤ k → hitsFrom k ≡ 0
   unfolding howMany
-  hits-end k h = ap hitsOf (drop-of-length-le met {i = k} (rw (meetings-length s (pairs s)) h))
+  hits-end k h = ap hitsOf (drop-of-length-le met {i = k} (rw (contacts-length s (pairs s)) h))
 
   -- the k-th line is short
   pub listed-line-short : (l : List ℕ) → ListStands s l → (k : ℕ) → k < length (pairs s) → length (contactLine (pairAt l k) (getD met k Miss)) ≤ 47
   listed-line-short l stands k h =
       let (first, second) = places-small (getD l k 0) in
       let p : Pair = getD (pairs s) k noPair in
-      let right : MeetingIs s (p .kind) (p .first) (p .second) (getD met k Miss) = rw (meetings-at s (pairs s) k h) (met-pair s (p .kind) (p .first) (p .second)) in
+      let right : WholeContactIs s (p .kind) (p .first) (p .second) (getD met k Miss) = rw (contacts-at s (pairs s) k h) (met-pair s (p .kind) (p .first) (p .second)) in
       line-short s (p .kind) (p .first) (p .second) (pairAt l k) (getD met k Miss) first second right
 
   -- so all lines fit
@@ -168,7 +168,7 @@ module _ (s : Scene) where
   lines-fit l stands = from-place l stands (length (pairs s)) 0 (omega arith)
 
   -- the line of the k-th entry, then those of the others
-  pub entry-next : (l : List ℕ) → ListStands s l → (k : ℕ) → k < length (pairs s) → (m : Meeting) → m ≡ getD met k Miss
+  pub entry-next : (l : List ℕ) → ListStands s l → (k : ℕ) → k < length (pairs s) → (m : WholeContact) → m ≡ getD met k Miss
       → linesFrom k ≡ contactLine (pairAt l k) m ++ linesFrom (k + 1)
   entry-next l stands k h m e = lines-next k h ∙ (λ t. contactLine (sym (stands .at k h) t) (sym e t) ++ linesFrom (k + 1))
 
@@ -181,5 +181,5 @@ module _ (s : Scene) where
       → Wrote o′ n (reportLine totalWord (digits count ∷ digits hits ∷ [])) o″ r
       → Wrote o 0 (contactLines (pairs s) met ++ contactTotal met) o″ r
   whole-told many some lines total =
-      let listed = many ∙ sym (meetings-length s (pairs s)) in
+      let listed = many ∙ sym (contacts-length s (pairs s)) in
       wrote-as (λ t. contactLines (pairs s) met ++ reportLine totalWord (digits (listed t) ∷ digits (some t) ∷ [])) (wrote-then lines total)

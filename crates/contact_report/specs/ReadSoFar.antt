@@ -8,7 +8,7 @@ use Rattle.sequences.specs.Wrote.{Wrote}
 use Rattle.meaning.specs.Limits.{textLimit}
 use Rattle.meaning.specs.Report.{refusedLine}
 use Rattle.meaning.specs.ContactLines.{ContactsOf, ContactsReported, ContactsRead}
-use Rattle.summary.specs.ReadSoFar.{read-whole, read-full}
+use Rattle.text_scene.specs.ReadSoFar.{read-whole, read-full}
 use Rattle.contact_report.specs.Whole.{refused-text}
 
 -- the text ended before the buffer was full

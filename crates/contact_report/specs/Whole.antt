@@ -12,17 +12,17 @@ use Rattle.meaning.specs.Scene.{Scene, sceneOf, reachesBeyond}
 use Rattle.meaning.specs.List.{pairs}
 use Rattle.meaning.specs.Text.{Holds}
 use Rattle.meaning.specs.Report.{refusedLine}
-use Rattle.meaning.specs.Meetings.{AllMet}
+use Rattle.meaning.specs.WholeContacts.{AllContacts}
 use Rattle.meaning.specs.ContactLines.{contactLines, contactTotal, ContactsOf, ContactsReported}
-use Rattle.meaning.specs.declared.Meeting.{Meeting}
-use Rattle.scene_contacts.specs.Listed.{meetingsOf, all-met}
-use Rattle.wording.specs.Lines.{wrote-as}
+use Rattle.meaning.specs.declared.WholeContact.{WholeContact}
+use Rattle.contact_scene.specs.Listed.{contactsOf, all-met}
+use Rattle.report_words.specs.Lines.{wrote-as}
 
 -- what is printed for a scene that was read: 16, or 7 with the count needed, or the contacts and the totals
 pub data SceneContacts (s : Scene) : List ℕ → Type 0 where
   beyondOldRange : reachesBeyond contactLimit s ≡ true → SceneContacts s (refusedLine 16 0)
   noRoom : reachesBeyond contactLimit s ≡ false → reportRoom < length (pairs s) → SceneContacts s (refusedLine 7 (length (pairs s)))
-  told : (ms : List Meeting) → reachesBeyond contactLimit s ≡ false → length (pairs s) ≤ reportRoom → AllMet s (pairs s) ms
+  told : (ms : List WholeContact) → reachesBeyond contactLimit s ≡ false → length (pairs s) ≤ reportRoom → AllContacts s (pairs s) ms
       → SceneContacts s (contactLines (pairs s) ms ++ contactTotal ms)
 
 pub record SceneTold (s : Scene) (o o′ : List ℕ) (n : ℕ) : Type 0 where
@@ -40,10 +40,10 @@ module _ (s : Scene) {o o′ : List ℕ} {r : ℕ} where
       record { report = refusedLine 7 (length (pairs s)); right = noRoom near h; wrote = wrote-as (ap (refusedLine 7) e) w }
 
   pub contacts-stand : reachesBeyond contactLimit s ≡ false → length (pairs s) ≤ reportRoom
-      → Wrote o 0 (contactLines (pairs s) (meetingsOf s (pairs s)) ++ contactTotal (meetingsOf s (pairs s))) o′ r → SceneTold s o o′ r
+      → Wrote o 0 (contactLines (pairs s) (contactsOf s (pairs s)) ++ contactTotal (contactsOf s (pairs s))) o′ r → SceneTold s o o′ r
   contacts-stand near few w = record {
-    report = contactLines (pairs s) (meetingsOf s (pairs s)) ++ contactTotal (meetingsOf s (pairs s));
-    right = told (meetingsOf s (pairs s)) near few (all-met s (pairs s));
+    report = contactLines (pairs s) (contactsOf s (pairs s)) ++ contactTotal (contactsOf s (pairs s));
+    right = told (contactsOf s (pairs s)) near few (all-met s (pairs s));
     wrote = w;
   }
 

@@ -9,15 +9,16 @@ ghost use Rattle.meaning.specs.Limits.{contactLimit, reportRoom};
 ghost use Rattle.meaning.specs.Scene.{AcceptedWithin};
 ghost use Rattle.meaning.specs.List.{pairs};
 ghost use Rattle.meaning.specs.ContactLines.{contactLine, contactLines, contactTotal};
-ghost use Rattle.entries.specs.Entries.{pairOf};
-ghost use Rattle.seam_table.specs.Alone.{tabledIn, tabledAtEntry};
-ghost use Rattle.scene_words.specs.Listed.{ListStands};
-ghost use Rattle.scene_contacts.specs.Listed.{meetingsOf};
+ghost use Rattle.list_entries.specs.Entries.{pairOf};
+ghost use Rattle.scene_seams.specs.Alone.{tabledIn, tabledAtEntry};
+ghost use Rattle.list_words.specs.Listed.{ListStands};
+ghost use Rattle.contact_scene.specs.Listed.{contactsOf};
 ghost use Rattle.contact_report.specs.Sizes.{contactsLength};
 ghost use Rattle.contact_report.specs.Lines.{oneHit, hitsOf};
-use meaning::Meeting;
-use wording::contact_lines::contact_line;
-use wording::contact_lines::contact_total;
+ghost use Rattle.sequences.specs.Lent.{atEntry, atExit};
+use meaning::WholeContact;
+use report_words::contact_lines::contact_line;
+use report_words::contact_lines::contact_total;
 
 // How far the lines have come, and how many they are: a line for each hit.
 pub struct Lines {
@@ -26,16 +27,17 @@ pub struct Lines {
 }
 
 // One listed pair more. A pair that is not hit has no line.
-fn tell_pair(entry: u32, meeting: Meeting, out: &mut [u8], lines: Lines) -> Lines
+fn tell_pair(entry: u32, contact: WholeContact, out: &mut [u8], lines: Lines) -> Lines
     requires { ⌜ (lines .next + 150 ≤ length (now out)) × (lines .hits < reportRoom) ⌝ }
-    ensures { λ r. ⌜ Wrote (now (out .entry)) (lines .next) (contactLine (pairOf entry) meeting) (now (out .exit)) (r .next) × (r .hits ≡ lines .hits + oneHit meeting) ⌝ }
+    ensures { λ r. ⌜ Wrote (atEntry out) (lines .next) (contactLine (pairOf entry) contact) (atExit out) (r .next)
+        × (r .hits ≡ lines .hits + oneHit contact) ⌝ }
 {
     let at = lines.next;
-    if let Meeting::Hit(moment) = meeting {
-        let kind = entries::kind_of(entry);
-        let first = entries::first_of(entry);
-        let second = entries::second_of(entry);
-        let next = contact_line(out, at, kind, first as u64, second as u64, moment);
+    if let WholeContact::Hit(contact_numbers) = contact {
+        let kind = list_entries::kind_of(entry);
+        let first = list_entries::first_of(entry);
+        let second = list_entries::second_of(entry);
+        let next = contact_line(out, at, kind, first as u64, second as u64, contact_numbers);
         return Lines {
             next: next,
             hits: lines.hits + 1,
@@ -54,14 +56,22 @@ fn hit_lines(
     count: usize,
     out: &mut [u8],
 ) -> Lines
-    requires { ⌜ AcceptedWithin contactLimit (tabledIn positions edges triangles stands) × ListStands (tabledIn positions edges triangles stands) (now list) × (count ≡ length (pairs (tabledIn positions edges triangles stands))) × (count ≤ reportRoom) × (length (now out) ≡ contactsLength) ⌝ }
-    ensures { λ r. ⌜ Wrote (now (out .entry)) 0 (contactLines (pairs (tabledAtEntry positions edges triangles stands)) (meetingsOf (tabledAtEntry positions edges triangles stands) (pairs (tabledAtEntry positions edges triangles stands)))) (now (out .exit)) (r .next) × (r .next ≤ 47 * reportRoom) × (r .hits ≡ hitsOf (meetingsOf (tabledAtEntry positions edges triangles stands) (pairs (tabledAtEntry positions edges triangles stands)))) ⌝ }
+    requires { ⌜ AcceptedWithin contactLimit (tabledIn positions edges triangles stands)
+        × ListStands (tabledIn positions edges triangles stands) (now list)
+        × (count ≡ length (pairs (tabledIn positions edges triangles stands))) × (count ≤ reportRoom)
+        × (length (now out) ≡ contactsLength) ⌝ }
+    ensures { λ r. ⌜ Wrote (atEntry out) 0
+        (contactLines (pairs (tabledAtEntry positions edges triangles stands))
+        (contactsOf (tabledAtEntry positions edges triangles stands)
+        (pairs (tabledAtEntry positions edges triangles stands)))) (atExit out) (r .next) × (r .next ≤ 47 * reportRoom)
+        × (r .hits ≡ hitsOf (contactsOf (tabledAtEntry positions edges triangles stands)
+        (pairs (tabledAtEntry positions edges triangles stands)))) ⌝ }
 {
     let mut lines = Lines { next: 0, hits: 0 };
     let mut k = 0;
     while k < count {
-        let meeting = scene_contacts::entry_meeting(positions, edges, triangles, stands, list, k);
-        lines = tell_pair(list[k], meeting, out, lines);
+        let contact = contact_scene::entry_contact(positions, edges, triangles, stands, list, k);
+        lines = tell_pair(list[k], contact, out, lines);
         k += 1;
     }
     lines
@@ -77,8 +87,16 @@ pub fn hits_report(
     count: usize,
     out: &mut [u8],
 ) -> usize
-    requires { ⌜ AcceptedWithin contactLimit (tabledIn positions edges triangles stands) × ListStands (tabledIn positions edges triangles stands) (now list) × (count ≡ length (pairs (tabledIn positions edges triangles stands))) × (count ≤ reportRoom) × (length (now out) ≡ contactsLength) ⌝ }
-    ensures { λ r. ⌜ Wrote (now (out .entry)) 0 (contactLines (pairs (tabledAtEntry positions edges triangles stands)) (meetingsOf (tabledAtEntry positions edges triangles stands) (pairs (tabledAtEntry positions edges triangles stands))) ++ contactTotal (meetingsOf (tabledAtEntry positions edges triangles stands) (pairs (tabledAtEntry positions edges triangles stands)))) (now (out .exit)) r ⌝ }
+    requires { ⌜ AcceptedWithin contactLimit (tabledIn positions edges triangles stands)
+        × ListStands (tabledIn positions edges triangles stands) (now list)
+        × (count ≡ length (pairs (tabledIn positions edges triangles stands))) × (count ≤ reportRoom)
+        × (length (now out) ≡ contactsLength) ⌝ }
+    ensures { λ r. ⌜ Wrote (atEntry out) 0
+        (contactLines (pairs (tabledAtEntry positions edges triangles stands))
+        (contactsOf (tabledAtEntry positions edges triangles stands)
+        (pairs (tabledAtEntry positions edges triangles stands))) ++ contactTotal
+        (contactsOf (tabledAtEntry positions edges triangles stands)
+        (pairs (tabledAtEntry positions edges triangles stands)))) (atExit out) r ⌝ }
 {
     let lines = hit_lines(positions, edges, triangles, stands, list, count, out);
     contact_total(out, lines.next, count as u64, lines.hits)

@@ -8,23 +8,24 @@ ghost use lib.ListN.{length};
 ghost use Rattle.meaning.specs.Limits.{contactLimit, textLimit};
 ghost use Rattle.meaning.specs.Scene.{sceneIn, sceneAtEntry, Accepted, AcceptedWithin};
 ghost use Rattle.meaning.specs.ContactLines.{ContactsReported, ContactsRead};
-ghost use Rattle.seam_table.specs.Alone.{tabledIn, tabledAtEntry};
+ghost use Rattle.scene_seams.specs.Alone.{tabledIn, tabledAtEntry};
 ghost use Rattle.contact_report.specs.Sizes.{contactsLength};
 ghost use Rattle.contact_report.specs.Whole.{SceneTold};
+ghost use Rattle.sequences.specs.Lent.{atEntry, atExit};
+use answers::number_of;
 use hits::hits_report;
 use meaning::CONTACTS_BYTES;
 use meaning::EDGE_NUMBERS;
 use meaning::ListAnswer;
 use meaning::POSITION_NUMBERS;
+use meaning::READ_BYTES;
 use meaning::REPORT_ROOM;
 use meaning::SEAM_NUMBERS;
 use meaning::TRIANGLE_NUMBERS;
 use meaning::TextAnswer;
 use meaning::VERTEX_LIMIT;
-use seam_table::sew_all;
-use summary::READ_BYTES;
-use wording::lines::refused_line;
-use wording::number_of;
+use report_words::lines::refused_line;
+use scene_seams::sew_all;
 
 // The contacts of a scene that is accepted and within the old range, its seams in the table: 7 is found before anything is written.
 fn near_contacts(
@@ -34,12 +35,13 @@ fn near_contacts(
     stands: &[u16],
     out: &mut [u8],
 ) -> usize
-    requires { ⌜ AcceptedWithin contactLimit (tabledIn positions edges triangles stands) × (length (now out) ≡ contactsLength) ⌝ }
-    ensures { λ r. ⌜ SceneTold (tabledAtEntry positions edges triangles stands) (now (out .entry)) (now (out .exit)) r ⌝ }
+    requires { ⌜ AcceptedWithin contactLimit (tabledIn positions edges triangles stands)
+        × (length (now out) ≡ contactsLength) ⌝ }
+    ensures { λ r. ⌜ SceneTold (tabledAtEntry positions edges triangles stands) (atEntry out) (atExit out) r ⌝ }
 {
     let mut list = [0u32; REPORT_ROOM];
     let mut tests = [0usize; 1];
-    match listing::accepted::list_accepted(
+    match list_pairs::accepted::list_accepted(
         positions,
         edges,
         triangles,
@@ -70,9 +72,9 @@ fn scene_lines(
     out: &mut [u8],
 ) -> usize
     requires { ⌜ Accepted (sceneIn positions edges triangles seams) × (length (now out) ≡ contactsLength) ⌝ }
-    ensures { λ r. ⌜ SceneTold (sceneAtEntry positions edges triangles seams) (now (out .entry)) (now (out .exit)) r ⌝ }
+    ensures { λ r. ⌜ SceneTold (sceneAtEntry positions edges triangles seams) (atEntry out) (atExit out) r ⌝ }
 {
-    if meetings::beyond_old_range(positions) {
+    if contact_pair::beyond_old_range(positions) {
         return refused_line(out, 0, 16, 0);
     }
     let mut stands = [0u16; VERTEX_LIMIT];
@@ -82,13 +84,13 @@ fn scene_lines(
 
 // The contacts of a text.
 pub fn write_contacts(text: &[u8], out: &mut [u8; CONTACTS_BYTES]) -> usize
-    ensures { λ r. ⌜ ContactsReported (now (text .entry)) (now (out .entry)) (now (out .exit)) r ⌝ }
+    ensures { λ r. ⌜ ContactsReported (atEntry text) (atEntry out) (atExit out) r ⌝ }
 {
     let mut positions = [0i32; POSITION_NUMBERS];
     let mut edges = [0u16; EDGE_NUMBERS];
     let mut triangles = [0u16; TRIANGLE_NUMBERS];
     let mut seams = [0u16; SEAM_NUMBERS];
-    match scene_text::read_scene(text, &mut positions, &mut edges, &mut triangles, &mut seams) {
+    match text_scene::read_scene(text, &mut positions, &mut edges, &mut triangles, &mut seams) {
         TextAnswer::Read(counts) => {
             let p = 6 * counts.vertices;
             let e = 2 * counts.edges;
@@ -110,7 +112,7 @@ pub fn write_contacts(text: &[u8], out: &mut [u8; CONTACTS_BYTES]) -> usize
 // however it goes on; else it is the text.
 fn front_contacts(read: &[u8], count: usize, out: &mut [u8; CONTACTS_BYTES]) -> usize
     requires { ⌜ textLimit < length (now read) ⌝ }
-    ensures { λ r. ⌜ ContactsRead (now (read .entry)) count (now (out .entry)) (now (out .exit)) r ⌝ }
+    ensures { λ r. ⌜ ContactsRead (atEntry read) count (atEntry out) (atExit out) r ⌝ }
 {
     if count < read.len() {
         return write_contacts(&read[..count], out);
@@ -120,7 +122,7 @@ fn front_contacts(read: &[u8], count: usize, out: &mut [u8; CONTACTS_BYTES]) -> 
 
 // The contacts of what a program read: the first `count` bytes of its buffer.
 pub fn contacts_read(read: &[u8; READ_BYTES], count: usize, out: &mut [u8; CONTACTS_BYTES]) -> usize
-    ensures { λ r. ⌜ ContactsRead (now (read .entry)) count (now (out .entry)) (now (out .exit)) r ⌝ }
+    ensures { λ r. ⌜ ContactsRead (atEntry read) count (atEntry out) (atExit out) r ⌝ }
 {
     front_contacts(read, count, out)
 }

@@ -2,7 +2,7 @@
 // `contact_report` does the rest.
 
 use meaning::CONTACTS_BYTES;
-use summary::READ_BYTES;
+use meaning::READ_BYTES;
 
 // Whether the input was read to its end. `read_full` stops at the end of the input and at a read that fails; one more read tells the
 // two apart, so that a failed read does not look like a shorter scene.

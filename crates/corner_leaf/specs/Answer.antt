@@ -11,7 +11,7 @@ use lib.Signed.{leZ}
 use Rattle.whole.specs.Vector.{Vector}
 use Rattle.whole.specs.Cramer.{Four, each, volumes}
 use Rattle.exact.specs.Places.{apart}
-use Rattle.sign_sums.specs.OneWay.{oneWay, zeroBut}
+use Rattle.exact_signs.specs.OneWay.{oneWay, zeroBut}
 use Rattle.corner_leaf.specs.declared.SixPoints.{SixPoints}
 use Rattle.corner_leaf.specs.declared.Leaf.{Leaf}
 use Rattle.corner_leaf.specs.declared.Leaf.the-variants.{Yes, No, Open}

@@ -9,7 +9,7 @@ use mathlib.Core.List.{List, _++_}
 use lib.IntN.{ℤ, pos}
 use Rattle.whole.specs.Cramer.{Place, pick}
 use Rattle.meaning.specs.Pieces.{Event}
-use Rattle.sign_sums.specs.BySignsLaws.{clock}
+use Rattle.exact_signs.specs.BySignsLaws.{clock}
 use Rattle.corner_leaf.specs.declared.SixPoints.{SixPoints}
 use Rattle.corner_laws.specs.Others.{order-of, othersOf}
 use Rattle.corner_laws.specs.Slots.{Based, eventIn, Preferred}

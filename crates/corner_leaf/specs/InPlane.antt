@@ -19,7 +19,7 @@ use Rattle.whole.specs.VectorLaws.{coordinates}
 use Rattle.whole.specs.Quote.{quotes, combine, times}
 use Rattle.whole.specs.Cramer.{Four, each, volumes, Place, p0, p1, p2, p3, pick}
 use Rattle.exact.specs.Places.{placeAt, along}
-use Rattle.sign_sums.specs.OneWay.{zeroBut}
+use Rattle.exact_signs.specs.OneWay.{zeroBut}
 use Rattle.corner_laws.specs.Others.{othersOf}
 use Rattle.corner_laws.specs.Slots.{pick-each}
 use Rattle.corner_laws.specs.Filled.{slot, next, filled}

@@ -10,7 +10,7 @@ use lib.ListN.{length, getD, take, drop, take-append-drop, length-take}
 use Rattle.meaning.specs.Limits.{coordinateLimit}
 use Rattle.meaning.specs.Pieces.{Event, Piece}
 use Rattle.exact.specs.Places.{Bounded, placeAt}
-use Rattle.sign_sums.specs.BySignsLaws.{clock}
+use Rattle.exact_signs.specs.BySignsLaws.{clock}
 use Rattle.corner_leaf.specs.declared.SixPoints.{SixPoints}
 use Rattle.corner_laws.specs.Left.{TouchIn}
 use Rattle.corner_laws.specs.Slots.{eventIn}

@@ -11,9 +11,9 @@ use lib.ListN.{length}
 use mir.Facts.{and-yes, yes-and, or-yes}
 use Rattle.whole.specs.Cramer.{Four, each, weigh, volumes, dot4, Place, p0, p1, p2, p3, pick}
 use Rattle.meaning.specs.Pieces.{Event}
-use Rattle.sign_sums.specs.BySigns.{sum, kept}
-use Rattle.sign_sums.specs.BySignsLaws.{clock, sum-starts, sum-ends}
-use Rattle.sign_sums.specs.OneWay.{oneWay, zeroBut, allNotBelow}
+use Rattle.exact_signs.specs.BySigns.{sum, kept}
+use Rattle.exact_signs.specs.BySignsLaws.{clock, sum-starts, sum-ends}
+use Rattle.exact_signs.specs.OneWay.{oneWay, zeroBut, allNotBelow}
 use Rattle.theory.specs.Spread.{startShare, endShare}
 use Rattle.corner_leaf.specs.declared.SixPoints.{SixPoints}
 use Rattle.corner_leaf.specs.declared.Leaf.{Leaf}

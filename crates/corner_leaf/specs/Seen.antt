@@ -8,7 +8,7 @@ use Rattle.whole.specs.Vector.{minus}
 use Rattle.whole.specs.Cramer.{Four, each, Place, p0, p1, p2, p3, pick}
 use Rattle.meaning.specs.Pieces.{Event}
 use Rattle.exact.specs.Places.{placeAt}
-use Rattle.sign_sums.specs.BySignsLaws.{clock}
+use Rattle.exact_signs.specs.BySignsLaws.{clock}
 use Rattle.theory.specs.Differences.{difference, difference-start, difference-end}
 use Rattle.corner_laws.specs.Slots.{eventIn, differencesIn}
 use Rattle.corner_leaf.specs.declared.SixPoints.{SixPoints}

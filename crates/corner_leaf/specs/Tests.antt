@@ -9,7 +9,7 @@ use lib.Signed.{_≤ℤ_, leZ}
 use mir.Facts.{and-yes, yes-and}
 use Rattle.whole.specs.Signs.{sgn, isNought, isNought-is, nought-is, zero-test}
 use Rattle.whole.specs.Cramer.{Four, each, Place, p0, p1, p2, p3, pick}
-use Rattle.sign_sums.specs.OneWay.{notBelow, allNotBelow, isZero, zeroBut}
+use Rattle.exact_signs.specs.OneWay.{notBelow, allNotBelow, isZero, zeroBut}
 use Rattle.corner_laws.specs.Signed.{sided}
 use Rattle.corner_laws.specs.Filled.{NoneOut}
 use Rattle.corner_leaf.specs.Answer.{sameBool}

@@ -11,13 +11,14 @@ ghost use Rattle.corner_laws.specs.Others.{skip, othersOf};
 ghost use Rattle.corner_laws.specs.Filled.{slot, next};
 ghost use Rattle.corner_leaf.specs.Points.{isLeft, pointsOf, Placed, SixIn};
 ghost use Rattle.corner_leaf.specs.Answer.{sameBool, baseIn, seenIn, judgedIn, turnOf, alikeAt, levelAlong, Across, oneTurn, leafOf};
+ghost use Rattle.sequences.specs.Lent.{atEntry};
 use exact::Volumes;
 use exact::arrows::Arrow;
 use exact::arrows::arrow_along;
 use exact::arrows::arrow_between;
 use exact::arrows::arrow_volumes;
-use sign_sums::ways::one_way;
-use sign_sums::ways::zero_but;
+use exact_signs::ways::one_way;
+use exact_signs::ways::zero_but;
 
 // The six points of a piece, those of the first simplex first: their places in the positions, which are at the end, and how many
 // are the first simplex's. The functions below take these one by one, and the lists by reference: a struct by value is copied at each call.
@@ -70,7 +71,7 @@ fn stands(left: bool, at_end: bool, end: bool) -> bool
 
 // The first corner left at the start, or at the end; where none is left, one of that time.
 fn base(ends: &[bool; 6], left: &[bool; 6], end: bool) -> usize
-    ensures { λ r. ⌜ r ≡ baseIn (now (ends .entry)) (now (left .entry)) end ⌝ }
+    ensures { λ r. ⌜ r ≡ baseIn (atEntry ends) (atEntry left) end ⌝ }
 {
     let mut i = 0;
     while i < 6 {
@@ -102,7 +103,8 @@ fn arrow(
     axis: usize,
 ) -> Arrow
     requires { ⌜ Placed (now positions) (now at) × (s < 6) × (e < 6) × (i < 6) ⌝ }
-    ensures { λ r. ⌜ Points r (slot (isLeft (now (left .entry)) i) (seenIn (now (positions .entry)) (now (at .entry)) (now (ends .entry)) s e i) axis) ⌝ }
+    ensures { λ r. ⌜ Points r (slot (isLeft (atEntry left) i)
+        (seenIn (atEntry positions) (atEntry at) (atEntry ends) s e i) axis) ⌝ }
 {
     if left[i] {
         let from = base_of(ends[i], s, e);
@@ -126,7 +128,7 @@ fn judge(
     v: Volumes,
 ) -> Leaf
     requires { ⌜ Small v × (q0 < 6) × (q1 < 6) × (q2 < 6) × (q3 < 6) ⌝ }
-    ensures { λ r. ⌜ r ≡ judgedIn (now (ends .entry)) first (now (left .entry)) s e (four q0 q1 q2 q3) (fourOf v) ⌝ }
+    ensures { λ r. ⌜ r ≡ judgedIn (atEntry ends) first (atEntry left) s e (four q0 q1 q2 q3) (fourOf v) ⌝ }
 {
     if zero_but(v, false, false, false, false) {
         return Leaf::Open;
@@ -160,7 +162,7 @@ fn turn(
     f: usize,
 ) -> Leaf
     requires { ⌜ Placed (now positions) (now at) × (s < 6) × (e < 6) × (f < 6) ⌝ }
-    ensures { λ r. ⌜ r ≡ turnOf (now (positions .entry)) (pointsOf (now (at .entry)) (now (ends .entry)) first) (now (left .entry)) s e f ⌝ }
+    ensures { λ r. ⌜ r ≡ turnOf (atEntry positions) (pointsOf (atEntry at) (atEntry ends) first) (atEntry left) s e f ⌝ }
 {
     let q0 = other(s, e, 0);
     let q1 = other(s, e, 1);
@@ -179,7 +181,7 @@ fn turn(
 
 fn alike(positions: &[i32], i: usize, j: usize) -> bool
     requires { ⌜ (i < length (now positions)) × (j < length (now positions)) ⌝ }
-    ensures { λ r. ⌜ r ≡ alikeAt (now (positions .entry)) i j ⌝ }
+    ensures { λ r. ⌜ r ≡ alikeAt (atEntry positions) i j ⌝ }
 {
     (positions[i] <= positions[j]) & (positions[j] <= positions[i])
 }
@@ -187,7 +189,7 @@ fn alike(positions: &[i32], i: usize, j: usize) -> bool
 // Have all six points the same coordinate along an axis?
 fn level(positions: &[i32], at: &[usize; 6], axis: usize) -> bool
     requires { ⌜ Placed (now positions) (now at) × (axis < 3) ⌝ }
-    ensures { λ r. ⌜ r ≡ levelAlong (now (positions .entry)) (now (at .entry)) axis ⌝ }
+    ensures { λ r. ⌜ r ≡ levelAlong (atEntry positions) (atEntry at) axis ⌝ }
 {
     let first = at[0] + axis;
     alike(positions, first, at[1] + axis)
@@ -201,7 +203,7 @@ fn level(positions: &[i32], at: &[usize; 6], axis: usize) -> bool
 // that axis, so the turn that puts it into a slot decides.
 pub fn across(positions: &[i32], at: &[usize; 6]) -> usize
     requires { ⌜ Placed (now positions) (now at) ⌝ }
-    ensures { λ r. ⌜ Across (now (positions .entry)) (now (at .entry)) r ⌝ }
+    ensures { λ r. ⌜ Across (atEntry positions) (atEntry at) r ⌝ }
 {
     if level(positions, at, 2) {
         return 2;
@@ -215,7 +217,7 @@ pub fn across(positions: &[i32], at: &[usize; 6]) -> usize
 // Is the first turn all three? It is where none of the four others is left out, for then no axis stands in a slot; and where one is and all six
 // points lie across an axis, for with another axis in its slot there is no volume.
 fn one_turn(left: &[bool; 6], s: usize, e: usize, plane: usize) -> bool
-    ensures { λ r. ⌜ r ≡ oneTurn (each (isLeft (now (left .entry))) (othersOf s e)) plane ⌝ }
+    ensures { λ r. ⌜ r ≡ oneTurn (each (isLeft (atEntry left)) (othersOf s e)) plane ⌝ }
 {
     let a = left[other(s, e, 0)];
     let b = left[other(s, e, 1)];
@@ -235,7 +237,7 @@ pub fn ask(
     plane: usize,
 ) -> Leaf
     requires { ⌜ SixIn (now positions) (pointsOf (now at) (now ends) first) × Across (now positions) (now at) plane ⌝ }
-    ensures { λ r. ⌜ r ≡ leafOf (now (positions .entry)) (pointsOf (now (at .entry)) (now (ends .entry)) first) (now (left .entry)) ⌝ }
+    ensures { λ r. ⌜ r ≡ leafOf (atEntry positions) (pointsOf (atEntry at) (atEntry ends) first) (atEntry left) ⌝ }
 {
     let s = base(ends, left, false);
     let e = base(ends, left, true);

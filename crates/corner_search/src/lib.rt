@@ -9,11 +9,12 @@ ghost use Rattle.corner_leaf.specs.Points.{pieceAt, SixIn};
 ghost use Rattle.corner_search.specs.Says.{Tells};
 ghost use Rattle.corner_search.specs.Settles.{kept, everyLeft};
 ghost use Rattle.corner_search.specs.Starts.{startsAmong};
+ghost use Rattle.sequences.specs.Lent.{atEntry};
 use corner_leaf::SixPoints;
 use corner_leaf::across;
+use corner_sides::parted;
 use meaning::Settled;
 use meaning::Verdict;
-use one_side::parted;
 use search::first;
 
 // Hit and miss stay as they are.
@@ -30,7 +31,7 @@ fn keep(verdict: Verdict) -> Settled
 // Are there weights for the points of a piece? The quick look tells most pieces that have none, and the search decides the others.
 pub fn piece_touches(positions: &[i32], six: SixPoints) -> bool
     requires { ⌜ SixIn (now positions) six ⌝ }
-    ensures { λ r. ⌜ Tells (now (positions .entry)) six everyLeft r ⌝ }
+    ensures { λ r. ⌜ Tells (atEntry positions) six everyLeft r ⌝ }
 {
     let at = six.at;
     let ends = six.ends;
@@ -46,7 +47,7 @@ pub fn piece_touches(positions: &[i32], six: SixPoints) -> bool
 // The word of a piece, from its verdict: only a degenerate one goes on, to touch if weights exist, else to apart.
 pub fn settle_piece(positions: &[i32], six: SixPoints, verdict: Verdict) -> Settled
     requires { ⌜ SixIn (now positions) six × PieceIs (pieceAt (now positions) six) verdict ⌝ }
-    ensures { λ r. ⌜ PieceSettled (pieceAt (now (positions .entry)) six) r ⌝ }
+    ensures { λ r. ⌜ PieceSettled (pieceAt (atEntry positions) six) r ⌝ }
 {
     let Verdict::Degenerate = verdict else {
         return keep(verdict);
@@ -60,7 +61,7 @@ pub fn settle_piece(positions: &[i32], six: SixPoints, verdict: Verdict) -> Sett
 
 // Which of six points are at the start.
 fn starts(ends: &[bool; 6]) -> [bool; 6]
-    ensures { λ r. ⌜ r ≡ startsAmong (now (ends .entry)) ⌝ }
+    ensures { λ r. ⌜ r ≡ startsAmong (atEntry ends) ⌝ }
 {
     [!ends[0], !ends[1], !ends[2], !ends[3], !ends[4], !ends[5]]
 }
@@ -68,7 +69,7 @@ fn starts(ends: &[bool; 6]) -> [bool; 6]
 // Are there weights for the starts of a piece alone? Where all vertices of a pair rest, those of its first piece decide.
 pub fn starts_touch(positions: &[i32], six: SixPoints) -> bool
     requires { ⌜ SixIn (now positions) six ⌝ }
-    ensures { λ r. ⌜ Tells (now (positions .entry)) six (startsAmong (six .ends)) r ⌝ }
+    ensures { λ r. ⌜ Tells (atEntry positions) six (startsAmong (six .ends)) r ⌝ }
 {
     let at = six.at;
     let ends = six.ends;

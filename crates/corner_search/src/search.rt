@@ -8,6 +8,7 @@ ghost use lib.ListN.{set};
 ghost use Rattle.corner_leaf.specs.Points.{pointsOf, SixIn};
 ghost use Rattle.corner_leaf.specs.Answer.{leafOf, Across};
 ghost use Rattle.corner_search.specs.Says.{isYes, Says};
+ghost use Rattle.sequences.specs.Lent.{atEntry};
 use corner_leaf::Leaf;
 use corner_leaf::ask;
 
@@ -32,7 +33,8 @@ fn ask_once(
     plane: usize,
 ) -> Leaf
     requires { ⌜ SixIn (now positions) (pointsOf (now at) (now ends) split) × Across (now positions) (now at) plane ⌝ }
-    ensures { λ r. ⌜ r ≡ cond tried Leaf.Open (leafOf (now (positions .entry)) (pointsOf (now (at .entry)) (now (ends .entry)) split) (now (left .entry))) ⌝ }
+    ensures { λ r. ⌜ r ≡ cond tried Leaf.Open
+        (leafOf (atEntry positions) (pointsOf (atEntry at) (atEntry ends) split) (atEntry left)) ⌝ }
 {
     if tried {
         Leaf::Open
@@ -43,7 +45,7 @@ fn ask_once(
 
 fn without(left: &[bool; 6], i: usize) -> [bool; 6]
     requires { ⌜ i < 6 ⌝ }
-    ensures { λ r. ⌜ r ≡ set (now (left .entry)) i false ⌝ }
+    ensures { λ r. ⌜ r ≡ set (atEntry left) i false ⌝ }
 {
     let mut less = *left;
     less[i] = false;
@@ -61,7 +63,8 @@ pub(crate) fn first(
     plane: usize,
 ) -> bool
     requires { ⌜ SixIn (now positions) (pointsOf (now at) (now ends) split) × Across (now positions) (now at) plane ⌝ }
-    ensures { λ r. ⌜ Says (now (positions .entry)) (pointsOf (now (at .entry)) (now (ends .entry)) split) (now (left .entry)) 0 split tried r ⌝ }
+    ensures { λ r. ⌜ Says (atEntry positions) (pointsOf (atEntry at) (atEntry ends) split) (atEntry left) 0 split tried
+        r ⌝ }
 {
     let answer = ask_once(positions, at, ends, split, left, tried, plane);
     let Leaf::Open = answer else {
@@ -94,7 +97,8 @@ pub(crate) fn second(
     plane: usize,
 ) -> bool
     requires { ⌜ SixIn (now positions) (pointsOf (now at) (now ends) split) × Across (now positions) (now at) plane ⌝ }
-    ensures { λ r. ⌜ Says (now (positions .entry)) (pointsOf (now (at .entry)) (now (ends .entry)) split) (now (left .entry)) split 6 tried r ⌝ }
+    ensures { λ r. ⌜ Says (atEntry positions) (pointsOf (atEntry at) (atEntry ends) split) (atEntry left) split 6 tried
+        r ⌝ }
 {
     let answer = ask_once(positions, at, ends, split, left, tried, plane);
     let Leaf::Open = answer else {

@@ -7,6 +7,7 @@ ghost use Rattle.decimals.specs.Digits.{digits};
 ghost use Rattle.decimals.specs.Number.{numberAt};
 ghost use Rattle.decimals.specs.Reading.{RunFrom};
 ghost use Rattle.sequences.specs.Wrote.{Wrote};
+ghost use Rattle.sequences.specs.Lent.{atEntry, atExit};
 
 // What reading a number finds: its value and the place behind it, or that no number of the right form stands there.
 pub enum NumberRead {
@@ -22,7 +23,7 @@ struct DigitRun {
 
 // The byte at a place, which is 0 past the end.
 pub fn byte_at(bytes: &[u8], at: usize) -> u8
-    ensures { λ r. ⌜ r ≡ byteAt (now (bytes .entry)) at ⌝ }
+    ensures { λ r. ⌜ r ≡ byteAt (atEntry bytes) at ⌝ }
 {
     if at < bytes.len() { bytes[at] } else { 0 }
 }
@@ -37,7 +38,7 @@ pub fn is_digit(byte: u8) -> bool
 // The longest run of digits from a place on, of at most limit digits.
 fn run_from(bytes: &[u8], at: usize, limit: usize) -> DigitRun
     requires { ⌜ limit ≤ 19 ⌝ }
-    ensures { λ r. ⌜ RunFrom (now (bytes .entry)) at limit (r .worth) (r .next) ⌝ }
+    ensures { λ r. ⌜ RunFrom (atEntry bytes) at limit (r .worth) (r .next) ⌝ }
 {
     let mut worth: u64 = 0;
     let mut next = at;
@@ -58,7 +59,7 @@ fn run_from(bytes: &[u8], at: usize, limit: usize) -> DigitRun
 // it, where a digit too many stands.
 pub fn read_number(bytes: &[u8], at: usize, limit: usize) -> NumberRead
     requires { ⌜ limit ≤ 19 ⌝ }
-    ensures { λ r. ⌜ r ≡ numberAt (now (bytes .entry)) at limit ⌝ }
+    ensures { λ r. ⌜ r ≡ numberAt (atEntry bytes) at limit ⌝ }
 {
     let run = run_from(bytes, at, limit);
     let value = run.worth;
@@ -88,7 +89,7 @@ pub fn digit_count(n: u64) -> usize
 // Writes a number from a place on, where there is room for it, and returns the place behind it.
 pub fn write_number(out: &mut [u8], at: usize, n: u64) -> usize
     requires { ⌜ at + length (digits n) ≤ length (now out) ⌝ }
-    ensures { λ r. ⌜ Wrote (now (out .entry)) at (digits n) (now (out .exit)) r ⌝ }
+    ensures { λ r. ⌜ Wrote (atEntry out) at (digits n) (atExit out) r ⌝ }
 {
     let end = at + digit_count(n);
     let mut next = end;

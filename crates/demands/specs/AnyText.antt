@@ -17,7 +17,7 @@ use Rattle.meaning.specs.Scene.{Scene, uneven, overSize}
 use Rattle.meaning.specs.Refusals.{given, refused, Check, Answers}
 use Rattle.meaning.specs.List.{Pair, pairs}
 use Rattle.meaning.specs.SceneWords.{AllSettled}
-use Rattle.meaning.specs.Text.{Entry, vertex, edge, triangle, seam, tab, lineFeed, letterOf, numbersOf, numeral, further, lineOf, Short, late, sceneWith, entryChecks, EntryJudged, none, sceneLines, textOf, coordinatesIn, endsIn, cornersIn, seamIn, sceneFrom, Holds, Fault, FaultyAt}
+use Rattle.meaning.specs.Text.{Entry, vertex, edge, triangle, seam, tab, lineFeed, letterOf, numbersOf, numeral, further, lineOf, Short, late, sceneWith, entryChecks, EntryJudged, none, sceneLines, textOf, coordinatesIn, endsIn, cornersIn, seamIn, sceneFrom, Holds, SceneFault, SceneFaultyAt}
 use Rattle.meaning.specs.Lines as Lines
 use Rattle.meaning.specs.Lines.{afterAll, unformed, misplaced}
 use Rattle.meaning.specs.Report.{refusedLine, pairLines, totalLine, ReportOf, tooLong, faulty, noRoom, judged, Reported}
@@ -25,11 +25,11 @@ use Rattle.theory.specs.Bounds.{Every}
 use Rattle.theory.specs.Determinants.{Exchanged, front, behind}
 use Rattle.theory.specs.Rearranged.{Rearranged, unmoved, moved, rearranged-back}
 use Rattle.theory.specs.Rewritten.{Rewritten, rewritten-back}
-use Rattle.lines.specs.Feed.{NoFeed, first-line, no-line}
-use Rattle.scene_line.specs.Rendered.{line-is, line-cancel, scene-bodies}
-use Rattle.scene_text.specs.Accepted.{text-accepted}
-use Rattle.seam_table.specs.Below.{or-left, or-rest}
-use Rattle.scenes.specs.Facts.{none-over}
+use Rattle.text_laws.specs.Feed.{NoFeed, first-line, no-line}
+use Rattle.text_line.specs.Rendered.{line-is, line-cancel, scene-bodies}
+use Rattle.text_scene.specs.Accepted.{text-accepted}
+use Rattle.answers.specs.Below.{or-left, or-rest}
+use Rattle.scene_checks.specs.Facts.{none-over}
 use Rattle.demands.specs.StillAccepted.{every-rearranged, range-alike, known-in-whole, sewn-alike, repeated-alike}
 use Rattle.demands.specs.AnyWriting.{rewritten-list, words-as-written}
 use Rattle.demands.specs.Table.{at, neg}
@@ -324,7 +324,7 @@ end-alike (line l n {t} d) e = absurd (no-end l t e)
 end-alike (entry {r} s {t} d) e = absurd (nil≢cons (sym e ∙ line-is r t))
 
 -- a fault at the front of the one is the other's
-fault-alike : {n : ℕ} {s s′ : Scene} {t t′ : List ℕ} → Reordered s s′ → DifferInOrder t t′ → Fault s t n → Fault s′ t′ n
+fault-alike : {n : ℕ} {s s′ : Scene} {t t′ : List ℕ} → Reordered s s′ → DifferInOrder t t′ → SceneFault s t n → SceneFault s′ t′ n
 fault-alike h (rest l n) (unformed e some never) = unformed e some never
 fault-alike {n = m} h (rest l n) (misplaced r left short is j) = misplaced r left short is (still-bad m h (itself r) j)
 fault-alike {s = s} h (line l n {t} {t′} d) (unformed e some never) =
@@ -354,9 +354,9 @@ same-long [] (q ∷ qs) s = absurd s
 same-long (r ∷ rs) [] s = absurd s
 same-long (r ∷ rs) (q ∷ qs) s = ap suc (same-long rs qs (s .1))
 
-pub faulty-alike : {t t′ : List ℕ} {n k : ℕ} → DifferInOrder t t′ → FaultyAt t n k → FaultyAt t′ n k
+pub faulty-alike : {t t′ : List ℕ} {n k : ℕ} → DifferInOrder t t′ → SceneFaultyAt t n k → SceneFaultyAt t′ n k
 faulty-alike {t} {t′} {n} d f =
-    let a = goes-alike (λ s b. Fault s b n) (λ s s′ t t′. fault-alike) none none reordered-none (f .above) d (record { below = f .below; sound = f .sound; lines = f .lines; ends = f .fault }) in
+    let a = goes-alike (λ s b. SceneFault s b n) (λ s s′ t t′. fault-alike) none none reordered-none (f .above) d (record { below = f .below; sound = f .sound; lines = f .lines; ends = f .fault }) in
     record {
       above = a .other;
       below = a .goes .below;

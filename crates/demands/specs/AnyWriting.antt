@@ -25,14 +25,15 @@ use Rattle.meaning.specs.declared.PairAnswer.{PairAnswer}
 use Rattle.meaning.specs.declared.SettledAnswer.{SettledAnswer}
 use Rattle.meaning.specs.declared.ListAnswer.{ListAnswer}
 use Rattle.theory.specs.Rewritten.{Rewritten, PartsThere, WellMade, rewritten-notThere, rewritten-shares, rewritten-meet, rewritten-keeps-pieces, rewritten-keeps-pairs, rewritten-keeps-words, rewritten-keeps-pair-words}
-use Rattle.seam_table.specs.Below.{or-left}
-use Rattle.scenes.specs.Speaking.{scene-says-one, pair-says-one}
-use Rattle.listing.specs.InOrder.{ToList, are-there, list-is, list-only}
-use Rattle.listing.specs.Once.{list-says-one}
-use Rattle.demands.specs.Deciding.{holds-or-not}
+use Rattle.answers.specs.Below.{or-left}
+use Rattle.answers.specs.Speaking.{scene-says-one, pair-says-one}
+use Rattle.list_pairs.specs.InOrder.{ToList, are-there, list-is, list-only}
+use Rattle.list_pairs.specs.Once.{list-says-one}
+use Rattle.answers.specs.Deciding.{holds-or-not}
 use Rattle.demands.specs.Demand1.{AskedTable, demand1-scene, demand1-list, demand1-judging, demand1-counted, demand1-pair, demand1-piece, demand1-settled-pair, demand1-settled-piece}
 use Rattle.demands.specs.Demand2.{ExactlyOne, demand2-verdicts}
-use Rattle.demands.specs.OneAnswer.{settled-says-one, all-judged-one}
+use Rattle.answers.specs.Speaking.{settled-says-one}
+use Rattle.list_words.specs.OneResult.{all-judged-one}
 use Rattle.demands.specs.SameAnswer.{answered-alike}
 use Rattle.demands.specs.StillAccepted.{different-ends, different-corners, rewritten-accepted, refused-alike}
 use Rattle.demands.specs.Unchanged.{judging-unchanged}

@@ -31,10 +31,10 @@ use Rattle.meaning.specs.declared.ListAnswer as ListAnswers
 use Rattle.meaning.specs.declared.ListAnswer.{ListAnswer}
 use Rattle.theory.specs.Bounds.{Every, every-imp}
 use Rattle.corner_search.specs.Decided.{verdictOfWord}
-use Rattle.scenes.specs.Speaking.{scene-says-one, pair-says-one}
-use Rattle.listing.specs.Once.{list-says-one}
+use Rattle.answers.specs.Speaking.{scene-says-one, pair-says-one}
+use Rattle.list_pairs.specs.Once.{list-says-one}
 use Rattle.demands.specs.Demand1.{demand1-scene, demand1-pair, demand1-piece, demand1-settled-pair, demand1-settled-piece, demand1-listing}
-use Rattle.demands.specs.OneAnswer.{settled-says-one}
+use Rattle.answers.specs.Speaking.{settled-says-one}
 use Rattle.demands.specs.Table.{Case, cases, numbered, IsRight}
 use Rattle.demands.specs.Cases.{twelve-cases}
 

@@ -24,10 +24,10 @@ use Rattle.meaning.specs.declared.ListAnswer.the-variants.{Listed, Refused}
 use Rattle.theory.specs.Reading.{verdictOf, agreeing}
 use Rattle.theory.specs.Computed.{pieceVerdict, pointDifferences, joined, joinedBelow}
 use Rattle.corner_search.specs.Decided.{settledBy, pairWord, pair-word-is}
-use Rattle.listing.specs.Once.{list-says-one}
+use Rattle.list_pairs.specs.Once.{list-says-one}
 use Rattle.demands.specs.Demand1.{demand1-listing, demand1-judging}
 use Rattle.demands.specs.Unchanged.{listing-unchanged}
-use Rattle.demands.specs.OneAnswer.{all-judged-one}
+use Rattle.list_words.specs.OneResult.{all-judged-one}
 use Rattle.demands.specs.Table.{at, neg}
 use Rattle.demands.specs.Printed.{printedScene, printed-accepted, printed-pairs}
 use Rattle.demands.specs.Barred.{lists}

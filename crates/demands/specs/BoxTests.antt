@@ -16,8 +16,8 @@ use Rattle.meaning.specs.Text.{coordinatesIn, endsIn, cornersIn, seamIn}
 use Rattle.meaning.specs.Lines.{afterAll}
 use Rattle.meaning.specs.declared.Kind.the-variants.{PointTriangle}
 use Rattle.meaning.specs.declared.ListAnswer.{ListAnswer}
-use Rattle.runs.specs.Tests.{few-tests}
-use Rattle.walking.specs.Testing.{missed-run}
+use Rattle.list_runs.specs.Tests.{few-tests}
+use Rattle.list_walk.specs.Testing.{missed-run}
 use Rattle.demands.specs.Printed.{records, printedScene}
 
 pub record FewerTests (s : Scene) : Type 0 where

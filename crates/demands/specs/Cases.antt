@@ -25,15 +25,15 @@ use Rattle.meaning.specs.declared.Settled.the-variants.{Hit, Miss, Touch, Apart
 use Rattle.theory.specs.Bounds.{Every}
 use Rattle.theory.specs.Reading.{verdictOf, agreeing}
 use Rattle.theory.specs.Computed.{pieceVerdict, joined, joinedBelow, pointDifferences, edgeDifferences, startSum, endSum}
-use Rattle.sign_sums.specs.BySigns.{keep}
-use Rattle.sign_sums.specs.OneWay.{oneWay}
+use Rattle.exact_signs.specs.BySigns.{keep}
+use Rattle.exact_signs.specs.OneWay.{oneWay}
 use Rattle.corner_leaf.specs.First.{firstOf}
 use Rattle.corner_laws.specs.Others.{skip}
 use Rattle.corner_laws.specs.Filled.{slot, next}
 use Rattle.corner_leaf.specs.Answer.{baseIn, judgedIn, turnOf, otherwise, leafOf}
 use Rattle.corner_search.specs.Sixes.{pointSix, edgesSix, sixOf}
 use Rattle.corner_search.specs.Decided.{byLeaf, touching, settledBy, verdictOfWord, pieceWord, isTouch, pairWord, piece-word-is, word-verdict, some-hit, pair-word-is}
-use Rattle.seam_table.specs.Below.{or-left, or-rest, none-passes}
+use Rattle.answers.specs.Below.{or-left, or-rest, none-passes}
 use Rattle.demands.specs.Standing.{stands-is}
 use Rattle.demands.specs.Table.{Case, cases, numbered, StandsIf, IsRight}
 

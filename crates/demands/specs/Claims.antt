@@ -30,10 +30,10 @@ use Rattle.meaning.specs.declared.Settled.the-variants.{Hit, Miss, Touch, Apart
 use Rattle.meaning.specs.declared.ClaimsAnswer.{ClaimsAnswer}
 use Rattle.theory.specs.Rational.{touch-rational}
 use Rattle.theory.specs.RationalVerdicts.{Meets}
-use Rattle.scenes.specs.Answering.{refuses, lets-pass, gives}
-use Rattle.listing.specs.InOrder.{FirstBelow, ToList}
+use Rattle.answers.specs.Answering.{refuses, lets-pass, gives}
+use Rattle.list_pairs.specs.InOrder.{FirstBelow, ToList}
 use Rattle.claim_answers.specs.Checking.{one-outcome, few-told}
-use Rattle.demands.specs.Deciding.{number-known}
+use Rattle.answers.specs.Deciding.{number-known}
 use Rattle.demands.specs.Demand2.{demand2-verdicts, demand2-culled}
 use Rattle.demands.specs.Table.{numbered}
 

@@ -22,7 +22,7 @@ use Rattle.meaning.specs.declared.SettledAnswer.{SettledAnswer}
 use Rattle.meaning.specs.declared.ListAnswer.{ListAnswer}
 use Rattle.theory.specs.OneVerdict.{one-piece-verdict, one-pair-verdict}
 use Rattle.corner_search.specs.Decided.{one-piece-word, one-pair-word}
-use Rattle.demands.specs.Deciding.{Refuses, carriedBy, NoneHolds, absent, distinct, refused-exactly, carries-only, number-known, gives-exactly}
+use Rattle.answers.specs.Deciding.{Refuses, carriedBy, NoneHolds, absent, distinct, refused-exactly, carries-only, number-known, gives-exactly}
 
 -- ---- 1, 2, 3, 15, 4, each over the whole scene before the next
 

@@ -34,8 +34,8 @@ use Rattle.theory.specs.Computed.{pieceVerdict, pairVerdict}
 use Rattle.theory.specs.SevenPieces.{judged-piece}
 use Rattle.theory.specs.Cull.{culled-apart, culled-apart-in-motion, culled-never-meets}
 use Rattle.corner_search.specs.Decided.{pieceWord, pairWord, settled-piece, piece-word-is, settled-pair, pair-word-is, some-hit}
-use Rattle.scenes.specs.Facts.{accepted-wider}
-use Rattle.listing.specs.InOrder.{Earlier, ToList, list-is, list-only, list-once}
+use Rattle.scene_checks.specs.Facts.{accepted-wider}
+use Rattle.list_pairs.specs.InOrder.{Earlier, ToList, list-is, list-only, list-once}
 use Rattle.demands.specs.Demand1.{AskedTable, demand1-pair, demand1-piece, demand1-settled-pair, demand1-settled-piece}
 
 -- one of the three, or of the four, and no other

@@ -24,8 +24,8 @@ use Rattle.meaning.specs.declared.Verdict.the-variants.{Hit}
 use Rattle.meaning.specs.declared.Settled.{Settled}
 use Rattle.meaning.specs.declared.Settled.the-variants.{Touch}
 use Rattle.theory.specs.Moved.{Moves, Known, moved-keeps-pieces, moved-keeps-pairs, moved-keeps-words, moved-keeps-pair-words, culled-in-either-hit-in-neither, culled-in-either-meets-in-neither}
-use Rattle.scenes.specs.Facts.{accepted-end, accepted-corner}
-use Rattle.listing.specs.InOrder.{are-there}
+use Rattle.scene_checks.specs.Facts.{accepted-end, accepted-corner}
+use Rattle.list_pairs.specs.InOrder.{are-there}
 
 -- in an accepted scene the vertices of a pair that is there are there
 pub vertices-there : {s : Scene} {B : ℕ} → AcceptedWithin B s → (kind : Kind) (i j : ℕ) → notThere s kind i j ≡ false → Known s kind i j

@@ -14,9 +14,9 @@ use Rattle.meaning.specs.Refusals.{notThere}
 use Rattle.meaning.specs.List.{Pair, pair, pairs, kindPart, number, entries}
 use Rattle.meaning.specs.declared.Kind.{Kind}
 use Rattle.meaning.specs.declared.Kind.the-variants.{PointTriangle, EdgeEdge}
-use Rattle.entries.specs.Entries.{Narrow, pairOf, number-back, number-once, entries-length}
-use Rattle.listing.specs.InOrder.{Earlier, list-is}
-use Rattle.listing.specs.Sizes.{there-narrow, pairs-narrow}
+use Rattle.list_entries.specs.Entries.{Narrow, pairOf, number-back, number-once, entries-length}
+use Rattle.list_pairs.specs.InOrder.{Earlier, list-is}
+use Rattle.list_pairs.specs.Sizes.{there-narrow, pairs-narrow}
 
 -- ---- document 01's entry
 

@@ -3,7 +3,7 @@
 use mathlib.Core.Path.{refl}
 use native.Mathlib.Omega.{arith}
 use Rattle.meaning.specs.Motion.{TouchInMotion}
-use Rattle.meaning.specs.InMotion.{point-touches-at, edges-touch-at, point-touches-at-start, point-touches-at-end}
+use Rattle.meaning.specs.shown.InMotion.{point-touches-at, edges-touch-at, point-touches-at-start, point-touches-at-end}
 use Rattle.demands.specs.Table.{Case, numbered}
 
 abbrev pub TouchesInMotion : Case → Type 0

@@ -9,36 +9,36 @@ use lib.Dec.{eqb}
 use Rattle.meaning.specs.Limits.{digitLimit}
 use Rattle.meaning.specs.Scene.{Scene, overSize, outOfRange, unknownVertex, brokenSeam, repeatedVertex}
 use Rattle.meaning.specs.Refusals.{refused}
-use Rattle.meaning.specs.Text.{Entry, lineOf, numbersOf, Short, late, sceneWith, entryChecks, EntryJudged, Fault}
+use Rattle.meaning.specs.Text.{Entry, lineOf, numbersOf, Short, late, sceneWith, entryChecks, EntryJudged, SceneFault}
 use Rattle.meaning.specs.Lines.{unformed, misplaced}
 use Rattle.theory.specs.Bounds.{Every}
-use Rattle.scene_line.specs.Rendered.{line-cancel}
-use Rattle.demands.specs.Deciding.{Refuses, carriedBy, absent, distinct, refused-exactly, refuses-answers, number-known}
+use Rattle.text_line.specs.Rendered.{line-cancel}
+use Rattle.answers.specs.Deciding.{Refuses, carriedBy, absent, distinct, refused-exactly, refuses-answers, number-known}
 
 -- ---- in a line that is a record's: 10, 11, 2, 3, 15, 4
 
 pub record EntryRows (s : Scene) (r : Entry) (rest : List ℕ) : Type 0 where
-  pub no10 : Fault s (lineOf r ++ rest) 10 ↔ (late s r ≡ true)
-  pub no11 : Fault s (lineOf r ++ rest) 11 ↔ ((late s r ≡ false) × (overSize (sceneWith s r) ≡ true))
-  pub no2 : Fault s (lineOf r ++ rest) 2 ↔ ((late s r ≡ false) × ((overSize (sceneWith s r) ≡ false) × (outOfRange (sceneWith s r) ≡ true)))
-  pub no3 : Fault s (lineOf r ++ rest) 3
+  pub no10 : SceneFault s (lineOf r ++ rest) 10 ↔ (late s r ≡ true)
+  pub no11 : SceneFault s (lineOf r ++ rest) 11 ↔ ((late s r ≡ false) × (overSize (sceneWith s r) ≡ true))
+  pub no2 : SceneFault s (lineOf r ++ rest) 2 ↔ ((late s r ≡ false) × ((overSize (sceneWith s r) ≡ false) × (outOfRange (sceneWith s r) ≡ true)))
+  pub no3 : SceneFault s (lineOf r ++ rest) 3
       ↔ ((late s r ≡ false) × ((overSize (sceneWith s r) ≡ false) × ((outOfRange (sceneWith s r) ≡ false) × (unknownVertex (sceneWith s r) ≡ true))))
-  pub no15 : Fault s (lineOf r ++ rest) 15
+  pub no15 : SceneFault s (lineOf r ++ rest) 15
       ↔ ((late s r ≡ false) × ((overSize (sceneWith s r) ≡ false) × ((outOfRange (sceneWith s r) ≡ false) × ((unknownVertex (sceneWith s r) ≡ false)
       × (brokenSeam (sceneWith s r) ≡ true)))))
-  pub no4 : Fault s (lineOf r ++ rest) 4
+  pub no4 : SceneFault s (lineOf r ++ rest) 4
       ↔ ((late s r ≡ false) × ((overSize (sceneWith s r) ≡ false) × ((outOfRange (sceneWith s r) ≡ false) × ((unknownVertex (sceneWith s r) ≡ false)
       × ((brokenSeam (sceneWith s r) ≡ false) × (repeatedVertex (sceneWith s r) ≡ true))))))
 
 module _ (s : Scene) (r : Entry) (rest : List ℕ) (short : Short digitLimit (numbersOf r)) where
-  judged-so : (n : ℕ) → Fault s (lineOf r ++ rest) n → EntryJudged s r (refused n 0)
+  judged-so : (n : ℕ) → SceneFault s (lineOf r ++ rest) n → EntryJudged s r (refused n 0)
   judged-so n (unformed e some never) = absurd (never r rest short refl)
   judged-so n (misplaced q more shorter e j) =
       let (same, below) = line-cancel r q rest more e in
       subst (λ (x : Entry). EntryJudged s x (refused n 0)) (sym same) j
 
   -- n's refusal carries nothing here
-  row : (n : ℕ) → carriedBy (entryChecks s r) n ≡ 0 → Fault s (lineOf r ++ rest) n ↔ Refuses (entryChecks s r) n
+  row : (n : ℕ) → carriedBy (entryChecks s r) n ≡ 0 → SceneFault s (lineOf r ++ rest) n ↔ Refuses (entryChecks s r) n
   unfolding absent distinct
   row n plain = (
     λ f. refused-exactly (λ t. Unit {0}) (entryChecks s r) (refused n 0) refl (judged-so n f) n .0 (rw plain refl),
@@ -56,11 +56,11 @@ module _ (s : Scene) (r : Entry) (rest : List ℕ) (short : Short digitLimit (nu
 abbrev pub NoLine : List ℕ → Type 0
 NoLine text = (r : Entry) (rest : List ℕ) → Short digitLimit (numbersOf r) → text ≡ lineOf r ++ rest → ⊥
 
-pub no9 : (s : Scene) (text : List ℕ) → Fault s text 9 ↔ ((text ≢ []) × NoLine text)
+pub no9 : (s : Scene) (text : List ℕ) → SceneFault s text 9 ↔ ((text ≢ []) × NoLine text)
 unfolding Refuses carriedBy absent distinct
 no9 s text = (to, λ h. unformed refl (h .0) (h .1))
   where
-    to : Fault s text 9 → (text ≢ []) × NoLine text
+    to : SceneFault s text 9 → (text ≢ []) × NoLine text
     to (unformed e some never) = (some, never)
     to (misplaced r rest short e j) =
         absurd (refused-exactly (λ t. Unit {0}) (entryChecks s r) (refused 9 0) refl j 9 .0 refl .1 .1 .1 .1 .1 .1)
@@ -76,11 +76,11 @@ every-member P (x ∷ l) a h (List·Memᴰ·head e) = subst P (sym e) (h .0)
 every-member P (x ∷ l) a h (List·Memᴰ·tail m) = every-member P l a (h .1) m
 
 -- the number of a fault in a line is one of them
-pub fault-known : {s : Scene} {text : List ℕ} {n : ℕ} → Fault s text n → List·Memᴰ n (9 ∷ 10 ∷ 11 ∷ 2 ∷ 3 ∷ 15 ∷ 4 ∷ [])
+pub fault-known : {s : Scene} {text : List ℕ} {n : ℕ} → SceneFault s text n → List·Memᴰ n (9 ∷ 10 ∷ 11 ∷ 2 ∷ 3 ∷ 15 ∷ 4 ∷ [])
 fault-known (unformed e some never) = List·Memᴰ·head e
 fault-known {s} {n = n} (misplaced r rest short e j) =
     List·Memᴰ·tail (number-known (λ t. Unit {0}) (entryChecks s r) (refused n 0) j n 0 refl)
 
-pub fault-in-line : {s : Scene} {text : List ℕ} {n : ℕ} → Fault s text n → inLine n ≡ true
+pub fault-in-line : {s : Scene} {text : List ℕ} {n : ℕ} → SceneFault s text n → inLine n ≡ true
 fault-in-line {n = n} f =
     every-member (λ m. inLine m ≡ true) (9 ∷ 10 ∷ 11 ∷ 2 ∷ 3 ∷ 15 ∷ 4 ∷ []) n (refl, (refl, (refl, (refl, (refl, (refl, (refl, tt))))))) (fault-known f)

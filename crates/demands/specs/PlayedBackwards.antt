@@ -31,20 +31,21 @@ use Rattle.meaning.specs.declared.Settled.{Settled}
 use Rattle.meaning.specs.declared.Settled.the-variants.{Hit, Miss, Touch, Apart}
 use Rattle.theory.specs.Determinants.{Exchanged, front, behind}
 use Rattle.theory.specs.Rearranged.{Rearranged, unmoved, moved, also, rearranged-behind, exchanged-length}
-use Rattle.backwards.specs.Numbers.{known-number, number-unknown}
-use Rattle.backwards.specs.Turned.{turns-round, turned-twice}
-use Rattle.backwards.specs.Pieces.{piece-there, piece-turned, turned-keeps-pieces, turned-keeps-words, turned-keeps-pairs, turned-keeps-pair-words}
-use Rattle.backwards.specs.Checked.{vertices-turned, edges-turned, triangles-turned, shape-turned, range-turned, unknown-turned, broken-turned, repeated-turned, checks-turned, accepted-turned}
-use Rattle.backwards.specs.Listed.{Asked, shares-turned, boxes-turned, listed-turned, pairs-turned}
-use Rattle.seam_table.specs.Below.{or-left}
-use Rattle.scenes.specs.Speaking.{pair-says-one}
-use Rattle.listing.specs.InOrder.{ToList, FirstBelow, are-there, list-is}
-use Rattle.listing.specs.Once.{list-says-one}
+use Rattle.turning_laws.specs.Numbers.{known-number, number-unknown}
+use Rattle.turning_laws.specs.Turned.{turns-round, turned-twice}
+use Rattle.turning_laws.specs.Pieces.{piece-there, piece-turned, turned-keeps-pieces, turned-keeps-words, turned-keeps-pairs, turned-keeps-pair-words}
+use Rattle.turning_laws.specs.Checked.{vertices-turned, edges-turned, triangles-turned, shape-turned, range-turned, unknown-turned, broken-turned, repeated-turned, checks-turned, accepted-turned}
+use Rattle.turning_laws.specs.Listed.{Asked, shares-turned, boxes-turned, listed-turned, pairs-turned}
+use Rattle.answers.specs.Below.{or-left}
+use Rattle.answers.specs.Speaking.{pair-says-one}
+use Rattle.list_pairs.specs.InOrder.{ToList, FirstBelow, are-there, list-is}
+use Rattle.list_pairs.specs.Once.{list-says-one}
 use Rattle.demands.specs.AnyWriting.{well-made}
 use Rattle.demands.specs.Demand1.{AskedTable, demand1-counted, demand1-pair, demand1-piece, demand1-settled-pair, demand1-settled-piece}
 use Rattle.demands.specs.Demand2.{ExactlyOne, demand2-verdicts}
 use Rattle.demands.specs.Demand3.{vertices-there}
-use Rattle.demands.specs.OneAnswer.{one-scene, settled-says-one, all-judged-one}
+use Rattle.answers.specs.Speaking.{one-scene-answer, settled-says-one}
+use Rattle.list_words.specs.OneResult.{all-judged-one}
 use Rattle.demands.specs.SameAnswer.{answered-alike}
 use Rattle.demands.specs.StillAccepted.{SameChecks, refused-as}
 
@@ -239,7 +240,7 @@ same-checks-turned s unsewn = record {
 }
 
 pub scene-played-back : (s : Scene) → s .seams ≡ [] → (r r′ : SceneAnswer) → SceneChecked s r → SceneChecked (turnedRound s) r′ → r ≡ r′
-scene-played-back s unsewn r r′ p q = one-scene s r r′ p (subst (λ (ks : List Check). Answers ks (λ t. Unit {0}) (sceneSays r′)) (checks-turned s unsewn) q)
+scene-played-back s unsewn r r′ p q = one-scene-answer s r r′ p (subst (λ (ks : List Check). Answers ks (λ t. Unit {0}) (sceneSays r′)) (checks-turned s unsewn) q)
 
 pub count-played-back : (s : Scene) → s .seams ≡ [] → (r r′ : ListAnswer) → Counted s r → Counted (turnedRound s) r′ → r ≡ r′
 count-played-back s unsewn r r′ p q =

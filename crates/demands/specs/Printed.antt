@@ -30,8 +30,8 @@ use Rattle.meaning.specs.declared.Settled.the-variants.{Hit}
 use Rattle.theory.specs.Reading.{verdictOf, agreeing}
 use Rattle.theory.specs.Computed.{pieceVerdict, pointDifferences, edgeDifferences, startSum, endSum, joined, joinedBelow}
 use Rattle.corner_search.specs.Decided.{settledBy, pairWord, pair-word-is}
-use Rattle.scene_text.specs.Accepted.{text-accepted}
-use Rattle.demands.specs.OneText.{one-report}
+use Rattle.text_scene.specs.Accepted.{text-accepted}
+use Rattle.scene_report.specs.OneReport.{one-report}
 use Rattle.demands.specs.Table.{at, neg}
 
 unfoldable pub bytesOf : String → List ℕ

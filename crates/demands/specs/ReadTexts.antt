@@ -8,8 +8,8 @@ use lib.ListN.{length, take, length-append}
 use Rattle.sequences.specs.Wrote.{written}
 use Rattle.meaning.specs.Limits.{textLimit}
 use Rattle.meaning.specs.Report.{refusedLine, tooLong, Reported, ReportedRead}
-use Rattle.meaning.specs.ReadShown.{front-read, longer-read}
-use Rattle.demands.specs.OneText.{one-report, one-reported}
+use Rattle.meaning.specs.shown.ReadShown.{front-read, longer-read}
+use Rattle.scene_report.specs.OneReport.{one-report, one-reported}
 
 pub one-report-read : (buffer o o′ o″ : List ℕ) (count n n′ : ℕ) → ReportedRead buffer count o o′ n → ReportedRead buffer count o o″ n′ → (n ≡ n′) × (o′ ≡ o″)
 one-report-read buffer o o′ o″ count n n′ p q =

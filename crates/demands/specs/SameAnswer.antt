@@ -18,13 +18,15 @@ use Rattle.meaning.specs.declared.PairAnswer.{PairAnswer}
 use Rattle.meaning.specs.declared.SettledAnswer.{SettledAnswer}
 use Rattle.theory.specs.EitherOrder.{answer-either-order, piece-answer-either-order, settled-either-order, piece-settled-either-order}
 use Rattle.theory.specs.Moved.{Moves}
-use Rattle.seam_table.specs.Below.{or-left}
-use Rattle.scenes.specs.Speaking.{pair-says-one}
-use Rattle.demands.specs.Deciding.{holds-or-not}
+use Rattle.answers.specs.Below.{or-left}
+use Rattle.answers.specs.Speaking.{pair-says-one}
+use Rattle.answers.specs.Deciding.{holds-or-not}
 use Rattle.demands.specs.Demand1.{AskedTable, demand1-pair, demand1-piece, demand1-settled-pair, demand1-settled-piece}
 use Rattle.demands.specs.Demand2.{ExactlyOne, demand2-verdicts}
 use Rattle.demands.specs.Demand3.{demand3}
-use Rattle.demands.specs.OneAnswer.{one-pair, one-piece, one-settled-pair, one-settled-piece, settled-says-one}
+use Rattle.three_words.specs.OneResult.{one-pair, one-piece}
+use Rattle.four_words.specs.OneResult.{one-settled-pair, one-settled-piece}
+use Rattle.answers.specs.Speaking.{settled-says-one}
 
 -- ---- in either order
 

@@ -16,7 +16,7 @@ use Rattle.whole.specs.VectorLaws.{Matrix, apply, det, vector-eq}
 use Rattle.meaning.specs.Scene.{Scene, sceneOf, Accepted, vertexCount, startOf, endOf, someBelow, stoodFor}
 use Rattle.meaning.specs.Text.{coordinates}
 use Rattle.theory.specs.Moved.{Moves}
-use Rattle.scenes.specs.Facts.{accepted-sized}
+use Rattle.scene_checks.specs.Facts.{accepted-sized}
 use Rattle.demands.specs.Table.{neg, at, numbered}
 
 -- 0, 1, … up to and without n

@@ -13,7 +13,7 @@ use borrow.Author.Tests.{eqb-true, ltb-false, leb-false}
 use Rattle.meaning.specs.Scene.{Scene, Accepted, countsAs, stoodFor, seamCount, sewn, onto, differ, comesApart, wrongSeam, brokenSeam}
 use Rattle.meaning.specs.Pieces.{starting, ending}
 use Rattle.theory.specs.NoCrack.{Sewn}
-use Rattle.seam_table.specs.Below.{or-left, or-rest, none-passes}
+use Rattle.answers.specs.Below.{or-left, or-rest, none-passes}
 
 -- neither is below the other
 not-differ : (y z : ℤ) → differ y z ≡ false → y ≡ z

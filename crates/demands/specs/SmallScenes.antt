@@ -12,10 +12,10 @@ use Rattle.meaning.specs.Refusals.{shares}
 use Rattle.meaning.specs.Boxes.{meetOn}
 use Rattle.meaning.specs.List.{pair, pairs}
 use Rattle.meaning.specs.Lines as Lines
-use Rattle.meaning.specs.Text.{Entry, vertex, edge, triangle, seam, letterOf, Sound, Holds, none, textOf, FaultyAt, lineFeed}
+use Rattle.meaning.specs.Text.{Entry, vertex, edge, triangle, seam, letterOf, SceneSound, Holds, none, textOf, SceneFaultyAt, lineFeed}
 use Rattle.meaning.specs.declared.Kind.the-variants.{PointTriangle}
-use Rattle.scene_line.specs.Rendered.{line-is}
-use Rattle.scene_text.specs.Unique.{sound-anywhere}
+use Rattle.text_line.specs.Rendered.{line-is}
+use Rattle.text_scene.specs.Unique.{sound-anywhere}
 use Rattle.demands.specs.LineTable.{NoLine, no9}
 use Rattle.demands.specs.Table.{numbered}
 
@@ -46,7 +46,7 @@ empty-line-bad : (rest : List ℕ) → NoLine (lineFeed ∷ rest)
 empty-line-bad rest r below short e = no-letter r (head-eq-of-cons-eq (e ∙ line-is r below))
 
 -- below records none of which is at fault, it is refused 9 with its line number, whatever follows
-pub empty-line : (above : List Entry) (rest : List ℕ) → Sound none above → FaultyAt (textOf above ++ (lineFeed ∷ rest)) 9 (length above + 1)
+pub empty-line : (above : List Entry) (rest : List ℕ) → SceneSound none above → SceneFaultyAt (textOf above ++ (lineFeed ∷ rest)) 9 (length above + 1)
 empty-line above rest sound = record {
   above = above;
   below = lineFeed ∷ rest;

@@ -21,7 +21,7 @@ use Rattle.meaning.specs.declared.Kind.the-variants.{PointTriangle, EdgeEdge}
 use Rattle.meaning.specs.declared.PairAnswer.{PairAnswer}
 use Rattle.meaning.specs.declared.SettledAnswer.{SettledAnswer}
 use Rattle.theory.specs.EitherOrder.{listed-either-order, notThere-either-order}
-use Rattle.listing.specs.InOrder.{FirstBelow, tests, list-is}
+use Rattle.list_pairs.specs.InOrder.{FirstBelow, tests, list-is}
 use Rattle.demands.specs.Demand1.{AskedTable, demand1-pair, demand1-piece, demand1-settled-pair, demand1-settled-piece}
 
 -- the pair as the list writes it: of two edges the lower place first

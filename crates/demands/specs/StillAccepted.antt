@@ -16,9 +16,9 @@ use Rattle.theory.specs.Bounds.{Every}
 use Rattle.theory.specs.Rearranged.{Rearranged, unmoved, moved, every-exchanged}
 use Rattle.theory.specs.Written.{endsWritten, cornersWritten, Different, different-rearranged}
 use Rattle.theory.specs.Rewritten.{Rewritten, rewritten-back}
-use Rattle.seam_table.specs.Below.{or-left, or-rest, none-below, none-passes}
-use Rattle.scenes.specs.Facts.{edge-inside, triangle-inside, known-inside}
-use Rattle.demands.specs.Deciding.{holds-or-not}
+use Rattle.answers.specs.Below.{or-left, or-rest, none-below, none-passes}
+use Rattle.scene_checks.specs.Facts.{edge-inside, triangle-inside, known-inside}
+use Rattle.answers.specs.Deciding.{holds-or-not}
 use Rattle.demands.specs.Demand1.{SceneRows}
 
 -- ---- what the checks say of one scene

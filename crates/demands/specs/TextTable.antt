@@ -8,11 +8,11 @@ use mathlib.Core.Path.{_≡_, refl, sym, _∙_, ap, subst}
 use native.Mathlib.Omega.{arith}
 use Rattle.meaning.specs.Scene.{Scene}
 use Rattle.meaning.specs.Refusals.{Outcome, given, refused}
-use Rattle.meaning.specs.Text.{FaultyAt, Holds, TextIs, shortBuffer, longText, TextOutcome, countsOf, countsTold, textSays, TextRead}
+use Rattle.meaning.specs.Text.{SceneFaultyAt, Holds, TextIs, shortBuffer, longText, TextOutcome, countsOf, countsTold, textSays, TextRead}
 use Rattle.meaning.specs.declared.SceneCounts.{SceneCounts}
 use Rattle.meaning.specs.declared.TextAnswer.{TextAnswer}
-use Rattle.scene_text.specs.Unique.{text-unique}
-use Rattle.demands.specs.Deciding.{holds-or-not}
+use Rattle.text_scene.specs.Unique.{text-unique}
+use Rattle.answers.specs.Deciding.{holds-or-not}
 use Rattle.demands.specs.LineTable.{inLine, fault-known, fault-in-line}
 
 -- ---- what an answer tells
@@ -41,7 +41,7 @@ pub record TextRows (text : List ℕ) (lent : Scene) (o : Outcome SceneCounts) :
   pub only : (n line : ℕ) → o ≡ refused n line → List·Memᴰ n (12 ∷ 8 ∷ 9 ∷ 10 ∷ 11 ∷ 2 ∷ 3 ∷ 15 ∷ 4 ∷ [])
   pub no12 : (o ≡ refused 12 0) ↔ (shortBuffer lent ≡ true)
   pub no8 : (o ≡ refused 8 0) ↔ ((shortBuffer lent ≡ false) × (longText text ≡ true))
-  pub faulty : (n line : ℕ) → inLine n ≡ true → (o ≡ refused n line) ↔ ((shortBuffer lent ≡ false) × (longText text ≡ false) × FaultyAt text n line)
+  pub faulty : (n line : ℕ) → inLine n ≡ true → (o ≡ refused n line) ↔ ((shortBuffer lent ≡ false) × (longText text ≡ false) × SceneFaultyAt text n line)
   pub read : (c : SceneCounts) → (o ≡ given c) ↔ ((shortBuffer lent ≡ false) × (longText text ≡ false) × Reads text c)
 
 other-number : {x : Outcome Scene} {n m c d : ℕ} → x ≡ refused n c → x ≡ refused m d → n ≡ m
@@ -64,7 +64,7 @@ module _ (text : List ℕ) (lent : Scene) (x : Outcome Scene) (p : TextOutcome t
       → (shortBuffer lent ≡ false → longText text ≡ false → P) → P
   by-stage a b c = holds-or-not (shortBuffer lent) a (λ e. holds-or-not (longText text) (b e) (c e))
 
-  is-faulty : (n line : ℕ) → x ≡ refused n line → shortBuffer lent ≡ false → longText text ≡ false → FaultyAt text n line
+  is-faulty : (n line : ℕ) → x ≡ refused n line → shortBuffer lent ≡ false → longText text ≡ false → SceneFaultyAt text n line
   unfolding TextIs
   is-faulty n line e h k = subst (TextIs text) e (is-text h k)
 
@@ -86,7 +86,7 @@ module _ (text : List ℕ) (lent : Scene) (x : Outcome Scene) (p : TextOutcome t
   refused-8 e =
       by-stage (λ h. absurd (omega (arith, other-number e (short-buffer h)))) (λ h k. (h, k)) (λ h k. absurd (never 8 0 refl e h k))
 
-  refused-line : (n line : ℕ) → inLine n ≡ true → x ≡ refused n line → (shortBuffer lent ≡ false) × (longText text ≡ false) × FaultyAt text n line
+  refused-line : (n line : ℕ) → inLine n ≡ true → x ≡ refused n line → (shortBuffer lent ≡ false) × (longText text ≡ false) × SceneFaultyAt text n line
   refused-line n line l e =
       by-stage (λ h. absurd (true≢false (sym l ∙ ap inLine (other-number e (short-buffer h)))))
       (λ h k. absurd (true≢false (sym l ∙ ap inLine (other-number e (long-text h k)))))

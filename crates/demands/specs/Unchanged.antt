@@ -11,7 +11,7 @@ use Rattle.sequences.specs.Wrote.{Wrote, written, wrote-written}
 use Rattle.meaning.specs.Limits.{vertexLimit, edgeLimit, triangleLimit, seamLimit}
 use Rattle.meaning.specs.Scene.{Scene, Accepted, vertexCount, edgeCount, triangleCount, seamCount}
 use Rattle.meaning.specs.Refusals.{Outcome, given, refused, sceneSays}
-use Rattle.meaning.specs.Backwards.{turnedRound, sceneLeft, Turning}
+use Rattle.meaning.specs.Backwards.{turnedRound, turnedLeft, Turning}
 use Rattle.meaning.specs.List.{pairs, entries, listSays, leaves, Listing}
 use Rattle.meaning.specs.SceneWords.{byteOf, SettledScene}
 use Rattle.meaning.specs.Text.{Holds, shortBuffer, countsOf, countsTold, textSays, filled, TextRead}
@@ -19,10 +19,10 @@ use Rattle.meaning.specs.declared.SceneCounts.{SceneCounts}
 use Rattle.meaning.specs.declared.ListAnswer.{ListAnswer}
 use Rattle.meaning.specs.declared.SceneAnswer.{SceneAnswer}
 use Rattle.meaning.specs.declared.TextAnswer.{TextAnswer}
-use Rattle.entries.specs.Entries.{entries-length}
-use Rattle.seam_table.specs.Below.{or-left, or-rest}
-use Rattle.scenes.specs.Facts.{accepted-sized}
-use Rattle.scene_text.specs.Accepted.{text-accepted}
+use Rattle.list_entries.specs.Entries.{entries-length}
+use Rattle.answers.specs.Below.{or-left, or-rest}
+use Rattle.scene_checks.specs.Facts.{accepted-sized}
+use Rattle.text_scene.specs.Accepted.{text-accepted}
 use Rattle.demands.specs.Demand1.{demand1-listing}
 use Rattle.demands.specs.TextTable.{Reads, told-given, read-so}
 
@@ -50,15 +50,15 @@ pub reading-unchanged : (text : List ℕ) (lent left : Scene) (r : TextAnswer) �
 reading-unchanged text lent left r p n line e = p .leaves ∙ filled-refused (p .outcome) lent n line (sym (p .says) ∙ e)
 
 pub turning-unchanged : (s t : Scene) (r : SceneAnswer) → Turning s t r → (n c : ℕ) → sceneSays r ≡ refused n c → t ≡ s
-unfolding sceneLeft
-turning-unchanged s t r p n c e = p .scene ∙ ap (λ (x : Outcome (Unit {0})). sceneLeft x s) e
+unfolding turnedLeft
+turning-unchanged s t r p n c e = p .scene ∙ ap (λ (x : Outcome (Unit {0})). turnedLeft x s) e
 
 -- ---- after success
 
 -- the scene turned round stands where the scene stood
 pub turning-holds : (s t : Scene) (r : SceneAnswer) → Turning s t r → sceneSays r ≡ given tt → t ≡ turnedRound s
-unfolding sceneLeft
-turning-holds s t r p e = p .scene ∙ ap (λ (x : Outcome (Unit {0})). sceneLeft x s) e
+unfolding turnedLeft
+turning-holds s t r p e = p .scene ∙ ap (λ (x : Outcome (Unit {0})). turnedLeft x s) e
 
 -- the list stands in front, as many entries as the count returned, and behind it nothing changed
 pub listing-holds : (s : Scene) (o o′ : List ℕ) (r : ListAnswer) → Listing s o o′ r → (n : ℕ) → listSays r ≡ given n

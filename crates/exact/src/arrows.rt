@@ -9,6 +9,7 @@ ghost use Rattle.exact.specs.Places.{Bounded, Room, apart, along};
 ghost use Rattle.exact.specs.Minors.{MinorsOf, SmallMinors, VolumeWith};
 ghost use Rattle.exact.specs.Volumes.{four, Holds};
 ghost use Rattle.exact.specs.Arrows.{vectorOf, Points, ShortArrow, arrowVolumes};
+ghost use Rattle.sequences.specs.Lent.{atEntry};
 use super::Minors;
 use super::Volumes;
 use super::difference;
@@ -23,7 +24,7 @@ pub struct Arrow {
 // The place at one offset, seen from the place at another.
 pub fn arrow_between(positions: &[i32], place: usize, base: usize) -> Arrow
     requires { ⌜ Room (now positions) place base × Bounded coordinateLimit (now positions) ⌝ }
-    ensures { λ r. ⌜ Points r (apart (now (positions .entry)) place base) ⌝ }
+    ensures { λ r. ⌜ Points r (apart (atEntry positions) place base) ⌝ }
 {
     let x = difference(positions, place, base, 0);
     let y = difference(positions, place, base, 1);

@@ -12,11 +12,12 @@ ghost use Rattle.exact.specs.Limits.{differenceLimit, determinantLimit};
 ghost use Rattle.exact.specs.Places.{Bounded, Room, apart, along};
 ghost use Rattle.exact.specs.Minors.{minorLimit, minorOf, MinorsOf, SmallMinors, VolumeWith};
 ghost use Rattle.exact.specs.Volumes.{four, Rooms, volumesAt, Holds, SmallFour, inTurn};
+ghost use Rattle.sequences.specs.Lent.{atEntry};
 
 // One coordinate of the difference of two places.
 fn difference(positions: &[i32], at: usize, base: usize, axis: usize) -> i64
     requires { ⌜ Room (now positions) at base × (axis < 3) × Bounded coordinateLimit (now positions) ⌝ }
-    ensures { λ r. ⌜ Is differenceLimit r (along axis (apart (now (positions .entry)) at base)) ⌝ }
+    ensures { λ r. ⌜ Is differenceLimit r (along axis (apart (atEntry positions) at base)) ⌝ }
 {
     positions[at + axis] as i64 - positions[base + axis] as i64
 }
@@ -38,16 +39,19 @@ fn minor(
     i: usize,
     j: usize,
 ) -> i64
-    requires { ⌜ Room (now positions) a «base_a» × Room (now positions) b «base_b» × (i < 3) × (j < 3) × Bounded coordinateLimit (now positions) ⌝ }
-    ensures { λ r. ⌜ Is minorLimit r (minorOf i j (apart (now (positions .entry)) a «base_a») (apart (now (positions .entry)) b «base_b»)) ⌝ }
+    requires { ⌜ Room (now positions) a «base_a» × Room (now positions) b «base_b» × (i < 3) × (j < 3)
+        × Bounded coordinateLimit (now positions) ⌝ }
+    ensures { λ r. ⌜ Is minorLimit r (minorOf i j (apart (atEntry positions) a «base_a»)
+        (apart (atEntry positions) b «base_b»)) ⌝ }
 {
     difference(positions, a, base_a, i) * difference(positions, b, base_b, j)
         - difference(positions, a, base_a, j) * difference(positions, b, base_b, i)
 }
 
 fn minors_at(positions: &[i32], a: usize, base_a: usize, b: usize, base_b: usize) -> Minors
-    requires { ⌜ Room (now positions) a «base_a» × Room (now positions) b «base_b» × Bounded coordinateLimit (now positions) ⌝ }
-    ensures { λ r. ⌜ MinorsOf r (apart (now (positions .entry)) a «base_a») (apart (now (positions .entry)) b «base_b») ⌝ }
+    requires { ⌜ Room (now positions) a «base_a» × Room (now positions) b «base_b»
+        × Bounded coordinateLimit (now positions) ⌝ }
+    ensures { λ r. ⌜ MinorsOf r (apart (atEntry positions) a «base_a») (apart (atEntry positions) b «base_b») ⌝ }
 {
     let yz = minor(positions, a, base_a, b, base_b, 1, 2);
     let xz = minor(positions, a, base_a, b, base_b, 0, 2);
@@ -58,7 +62,7 @@ fn minors_at(positions: &[i32], a: usize, base_a: usize, b: usize, base_b: usize
 // The determinant of a difference of places and of the two that the minors are of: three products, the difference formed as they need it.
 fn volume_with(positions: &[i32], a: usize, base_a: usize, m: Minors) -> i64
     requires { ⌜ Room (now positions) a «base_a» × SmallMinors m × Bounded coordinateLimit (now positions) ⌝ }
-    ensures { λ r. ⌜ VolumeWith m (apart (now (positions .entry)) a «base_a») r ⌝ }
+    ensures { λ r. ⌜ VolumeWith m (apart (atEntry positions) a «base_a») r ⌝ }
 {
     difference(positions, a, base_a, 0) * m.yz - difference(positions, a, base_a, 1) * m.xz
         + difference(positions, a, base_a, 2) * m.xy
@@ -74,8 +78,11 @@ pub fn volume_at(
     c: usize,
     base_c: usize,
 ) -> i64
-    requires { ⌜ Room (now positions) a «base_a» × Room (now positions) b «base_b» × Room (now positions) c «base_c» × Bounded coordinateLimit (now positions) ⌝ }
-    ensures { λ r. ⌜ Is determinantLimit r (volume (apart (now (positions .entry)) a «base_a») (apart (now (positions .entry)) b «base_b») (apart (now (positions .entry)) c «base_c»)) ⌝ }
+    requires { ⌜ Room (now positions) a «base_a» × Room (now positions) b «base_b» × Room (now positions) c «base_c»
+        × Bounded coordinateLimit (now positions) ⌝ }
+    ensures { λ r. ⌜ Is determinantLimit r
+        (volume (apart (atEntry positions) a «base_a») (apart (atEntry positions) b «base_b»)
+        (apart (atEntry positions) c «base_c»)) ⌝ }
 {
     volume_with(
         positions,
@@ -122,9 +129,11 @@ fn volumes_with(
     former: Minors,
     latter: Minors,
 ) -> Volumes
-    requires { ⌜ Rooms (now positions) (four o0 o1 o2 o3) (four b0 b1 b2 b3) × Bounded coordinateLimit (now positions) ⌝ }
-    requires { ⌜ MinorsOf former (apart (now positions) o0 b0) (apart (now positions) o1 b1) × MinorsOf latter (apart (now positions) o2 b2) (apart (now positions) o3 b3) ⌝ }
-    ensures { λ r. ⌜ Holds r (volumesAt (now (positions .entry)) (four o0 o1 o2 o3) (four b0 b1 b2 b3)) ⌝ }
+    requires { ⌜ Rooms (now positions) (four o0 o1 o2 o3) (four b0 b1 b2 b3)
+        × Bounded coordinateLimit (now positions) ⌝ }
+    requires { ⌜ MinorsOf former (apart (now positions) o0 b0) (apart (now positions) o1 b1)
+        × MinorsOf latter (apart (now positions) o2 b2) (apart (now positions) o3 b3) ⌝ }
+    ensures { λ r. ⌜ Holds r (volumesAt (atEntry positions) (four o0 o1 o2 o3) (four b0 b1 b2 b3)) ⌝ }
 {
     let e0 = volume_with(positions, o1, b1, latter);
     let e1 = volume_with(positions, o0, b0, latter);
@@ -144,8 +153,9 @@ pub fn volumes_at(
     o3: usize,
     b3: usize,
 ) -> Volumes
-    requires { ⌜ Rooms (now positions) (four o0 o1 o2 o3) (four b0 b1 b2 b3) × Bounded coordinateLimit (now positions) ⌝ }
-    ensures { λ r. ⌜ Holds r (volumesAt (now (positions .entry)) (four o0 o1 o2 o3) (four b0 b1 b2 b3)) ⌝ }
+    requires { ⌜ Rooms (now positions) (four o0 o1 o2 o3) (four b0 b1 b2 b3)
+        × Bounded coordinateLimit (now positions) ⌝ }
+    ensures { λ r. ⌜ Holds r (volumesAt (atEntry positions) (four o0 o1 o2 o3) (four b0 b1 b2 b3)) ⌝ }
 {
     let former = minors_at(positions, o0, b0, o1, b1);
     let latter = minors_at(positions, o2, b2, o3, b3);

@@ -5,6 +5,7 @@
 ghost use Rattle.meaning.specs.Limits.{coordinateLimit};
 ghost use Rattle.exact.specs.Places.{Bounded};
 ghost use Rattle.exact.specs.Shared.{Moving, PointVolumesAt, EdgeVolumesAt};
+ghost use Rattle.sequences.specs.Lent.{atEntry};
 use super::minors_at;
 use super::shared::EdgeVolumes;
 use super::shared::PointVolumes;
@@ -12,8 +13,9 @@ use super::volumes_with;
 
 // The point p and the corners a, b, c at the start are q and d, e, f at the end.
 pub fn point_pieces(positions: &[i32], p: usize, a: usize, b: usize, c: usize) -> PointVolumes
-    requires { ⌜ Moving (now positions) p × Moving (now positions) a × Moving (now positions) b × Moving (now positions) c × Bounded coordinateLimit (now positions) ⌝ }
-    ensures { λ r. ⌜ PointVolumesAt (now (positions .entry)) p a b c r ⌝ }
+    requires { ⌜ Moving (now positions) p × Moving (now positions) a × Moving (now positions) b
+        × Moving (now positions) c × Bounded coordinateLimit (now positions) ⌝ }
+    ensures { λ r. ⌜ PointVolumesAt (atEntry positions) p a b c r ⌝ }
 {
     let q = p + 3;
     let d = a + 3;
@@ -35,8 +37,9 @@ pub fn point_pieces(positions: &[i32], p: usize, a: usize, b: usize, c: usize) -
 
 // As in `shared`: starts are seen from i and ends from o.
 pub fn edge_pieces(positions: &[i32], i: usize, r: usize, g: usize, h: usize) -> EdgeVolumes
-    requires { ⌜ Moving (now positions) i × Moving (now positions) r × Moving (now positions) g × Moving (now positions) h × Bounded coordinateLimit (now positions) ⌝ }
-    ensures { λ v. ⌜ EdgeVolumesAt (now (positions .entry)) i r g h v ⌝ }
+    requires { ⌜ Moving (now positions) i × Moving (now positions) r × Moving (now positions) g
+        × Moving (now positions) h × Bounded coordinateLimit (now positions) ⌝ }
+    ensures { λ v. ⌜ EdgeVolumesAt (atEntry positions) i r g h v ⌝ }
 {
     let o = r + 3;
     let s = i + 3;

@@ -5,6 +5,7 @@
 ghost use Rattle.meaning.specs.Limits.{coordinateLimit};
 ghost use Rattle.exact.specs.Places.{Bounded};
 ghost use Rattle.exact.specs.Shared.{Moving, PointVolumesAt, EdgeVolumesAt};
+ghost use Rattle.sequences.specs.Lent.{atEntry};
 use super::Volumes;
 use super::in_turn;
 use super::minors_at;
@@ -19,8 +20,9 @@ pub struct PointVolumes {
 
 // The point p and the corners a, b, c at the start are q and d, e, f at the end.
 pub fn point_volumes(positions: &[i32], p: usize, a: usize, b: usize, c: usize) -> PointVolumes
-    requires { ⌜ Moving (now positions) p × Moving (now positions) a × Moving (now positions) b × Moving (now positions) c × Bounded coordinateLimit (now positions) ⌝ }
-    ensures { λ r. ⌜ PointVolumesAt (now (positions .entry)) p a b c r ⌝ }
+    requires { ⌜ Moving (now positions) p × Moving (now positions) a × Moving (now positions) b
+        × Moving (now positions) c × Bounded coordinateLimit (now positions) ⌝ }
+    ensures { λ r. ⌜ PointVolumesAt (atEntry positions) p a b c r ⌝ }
 {
     let q = p + 3;
     let d = a + 3;
@@ -61,8 +63,9 @@ pub struct EdgeVolumes {
 // Starts are seen from i, the start of the first edge's lower end, and ends from o, the end of its higher one, which both its pieces hold. So
 // seen, r and s are the two points that piece A alone and piece B alone hold; g, h and k, l are the other edge's ends at the start and at the end.
 pub fn edge_volumes(positions: &[i32], i: usize, r: usize, g: usize, h: usize) -> EdgeVolumes
-    requires { ⌜ Moving (now positions) i × Moving (now positions) r × Moving (now positions) g × Moving (now positions) h × Bounded coordinateLimit (now positions) ⌝ }
-    ensures { λ v. ⌜ EdgeVolumesAt (now (positions .entry)) i r g h v ⌝ }
+    requires { ⌜ Moving (now positions) i × Moving (now positions) r × Moving (now positions) g
+        × Moving (now positions) h × Bounded coordinateLimit (now positions) ⌝ }
+    ensures { λ v. ⌜ EdgeVolumesAt (atEntry positions) i r g h v ⌝ }
 {
     let o = r + 3;
     let s = i + 3;

@@ -16,8 +16,8 @@ use Rattle.meaning.specs.declared.Settled.{Settled}
 use Rattle.meaning.specs.declared.PairAnswer.{PairAnswer}
 use Rattle.meaning.specs.declared.PairAnswer.the-variants.{Judged, Refused}
 use Rattle.meaning.specs.declared.SettledAnswer.{SettledAnswer}
-use Rattle.seam_table.specs.Below.{or-left}
-use Rattle.scenes.specs.Answering.{is-given, gives, refused-before, given-before}
+use Rattle.answers.specs.Below.{or-left}
+use Rattle.answers.specs.Answering.{is-given, gives, refused-before, given-before}
 use Rattle.three_words.specs.Asked.{askedChecks}
 
 module _ (s : Scene) (five six : Bool) (R : Verdict → Type 0) (S : Settled → Type 0) (r : PairAnswer) (said : Answers (sceneChecks s ++ askedChecks five six) R (pairSays r)) where

@@ -4,3 +4,4 @@ pub mod Words
 pub mod Singular
 pub mod Rests
 pub mod Deciding
+pub mod OneResult

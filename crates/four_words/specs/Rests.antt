@@ -8,7 +8,7 @@ use Rattle.meaning.specs.Verdicts.{PairIs}
 use Rattle.meaning.specs.Resting.{PieceSettled}
 use Rattle.meaning.specs.declared.Kind.{Kind}
 use Rattle.meaning.specs.declared.Verdict.{Verdict}
-use Rattle.at_rest.specs.Rests.{pairRests, all-still}
+use Rattle.corner_rest.specs.Rests.{pairRests, all-still}
 use Rattle.corner_leaf.specs.declared.SixPoints.{SixPoints}
 use Rattle.corner_search.specs.Says.{Tells}
 use Rattle.corner_search.specs.Sixes.{sixOf, six-piece}

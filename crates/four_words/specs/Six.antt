@@ -21,7 +21,7 @@ use Rattle.meaning.specs.declared.Kind.{Kind}
 use Rattle.meaning.specs.declared.Kind.the-variants.{PointTriangle, EdgeEdge}
 use Rattle.meaning.specs.declared.Verdict.{Verdict}
 use Rattle.meaning.specs.declared.Settled.{Settled}
-use Rattle.scenes.specs.Facts.{accepted-sized}
+use Rattle.scene_checks.specs.Facts.{accepted-sized}
 use Rattle.three_words.specs.Ready.{PointReady, EdgesReady}
 use Rattle.three_words.specs.Pairs.{pt-ready, ee-ready}
 use Rattle.corner_leaf.specs.declared.SixPoints.{SixPoints}

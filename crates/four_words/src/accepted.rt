@@ -7,11 +7,11 @@ ghost use Rattle.meaning.specs.Pieces.{pieceOf};
 ghost use Rattle.meaning.specs.Refusals.{notThere};
 ghost use Rattle.meaning.specs.Verdicts.{PieceIs, PairIs};
 ghost use Rattle.meaning.specs.Resting.{PieceSettled, PairSettled};
-ghost use Rattle.seam_table.specs.Alone.{tabledIn, tabledAtEntry};
+ghost use Rattle.scene_seams.specs.Alone.{tabledIn, tabledAtEntry};
 ghost use Rattle.meaning.specs.declared.Verdict.the-variants.{Degenerate};
 ghost use Rattle.four_words.specs.Words.{TouchSaid, isSingular, plainWord};
 use super::six::six_of;
-use at_rest::pair_rests;
+use corner_rest::pair_rests;
 use meaning::Kind;
 use meaning::Settled;
 use meaning::Verdict;
@@ -28,7 +28,9 @@ pub(crate) fn piece_word(
     k: usize,
     verdict: Verdict,
 ) -> Settled
-    requires { ⌜ Accepted (tabledIn positions edges triangles stands) × (notThere (tabledIn positions edges triangles stands) kind i j ≡ false) × PieceIs (pieceOf (tabledIn positions edges triangles stands) kind i j k) verdict ⌝ }
+    requires { ⌜ Accepted (tabledIn positions edges triangles stands)
+        × (notThere (tabledIn positions edges triangles stands) kind i j ≡ false)
+        × PieceIs (pieceOf (tabledIn positions edges triangles stands) kind i j k) verdict ⌝ }
     ensures { λ r. ⌜ PieceSettled (pieceOf (tabledAtEntry positions edges triangles stands) kind i j k) r ⌝ }
 {
     let six = six_of(positions, edges, triangles, stands, kind, i, j, k);
@@ -45,7 +47,9 @@ fn some_piece_touches(
     i: usize,
     j: usize,
 ) -> bool
-    requires { ⌜ Accepted (tabledIn positions edges triangles stands) × (notThere (tabledIn positions edges triangles stands) kind i j ≡ false) × PairIs (tabledIn positions edges triangles stands) kind i j Degenerate ⌝ }
+    requires { ⌜ Accepted (tabledIn positions edges triangles stands)
+        × (notThere (tabledIn positions edges triangles stands) kind i j ≡ false)
+        × PairIs (tabledIn positions edges triangles stands) kind i j Degenerate ⌝ }
     ensures { λ r. ⌜ TouchSaid (tabledAtEntry positions edges triangles stands) kind i j r ⌝ }
 {
     let count = three_words::accepted::piece_count(kind);
@@ -70,7 +74,9 @@ fn touches(
     i: usize,
     j: usize,
 ) -> bool
-    requires { ⌜ Accepted (tabledIn positions edges triangles stands) × (notThere (tabledIn positions edges triangles stands) kind i j ≡ false) × PairIs (tabledIn positions edges triangles stands) kind i j Degenerate ⌝ }
+    requires { ⌜ Accepted (tabledIn positions edges triangles stands)
+        × (notThere (tabledIn positions edges triangles stands) kind i j ≡ false)
+        × PairIs (tabledIn positions edges triangles stands) kind i j Degenerate ⌝ }
     ensures { λ r. ⌜ TouchSaid (tabledAtEntry positions edges triangles stands) kind i j r ⌝ }
 {
     if pair_rests(positions, edges, triangles, stands, kind, i, j) {
@@ -91,7 +97,9 @@ pub(crate) fn singular_word(
     i: usize,
     j: usize,
 ) -> Settled
-    requires { ⌜ Accepted (tabledIn positions edges triangles stands) × (notThere (tabledIn positions edges triangles stands) kind i j ≡ false) × PairIs (tabledIn positions edges triangles stands) kind i j Degenerate ⌝ }
+    requires { ⌜ Accepted (tabledIn positions edges triangles stands)
+        × (notThere (tabledIn positions edges triangles stands) kind i j ≡ false)
+        × PairIs (tabledIn positions edges triangles stands) kind i j Degenerate ⌝ }
     ensures { λ r. ⌜ PairSettled (tabledAtEntry positions edges triangles stands) kind i j r ⌝ }
 {
     if touches(positions, edges, triangles, stands, kind, i, j) {
@@ -133,7 +141,8 @@ pub fn pair(
     i: usize,
     j: usize,
 ) -> Settled
-    requires { ⌜ Accepted (tabledIn positions edges triangles stands) × (notThere (tabledIn positions edges triangles stands) kind i j ≡ false) ⌝ }
+    requires { ⌜ Accepted (tabledIn positions edges triangles stands)
+        × (notThere (tabledIn positions edges triangles stands) kind i j ≡ false) ⌝ }
     ensures { λ r. ⌜ PairSettled (tabledAtEntry positions edges triangles stands) kind i j r ⌝ }
 {
     let verdict = three_words::accepted::pair(positions, edges, triangles, stands, kind, i, j);

@@ -5,8 +5,9 @@ pub mod accepted; // accepted.rt: pieces and pairs of a scene that was checked a
 
 ghost use Rattle.meaning.specs.Scene.{sceneAtEntry};
 ghost use Rattle.meaning.specs.Resting.{PairDecided, PieceDecided};
-ghost use Rattle.seam_table.specs.Sewing.{Blank};
-ghost use Rattle.scenes.specs.Checking.{Stitched};
+ghost use Rattle.scene_seams.specs.Sewing.{Blank};
+ghost use Rattle.scene_checks.specs.Checking.{Stitched};
+ghost use Rattle.sequences.specs.Lent.{atEntry, atExit};
 use meaning::Kind;
 use meaning::PairAnswer;
 use meaning::Settled;
@@ -26,7 +27,8 @@ pub fn settle_into(
     second: usize,
 ) -> SettledAnswer
     requires { ⌜ Blank (now seams) (now stands) ⌝ }
-    ensures { λ r. ⌜ PairDecided (sceneAtEntry positions edges triangles seams) kind first second r × Stitched (sceneAtEntry positions edges triangles seams) (now (stands .entry)) (now (stands .exit)) ⌝ }
+    ensures { λ r. ⌜ PairDecided (sceneAtEntry positions edges triangles seams) kind first second r
+        × Stitched (sceneAtEntry positions edges triangles seams) (atEntry stands) (atExit stands) ⌝ }
 {
     match three_words::pair_into(
         positions,
@@ -105,7 +107,8 @@ fn settle_piece_into(
     piece: usize,
 ) -> SettledAnswer
     requires { ⌜ Blank (now seams) (now stands) ⌝ }
-    ensures { λ r. ⌜ PieceDecided (sceneAtEntry positions edges triangles seams) kind first second piece r × Stitched (sceneAtEntry positions edges triangles seams) (now (stands .entry)) (now (stands .exit)) ⌝ }
+    ensures { λ r. ⌜ PieceDecided (sceneAtEntry positions edges triangles seams) kind first second piece r
+        × Stitched (sceneAtEntry positions edges triangles seams) (atEntry stands) (atExit stands) ⌝ }
 {
     let judged = three_words::piece_into(
         positions,

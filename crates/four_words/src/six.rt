@@ -9,7 +9,7 @@ ghost use Rattle.meaning.specs.Limits.{vertexLimit};
 ghost use Rattle.meaning.specs.Scene.{Accepted};
 ghost use Rattle.meaning.specs.Refusals.{notThere};
 ghost use Rattle.corner_search.specs.Sixes.{pointSix, edgesSix, sixOf};
-ghost use Rattle.seam_table.specs.Alone.{tabledIn, tabledAtEntry};
+ghost use Rattle.scene_seams.specs.Alone.{tabledIn, tabledAtEntry};
 ghost use Rattle.four_words.specs.Six.{between, PointFew, EdgesFew};
 use corner_leaf::SixPoints;
 use meaning::Corners;
@@ -69,7 +69,8 @@ pub fn six_of(
     j: usize,
     k: usize,
 ) -> SixPoints
-    requires { ⌜ Accepted (tabledIn positions edges triangles stands) × (notThere (tabledIn positions edges triangles stands) kind i j ≡ false) ⌝ }
+    requires { ⌜ Accepted (tabledIn positions edges triangles stands)
+        × (notThere (tabledIn positions edges triangles stands) kind i j ≡ false) ⌝ }
     ensures { λ r. ⌜ r ≡ sixOf (tabledAtEntry positions edges triangles stands) kind i j k ⌝ }
 {
     match kind {

@@ -70,7 +70,7 @@ fn show_answer(answer: ListAnswer) {
         }
         ListAnswer::Refused(refusal, needed) => {
             io::write_all(libc::STDOUT_FILENO, b"refused\t");
-            io::print_decimal(libc::STDOUT_FILENO, wording::number_of(refusal));
+            io::print_decimal(libc::STDOUT_FILENO, answers::number_of(refusal));
             io::write_all(libc::STDOUT_FILENO, b"\t");
             io::print_decimal(libc::STDOUT_FILENO, needed as u64);
         }
@@ -85,7 +85,7 @@ fn show_tests(tests: usize) {
 // The printed scene, listed into a buffer.
 fn try_room(list: &mut [u32]) {
     let mut tests = [7usize; 1];
-    show_answer(listing::list_pairs(&POSITIONS, &EDGES, &TRIANGLES, &[], list, &mut tests));
+    show_answer(list_pairs::list_pairs(&POSITIONS, &EDGES, &TRIANGLES, &[], list, &mut tests));
     show_tests(tests[0]);
     show_buffer(list);
 }
@@ -93,7 +93,7 @@ fn try_room(list: &mut [u32]) {
 // The printed scene, counted.
 fn try_count() {
     let mut tests = [7usize; 1];
-    show_answer(listing::count_pairs(&POSITIONS, &EDGES, &TRIANGLES, &[], &mut tests));
+    show_answer(list_pairs::count_pairs(&POSITIONS, &EDGES, &TRIANGLES, &[], &mut tests));
     show_tests(tests[0]);
     end_line();
 }
@@ -104,7 +104,7 @@ fn try_empty(list: &mut [u32]) {
     let edges = [0u16; 1];
     let triangles = [0u16; 1];
     let mut tests = [7usize; 1];
-    show_answer(listing::list_pairs(
+    show_answer(list_pairs::list_pairs(
         &positions[..0],
         &edges[..0],
         &triangles[..0],
@@ -119,7 +119,14 @@ fn try_empty(list: &mut [u32]) {
 // A scene that is refused: its positions are no multiple of 6.
 fn try_bad(list: &mut [u32]) {
     let mut tests = [7usize; 1];
-    show_answer(listing::list_pairs(&POSITIONS[..29], &EDGES, &TRIANGLES, &[], list, &mut tests));
+    show_answer(list_pairs::list_pairs(
+        &POSITIONS[..29],
+        &EDGES,
+        &TRIANGLES,
+        &[],
+        list,
+        &mut tests,
+    ));
     show_tests(tests[0]);
     show_buffer(list);
 }

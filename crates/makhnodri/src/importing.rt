@@ -1,11 +1,12 @@
 // Two OBJ files for C and for Rust.
 
 ghost use Rattle.meaning.specs.Scene.{sceneAtEntry, sceneAtExit};
-ghost use Rattle.answer_numbers.specs.Numbers.{Told};
-ghost use Rattle.import_numbers.specs.Numbers.{importNumber, ImportInto};
-use boxed_import::import_boxed;
-use import_numbers::import_number;
-use import_numbers::put_counts;
+ghost use Rattle.meaning.specs.Numbers.{Numbered};
+ghost use Rattle.meaning.specs.ImportNumbers.{importNumber, ImportInto};
+ghost use Rattle.sequences.specs.Lent.{atEntry, atExit};
+use c_numbers::import_number;
+use c_numbers::put_counts;
+use stored_reading::import_scene;
 
 // Brings two OBJ files in as one scene with its boxes, into the lent buffers, and its four counts into the lent array.
 #[no_mangle]
@@ -19,9 +20,12 @@ pub extern "C" fn makhnodri_import_scene_slices(
     boxes: &mut [i32],
     counts: &mut [usize; 4],
 ) -> u64
-    ensures { λ r. ⌜ Told importNumber (ImportInto (now (start .entry)) (now (end .entry)) (sceneAtEntry positions edges triangles seams) (sceneAtExit positions edges triangles seams) (now (boxes .entry)) (now (boxes .exit)) (now (counts .entry)) (now (counts .exit))) r ⌝ }
+    ensures { λ r. ⌜ Numbered importNumber
+        (ImportInto (atEntry start) (atEntry end) (sceneAtEntry positions edges triangles seams)
+        (sceneAtExit positions edges triangles seams) (atEntry boxes) (atExit boxes) (atEntry counts) (atExit counts))
+        r ⌝ }
 {
-    let answer = import_boxed(start, end, positions, edges, triangles, seams, boxes);
+    let answer = import_scene(start, end, positions, edges, triangles, seams, boxes);
     put_counts(counts, answer);
     import_number(answer)
 }

@@ -10,8 +10,8 @@ ghost use mathlib.Core.Path.{_≡_};
 ghost use Rattle.meaning.specs.Scene.{sceneAtEntry, sceneAtExit};
 ghost use Rattle.meaning.specs.Refusals.{SceneChecked, PairJudged, PieceJudged};
 ghost use Rattle.meaning.specs.Backwards.{Turning};
-ghost use Rattle.seam_table.specs.Alone.{unsewnAtEntry};
-ghost use Rattle.turning.specs.Scene.{unsewnAtExit};
+ghost use Rattle.meaning.specs.Scene.{unsewnAtEntry};
+ghost use Rattle.meaning.specs.Scene.{unsewnAtExit};
 ghost use Rattle.meaning.specs.Resting.{PairDecided, PieceDecided};
 ghost use Rattle.meaning.specs.List.{Counted, Listing};
 ghost use Rattle.meaning.specs.Runs.{Tested};
@@ -19,31 +19,32 @@ ghost use Rattle.meaning.specs.SceneWords.{SettledScene};
 ghost use Rattle.meaning.specs.declared.Kind.the-variants.{PointTriangle, EdgeEdge};
 ghost use Rattle.meaning.specs.Report.{Reported};
 ghost use Rattle.meaning.specs.Claims.{ClaimsChecked};
-ghost use Rattle.meaning.specs.Meetings.{rowLeft, MetScene};
-ghost use Rattle.answer_numbers.specs.Claims.{claimsNumber};
-ghost use Rattle.answer_numbers.specs.Saved.{savedNumber};
+ghost use Rattle.meaning.specs.WholeContacts.{rowLeft, ContactsListed};
+ghost use Rattle.meaning.specs.Numbers.{claimsNumber};
+ghost use Rattle.meaning.specs.Numbers.{savedNumber};
 ghost use Rattle.meaning.specs.Saved.{Measured, Saved};
-ghost use Rattle.answer_numbers.specs.Contacts.{meetingNumber, ContactInto};
-ghost use Rattle.scene_contacts.specs.Rows.{SmallMeeting};
-ghost use Rattle.answer_numbers.specs.Numbers.{sceneNumber, pairNumber, settledNumber, listNumber, textNumber, ReadInto, Told};
-use answer_numbers::claims_number;
-use answer_numbers::list_number;
-use answer_numbers::pair_number;
-use answer_numbers::refused;
-use answer_numbers::saved_number;
-use answer_numbers::scene_number;
-use answer_numbers::settled_number;
-use answer_numbers::word_number;
+ghost use Rattle.meaning.specs.Numbers.{contactNumber, ContactInto};
+ghost use Rattle.contact_scene.specs.Rows.{SmallContact};
+ghost use Rattle.meaning.specs.Numbers.{sceneNumber, pairNumber, settledNumber, listNumber, textNumber, ReadInto, Numbered};
+ghost use Rattle.sequences.specs.Lent.{atEntry, atExit};
+use c_numbers::claims_number;
+use c_numbers::list_number;
+use c_numbers::pair_number;
+use c_numbers::refused;
+use c_numbers::saved_number;
+use c_numbers::scene_number;
+use c_numbers::settled_number;
+use c_numbers::word_number;
 use meaning::Kind;
-use meaning::Meeting;
-use meaning::MeetingAnswer;
 use meaning::REPORT_BYTES;
 use meaning::ROW_NUMBERS;
 use meaning::SceneCounts;
 use meaning::TextAnswer;
+use meaning::WholeContact;
+use meaning::WholeContactAnswer;
 
 pub(crate) fn put_counts(counts: &mut [usize; 4], c: SceneCounts)
-    ensures { λ _. ⌜ now (counts .exit) ≡ c .vertices ∷ c .edges ∷ c .triangles ∷ c .seams ∷ [] ⌝ }
+    ensures { λ _. ⌜ atExit counts ≡ c .vertices ∷ c .edges ∷ c .triangles ∷ c .seams ∷ [] ⌝ }
 {
     *counts = [c.vertices, c.edges, c.triangles, c.seams];
 }
@@ -58,9 +59,9 @@ pub extern "C" fn makhnodri_check_scene_slices(
     triangles: &[u16],
     seams: &[u16],
 ) -> u64
-    ensures { λ r. ⌜ Told sceneNumber (SceneChecked (sceneAtEntry positions edges triangles seams)) r ⌝ }
+    ensures { λ r. ⌜ Numbered sceneNumber (SceneChecked (sceneAtEntry positions edges triangles seams)) r ⌝ }
 {
-    scene_number(scenes::check_scene(positions, edges, triangles, seams))
+    scene_number(scene_checks::check_scene(positions, edges, triangles, seams))
 }
 
 // The scene turned round where it stands: start and end swapped, vertices numbered from last to first.
@@ -70,7 +71,8 @@ pub extern "C" fn makhnodri_turn_scene(
     edges: &mut [u16],
     triangles: &mut [u16],
 ) -> u64
-    ensures { λ r. ⌜ Told sceneNumber (Turning (unsewnAtEntry positions edges triangles) (unsewnAtExit positions edges triangles)) r ⌝ }
+    ensures { λ r. ⌜ Numbered sceneNumber
+        (Turning (unsewnAtEntry positions edges triangles) (unsewnAtExit positions edges triangles)) r ⌝ }
 {
     scene_number(turning::turn_scene(positions, edges, triangles))
 }
@@ -84,9 +86,10 @@ pub extern "C" fn makhnodri_count_pairs_slices(
     seams: &[u16],
     tests: &mut [usize; 1],
 ) -> u64
-    ensures { λ r. ⌜ Told listNumber (Tested (sceneAtEntry positions edges triangles seams) (Counted (sceneAtEntry positions edges triangles seams)) (now (tests .entry)) (now (tests .exit))) r ⌝ }
+    ensures { λ r. ⌜ Numbered listNumber (Tested (sceneAtEntry positions edges triangles seams)
+        (Counted (sceneAtEntry positions edges triangles seams)) (atEntry tests) (atExit tests)) r ⌝ }
 {
-    list_number(listing::count_pairs(positions, edges, triangles, seams, tests))
+    list_number(list_pairs::count_pairs(positions, edges, triangles, seams, tests))
 }
 
 // The list, in front of a lent buffer, and its box tests.
@@ -99,9 +102,11 @@ pub extern "C" fn makhnodri_list_pairs_slices(
     list: &mut [u32],
     tests: &mut [usize; 1],
 ) -> u64
-    ensures { λ r. ⌜ Told listNumber (Tested (sceneAtEntry positions edges triangles seams) (Listing (sceneAtEntry positions edges triangles seams) (now (list .entry)) (now (list .exit))) (now (tests .entry)) (now (tests .exit))) r ⌝ }
+    ensures { λ r. ⌜ Numbered listNumber (Tested (sceneAtEntry positions edges triangles seams)
+        (Listing (sceneAtEntry positions edges triangles seams) (atEntry list) (atExit list)) (atEntry tests)
+        (atExit tests)) r ⌝ }
 {
-    list_number(listing::list_pairs(positions, edges, triangles, seams, list, tests))
+    list_number(list_pairs::list_pairs(positions, edges, triangles, seams, list, tests))
 }
 
 // The list, and the word of each listed pair as a byte: hit, miss, touch or apart.
@@ -114,9 +119,10 @@ pub extern "C" fn makhnodri_settle_scene_slices(
     list: &mut [u32],
     words: &mut [u8],
 ) -> u64
-    ensures { λ r. ⌜ Told listNumber (SettledScene (sceneAtEntry positions edges triangles seams) (now (list .entry)) (now (list .exit)) (now (words .entry)) (now (words .exit))) r ⌝ }
+    ensures { λ r. ⌜ Numbered listNumber (SettledScene (sceneAtEntry positions edges triangles seams) (atEntry list)
+        (atExit list) (atEntry words) (atExit words)) r ⌝ }
 {
-    list_number(scene_words::settle_scene(positions, edges, triangles, seams, list, words))
+    list_number(list_words::settle_scene(positions, edges, triangles, seams, list, words))
 }
 
 // ---- the verdict of a pair and of a piece: hit, miss or degenerate. A kind has functions of its own, so that no bad kind can be asked for
@@ -130,7 +136,8 @@ pub extern "C" fn makhnodri_judge_pt_slices(
     vertex: usize,
     triangle: usize,
 ) -> u64
-    ensures { λ r. ⌜ Told pairNumber (PairJudged (sceneAtEntry positions edges triangles seams) PointTriangle vertex triangle) r ⌝ }
+    ensures { λ r. ⌜ Numbered pairNumber (PairJudged (sceneAtEntry positions edges triangles seams) PointTriangle
+        vertex triangle) r ⌝ }
 {
     pair_number(three_words::judge_pair(
         positions,
@@ -152,7 +159,8 @@ pub extern "C" fn makhnodri_judge_ee_slices(
     first: usize,
     second: usize,
 ) -> u64
-    ensures { λ r. ⌜ Told pairNumber (PairJudged (sceneAtEntry positions edges triangles seams) EdgeEdge first second) r ⌝ }
+    ensures { λ r. ⌜ Numbered pairNumber (PairJudged (sceneAtEntry positions edges triangles seams) EdgeEdge first
+        second) r ⌝ }
 {
     let kind = Kind::EdgeEdge;
     pair_number(three_words::judge_pair(positions, edges, triangles, seams, kind, first, second))
@@ -168,7 +176,8 @@ pub extern "C" fn makhnodri_judge_pt_piece_slices(
     triangle: usize,
     piece: usize,
 ) -> u64
-    ensures { λ r. ⌜ Told pairNumber (PieceJudged (sceneAtEntry positions edges triangles seams) PointTriangle vertex triangle piece) r ⌝ }
+    ensures { λ r. ⌜ Numbered pairNumber (PieceJudged (sceneAtEntry positions edges triangles seams) PointTriangle
+        vertex triangle piece) r ⌝ }
 {
     pair_number(three_words::judge_piece(
         positions,
@@ -192,7 +201,8 @@ pub extern "C" fn makhnodri_judge_ee_piece_slices(
     second: usize,
     piece: usize,
 ) -> u64
-    ensures { λ r. ⌜ Told pairNumber (PieceJudged (sceneAtEntry positions edges triangles seams) EdgeEdge first second piece) r ⌝ }
+    ensures { λ r. ⌜ Numbered pairNumber (PieceJudged (sceneAtEntry positions edges triangles seams) EdgeEdge first
+        second piece) r ⌝ }
 {
     pair_number(three_words::judge_piece(
         positions,
@@ -217,7 +227,8 @@ pub extern "C" fn makhnodri_settle_pt_slices(
     vertex: usize,
     triangle: usize,
 ) -> u64
-    ensures { λ r. ⌜ Told settledNumber (PairDecided (sceneAtEntry positions edges triangles seams) PointTriangle vertex triangle) r ⌝ }
+    ensures { λ r. ⌜ Numbered settledNumber
+        (PairDecided (sceneAtEntry positions edges triangles seams) PointTriangle vertex triangle) r ⌝ }
 {
     settled_number(four_words::settle_pair(
         positions,
@@ -239,7 +250,8 @@ pub extern "C" fn makhnodri_settle_ee_slices(
     first: usize,
     second: usize,
 ) -> u64
-    ensures { λ r. ⌜ Told settledNumber (PairDecided (sceneAtEntry positions edges triangles seams) EdgeEdge first second) r ⌝ }
+    ensures { λ r. ⌜ Numbered settledNumber
+        (PairDecided (sceneAtEntry positions edges triangles seams) EdgeEdge first second) r ⌝ }
 {
     settled_number(four_words::settle_pair(
         positions,
@@ -262,7 +274,8 @@ pub extern "C" fn makhnodri_settle_pt_piece_slices(
     triangle: usize,
     piece: usize,
 ) -> u64
-    ensures { λ r. ⌜ Told settledNumber (PieceDecided (sceneAtEntry positions edges triangles seams) PointTriangle vertex triangle piece) r ⌝ }
+    ensures { λ r. ⌜ Numbered settledNumber
+        (PieceDecided (sceneAtEntry positions edges triangles seams) PointTriangle vertex triangle piece) r ⌝ }
 {
     settled_number(four_words::settle_piece(
         positions,
@@ -286,7 +299,8 @@ pub extern "C" fn makhnodri_settle_ee_piece_slices(
     second: usize,
     piece: usize,
 ) -> u64
-    ensures { λ r. ⌜ Told settledNumber (PieceDecided (sceneAtEntry positions edges triangles seams) EdgeEdge first second piece) r ⌝ }
+    ensures { λ r. ⌜ Numbered settledNumber
+        (PieceDecided (sceneAtEntry positions edges triangles seams) EdgeEdge first second piece) r ⌝ }
 {
     settled_number(four_words::settle_piece(
         positions,
@@ -302,11 +316,11 @@ pub extern "C" fn makhnodri_settle_ee_piece_slices(
 
 // ---- when and where a pair is hit: its word as the answer, and the numbers of a hit in a lent array that nothing else changes
 
-fn put_contact(contact: &mut [u32; ROW_NUMBERS], meeting: Meeting)
-    requires { ⌜ SmallMeeting meeting ⌝ }
-    ensures { λ _. ⌜ now (contact .exit) ≡ rowLeft meeting (now (contact .entry)) ⌝ }
+fn put_contact(contact: &mut [u32; ROW_NUMBERS], contact: WholeContact)
+    requires { ⌜ SmallContact contact ⌝ }
+    ensures { λ _. ⌜ atExit contact ≡ rowLeft contact (atEntry contact) ⌝ }
 {
-    if let Meeting::Hit(m) = meeting {
+    if let WholeContact::Hit(m) = contact {
         *contact = [m.piece as u32, m.k, m.first, m.second, m.third];
     }
 }
@@ -321,14 +335,16 @@ fn contact_told(
     second: usize,
     contact: &mut [u32; ROW_NUMBERS],
 ) -> u64
-    ensures { λ r. ⌜ Told meetingNumber (ContactInto (sceneAtEntry positions edges triangles seams) kind first second (now (contact .entry)) (now (contact .exit))) r ⌝ }
+    ensures { λ r. ⌜ Numbered contactNumber
+        (ContactInto (sceneAtEntry positions edges triangles seams) kind first second (atEntry contact)
+        (atExit contact)) r ⌝ }
 {
-    match meetings::meeting_pair(positions, edges, triangles, seams, kind, first, second) {
-        MeetingAnswer::Found(meeting) => {
-            put_contact(contact, meeting);
-            word_number(meeting)
+    match contact_pair::contact_pair(positions, edges, triangles, seams, kind, first, second) {
+        WholeContactAnswer::Found(contact) => {
+            put_contact(contact, contact);
+            word_number(contact)
         }
-        MeetingAnswer::Refused(why) => refused(why, 0),
+        WholeContactAnswer::Refused(why) => refused(why, 0),
     }
 }
 
@@ -342,7 +358,9 @@ pub extern "C" fn makhnodri_contact_pt_slices(
     triangle: usize,
     contact: &mut [u32; ROW_NUMBERS],
 ) -> u64
-    ensures { λ r. ⌜ Told meetingNumber (ContactInto (sceneAtEntry positions edges triangles seams) PointTriangle vertex triangle (now (contact .entry)) (now (contact .exit))) r ⌝ }
+    ensures { λ r. ⌜ Numbered contactNumber
+        (ContactInto (sceneAtEntry positions edges triangles seams) PointTriangle vertex triangle (atEntry contact)
+        (atExit contact)) r ⌝ }
 {
     contact_told(
         positions,
@@ -366,7 +384,9 @@ pub extern "C" fn makhnodri_contact_ee_slices(
     second: usize,
     contact: &mut [u32; ROW_NUMBERS],
 ) -> u64
-    ensures { λ r. ⌜ Told meetingNumber (ContactInto (sceneAtEntry positions edges triangles seams) EdgeEdge first second (now (contact .entry)) (now (contact .exit))) r ⌝ }
+    ensures { λ r. ⌜ Numbered contactNumber
+        (ContactInto (sceneAtEntry positions edges triangles seams) EdgeEdge first second (atEntry contact)
+        (atExit contact)) r ⌝ }
 {
     contact_told(
         positions,
@@ -391,9 +411,10 @@ pub extern "C" fn makhnodri_contact_scene_slices(
     words: &mut [u8],
     contacts: &mut [u32],
 ) -> u64
-    ensures { λ r. ⌜ Told listNumber (MetScene (sceneAtEntry positions edges triangles seams) (now (list .entry)) (now (list .exit)) (now (words .entry)) (now (words .exit)) (now (contacts .entry)) (now (contacts .exit))) r ⌝ }
+    ensures { λ r. ⌜ Numbered listNumber (ContactsListed (sceneAtEntry positions edges triangles seams) (atEntry list)
+        (atExit list) (atEntry words) (atExit words) (atEntry contacts) (atExit contacts)) r ⌝ }
 {
-    list_number(scene_contacts::meet_scene(
+    list_number(contact_scene::contact_scene(
         positions,
         edges,
         triangles,
@@ -416,9 +437,10 @@ pub extern "C" fn makhnodri_read_scene_slices(
     seams: &mut [u16],
     counts: &mut [usize; 4],
 ) -> u64
-    ensures { λ r. ⌜ Told textNumber (ReadInto (now (text .entry)) (sceneAtEntry positions edges triangles seams) (sceneAtExit positions edges triangles seams) (now (counts .entry)) (now (counts .exit))) r ⌝ }
+    ensures { λ r. ⌜ Numbered textNumber (ReadInto (atEntry text) (sceneAtEntry positions edges triangles seams)
+        (sceneAtExit positions edges triangles seams) (atEntry counts) (atExit counts)) r ⌝ }
 {
-    match scene_text::read_scene(text, positions, edges, triangles, seams) {
+    match text_scene::read_scene(text, positions, edges, triangles, seams) {
         TextAnswer::Read(c) => {
             put_counts(counts, c);
             0
@@ -430,9 +452,9 @@ pub extern "C" fn makhnodri_read_scene_slices(
 // The whole report of a text, in front of the lent array; its length is returned.
 #[no_mangle]
 pub extern "C" fn makhnodri_write_report(text: &[u8], out: &mut [u8; REPORT_BYTES]) -> usize
-    ensures { λ r. ⌜ Reported (now (text .entry)) (now (out .entry)) (now (out .exit)) r ⌝ }
+    ensures { λ r. ⌜ Reported (atEntry text) (atEntry out) (atExit out) r ⌝ }
 {
-    summary::write_report(text, out)
+    scene_report::write_report(text, out)
 }
 
 // ---- claims
@@ -447,7 +469,9 @@ pub extern "C" fn makhnodri_check_claims_slices(
     claims: &[u8],
     answers: &mut [u8],
 ) -> u64
-    ensures { λ r. ⌜ Told claimsNumber (ClaimsChecked (sceneAtEntry positions edges triangles seams) (now (claims .entry)) (now (answers .entry)) (now (answers .exit))) r ⌝ }
+    ensures { λ r. ⌜ Numbered claimsNumber
+        (ClaimsChecked (sceneAtEntry positions edges triangles seams) (atEntry claims) (atEntry answers)
+        (atExit answers)) r ⌝ }
 {
     claims_number(claim_answers::check_claims(positions, edges, triangles, seams, claims, answers))
 }
@@ -462,9 +486,9 @@ pub extern "C" fn makhnodri_saved_length_slices(
     triangles: &[u16],
     seams: &[u16],
 ) -> u64
-    ensures { λ r. ⌜ Told savedNumber (Measured (sceneAtEntry positions edges triangles seams)) r ⌝ }
+    ensures { λ r. ⌜ Numbered savedNumber (Measured (sceneAtEntry positions edges triangles seams)) r ⌝ }
 {
-    saved_number(scene_saved::saved_length(positions, edges, triangles, seams))
+    saved_number(saved_scene::saved_length(positions, edges, triangles, seams))
 }
 
 // The text of a scene, in front of the lent buffer.
@@ -476,7 +500,8 @@ pub extern "C" fn makhnodri_save_scene_slices(
     seams: &[u16],
     text: &mut [u8],
 ) -> u64
-    ensures { λ r. ⌜ Told savedNumber (Saved (sceneAtEntry positions edges triangles seams) (now (text .entry)) (now (text .exit))) r ⌝ }
+    ensures { λ r. ⌜ Numbered savedNumber
+        (Saved (sceneAtEntry positions edges triangles seams) (atEntry text) (atExit text)) r ⌝ }
 {
-    saved_number(scene_saved::save_scene(positions, edges, triangles, seams, text))
+    saved_number(saved_scene::save_scene(positions, edges, triangles, seams, text))
 }

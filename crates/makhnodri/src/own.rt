@@ -1,9 +1,10 @@
 // A list of one's own for C and for Rust.
 
 ghost use Rattle.meaning.specs.Scene.{sceneAtEntry};
-ghost use Rattle.meaning.specs.OwnList.{OwnSettled, OwnMet};
-ghost use Rattle.answer_numbers.specs.Numbers.{listNumber, Told};
-use answer_numbers::list_number;
+ghost use Rattle.meaning.specs.OwnList.{OwnSettled, OwnContacts};
+ghost use Rattle.meaning.specs.Numbers.{listNumber, Numbered};
+ghost use Rattle.sequences.specs.Lent.{atEntry, atExit};
+use c_numbers::list_number;
 
 // The word of each pair that a lent list asks for, as a byte: hit, miss, touch or apart.
 #[no_mangle]
@@ -15,7 +16,8 @@ pub extern "C" fn makhnodri_settle_list_slices(
     list: &[u32],
     words: &mut [u8],
 ) -> u64
-    ensures { λ r. ⌜ Told listNumber (OwnSettled (sceneAtEntry positions edges triangles seams) (now (list .entry)) (now (words .entry)) (now (words .exit))) r ⌝ }
+    ensures { λ r. ⌜ Numbered listNumber (OwnSettled (sceneAtEntry positions edges triangles seams) (atEntry list)
+        (atEntry words) (atExit words)) r ⌝ }
 {
     list_number(own_words::settle_list(positions, edges, triangles, seams, list, words))
 }
@@ -31,7 +33,16 @@ pub extern "C" fn makhnodri_contact_list_slices(
     words: &mut [u8],
     contacts: &mut [u32],
 ) -> u64
-    ensures { λ r. ⌜ Told listNumber (OwnMet (sceneAtEntry positions edges triangles seams) (now (list .entry)) (now (words .entry)) (now (words .exit)) (now (contacts .entry)) (now (contacts .exit))) r ⌝ }
+    ensures { λ r. ⌜ Numbered listNumber (OwnContacts (sceneAtEntry positions edges triangles seams) (atEntry list)
+        (atEntry words) (atExit words) (atEntry contacts) (atExit contacts)) r ⌝ }
 {
-    list_number(own_contacts::meet_list(positions, edges, triangles, seams, list, words, contacts))
+    list_number(own_contacts::contact_list(
+        positions,
+        edges,
+        triangles,
+        seams,
+        list,
+        words,
+        contacts,
+    ))
 }

@@ -1,8 +1,9 @@
 // A series for C and for Rust.
 
 ghost use Rattle.meaning.specs.Scene.{sceneAtEntry, sceneAtExit};
-ghost use Rattle.series_numbers.specs.Into.{SeriesInto};
-use series_numbers::LOG_NUMBERS;
+ghost use Rattle.meaning.specs.SeriesNumbers.{SeriesInto};
+ghost use Rattle.sequences.specs.Lent.{atEntry, atExit};
+use c_series::LOG_NUMBERS;
 
 // Tells a series: the last step in the lent buffers with its boxes and its list; its four counts, the rows of its log and the eight numbers told of
 // it in lent arrays. The answer is how many pairs the last step lists, or the refusal with its line or the count needed, which changes nothing.
@@ -19,9 +20,11 @@ pub extern "C" fn makhnodri_tell_series_slices(
     log: &mut [u32; LOG_NUMBERS],
     told: &mut [u64; 8],
 ) -> u64
-    ensures { λ r. ⌜ SeriesInto (now (text .entry)) (sceneAtEntry positions edges triangles seams) (sceneAtExit positions edges triangles seams) (now (boxes .entry)) (now (boxes .exit)) (now (list .entry)) (now (list .exit)) (now (counts .entry)) (now (counts .exit)) (now (log .entry)) (now (log .exit)) (now (told .entry)) (now (told .exit)) r ⌝ }
+    ensures { λ r. ⌜ SeriesInto (atEntry text) (sceneAtEntry positions edges triangles seams)
+        (sceneAtExit positions edges triangles seams) (atEntry boxes) (atExit boxes) (atEntry list) (atExit list)
+        (atEntry counts) (atExit counts) (atEntry log) (atExit log) (atEntry told) (atExit told) r ⌝ }
 {
-    series_numbers::series_into(
+    c_series::tell_series(
         text,
         positions,
         edges,

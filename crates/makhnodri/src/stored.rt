@@ -4,12 +4,13 @@ ghost use Rattle.meaning.specs.Scene.{sceneAtEntry, sceneAtExit};
 ghost use Rattle.meaning.specs.Runs.{Tested};
 ghost use Rattle.meaning.specs.StoredBoxes.{BoxesFilled, CountedStored, ListedStored, SettledStored};
 ghost use Rattle.meaning.specs.Dragging.{VertexMoved};
-ghost use Rattle.answer_numbers.specs.Numbers.{sceneNumber, listNumber, textNumber, Told};
-ghost use Rattle.answer_numbers.specs.Stored.{BoxedInto};
+ghost use Rattle.meaning.specs.Numbers.{sceneNumber, listNumber, textNumber, Numbered};
+ghost use Rattle.meaning.specs.Numbers.{BoxedInto};
+ghost use Rattle.sequences.specs.Lent.{atEntry, atExit};
 use super::put_counts;
-use answer_numbers::list_number;
-use answer_numbers::refused;
-use answer_numbers::scene_number;
+use c_numbers::list_number;
+use c_numbers::refused;
+use c_numbers::scene_number;
 use meaning::TextAnswer;
 
 // The boxes of a scene, in front of a lent buffer.
@@ -21,9 +22,10 @@ pub extern "C" fn makhnodri_fill_boxes_slices(
     seams: &[u16],
     boxes: &mut [i32],
 ) -> u64
-    ensures { λ r. ⌜ Told sceneNumber (BoxesFilled (sceneAtEntry positions edges triangles seams) (now (boxes .entry)) (now (boxes .exit))) r ⌝ }
+    ensures { λ r. ⌜ Numbered sceneNumber
+        (BoxesFilled (sceneAtEntry positions edges triangles seams) (atEntry boxes) (atExit boxes)) r ⌝ }
 {
-    scene_number(dragging::fill_boxes(positions, edges, triangles, seams, boxes))
+    scene_number(stored_move::fill_boxes(positions, edges, triangles, seams, boxes))
 }
 
 // A vertex moved: its six coordinates, start and end, and the boxes of the parts that have it.
@@ -37,9 +39,11 @@ pub extern "C" fn makhnodri_move_vertex_slices(
     vertex: usize,
     coordinates: &[i32; 6],
 ) -> u64
-    ensures { λ r. ⌜ Told sceneNumber (VertexMoved (sceneAtEntry positions edges triangles seams) vertex (now (coordinates .entry)) (now (positions .exit)) (now (boxes .entry)) (now (boxes .exit))) r ⌝ }
+    ensures { λ r. ⌜ Numbered sceneNumber
+        (VertexMoved (sceneAtEntry positions edges triangles seams) vertex (atEntry coordinates) (atExit positions)
+        (atEntry boxes) (atExit boxes)) r ⌝ }
 {
-    scene_number(dragging::move_vertex(
+    scene_number(stored_move::move_vertex(
         positions,
         edges,
         triangles,
@@ -60,9 +64,11 @@ pub extern "C" fn makhnodri_count_stored_slices(
     boxes: &[i32],
     tests: &mut [usize; 1],
 ) -> u64
-    ensures { λ r. ⌜ Told listNumber (Tested (sceneAtEntry positions edges triangles seams) (CountedStored (sceneAtEntry positions edges triangles seams) (now (boxes .entry))) (now (tests .entry)) (now (tests .exit))) r ⌝ }
+    ensures { λ r. ⌜ Numbered listNumber (Tested (sceneAtEntry positions edges triangles seams)
+        (CountedStored (sceneAtEntry positions edges triangles seams) (atEntry boxes)) (atEntry tests) (atExit tests))
+        r ⌝ }
 {
-    list_number(stored_listing::count_stored(positions, edges, triangles, seams, boxes, tests))
+    list_number(stored_list::count_stored(positions, edges, triangles, seams, boxes, tests))
 }
 
 // The list made from the stored boxes, in front of a lent buffer, and its box tests.
@@ -76,9 +82,11 @@ pub extern "C" fn makhnodri_list_stored_slices(
     list: &mut [u32],
     tests: &mut [usize; 1],
 ) -> u64
-    ensures { λ r. ⌜ Told listNumber (Tested (sceneAtEntry positions edges triangles seams) (ListedStored (sceneAtEntry positions edges triangles seams) (now (boxes .entry)) (now (list .entry)) (now (list .exit))) (now (tests .entry)) (now (tests .exit))) r ⌝ }
+    ensures { λ r. ⌜ Numbered listNumber (Tested (sceneAtEntry positions edges triangles seams)
+        (ListedStored (sceneAtEntry positions edges triangles seams) (atEntry boxes) (atEntry list) (atExit list))
+        (atEntry tests) (atExit tests)) r ⌝ }
 {
-    list_number(stored_listing::list_stored(positions, edges, triangles, seams, boxes, list, tests))
+    list_number(stored_list::list_stored(positions, edges, triangles, seams, boxes, list, tests))
 }
 
 // The list, and the word of each listed pair as a byte: hit, miss, touch or apart.
@@ -92,9 +100,10 @@ pub extern "C" fn makhnodri_settle_stored_slices(
     list: &mut [u32],
     words: &mut [u8],
 ) -> u64
-    ensures { λ r. ⌜ Told listNumber (SettledStored (sceneAtEntry positions edges triangles seams) (now (boxes .entry)) (now (list .entry)) (now (list .exit)) (now (words .entry)) (now (words .exit))) r ⌝ }
+    ensures { λ r. ⌜ Numbered listNumber (SettledStored (sceneAtEntry positions edges triangles seams) (atEntry boxes)
+        (atEntry list) (atExit list) (atEntry words) (atExit words)) r ⌝ }
 {
-    list_number(stored_words::settle_stored(positions, edges, triangles, seams, boxes, list, words))
+    list_number(stored_list::settle_stored(positions, edges, triangles, seams, boxes, list, words))
 }
 
 // Reads a scene text into the lent buffers, with the boxes of its scene, and its four counts into the lent array.
@@ -108,9 +117,11 @@ pub extern "C" fn makhnodri_read_boxed_slices(
     boxes: &mut [i32],
     counts: &mut [usize; 4],
 ) -> u64
-    ensures { λ r. ⌜ Told textNumber (BoxedInto (now (text .entry)) (sceneAtEntry positions edges triangles seams) (sceneAtExit positions edges triangles seams) (now (boxes .entry)) (now (boxes .exit)) (now (counts .entry)) (now (counts .exit))) r ⌝ }
+    ensures { λ r. ⌜ Numbered textNumber (BoxedInto (atEntry text) (sceneAtEntry positions edges triangles seams)
+        (sceneAtExit positions edges triangles seams) (atEntry boxes) (atExit boxes) (atEntry counts) (atExit counts))
+        r ⌝ }
 {
-    match boxed_text::read_boxed(text, positions, edges, triangles, seams, boxes) {
+    match stored_reading::read_boxed(text, positions, edges, triangles, seams, boxes) {
         TextAnswer::Read(c) => {
             put_counts(counts, c);
             0

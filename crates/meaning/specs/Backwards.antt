@@ -1,6 +1,6 @@
 -- 'Played backwards' of document 02, for a scene without seams: 'swap start and end, number the vertices from last to first, and keep edges
 -- and triangles in their places'. Here too: which pair and which piece of the scene turned round corresponds to which.
-use Prim.Native.Nat.{ℕ, _+_, _*_, _-_}
+use Prim.Native.Nat.{ℕ, _*_, _-_}
 use mathlib.Core.Bool.{cond}
 use mathlib.Core.List.{List, [], _∷_, _++_, map, reverse}
 use mathlib.Core.Path.{_≡_}
@@ -56,11 +56,11 @@ playedBack p =
     record { first = reverse (map timeTurned (p .first)); second = reverse (map timeTurned (p .second)) }
 
 -- the lent scene after the call: turned round, or after a refusal as it was
-unfoldable pub sceneLeft : {A : Type 0} → Outcome A → Scene → Scene
-sceneLeft (given a) s = turnedRound s
-sceneLeft (refused n c) s = s
+unfoldable pub turnedLeft : {A : Type 0} → Outcome A → Scene → Scene
+turnedLeft (given a) s = turnedRound s
+turnedLeft (refused n c) s = s
 
 -- the scene s is turned round where it stands, and t stands there then
 pub record Turning (s t : Scene) (r : SceneAnswer) : Type 0 where
   pub answer : SceneChecked s r
-  pub scene : t ≡ sceneLeft (sceneSays r) s
+  pub scene : t ≡ turnedLeft (sceneSays r) s

@@ -3,7 +3,6 @@ use Prim.Native.Nat.{ℕ, _+_, _≤_, _<_}
 use mathlib.Core.Bool.{Bool, true, false}
 use mathlib.Core.List.{List, [], _∷_, _++_, map, flatMap}
 use mathlib.Core.Path.{_≡_}
-use lib.Dec.{ltb}
 use lib.IntN.{ℤ, pos}
 use lib.ListN.{length, getD}
 use lib.Signed.{_<ℤ_}
@@ -12,11 +11,11 @@ use Rattle.meaning.specs.Limits.{textLimit, digitLimit, weightDigits, we
 use Rattle.meaning.specs.Scene.{Scene}
 use Rattle.meaning.specs.Pieces.{Piece, pieceOf}
 use Rattle.meaning.specs.Equations.{one, total, Balanced}
-use Rattle.meaning.specs.Refusals.{Outcome, given, refused, Check, Answers, numberOf, sceneChecks, pieceAsked}
+use Rattle.meaning.specs.Refusals.{Outcome, given, refused, Check, Answers, numberOf, sceneChecks, pieceAsked, roomCheck}
 use Rattle.meaning.specs.Lines as Lines
 use Rattle.meaning.specs.Lines.{Grammar, AllSound}
-use Rattle.meaning.specs.Text.{tab, lineFeed, numeral, further, Short, Holds, FaultyAt, longText}
-use Rattle.meaning.specs.Report.{kindWord, refusedLine}
+use Rattle.meaning.specs.Text.{tab, lineFeed, numeral, further, Short, Holds, SceneFaultyAt, longText}
+use Rattle.meaning.specs.Report.{kindWord, refusedLine, InFront}
 use Rattle.meaning.specs.declared.Kind.{Kind}
 use Rattle.meaning.specs.declared.ClaimsAnswer as ClaimsAnswers
 use Rattle.meaning.specs.declared.ClaimsAnswer.{ClaimsAnswer}
@@ -107,7 +106,7 @@ FirstIs s text = Answers (claimsFirst s text) (λ t. Unit {0})
 
 -- last 7, where there are more claims than room for answers, with the count needed
 abbrev pub claimsLast : ℕ → List Claim → List Check
-claimsLast room cs = record { number = 7; holds = ltb room (length cs); carries = length cs } ∷ []
+claimsLast room cs = roomCheck room (length cs) ∷ []
 
 -- those; between them the first faulty claim line
 pub data ClaimsOutcome (s : Scene) (text : List ℕ) (room : ℕ) (o : Outcome (List Bool)) : Type 0 where
@@ -157,7 +156,7 @@ answerLines bs = flatMap answerLine bs
 -- of two texts, a scene's and the claims': a refusal of the scene, or one of the claims, or a line for each claim
 pub data AnswersOf (sceneText text : List ℕ) : List ℕ → Type 0 where
   tooLong : textLimit < length sceneText → AnswersOf sceneText text (refusedLine 8 0)
-  noScene : (n line : ℕ) → length sceneText ≤ textLimit → FaultyAt sceneText n line → AnswersOf sceneText text (refusedLine n line)
+  noScene : (n line : ℕ) → length sceneText ≤ textLimit → SceneFaultyAt sceneText n line → AnswersOf sceneText text (refusedLine n line)
   refusedClaims : (s : Scene) (n c : ℕ) → length sceneText ≤ textLimit → Holds sceneText s
       → ClaimsOutcome s text claimRoom (refused n c)
       → AnswersOf sceneText text (refusedLine n c)
@@ -165,9 +164,5 @@ pub data AnswersOf (sceneText text : List ℕ) : List ℕ → Type 0 where
       → ClaimsOutcome s text claimRoom (given bs)
       → AnswersOf sceneText text (answerLines bs)
 
--- it stands in front of the buffer that held o and holds o′, n bytes long, and the rest is unchanged
-pub record AnswersReported (sceneText text o o′ : List ℕ) (n : ℕ) : Type 0 where
-  pub report : List ℕ
-  pub right : AnswersOf sceneText text report
-  pub length-is : n ≡ length report
-  pub buffer : o′ ≡ written report o
+abbrev pub AnswersReported : List ℕ → List ℕ → List ℕ → List ℕ → ℕ → Type 0
+AnswersReported sceneText text = InFront (AnswersOf sceneText text)

@@ -2,14 +2,13 @@
 use Prim.Native.Nat.{ℕ, _+_, _*_, _^_}
 use mathlib.Core.List.{List, [], _∷_, _++_, map}
 use mathlib.Core.Path.{_≡_}
-use lib.Dec.{ltb}
 use lib.ListN.{length}
 use Rattle.sequences.specs.Gather.{gather}
 use Rattle.sequences.specs.Chosen.{chosen}
 use Rattle.sequences.specs.Wrote.{written}
 use Rattle.meaning.specs.Scene.{Scene, vertexCount, edgeCount, triangleCount}
 use Rattle.meaning.specs.Boxes.{listed}
-use Rattle.meaning.specs.Refusals.{Outcome, given, refused, numberOf, Check, Answers, sceneChecks}
+use Rattle.meaning.specs.Refusals.{Outcome, given, refused, numberOf, Check, Answers, sceneChecks, roomCheck}
 use Rattle.meaning.specs.declared.Kind.{Kind}
 use Rattle.meaning.specs.declared.Kind.the-variants.{PointTriangle, EdgeEdge}
 use Rattle.meaning.specs.declared.ListAnswer as ListAnswers
@@ -57,7 +56,7 @@ listSays (ListAnswers.the-variants.Refused r n) = refused (numberOf r) n
 abbrev pub listChecks : Scene → ℕ → List Check
 listChecks s room =
     sceneChecks s
-    ++ (record { number = 7; holds = ltb room (length (pairs s)); carries = length (pairs s) } ∷ [])
+    ++ (roomCheck room (length (pairs s)) ∷ [])
 
 -- a buffer after the call: what is given stands in front and the rest is unchanged; after a refusal nothing changed
 unfoldable pub leaves : {A : Type 0} → Outcome A → List ℕ → List ℕ → List ℕ

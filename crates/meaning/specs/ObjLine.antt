@@ -12,7 +12,6 @@ use Rattle.meaning.specs.Text.{minusSign}
 use Rattle.meaning.specs.declared.Whole as Wholes
 use Rattle.meaning.specs.declared.Whole.{Whole}
 use Rattle.meaning.specs.declared.Whole.the-variants.{Worth}
-use Rattle.meaning.specs.declared.Hundredths.{Hundredths}
 use Rattle.meaning.specs.declared.Decimal as Decimals
 use Rattle.meaning.specs.declared.Decimal.{Decimal}
 use Rattle.meaning.specs.declared.Decimal.the-variants.{Of}
@@ -38,19 +37,19 @@ placeOf c (b ∷ l) = pick (eqb b c) 0 (suc (placeOf c l))
 abbrev pub has : ℕ → List ℕ → Bool
 has c l = ltb (placeOf c l) (length l)
 
--- what stands before the first such byte, and what stands behind it: all and nothing, where there is none
-abbrev pub before : ℕ → List ℕ → List ℕ
-before c l = take (placeOf c l) l
+-- what stands beforeFirst the first such byte, and what stands behind it: all and nothing, where there is none
+abbrev pub beforeFirst : ℕ → List ℕ → List ℕ
+beforeFirst c l = take (placeOf c l) l
 
 abbrev pub behind : ℕ → List ℕ → List ℕ
 behind c l = drop (placeOf c l + 1) l
 
 -- three fields, parted by one space; a space too many stands in the third, and one too few leaves it empty
 abbrev pub firstField : List ℕ → List ℕ
-firstField l = before space l
+firstField l = beforeFirst space l
 
 abbrev pub secondField : List ℕ → List ℕ
-secondField l = before space (behind space l)
+secondField l = beforeFirst space (behind space l)
 
 abbrev pub thirdField : List ℕ → List ℕ
 thirdField l = behind space (behind space l)
@@ -78,7 +77,7 @@ onWhole Wholes.the-variants.Bad f = Wholes.the-variants.Bad
 abbrev pub sizeOf : List ℕ → Whole
 sizeOf l =
     pick (has point l)
-    (onWhole (wholeOf digitLimit (before point l)) (λ n. withPart n (length (behind point l)) (wholeOf 2 (behind point l))))
+    (onWhole (wholeOf digitLimit (beforeFirst point l)) (λ n. withPart n (length (behind point l)) (wholeOf 2 (behind point l))))
     (onWhole (wholeOf digitLimit l) (λ n. Worth (n * 100)))
 
 unfoldable pub signedAs : Bool → Whole → Decimal

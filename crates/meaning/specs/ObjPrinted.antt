@@ -7,11 +7,9 @@ use mathlib.Core.Path.{_≡_}
 use lib.Dec.{ltb}
 use lib.ListN.{length}
 use Rattle.decimals.specs.Digits.{digits}
-use Rattle.sequences.specs.Wrote.{written}
 use Rattle.meaning.specs.Limits.{textLimit}
 use Rattle.meaning.specs.Scene.{Scene}
-use Rattle.meaning.specs.Report.{refusedWord, reportLine, refusedLine}
-use Rattle.meaning.specs.SceneLines.{SceneReport}
+use Rattle.meaning.specs.Report.{refusedWord, reportLine, refusedLine, InFront}
 use Rattle.meaning.specs.Saved.{savedText}
 use Rattle.meaning.specs.ObjPair.{ImportOutcome, read, refused, refusedIn, PairOutcome}
 use Rattle.meaning.specs.declared.WhichFile.{WhichFile}
@@ -38,20 +36,9 @@ pub record PrintedOf (Shown : Scene → List ℕ → Type 0) (start end l : List
   pub right : PairOutcome start end outcome
   pub prints : Prints Shown outcome l
 
--- `obj`: the report of the scene
-abbrev pub ObjReportOf : List ℕ → List ℕ → List ℕ → Type 0
-ObjReportOf = PrintedOf SceneReport
-
--- `import`: its text, or 8 where that is over 32,768 bytes
+-- `obj` shows the report of the scene, `import` its text, or 8 where that is over 32,768 bytes
 unfoldable pub SceneText : Scene → List ℕ → Type 0
 SceneText s l = cond (ltb textLimit (length (savedText s))) (l ≡ refusedLine 8 0) (l ≡ savedText s)
 
-abbrev pub ImportTextOf : List ℕ → List ℕ → List ℕ → Type 0
-ImportTextOf = PrintedOf SceneText
-
--- it stands in front of the buffer that held o and holds o′, n bytes long, and the rest is unchanged
-pub record PairPrinted (Shown : Scene → List ℕ → Type 0) (start end o o′ : List ℕ) (n : ℕ) : Type 0 where
-  pub printed : List ℕ
-  pub right : PrintedOf Shown start end printed
-  pub length-is : n ≡ length printed
-  pub buffer : o′ ≡ written printed o
+abbrev pub PairPrinted : (Scene → List ℕ → Type 0) → List ℕ → List ℕ → List ℕ → List ℕ → ℕ → Type 0
+PairPrinted Shown start end = InFront (PrintedOf Shown start end)

@@ -7,13 +7,13 @@ use lib.Dec.{leb, ltb}
 use lib.ListN.{length}
 use Rattle.sequences.specs.Pick.{pick}
 use Rattle.meaning.specs.Scene.{Scene}
-use Rattle.meaning.specs.Refusals.{Check, Answers, sceneChecks, notThere, shares}
+use Rattle.meaning.specs.Refusals.{Check, Answers, sceneChecks, notThere, shares, roomCheck}
 use Rattle.meaning.specs.List.{Pair, pair, listSays, leaves}
 use Rattle.meaning.specs.SceneWords.{byteOf, AllSettled}
-use Rattle.meaning.specs.Meetings.{rangeCheck, rowLength, rowsAfter, wordOf, AllMet}
+use Rattle.meaning.specs.WholeContacts.{rangeCheck, rowLength, rowsAfter, wordOf, AllContacts}
 use Rattle.meaning.specs.declared.Kind.the-variants.{PointTriangle, EdgeEdge}
 use Rattle.meaning.specs.declared.Settled.{Settled}
-use Rattle.meaning.specs.declared.Meeting.{Meeting}
+use Rattle.meaning.specs.declared.WholeContact.{WholeContact}
 use Rattle.meaning.specs.declared.ListAnswer.{ListAnswer}
 
 -- the pair that an entry asks for: its kind, then ten bits for each place
@@ -53,7 +53,7 @@ sizeCheck es = record { number = 1; holds = ltb ownLimit (length es); carries = 
 
 -- 7: more entries than room for their words; it carries the count needed
 abbrev pub wordRoom : List ℕ → ℕ → Check
-wordRoom es room = record { number = 7; holds = ltb room (length es); carries = length es }
+wordRoom es room = roomCheck room (length es)
 
 -- the words of the entries es are written into a buffer that held b and holds b′. The list's size and the scene's
 -- refusals come first, then those of an entry, then 7
@@ -65,11 +65,11 @@ pub record OwnSettled (s : Scene) (es b b′ : List ℕ) (r : ListAnswer) : Type
 
 -- the same with the contact of each hit in its row of a buffer that held c and holds c′; 16 stands between 6 and 7, and the room is the
 -- smaller of the two
-pub record OwnMet (s : Scene) (es b b′ c c′ : List ℕ) (r : ListAnswer) : Type 0 where
+pub record OwnContacts (s : Scene) (es b b′ c c′ : List ℕ) (r : ListAnswer) : Type 0 where
   pub answer : Answers
       (sizeCheck es ∷ (sceneChecks s ++ (entryFaults s es ++ (rangeCheck s ∷ wordRoom es (min (length b) (length c / rowLength)) ∷ []))))
       (λ n. n ≡ length es) (listSays r)
-  pub meetings : List Meeting
-  pub right : AllMet s (map askedFor es) meetings
-  pub bytes : b′ ≡ leaves (listSays r) (map (λ m. byteOf (wordOf m)) meetings) b
-  pub rows : c′ ≡ rowsAfter (listSays r) meetings c
+  pub contacts : List WholeContact
+  pub right : AllContacts s (map askedFor es) contacts
+  pub bytes : b′ ≡ leaves (listSays r) (map (λ m. byteOf (wordOf m)) contacts) b
+  pub rows : c′ ≡ rowsAfter (listSays r) contacts c

@@ -1,10 +1,10 @@
 -- 'Refusal numbers' of document 01: the number of each refusal, and what it is for an answer to be right: refused with n exactly when
 -- n's condition holds and no check before it refuses.
 use Prim.Native.Nat.{ℕ}
-use mathlib.Core.Bool.{Bool, true, false, cond, _||_}
+use mathlib.Core.Bool.{Bool, cond, _||_}
 use mathlib.Core.List.{List, [], _∷_, _++_}
 use mathlib.Core.Path.{_≡_}
-use lib.Dec.{leb}
+use lib.Dec.{leb, ltb}
 use Rattle.meaning.specs.Scene.{Scene, vertexCount, edgeCount, triangleCount, edgeEnd, corner, same, wrongShape, outOfRange, unknownVertex, brokenSeam, repeatedVertex}
 use Rattle.meaning.specs.Pieces.{pieceCount, pieceOf}
 use Rattle.meaning.specs.Verdicts.{PieceIs, PairIs}
@@ -61,6 +61,14 @@ unfoldable pub Answers : {A : Type 0} → List Check → (A → Type 0) → Outc
 Answers [] Right (given a) = Right a
 Answers [] Right (refused n c) = ⊥
 Answers (k ∷ ks) Right o = cond (k .holds) (o ≡ refused (k .number) (k .carries)) (Answers ks Right o)
+
+-- 7: more than there is room for; it carries the count needed
+abbrev pub roomCheck : ℕ → ℕ → Check
+roomCheck room needed = record { number = 7; holds = ltb room needed; carries = needed }
+
+-- 12 for a lent buffer that is too short, 8 for a text that is too long, then what the text gives
+abbrev pub behindTwelveAndEight : {A : Type 0} → Bool → Bool → (Outcome A → Type 0) → Outcome A → Type 0
+behindTwelveAndEight short long Is o = cond short (o ≡ refused 12 0) (cond long (o ≡ refused 8 0) (Is o))
 
 -- 1, 2, 3, 15, 4, each over the whole scene before the next
 abbrev pub sceneChecks : Scene → List Check

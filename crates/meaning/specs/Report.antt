@@ -1,5 +1,5 @@
 -- The report of document 01: a line for each listed pair in order, last the totals; a refused scene prints only its refusal.
-use Prim.Native.Nat.{ℕ, zero, suc, _+_, _≤_, _<_}
+use Prim.Native.Nat.{ℕ, _+_, _≤_, _<_}
 use mathlib.Core.Bool.{cond}
 use mathlib.Core.List.{List, [], _∷_, _++_}
 use mathlib.Core.Path.{_≡_}
@@ -11,7 +11,7 @@ use Rattle.meaning.specs.Limits.{textLimit, reportRoom}
 use Rattle.meaning.specs.Scene.{Scene}
 use Rattle.meaning.specs.List.{Pair, pairs}
 use Rattle.meaning.specs.SceneWords.{byteOf, AllSettled}
-use Rattle.meaning.specs.Text.{Holds, FaultyAt, tab, lineFeed, further}
+use Rattle.meaning.specs.Text.{Holds, SceneFaultyAt, tab, lineFeed, further}
 use Rattle.meaning.specs.declared.Kind.{Kind}
 use Rattle.meaning.specs.declared.Kind.the-variants.{PointTriangle, EdgeEdge}
 use Rattle.meaning.specs.declared.Settled.{Settled}
@@ -69,19 +69,22 @@ refusedLine n third = reportLine refusedWord (digits n ∷ digits third ∷ [])
 -- what is printed for a text: 8, or its first faulty line, or 7 with the count needed, or the pairs and the totals
 pub data ReportOf (text : List ℕ) : List ℕ → Type 0 where
   tooLong : textLimit < length text → ReportOf text (refusedLine 8 0)
-  faulty : (n line : ℕ) → length text ≤ textLimit → FaultyAt text n line → ReportOf text (refusedLine n line)
+  faulty : (n line : ℕ) → length text ≤ textLimit → SceneFaultyAt text n line → ReportOf text (refusedLine n line)
   noRoom : (s : Scene) → length text ≤ textLimit → Holds text s → reportRoom < length (pairs s)
       → ReportOf text (refusedLine 7 (length (pairs s)))
   judged : (s : Scene) (ws : List Settled) → length text ≤ textLimit → Holds text s → length (pairs s) ≤ reportRoom
       → AllSettled s (pairs s) ws
       → ReportOf text (pairLines (pairs s) ws ++ totalLine ws)
 
--- the report stands in front of the buffer that held o and holds o′, n bytes long, and the rest is unchanged
-pub record Reported (text o o′ : List ℕ) (n : ℕ) : Type 0 where
+-- something that is right stands in front of the buffer that held o and holds o′, n bytes long, and the rest is unchanged
+pub record InFront (Right : List ℕ → Type 0) (o o′ : List ℕ) (n : ℕ) : Type 0 where
   pub report : List ℕ
-  pub right : ReportOf text report
+  pub right : Right report
   pub length-is : n ≡ length report
   pub buffer : o′ ≡ written report o
+
+abbrev pub Reported : List ℕ → List ℕ → List ℕ → ℕ → Type 0
+Reported text = InFront (ReportOf text)
 
 -- what a program read of a text into a buffer: the first `count` bytes of the buffer are the text's front; where they do not fill it, the
 -- text ended there, else it may go on
@@ -90,6 +93,9 @@ pub record ReadOf (text buffer : List ℕ) (count : ℕ) : Type 0 where
   pub front : text ≡ take count buffer ++ rest
   pub ended : count < length buffer → rest ≡ []
 
--- what is promised of a report of what was read: it is the report of every text of which that was read
+-- what is promised of what was read is promised of every text of which that was read
+abbrev pub OfAllRead : (List ℕ → Type 0) → List ℕ → ℕ → Type 0
+OfAllRead Promised buffer count = (text : List ℕ) → ReadOf text buffer count → Promised text
+
 abbrev pub ReportedRead : List ℕ → ℕ → List ℕ → List ℕ → ℕ → Type 0
-ReportedRead buffer count o o′ n = (text : List ℕ) → ReadOf text buffer count → Reported text o o′ n
+ReportedRead buffer count o o′ n = OfAllRead (λ text. Reported text o o′ n) buffer count

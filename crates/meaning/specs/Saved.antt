@@ -8,7 +8,7 @@ use lib.IntN.{ℤ}
 use lib.ListN.{length}
 use Rattle.meaning.specs.Limits.{textLimit}
 use Rattle.meaning.specs.Scene.{Scene}
-use Rattle.meaning.specs.Refusals.{Outcome, given, refused, numberOf, Check, Answers, sceneChecks}
+use Rattle.meaning.specs.Refusals.{Outcome, given, refused, numberOf, Check, Answers, sceneChecks, roomCheck}
 use Rattle.meaning.specs.List.{leaves}
 use Rattle.meaning.specs.Text.{Entry, vertex, edge, triangle, seam, textOf}
 use Rattle.meaning.specs.declared.SaveAnswer.{SaveAnswer}
@@ -63,7 +63,7 @@ savedChecks s = sceneChecks s ++ (record { number = 8; holds = ltb textLimit (le
 abbrev pub saveChecks : Scene → ℕ → List Check
 saveChecks s room =
     savedChecks s
-    ++ (record { number = 7; holds = ltb room (length (savedText s)); carries = length (savedText s) } ∷ [])
+    ++ (roomCheck room (length (savedText s)) ∷ [])
 
 -- the length of the text, asked for alone
 abbrev pub Measured : Scene → SaveAnswer → Type 0

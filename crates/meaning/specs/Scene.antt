@@ -41,6 +41,17 @@ abbrev pub sceneAtExit : {X Y Z W : Type 0} → Both X (RefT (List ℤ)) → Bot
     → Scene
 sceneAtExit p e t w = sceneIn (p .exit) (e .exit) (t .exit) (w .exit)
 
+-- the scene of a call that looks at no seam, as it would be without any
+abbrev pub unsewnIn : RefT (List ℤ) → RefT (List ℕ) → RefT (List ℕ) → Scene
+unsewnIn p e t = sceneOf (p .now) (e .now) (t .now) []
+
+abbrev pub unsewnAtEntry : {X Y Z : Type 0} → Both (RefT (List ℤ)) X → Both (RefT (List ℕ)) Y → Both (RefT (List ℕ)) Z → Scene
+unsewnAtEntry p e t = unsewnIn (p .entry) (e .entry) (t .entry)
+
+-- the scene of a call that has no seams, as it is when the call ends
+abbrev pub unsewnAtExit : {X Y Z : Type 0} → Both X (RefT (List ℤ)) → Both Y (RefT (List ℕ)) → Both Z (RefT (List ℕ)) → Scene
+unsewnAtExit p e t = unsewnIn (p .exit) (e .exit) (t .exit)
+
 abbrev pub vertexCount : Scene → ℕ
 vertexCount s = length (s .positions) / 6
 

@@ -1,15 +1,13 @@
 -- 'The log that keeps the first cause' of document 02: a series and its steps, the hits of all steps in order, and what is told of them.
 use Prim.Native.Nat.{ℕ, _+_, _*_, _-_, _^_, min}
-use mathlib.Core.Bool.{cond}
 use mathlib.Core.List.{List, [], _∷_, _++_}
 use mathlib.Core.Path.{_≡_}
-use lib.Dec.{eqb}
 use lib.IntN.{ℤ}
 use lib.ListN.{length, take, drop}
 use Rattle.sequences.specs.Gather.{gather}
 use Rattle.meaning.specs.Scene.{Scene, sceneOf, vertexCount, vectorAt, endOf}
 use Rattle.meaning.specs.List.{Pair, pairs}
-use Rattle.meaning.specs.SceneWords.{byteOf, AllSettled}
+use Rattle.meaning.specs.SceneWords.{AllSettled}
 use Rattle.meaning.specs.Text.{coordinates}
 use Rattle.meaning.specs.Report.{howMany}
 use Rattle.meaning.specs.declared.Settled.{Settled}

@@ -4,14 +4,12 @@ use Prim.Native.Nat.{ℕ}
 use mathlib.Core.Bool.{cond}
 use mathlib.Core.List.{List, [], _∷_, _++_}
 use mathlib.Core.Path.{_≡_}
-use lib.ListN.{length}
 use Rattle.decimals.specs.Digits.{digits}
-use Rattle.sequences.specs.Wrote.{written}
 use Rattle.meaning.specs.Limits.{reportRoom}
 use Rattle.meaning.specs.Refusals.{Outcome, given, refused}
 use Rattle.meaning.specs.List.{Pair}
 use Rattle.meaning.specs.Text.{longText}
-use Rattle.meaning.specs.Report.{kindWord, verdictWord, totalWord, reportLine, refusedLine, ReadOf}
+use Rattle.meaning.specs.Report.{kindWord, verdictWord, totalWord, reportLine, refusedLine, OfAllRead, InFront}
 use Rattle.meaning.specs.Series.{HitAt, Told}
 use Rattle.meaning.specs.SeriesText.{Ended, SeriesIs}
 use Rattle.meaning.specs.declared.Settled.the-variants.{Hit}
@@ -60,13 +58,9 @@ pub record SeriesPrinted (text printed : List ℕ) : Type 0 where
   pub right : cond (longText text) (outcome ≡ refused 8 0) (SeriesIs text reportRoom outcome)
   pub lines : printed ≡ outcomeLines outcome
 
--- it stands in front of the buffer that held o and holds o′, n bytes long, and the rest is unchanged
-pub record SeriesReported (text o o′ : List ℕ) (n : ℕ) : Type 0 where
-  pub report : List ℕ
-  pub right : SeriesPrinted text report
-  pub length-is : n ≡ length report
-  pub buffer : o′ ≡ written report o
+abbrev pub SeriesReported : List ℕ → List ℕ → List ℕ → ℕ → Type 0
+SeriesReported text = InFront (SeriesPrinted text)
 
 -- of every text of which that was read
 abbrev pub SeriesRead : List ℕ → ℕ → List ℕ → List ℕ → ℕ → Type 0
-SeriesRead buffer count o o′ n = (text : List ℕ) → ReadOf text buffer count → SeriesReported text o o′ n
+SeriesRead buffer count o o′ n = OfAllRead (λ text. SeriesReported text o o′ n) buffer count

@@ -1,21 +1,21 @@
 -- The text of a series: a scene, then blocks, each a line `n` and one `v` line of three numbers per vertex. What may be wrong with a line, and
 -- the room that each step asks for.
-use Prim.Native.Nat.{ℕ, _+_, _*_, _/_}
+use Prim.Native.Nat.{ℕ, _/_}
 use mathlib.Core.Bool.{Bool, true, false, cond, not, _||_, _&&_}
 use mathlib.Core.List.{List, [], _∷_, _++_, map}
 use mathlib.Core.Path.{_≡_}
-use lib.Dec.{leb, ltb, eqb}
+use lib.Dec.{leb}
 use lib.IntN.{ℤ}
 use lib.ListN.{length}
 use Rattle.whole.specs.Vector.{Vector}
 use Rattle.sequences.specs.Wrote.{written}
 use Rattle.meaning.specs.Limits.{digitLimit}
-use Rattle.meaning.specs.Scene.{Scene, sceneOf, vertexCount, outside, brokenSeam}
-use Rattle.meaning.specs.Refusals.{Outcome, given, refused, Check, Answers}
+use Rattle.meaning.specs.Scene.{Scene, vertexCount, outside, brokenSeam}
+use Rattle.meaning.specs.Refusals.{Outcome, given, refused, Check, Answers, roomCheck, behindTwelveAndEight}
 use Rattle.meaning.specs.Lines as Lines
 use Rattle.meaning.specs.Lines.{Grammar, afterAll}
 use Rattle.meaning.specs.List.{pairs, entries}
-use Rattle.meaning.specs.Text.{Entry, vertex, edge, triangle, seam, lineOf, numbersOf, numeral, further, Short, tab, lineFeed, none, sceneWith, entryChecks, shortBuffer, longText}
+use Rattle.meaning.specs.Text.{Entry, vertex, edge, triangle, seam, lineOf, numbersOf, numeral, further, Short, tab, lineFeed, none, sceneWith, entryChecks, shortBuffer, longText, inFrontOf}
 use Rattle.meaning.specs.Series.{Series, stepsOf, lastStep, Told, ToldRight}
 
 -- ---- a record and its line
@@ -124,11 +124,11 @@ SeriesFaultyAt = Lines.FaultyAt seriesLines nothingYet
 -- ---- what is answered for a text
 
 -- 7 for the first step whose list has no room, with the count it needs
-unfoldable pub roomCheck : ℕ → Scene → Check
-roomCheck room s = record { number = 7; holds = ltb room (length (pairs s)); carries = length (pairs s) }
+unfoldable pub stepRoom : ℕ → Scene → Check
+stepRoom room s = roomCheck room (length (pairs s))
 
 abbrev pub roomChecks : ℕ → Series → List Check
-roomChecks room x = map (roomCheck room) (stepsOf x)
+roomChecks room x = map (stepRoom room) (stepsOf x)
 
 -- a series and what is told of it
 pub record Ended : Type 0 where
@@ -145,15 +145,12 @@ pub data SeriesIs (text : List ℕ) (room : ℕ) (o : Outcome Ended) : Type 0 wh
 -- 12, 8, then the text; the room is that of the lent list
 abbrev pub SeriesOutcome : List ℕ → Scene → ℕ → Outcome Ended → Type 0
 SeriesOutcome text lent room o =
-    cond (shortBuffer lent) (o ≡ refused 12 0) (cond (longText text) (o ≡ refused 8 0) (SeriesIs text room o))
+    behindTwelveAndEight (shortBuffer lent) (longText text) (SeriesIs text room) o
 
 -- after success the scene and list buffers hold the last step in front, and what lies behind is unchanged; a refusal changes nothing
-unfoldable pub sceneLeft : Outcome Ended → Scene → Scene
-sceneLeft (given e) lent =
-    let s : Scene = lastStep (e .series) in
-    sceneOf (written (s .positions) (lent .positions)) (written (s .edges) (lent .edges))
-    (written (s .triangles) (lent .triangles)) (written (s .seams) (lent .seams))
-sceneLeft (refused n c) lent = lent
+unfoldable pub lastStepLeft : Outcome Ended → Scene → Scene
+lastStepLeft (given e) lent = inFrontOf (lastStep (e .series)) lent
+lastStepLeft (refused n c) lent = lent
 
 unfoldable pub listLeft : Outcome Ended → List ℕ → List ℕ
 listLeft (given e) o = written (entries (pairs (lastStep (e .series)))) o

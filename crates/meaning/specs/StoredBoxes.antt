@@ -1,7 +1,7 @@
 -- Document 02, §8: 'Keep the boxes of all vertices, then edges, then triangles with the scene, six numbers each, the three lows first.' Where
 -- they stand, what 12 and 17 say of them, and what is promised of the calls that fill them in and that make the list from them.
 use Prim.Native.Nat.{ℕ, _+_, _*_, _≤_, _<_, min}
-use mathlib.Core.Bool.{Bool, cond, _||_}
+use mathlib.Core.Bool.{Bool, _||_}
 use mathlib.Core.List.{List, [], _∷_, _++_, map}
 use mathlib.Core.Path.{_≡_}
 use lib.Dec.{ltb}
@@ -10,7 +10,7 @@ use lib.ListN.{length, getD}
 use Rattle.meaning.specs.Limits.{vertexLimit, edgeLimit, triangleLimit}
 use Rattle.meaning.specs.Scene.{Scene, vertexCount, edgeCount, triangleCount, someBelow, differ}
 use Rattle.meaning.specs.Boxes.{Span, Axis, xAxis, yAxis, zAxis, vertexSpan, edgeSpan, triangleSpan}
-use Rattle.meaning.specs.Refusals.{Outcome, given, refused, Check, Answers, sceneSays, sceneChecks}
+use Rattle.meaning.specs.Refusals.{Outcome, given, refused, Check, Answers, sceneSays, sceneChecks, roomCheck, behindTwelveAndEight}
 use Rattle.meaning.specs.List.{pairs, entries, roomOf, listSays, leaves}
 use Rattle.meaning.specs.SceneWords.{byteOf, AllSettled}
 use Rattle.meaning.specs.Text.{TextIs, shortBuffer, longText, textSays, countsTold, filled}
@@ -55,17 +55,17 @@ abbrev pub trianglePlace : Scene → ℕ → ℕ
 trianglePlace s j = vertexCount s + edgeCount s + j
 
 -- from the box `first` on, so many boxes are the wanted ones
-pub record Holds (l : List ℤ) (first count : ℕ) (want : ℕ → Box) : Type 0 where
+pub record BoxesStand (l : List ℤ) (first count : ℕ) (want : ℕ → Box) : Type 0 where
   pub at : (i : ℕ) → i < count → boxAt l (first + i) ≡ want i
 
 abbrev pub VerticesIn : Scene → List ℤ → Type 0
-VerticesIn s l = Holds l 0 (vertexCount s) (vertexBox s)
+VerticesIn s l = BoxesStand l 0 (vertexCount s) (vertexBox s)
 
 abbrev pub EdgesIn : Scene → List ℤ → Type 0
-EdgesIn s l = Holds l (vertexCount s) (edgeCount s) (edgeBox s)
+EdgesIn s l = BoxesStand l (vertexCount s) (edgeCount s) (edgeBox s)
 
 abbrev pub TrianglesIn : Scene → List ℤ → Type 0
-TrianglesIn s l = Holds l (vertexCount s + edgeCount s) (triangleCount s) (triangleBox s)
+TrianglesIn s l = BoxesStand l (vertexCount s + edgeCount s) (triangleCount s) (triangleBox s)
 
 -- 'each stored box equals the one worked out from the positions'
 pub record Boxed (s : Scene) (l : List ℤ) : Type 0 where
@@ -128,7 +128,7 @@ staleChecks s b = record { number = 17; holds = staleBox s b; carries = 0 } ∷ 
 abbrev pub storedChecks : Scene → List ℤ → ℕ → List Check
 storedChecks s b room =
     record { number = 17; holds = staleBox s b; carries = 0 }
-    ∷ record { number = 7; holds = ltb room (length (pairs s)); carries = length (pairs s) }
+    ∷ roomCheck room (length (pairs s))
     ∷ []
 
 -- ---- what is promised
@@ -165,7 +165,7 @@ pub record SettledStored (s : Scene) (b : List ℤ) (o o′ w w′ : List ℕ) (
 -- 12 for any of the lent buffers, 8, then the first faulty line
 abbrev pub BoxedOutcome : List ℕ → Scene → List ℤ → Outcome Scene → Type 0
 BoxedOutcome text lent b o =
-    cond (shortBoxes b || shortBuffer lent) (o ≡ refused 12 0) (cond (longText text) (o ≡ refused 8 0) (TextIs text o))
+    behindTwelveAndEight (shortBoxes b || shortBuffer lent) (longText text) (TextIs text) o
 
 -- the boxes of the scene that was read
 unfoldable pub FillsRead : Outcome Scene → List ℤ → List ℤ → Type 0

@@ -1,9 +1,8 @@
 -- 'Scene text' of document 01: a record and the bytes of its line, the texts that are scenes, the first faulty line, and what a reader
 -- of texts answers.
 use Prim.Native.Nat.{ℕ, suc, _*_, _≤_}
-use mathlib.Core.Bool.{Bool, false, cond, _||_}
+use mathlib.Core.Bool.{Bool, false, _||_}
 use mathlib.Core.List.{List, [], _∷_, _++_, map}
-use mathlib.Core.Logic.{_≢_}
 use mathlib.Core.Path.{_≡_}
 use lib.Dec.{ltb}
 use lib.IntN.{ℤ, pos, negsuc, natAbs}
@@ -13,7 +12,7 @@ use Rattle.sequences.specs.Wrote.{written}
 use Rattle.decimals.specs.Digits.{digits}
 use Rattle.meaning.specs.Limits.{vertexLimit, edgeLimit, triangleLimit, seamLimit, textLimit, digitLimit}
 use Rattle.meaning.specs.Scene.{Scene, sceneOf, vertexCount, edgeCount, triangleCount, seamCount, overSize, outOfRange, unknownVertex, brokenSeam, repeatedVertex}
-use Rattle.meaning.specs.Refusals.{Outcome, given, refused, Check, Answers, numberOf}
+use Rattle.meaning.specs.Refusals.{Outcome, given, refused, Check, Answers, numberOf, behindTwelveAndEight}
 use Rattle.meaning.specs.Lines as Lines
 use Rattle.meaning.specs.Lines.{Grammar, afterAll, linesOf}
 use Rattle.meaning.specs.declared.SceneCounts.{SceneCounts}
@@ -157,8 +156,8 @@ sceneFrom rs = afterAll sceneLines none rs
 abbrev pub textOf : List Entry → List ℕ
 textOf = linesOf sceneLines
 
-abbrev pub Sound : Scene → List Entry → Type 0
-Sound s rs = Lines.Sound sceneLines s rs []
+abbrev pub SceneSound : Scene → List Entry → Type 0
+SceneSound s rs = Lines.Sound sceneLines s rs []
 
 -- ---- a text is a scene, or has a first faulty line
 
@@ -169,15 +168,15 @@ pub record Holds (text : List ℕ) (s : Scene) : Type 0 where
   pub scene : s ≡ sceneFrom entries
 
 -- 9, the line is no record's, or it has no LF; or the first check of its record that holds; and the first line with a fault
-abbrev pub Fault : Scene → List ℕ → ℕ → Type 0
-Fault = Lines.Fault sceneLines
+abbrev pub SceneFault : Scene → List ℕ → ℕ → Type 0
+SceneFault = Lines.Fault sceneLines
 
-abbrev pub FaultyAt : List ℕ → ℕ → ℕ → Type 0
-FaultyAt = Lines.FaultyAt sceneLines none
+abbrev pub SceneFaultyAt : List ℕ → ℕ → ℕ → Type 0
+SceneFaultyAt = Lines.FaultyAt sceneLines none
 
 unfoldable pub TextIs : List ℕ → Outcome Scene → Type 0
 TextIs text (given s) = Holds text s
-TextIs text (refused n line) = FaultyAt text n line
+TextIs text (refused n line) = SceneFaultyAt text n line
 
 -- ---- what a reader answers, and what it leaves in the lent buffers
 
@@ -195,7 +194,7 @@ longText text = ltb textLimit (length text)
 -- 12, 8, then the first faulty line
 abbrev pub TextOutcome : List ℕ → Scene → Outcome Scene → Type 0
 TextOutcome text lent o =
-    cond (shortBuffer lent) (o ≡ refused 12 0) (cond (longText text) (o ≡ refused 8 0) (TextIs text o))
+    behindTwelveAndEight (shortBuffer lent) (longText text) (TextIs text) o
 
 abbrev pub countsOf : Scene → SceneCounts
 countsOf s = record { vertices = vertexCount s; edges = edgeCount s; triangles = triangleCount s; seams = seamCount s }
@@ -208,11 +207,15 @@ unfoldable pub textSays : TextAnswer → Outcome SceneCounts
 textSays (Read c) = given c
 textSays (Refused r line) = refused (numberOf r) line
 
--- a refusal changes no lent number; after success the buffers hold the scene in front, and what lies behind it is unchanged
-unfoldable pub filled : Outcome Scene → Scene → Scene
-filled (given s) lent =
+-- lent buffers with a scene in front; what lies behind it is unchanged
+abbrev pub inFrontOf : Scene → Scene → Scene
+inFrontOf s lent =
     sceneOf (written (s .positions) (lent .positions)) (written (s .edges) (lent .edges))
     (written (s .triangles) (lent .triangles)) (written (s .seams) (lent .seams))
+
+-- a refusal changes no lent number; after success the buffers hold the scene in front
+unfoldable pub filled : Outcome Scene → Scene → Scene
+filled (given s) lent = inFrontOf s lent
 filled (refused n line) lent = lent
 
 -- what is promised of a reader: the buffers were lent, and are left

@@ -15,6 +15,8 @@ pub const TRIANGLE_LIMIT: usize = 512;
 pub const SEAM_LIMIT: usize = 512;
 
 pub const TEXT_LIMIT: usize = 32768;
+// the bytes that a program reads into: one more than a text may have, so that a full buffer decides refusal 8
+pub const READ_BYTES: usize = TEXT_LIMIT + 1;
 
 pub const DIGIT_LIMIT: usize = 9;
 
@@ -156,7 +158,7 @@ pub enum ClaimsAnswer {
 
 // When and where a pair is hit: the piece, k, and three shares, each number in whole 2^20ths. Of a point and a triangle the shares are the
 // corners', in rising number. Of two edges each has its share at its higher end, the edge with the lower place first, and the third is 0.
-pub struct Moment {
+pub struct ContactNumbers {
     pub piece: usize,
     pub k: u32,
     pub first: u32,
@@ -165,15 +167,15 @@ pub struct Moment {
 }
 
 // The four words, the hit with its numbers.
-pub enum Meeting {
-    Hit(Moment),
+pub enum WholeContact {
+    Hit(ContactNumbers),
     Miss,
     Touch,
     Apart,
 }
 
-pub enum MeetingAnswer {
-    Found(Meeting),
+pub enum WholeContactAnswer {
+    Found(WholeContact),
     Refused(Refusal),
 }
 
@@ -249,4 +251,51 @@ pub enum ImportAnswer {
 pub enum SaveAnswer {
     Bytes(usize),
     Refused(Refusal, usize),
+}
+
+// The entries of a log.
+pub const LOG_ROOM: usize = 64;
+
+// A hit: its step, counted from 1, its kind and its two places.
+pub struct StepHit {
+    pub step: usize,
+    pub kind: Kind,
+    pub first: usize,
+    pub second: usize,
+}
+
+// The first `held` of the hits are entries; `later` counts the hits that came when the log was full.
+pub struct Log {
+    pub hits: [StepHit; LOG_ROOM],
+    pub held: usize,
+    pub later: u64,
+}
+
+// What is told of a series: its log, the totals over all steps, and the first step with a hit, counted from 1, or 0 where there is none.
+pub struct SeriesTold {
+    pub log: Log,
+    pub listed: u64,
+    pub hits: u64,
+    pub misses: u64,
+    pub touches: u64,
+    pub aparts: u64,
+    pub first: usize,
+}
+
+// The counts of the last step, or the refusal with its line or the count needed.
+pub enum SeriesEnding {
+    Told(SceneCounts),
+    Refused(Refusal, usize),
+}
+
+// After a refusal nothing is told: the log is empty and every number 0.
+pub struct SeriesAnswer {
+    pub outcome: SeriesEnding,
+    pub told: SeriesTold,
+}
+
+// The answer for a series, and how many pairs its last step lists: 0 after a refusal.
+pub struct SeriesListed {
+    pub answer: SeriesAnswer,
+    pub count: usize,
 }

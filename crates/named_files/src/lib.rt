@@ -2,6 +2,7 @@
 ghost use Prim.Native.Nat.{_≤_};
 ghost use lib.ListN.{length};
 ghost use Rattle.named_files.specs.Files.{ReadInto, BothInto};
+ghost use Rattle.sequences.specs.Lent.{atExit};
 use libc::STDERR_FILENO;
 use libc::STDOUT_FILENO;
 
@@ -20,7 +21,7 @@ fn is_at_end(fd: i32) -> bool {
 
 // The file that an argument names, into a buffer that is one byte longer than a text may be: a full one decides refusal 8.
 fn read_file(place: usize, text: &mut [u8]) -> FileRead
-    ensures { λ r. ⌜ ReadInto (now (text .exit)) r ⌝ }
+    ensures { λ r. ⌜ ReadInto (atExit text) r ⌝ }
 {
     let mut name = io::buffer();
     let length = os::arg(place, &mut name);
@@ -52,7 +53,7 @@ pub fn read_pair(
     first: &mut [u8],
     second: &mut [u8],
 ) -> PairRead
-    ensures { λ r. ⌜ BothInto (now (first .exit)) (now (second .exit)) r ⌝ }
+    ensures { λ r. ⌜ BothInto (atExit first) (atExit second) r ⌝ }
 {
     if os::arg_count() != 3 {
         io::write_all(STDERR_FILENO, usage);

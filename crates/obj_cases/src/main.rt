@@ -1,9 +1,9 @@
 // Runs the import on pairs of OBJ files that are taken, and on pairs for each refusal and for some that meet. It prints each answer, and of the pair
 // that is shown whole whether the wanted numbers stand in front. What it must print stands in the file stdout.
+use answers::number_of;
 use meaning::ImportAnswer;
 use meaning::WhichFile;
-use obj_pair::import_scene;
-use wording::number_of;
+use obj_scene::import_plain;
 
 const START: [u8; 81] =
     *b"# two faces\nv 0 0 0\nv 1 0 0\nv 0 1 0\n\nvn 0 0 1\nv 1 1 -0.00\nvt 0 0\nf 1 2 3\nf 3 2 4\n";
@@ -54,7 +54,7 @@ fn show(label: &[u8], start: &[u8], end: &[u8]) {
     let mut triangles = [77u16; 1536];
     let mut seams = [77u16; 1024];
     print(label);
-    print_answer(import_scene(
+    print_answer(import_plain(
         start,
         end,
         &mut positions,
@@ -134,7 +134,7 @@ fn short_buffers() {
     let mut triangles = [77u16; 1536];
     let mut seams = [77u16; 1023];
     print(b"a short seam buffer");
-    print_answer(import_scene(
+    print_answer(import_plain(
         b"x\n",
         b"x\n",
         &mut positions,
@@ -159,7 +159,7 @@ fn numbers() {
     let mut edges = [77u16; 2048];
     let mut triangles = [77u16; 1536];
     let mut seams = [77u16; 1024];
-    let answer = import_scene(
+    let answer = import_plain(
         &START,
         &END,
         &mut positions,

@@ -1,5 +1,10 @@
--- What was asked of an import of two OBJ files: edges, a scene that every call accepts, one answer, and what a caller has of it.
+-- What was asked of an import of two OBJ files and of what they print.
+-- the edges of faces
 pub mod Edges
-pub mod OneImport
-pub mod AcceptedImport
-pub mod Using
+-- demand 1, by file and line
+pub mod Faults
+pub mod SkippedShown
+pub mod Demand1
+-- what is printed is one text, and is read again
+pub mod OnePrinted
+pub mod KeptScene

@@ -10,8 +10,8 @@ use lib.IntN.{ℤ}
 use lib.ListN.{length, take, drop, length-drop}
 use borrow.Author.Tests.{lt-ltb, leb-false, eqb-false}
 use Rattle.sequences.specs.Stands.{Stands}
-use Rattle.scenes.specs.Answering.{refuses, lets-pass, gives, refused-before, given-before}
-use Rattle.seam_table.specs.Below.{or-left, or-rest}
+use Rattle.answers.specs.Answering.{refuses, lets-pass, gives, refused-before, given-before}
+use Rattle.answers.specs.Below.{or-left, or-rest}
 use Rattle.meaning.specs.Limits.{vertexLimit, edgeLimit, triangleLimit, seamLimit}
 use Rattle.meaning.specs.Lines as Lines
 use Rattle.meaning.specs.Lines.{nothing, RecordJudged}
@@ -21,23 +21,23 @@ use Rattle.meaning.specs.Text.{vertex, triangle, coordinates, sceneWith, coordi
 use Rattle.meaning.specs.declared.Refusal.{Refusal}
 use Rattle.meaning.specs.declared.Refusal.the-variants.{BadLine}
 use Rattle.meaning.specs.declared.SceneCounts.{SceneCounts}
-use Rattle.scene_line.specs.Above.{Above, Bounded, countedBy, above-more}
-use Rattle.scene_line.specs.Reading.{sortOf}
+use Rattle.text_line.specs.Above.{Above, Bounded, countedBy, above-more}
+use Rattle.text_line.specs.Reading.{sortOf}
 use Rattle.meaning.specs.ObjLine.{placeOf, says}
 use Rattle.meaning.specs.ObjFile.{placeAt, withSides, faceAdded, sceneAfter, lineChecks, SaysSome, objLines}
 use Rattle.meaning.specs.declared.Hundredths.{Hundredths}
 use Rattle.meaning.specs.declared.ObjLine as Said
 use Rattle.meaning.specs.declared.ObjLine.{ObjLine}
-use Rattle.face_edges.specs.Chains.{Knows}
+use Rattle.obj_edges.specs.Chains.{Knows}
 use Rattle.obj_records.specs.Faults.{VertexFault, FaceFault, faultless}
 use Rattle.obj_records.specs.Adding.{VertexPut, VertexAdded, FaceRoom, sidesWith, FaceOver, FacePut, FaceAdded}
 use Rattle.obj_records.specs.declared.Added as Addeds
 use Rattle.obj_records.specs.declared.Added.{Added}
-use Rattle.hundredths.specs.Finding.{place-fits}
-use Rattle.hundredths.specs.Sizing.{to-the-end}
-use Rattle.obj_scenes.specs.Ended.{body-unbroken, body-stands, line-unformed, line-unended, line-misplaced}
-use Rattle.obj_scenes.specs.Faces.{EdgesOk, ok-scene, ok-sides, withEdges, countsWith, above-edges}
-use Rattle.obj_scenes.specs.Judged.{vertex-judged, face-judged}
+use Rattle.obj_numbers.specs.Finding.{place-fits}
+use Rattle.obj_numbers.specs.Sizing.{to-the-end}
+use Rattle.obj_laws.specs.Ended.{body-unbroken, body-stands, line-unformed, line-unended, line-misplaced}
+use Rattle.obj_laws.specs.Faces.{EdgesOk, ok-scene, ok-sides, withEdges, countsWith, above-edges}
+use Rattle.obj_laws.specs.Judged.{vertex-judged, face-judged}
 use Rattle.obj_draft.specs.declared.Taken.{Taken}
 use Rattle.obj_draft.specs.declared.Taken.the-variants.{Fault, Next}
 

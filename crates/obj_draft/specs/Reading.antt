@@ -14,12 +14,12 @@ use Rattle.meaning.specs.declared.Refusal.{Refusal}
 use Rattle.meaning.specs.declared.SceneCounts.{SceneCounts}
 use Rattle.meaning.specs.declared.TextAnswer.{TextAnswer}
 use Rattle.meaning.specs.declared.TextAnswer.the-variants.{Read, Refused}
-use Rattle.lines.specs.Going.{Reached, reached-first, reached-none, reached-next, reached-longer, reached-fault, reached-end}
-use Rattle.scene_line.specs.Above.{above-none, noCounts}
+use Rattle.text_laws.specs.Going.{Reached, reached-first, reached-none, reached-next, reached-longer, reached-fault, reached-end}
+use Rattle.text_line.specs.Above.{above-none, noCounts}
 use Rattle.meaning.specs.ObjLine.{says}
 use Rattle.meaning.specs.ObjFile.{sceneAfter, objLines}
-use Rattle.obj_scenes.specs.Ended.{obj-readable}
-use Rattle.face_edges.specs.Chains.{Knows}
+use Rattle.obj_laws.specs.Ended.{obj-readable}
+use Rattle.obj_edges.specs.Chains.{Knows}
 use Rattle.obj_records.specs.Adding.{FaceRoom}
 use Rattle.obj_draft.specs.Drafting.{Drafted, DraftRoom, TakenAs, LineTaken, TookLine}
 use Rattle.obj_draft.specs.declared.Taken.{Taken}

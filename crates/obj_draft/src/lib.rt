@@ -1,14 +1,15 @@
 // An OBJ file is read into a draft, in one pass: arrays of the reader's own that hold the scene of the lines above in front, and a table of its edges.
 ghost use mathlib.Core.Path.{_≡_};
-ghost use Rattle.face_edges.specs.Chains.{Knows};
+ghost use Rattle.obj_edges.specs.Chains.{Knows};
 ghost use Rattle.obj_draft.specs.Drafting.{DraftRoom, LineReady, LineTaken, nextAfter};
 ghost use Rattle.obj_draft.specs.Reading.{DraftIs};
-use hundredths::place_of;
+ghost use Rattle.sequences.specs.Lent.{atEntry, atExit};
 use meaning::ObjLine;
 use meaning::Refusal;
 use meaning::SceneCounts;
 use meaning::TextAnswer;
 use obj_line::line_of;
+use obj_numbers::place_of;
 use obj_records::Added;
 use obj_records::add_face;
 use obj_records::add_vertex;
@@ -37,7 +38,8 @@ fn take_line(
     triangles: &mut [u16],
 ) -> Taken
     requires { ⌜ LineReady (now text) at c (now positions) (now edges) (now triangles) ⌝ }
-    ensures { λ r. ⌜ LineTaken (now (text .entry)) at c (now (positions .entry)) (now (edges .entry)) (now (triangles .entry)) (now (positions .exit)) (now (edges .exit)) (now (triangles .exit)) r ⌝ }
+    ensures { λ r. ⌜ LineTaken (atEntry text) at c (atEntry positions) (atEntry edges) (atEntry triangles)
+        (atExit positions) (atExit edges) (atExit triangles) r ⌝ }
 {
     let stop = at + place_of(&text[at..], b'\n');
     if text.len() <= stop {
@@ -60,7 +62,7 @@ pub fn draft_file(
 ) -> TextAnswer
     requires { ⌜ DraftRoom (now positions) (now edges) (now triangles) ⌝ }
     requires { ⌜ Knows (now edges) 0 ⌝ }
-    ensures { λ r. ⌜ DraftIs (now (text .entry)) (now (positions .exit)) (now (edges .exit)) (now (triangles .exit)) r ⌝ }
+    ensures { λ r. ⌜ DraftIs (atEntry text) (atExit positions) (atExit edges) (atExit triangles) r ⌝ }
 {
     let mut c = SceneCounts {
         vertices: 0,

@@ -10,18 +10,18 @@ use lib.Seq.{take-all}
 use Rattle.sequences.specs.Pick.{pick, both, pick-true, pick-false}
 use borrow.Author.Tests.{eqb-true}
 use Rattle.decimals.specs.Byte.{byteAt, byte-inside}
-use Rattle.hundredths.specs.Finding.{place-fits}
-use Rattle.hundredths.specs.Sizing.{to-the-end}
-use Rattle.meaning.specs.ObjLine.{placeOf, space, before, behind, firstField, secondField, thirdField, decimalOf, vertexNumberOf, vertexWith, faceWith, vertexOf, faceOf, beginsWith, isSkipped, says}
+use Rattle.obj_numbers.specs.Finding.{place-fits}
+use Rattle.obj_numbers.specs.Sizing.{to-the-end}
+use Rattle.meaning.specs.ObjLine.{placeOf, space, beforeFirst, behind, firstField, secondField, thirdField, decimalOf, vertexNumberOf, vertexWith, faceWith, vertexOf, faceOf, beginsWith, isSkipped, says}
 use Rattle.meaning.specs.declared.Decimal.{Decimal}
 use Rattle.meaning.specs.declared.Whole.{Whole}
 use Rattle.meaning.specs.declared.ObjLine.{ObjLine}
 use Rattle.meaning.specs.declared.ObjLine.the-variants.{Skipped, Bad}
 use Rattle.obj_line.specs.declared.Cut.{Cut}
 
--- what stands before the first space ends there, and what stands behind it begins there
+-- what stands beforeFirst the first space ends there, and what stands behind it begins there
 pub record CutAt (s : List ℕ) (r : Cut) : Type 0 where
-  pub front : take (r .end) s ≡ before space s
+  pub front : take (r .end) s ≡ beforeFirst space s
   pub back : take (length s - r .next) (drop (r .next) s) ≡ behind space s
   pub ends : r .end ≤ length s
   pub begins : r .next ≤ length s
@@ -48,17 +48,17 @@ module _ (s : List ℕ) {end : ℕ} (e : end ≡ placeOf space s) where
 
 -- what is left of a line behind its first number
 abbrev pub vertexFrom : Decimal → List ℕ → ObjLine
-vertexFrom x l = vertexWith x (decimalOf (before space l)) (decimalOf (behind space l))
+vertexFrom x l = vertexWith x (decimalOf (beforeFirst space l)) (decimalOf (behind space l))
 
 abbrev pub faceFrom : Whole → List ℕ → ObjLine
-faceFrom x l = faceWith x (vertexNumberOf (before space l)) (vertexNumberOf (behind space l))
+faceFrom x l = faceWith x (vertexNumberOf (beforeFirst space l)) (vertexNumberOf (behind space l))
 
 module _ (s : List ℕ) {r : Cut} (c : CutAt s r) where
   pub vertex-from : (x : Decimal) {y z : Decimal} {o : ObjLine} → y ≡ decimalOf (take (r .end) s)
       → z ≡ decimalOf (take (length s - r .next) (drop (r .next) s)) → o ≡ vertexWith x y z → o ≡ vertexFrom x s
   vertex-from x {y} {z} p q e =
       e ∙ ap (λ w. vertexWith x w z) (p ∙ ap (λ (l : List ℕ). decimalOf l) (c .front))
-      ∙ ap (λ z. vertexWith x (decimalOf (before space s)) z) (q ∙ ap (λ (l : List ℕ). decimalOf l) (c .back))
+      ∙ ap (λ z. vertexWith x (decimalOf (beforeFirst space s)) z) (q ∙ ap (λ (l : List ℕ). decimalOf l) (c .back))
 
   pub vertex-of : {x : Decimal} {o : ObjLine} → x ≡ decimalOf (take (r .end) s)
       → o ≡ vertexFrom x (take (length s - r .next) (drop (r .next) s)) → o ≡ vertexOf s
@@ -70,7 +70,7 @@ module _ (s : List ℕ) {r : Cut} (c : CutAt s r) where
       → z ≡ vertexNumberOf (take (length s - r .next) (drop (r .next) s)) → o ≡ faceWith x y z → o ≡ faceFrom x s
   face-from x {y} {z} p q e =
       e ∙ ap (λ w. faceWith x w z) (p ∙ ap (λ (l : List ℕ). vertexNumberOf l) (c .front))
-      ∙ ap (λ z. faceWith x (vertexNumberOf (before space s)) z) (q ∙ ap (λ (l : List ℕ). vertexNumberOf l) (c .back))
+      ∙ ap (λ z. faceWith x (vertexNumberOf (beforeFirst space s)) z) (q ∙ ap (λ (l : List ℕ). vertexNumberOf l) (c .back))
 
   pub face-of : {x : Whole} {o : ObjLine} → x ≡ vertexNumberOf (take (r .end) s)
       → o ≡ faceFrom x (take (length s - r .next) (drop (r .next) s)) → o ≡ faceOf s

@@ -4,12 +4,13 @@ ghost use lib.ListN.{length};
 ghost use mathlib.Core.Path.{_≡_};
 ghost use Rattle.meaning.specs.ObjLine.{says, vertexOf, faceOf, vertexWith, faceWith};
 ghost use Rattle.obj_line.specs.Parting.{CutAt, vertexFrom, faceFrom};
-use hundredths::decimal_of;
-use hundredths::number_of;
-use hundredths::place_of;
+ghost use Rattle.sequences.specs.Lent.{atEntry};
 use meaning::Decimal;
 use meaning::ObjLine;
 use meaning::Whole;
+use obj_numbers::decimal_of;
+use obj_numbers::number_of;
+use obj_numbers::place_of;
 
 // Where a field ends, and where what stands behind the space begins.
 struct Cut {
@@ -18,7 +19,7 @@ struct Cut {
 }
 
 fn cut_at_space(s: &[u8]) -> Cut
-    ensures { λ r. ⌜ CutAt (now (s .entry)) r ⌝ }
+    ensures { λ r. ⌜ CutAt (atEntry s) r ⌝ }
 {
     let end = place_of(s, b' ');
     if end < s.len() {
@@ -60,7 +61,7 @@ fn face_with(x: Whole, y: Whole, z: Whole) -> ObjLine
 
 // The second and the third decimal, behind the first.
 fn vertex_from(x: Decimal, s: &[u8]) -> ObjLine
-    ensures { λ r. ⌜ r ≡ vertexFrom x (now (s .entry)) ⌝ }
+    ensures { λ r. ⌜ r ≡ vertexFrom x (atEntry s) ⌝ }
 {
     let parts = cut_at_space(s);
     let end = parts.end;
@@ -69,7 +70,7 @@ fn vertex_from(x: Decimal, s: &[u8]) -> ObjLine
 }
 
 fn vertex_of(s: &[u8]) -> ObjLine
-    ensures { λ r. ⌜ r ≡ vertexOf (now (s .entry)) ⌝ }
+    ensures { λ r. ⌜ r ≡ vertexOf (atEntry s) ⌝ }
 {
     let parts = cut_at_space(s);
     let end = parts.end;
@@ -78,7 +79,7 @@ fn vertex_of(s: &[u8]) -> ObjLine
 }
 
 fn face_from(x: Whole, s: &[u8]) -> ObjLine
-    ensures { λ r. ⌜ r ≡ faceFrom x (now (s .entry)) ⌝ }
+    ensures { λ r. ⌜ r ≡ faceFrom x (atEntry s) ⌝ }
 {
     let parts = cut_at_space(s);
     let end = parts.end;
@@ -87,7 +88,7 @@ fn face_from(x: Whole, s: &[u8]) -> ObjLine
 }
 
 fn face_of(s: &[u8]) -> ObjLine
-    ensures { λ r. ⌜ r ≡ faceOf (now (s .entry)) ⌝ }
+    ensures { λ r. ⌜ r ≡ faceOf (atEntry s) ⌝ }
 {
     let parts = cut_at_space(s);
     let end = parts.end;
@@ -97,7 +98,7 @@ fn face_of(s: &[u8]) -> ObjLine
 
 // What a line says.
 pub fn line_of(s: &[u8]) -> ObjLine
-    ensures { λ r. ⌜ r ≡ says (now (s .entry)) ⌝ }
+    ensures { λ r. ⌜ r ≡ says (atEntry s) ⌝ }
 {
     let a = decimals::byte_at(s, 0);
     let b = decimals::byte_at(s, 1);

@@ -11,7 +11,7 @@ use lib.ListN.{length, take}
 use lib.Seq.{length-take-le}
 use borrow.Author.Tests.{leb-false, ltb-false}
 use Rattle.sequences.specs.Wrote.{Wrote, wrote-then}
-use Rattle.seam_table.specs.Below.{or-left, or-rest}
+use Rattle.answers.specs.Below.{or-left, or-rest}
 use Rattle.meaning.specs.Limits.{coordinateLimit, vertexLimit, edgeLimit, triangleLimit}
 use Rattle.meaning.specs.Refusals.{Outcome, given, refused, numberOf}
 use Rattle.meaning.specs.Text.{coordinates}
@@ -20,12 +20,12 @@ use Rattle.meaning.specs.declared.Refusal.the-variants.{TooMany}
 use Rattle.meaning.specs.declared.SceneCounts.{SceneCounts}
 use Rattle.meaning.specs.ObjFile.{signed, placeAt, withSides}
 use Rattle.meaning.specs.declared.Hundredths.{Hundredths}
-use Rattle.scene_line.specs.Above.{Bounded}
-use Rattle.scene_line.specs.Judging.{judgedSays}
-use Rattle.scene_line.specs.declared.Judged as Judgements
-use Rattle.scene_line.specs.declared.Judged.{Judged}
-use Rattle.face_edges.specs.Chains.{tabled, Knows}
-use Rattle.face_edges.specs.Sides.{Tabled, SidesAdded}
+use Rattle.text_line.specs.Above.{Bounded}
+use Rattle.text_line.specs.Judging.{judgedSays}
+use Rattle.text_line.specs.declared.Judged as Judgements
+use Rattle.text_line.specs.declared.Judged.{Judged}
+use Rattle.obj_edges.specs.Chains.{tabled, Knows}
+use Rattle.obj_edges.specs.Sides.{Tabled, SidesAdded}
 use Rattle.obj_records.specs.Faults.{VertexFault, FaceFault, Faultless, faultless}
 use Rattle.obj_records.specs.declared.Added.{Added}
 use Rattle.obj_records.specs.declared.Added.the-variants.{Fault, Counts}

@@ -6,13 +6,13 @@ use Prim.Native.Nat.{ℕ, _≤_, _<_}
 use native.Mathlib.Omega.{arith}
 use lib.Dec.{leb, ltb, eqb}
 use borrow.Author.Tests.{leb-false, ltb-false}
-use Rattle.scenes.specs.Answering.{is-given}
-use Rattle.seam_table.specs.Below.{or-left, or-rest}
+use Rattle.answers.specs.Answering.{is-given}
+use Rattle.answers.specs.Below.{or-left, or-rest}
 use Rattle.meaning.specs.Limits.{coordinateLimit, vertexLimit, triangleLimit}
 use Rattle.meaning.specs.Refusals.{Outcome, given, refused}
 use Rattle.meaning.specs.declared.SceneCounts.{SceneCounts}
 use Rattle.meaning.specs.declared.Hundredths.{Hundredths}
-use Rattle.scene_line.specs.Judging.{FaultIs}
+use Rattle.text_line.specs.Judging.{FaultIs}
 
 abbrev pub VertexFault : SceneCounts → Hundredths → Hundredths → Hundredths → Outcome (Unit {0}) → Type 0
 VertexFault c x y z =

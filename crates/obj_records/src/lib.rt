@@ -7,12 +7,12 @@ ghost use mathlib.Core.Path.{_≡_};
 ghost use Rattle.sequences.specs.Wrote.{Wrote};
 ghost use Rattle.meaning.specs.Limits.{coordinateLimit};
 ghost use Rattle.meaning.specs.ObjFile.{signed};
-ghost use Rattle.scene_line.specs.Above.{Bounded};
-ghost use Rattle.face_edges.specs.Chains.{Knows};
-ghost use Rattle.scene_line.specs.Judging.{FaultIs, judgedSays};
+ghost use Rattle.text_line.specs.Above.{Bounded};
+ghost use Rattle.obj_edges.specs.Chains.{Knows};
+ghost use Rattle.text_line.specs.Judging.{FaultIs, judgedSays};
 ghost use Rattle.obj_records.specs.Faults.{VertexFault, FaceFault};
 ghost use Rattle.obj_records.specs.Adding.{Near, pointOf, VertexAdded, Positive, FaceRoom, FaceAdded};
-use face_edges::add_sides;
+ghost use Rattle.sequences.specs.Lent.{atEntry, atExit};
 use meaning::COORDINATE_LIMIT;
 use meaning::EDGE_LIMIT;
 use meaning::Hundredths;
@@ -20,7 +20,8 @@ use meaning::Refusal;
 use meaning::SceneCounts;
 use meaning::TRIANGLE_LIMIT;
 use meaning::VERTEX_LIMIT;
-use scene_line::Judged;
+use obj_edges::add_sides;
+use text_line::Judged;
 
 // The largest size of a coordinate, as sizes are held.
 const LARGEST: u64 = COORDINATE_LIMIT as u64;
@@ -94,7 +95,7 @@ fn coordinate(h: Hundredths) -> i32
 fn put_point(out: &mut [i32], at: usize, x: Hundredths, y: Hundredths, z: Hundredths)
     requires { ⌜ at + 3 ≤ length (now out) ⌝ }
     requires { ⌜ Near x y z ⌝ }
-    ensures { λ _. ⌜ Wrote (now (out .entry)) at (pointOf x y z) (now (out .exit)) (at + 3) ⌝ }
+    ensures { λ _. ⌜ Wrote (atEntry out) at (pointOf x y z) (atExit out) (at + 3) ⌝ }
 {
     out[at] = coordinate(x);
     out[at + 1] = coordinate(y);
@@ -103,7 +104,7 @@ fn put_point(out: &mut [i32], at: usize, x: Hundredths, y: Hundredths, z: Hundre
 
 fn put_triangle(out: &mut [u16], at: usize, a: u16, b: u16, d: u16)
     requires { ⌜ at + 3 ≤ length (now out) ⌝ }
-    ensures { λ _. ⌜ Wrote (now (out .entry)) at (a ∷ b ∷ d ∷ []) (now (out .exit)) (at + 3) ⌝ }
+    ensures { λ _. ⌜ Wrote (atEntry out) at (a ∷ b ∷ d ∷ []) (atExit out) (at + 3) ⌝ }
 {
     out[at] = a;
     out[at + 1] = b;
@@ -119,7 +120,7 @@ pub fn add_vertex(
     positions: &mut [i32],
 ) -> Added
     requires { ⌜ 3072 ≤ length (now positions) ⌝ }
-    ensures { λ r. ⌜ VertexAdded c x y z (now (positions .entry)) (now (positions .exit)) r ⌝ }
+    ensures { λ r. ⌜ VertexAdded c x y z (atEntry positions) (atExit positions) r ⌝ }
 {
     match judge_vertex(c, x, y, z) {
         Judged::Fault(fault) => Added::Fault(fault),
@@ -150,7 +151,7 @@ pub fn add_face(
     requires { ⌜ Bounded c ⌝ }
     requires { ⌜ FaceRoom (now edges) (now triangles) ⌝ }
     requires { ⌜ Knows (now edges) (c .edges) ⌝ }
-    ensures { λ r. ⌜ FaceAdded c a b d (now (edges .entry)) (now (triangles .entry)) (now (edges .exit)) (now (triangles .exit)) r ⌝ }
+    ensures { λ r. ⌜ FaceAdded c a b d (atEntry edges) (atEntry triangles) (atExit edges) (atExit triangles) r ⌝ }
 {
     let i = a - 1;
     let j = b - 1;

@@ -9,8 +9,8 @@ use lib.Dec.{ltb}
 use lib.ListN.{length}
 use borrow.Author.Tests.{ltb-false, le-ltb}
 use Rattle.sequences.specs.Wrote.{Wrote, written, wrote-patched, wrote-front}
-use Rattle.scenes.specs.Answering.{is-given, is-past}
-use Rattle.scenes.specs.Accepting.{past-accepted}
+use Rattle.answers.specs.Answering.{is-given, is-past}
+use Rattle.scene_checks.specs.Accepting.{past-accepted}
 use Rattle.meaning.specs.Limits.{textLimit}
 use Rattle.meaning.specs.Scene.{Scene, Accepted}
 use Rattle.meaning.specs.Refusals.{Outcome, given, refused, numberOf, Check, Answers}
@@ -28,10 +28,10 @@ use Rattle.meaning.specs.declared.SaveAnswer as Saves
 use Rattle.meaning.specs.declared.SaveAnswer.{SaveAnswer}
 use Rattle.meaning.specs.declared.ImportAnswer.{ImportAnswer}
 use Rattle.meaning.specs.declared.ImportAnswer.the-variants.{Read, Refused, RefusedIn}
-use Rattle.scene_text.specs.Using.{frontOf}
-use Rattle.summary.specs.Sizes.{reportLength}
-use Rattle.summary.specs.Whole.{SceneReported}
-use Rattle.obj_demands.specs.Using.{SceneImported, scene-imported, front-imported, import-refusal, import-refusal-in}
+use Rattle.text_scene.specs.Using.{frontOf}
+use Rattle.scene_report.specs.Sizes.{reportLength}
+use Rattle.scene_report.specs.Whole.{SceneReported}
+use Rattle.obj_scene.specs.Using.{SceneImported, scene-imported, front-imported, import-refusal, import-refusal-in}
 use Rattle.obj_report.specs.declared.Asked.{Asked}
 use Rattle.obj_report.specs.declared.Asked.the-variants.{Report, Text}
 use Rattle.obj_report.specs.Asking.{shownFor, Shown}
@@ -121,7 +121,7 @@ module _ (Right : Scene → List ℕ → Type 0) {start end : List ℕ} {lent le
   printed-scene {c} e w =
       let i : SceneImported start end lent left (a .outcome) c = scene-imported a e in
       record {
-        printed = w .shown;
+        report = w .shown;
         right = record {
           outcome = read (i .scene);
           right = i .right;
@@ -137,7 +137,7 @@ module _ (Right : Scene → List ℕ → Type 0) {start end : List ℕ} {lent le
     printed-refusal {x} e w =
         let right : PairOutcome start end (Pair.refused (numberOf x)) = rw fits at (import-refusal a e .1) in
         record {
-          printed = refusedLine (numberOf x) 0;
+          report = refusedLine (numberOf x) 0;
           right = record { outcome = Pair.refused (numberOf x); right = right; prints = refl };
           length-is = w .place ∙ zero-add (length (refusedLine (numberOf x) 0));
           buffer = wrote-front w;
@@ -149,7 +149,7 @@ module _ (Right : Scene → List ℕ → Type 0) {start end : List ℕ} {lent le
     printed-refusal-in {f} {x} {line} e w =
         let right : PairOutcome start end (refusedIn f (numberOf x) line) = rw fits at (import-refusal-in a e .1) in
         record {
-          printed = fileLine f (numberOf x) line;
+          report = fileLine f (numberOf x) line;
           right = record { outcome = refusedIn f (numberOf x) line; right = right; prints = refl };
           length-is = w .place ∙ zero-add (length (fileLine f (numberOf x) line));
           buffer = wrote-front w;

@@ -5,8 +5,10 @@ ghost use lib.ListN.{length};
 ghost use Rattle.meaning.specs.Scene.{sceneIn, sceneAtEntry, Accepted};
 ghost use Rattle.meaning.specs.SceneLines.{SceneReport};
 ghost use Rattle.meaning.specs.ObjPrinted.{SceneText, PairPrinted};
-ghost use Rattle.summary.specs.Sizes.{reportLength};
+ghost use Rattle.scene_report.specs.Sizes.{reportLength};
 ghost use Rattle.obj_report.specs.Asking.{shownFor, Shown};
+ghost use Rattle.sequences.specs.Lent.{atEntry, atExit};
+use answers::number_of;
 use meaning::EDGE_NUMBERS;
 use meaning::ImportAnswer;
 use meaning::POSITION_NUMBERS;
@@ -14,10 +16,9 @@ use meaning::REPORT_BYTES;
 use meaning::SEAM_NUMBERS;
 use meaning::SaveAnswer;
 use meaning::TRIANGLE_NUMBERS;
-use obj_pair::import_scene;
-use wording::file_lines::file_line;
-use wording::lines::refused_line;
-use wording::number_of;
+use obj_scene::import_plain;
+use report_words::file_lines::file_line;
+use report_words::lines::refused_line;
 
 // What is asked for of the scene.
 enum Asked {
@@ -34,9 +35,9 @@ fn text_shown(
     out: &mut [u8],
 ) -> usize
     requires { ⌜ Accepted (sceneIn positions edges triangles seams) × (length (now out) ≡ reportLength) ⌝ }
-    ensures { λ r. ⌜ Shown (SceneText (sceneAtEntry positions edges triangles seams)) (now (out .entry)) (now (out .exit)) r ⌝ }
+    ensures { λ r. ⌜ Shown (SceneText (sceneAtEntry positions edges triangles seams)) (atEntry out) (atExit out) r ⌝ }
 {
-    match scene_saved::save_scene(positions, edges, triangles, seams, out) {
+    match saved_scene::save_scene(positions, edges, triangles, seams, out) {
         SaveAnswer::Bytes(count) => count,
         SaveAnswer::Refused(_, _) => refused_line(out, 0, 8, 0),
     }
@@ -51,22 +52,23 @@ fn scene_shown(
     out: &mut [u8],
 ) -> usize
     requires { ⌜ Accepted (sceneIn positions edges triangles seams) × (length (now out) ≡ reportLength) ⌝ }
-    ensures { λ r. ⌜ Shown (shownFor asked (sceneAtEntry positions edges triangles seams)) (now (out .entry)) (now (out .exit)) r ⌝ }
+    ensures { λ r. ⌜ Shown (shownFor asked (sceneAtEntry positions edges triangles seams)) (atEntry out) (atExit out) r
+        ⌝ }
 {
     match asked {
-        Asked::Report => summary::scene_report(positions, edges, triangles, seams, out),
+        Asked::Report => scene_report::scene_report(positions, edges, triangles, seams, out),
         Asked::Text => text_shown(positions, edges, triangles, seams, out),
     }
 }
 
 fn pair_shown(asked: Asked, start: &[u8], end: &[u8], out: &mut [u8; REPORT_BYTES]) -> usize
-    ensures { λ r. ⌜ PairPrinted (shownFor asked) (now (start .entry)) (now (end .entry)) (now (out .entry)) (now (out .exit)) r ⌝ }
+    ensures { λ r. ⌜ PairPrinted (shownFor asked) (atEntry start) (atEntry end) (atEntry out) (atExit out) r ⌝ }
 {
     let mut positions = [0i32; POSITION_NUMBERS];
     let mut edges = [0u16; EDGE_NUMBERS];
     let mut triangles = [0u16; TRIANGLE_NUMBERS];
     let mut seams = [0u16; SEAM_NUMBERS];
-    match import_scene(
+    match import_plain(
         start,
         end,
         &mut positions,
@@ -97,14 +99,14 @@ fn pair_shown(asked: Asked, start: &[u8], end: &[u8], out: &mut [u8; REPORT_BYTE
 
 // The report of the scene of two files, in front of the lent array; its length is returned.
 pub fn write_obj_report(start: &[u8], end: &[u8], out: &mut [u8; REPORT_BYTES]) -> usize
-    ensures { λ r. ⌜ PairPrinted SceneReport (now (start .entry)) (now (end .entry)) (now (out .entry)) (now (out .exit)) r ⌝ }
+    ensures { λ r. ⌜ PairPrinted SceneReport (atEntry start) (atEntry end) (atEntry out) (atExit out) r ⌝ }
 {
     pair_shown(Asked::Report, start, end, out)
 }
 
 // The text of the scene of two files, likewise.
 pub fn write_import_text(start: &[u8], end: &[u8], out: &mut [u8; REPORT_BYTES]) -> usize
-    ensures { λ r. ⌜ PairPrinted SceneText (now (start .entry)) (now (end .entry)) (now (out .entry)) (now (out .exit)) r ⌝ }
+    ensures { λ r. ⌜ PairPrinted SceneText (atEntry start) (atEntry end) (atEntry out) (atExit out) r ⌝ }
 {
     pair_shown(Asked::Text, start, end, out)
 }

@@ -11,7 +11,7 @@ use Rattle.meaning.specs.Limits.{contactLimit}
 use Rattle.meaning.specs.Scene.{Scene, reachesBeyond, Accepted}
 use Rattle.meaning.specs.Refusals.{SceneChecked, Outcome, given, Check, Answers, numberOf}
 use Rattle.meaning.specs.List.{Pair, listSays, leaves}
-use Rattle.meaning.specs.Meetings.{rangeCheck, rowLength, rowsLeft, rowsAfter}
+use Rattle.meaning.specs.WholeContacts.{rangeCheck, rowLength, rowsLeft, rowsAfter}
 use Rattle.meaning.specs.declared.Made.{Made}
 use Rattle.meaning.specs.declared.Refusal.{Refusal}
 use Rattle.meaning.specs.declared.Refusal.the-variants.{Shape, NoRoom, BeyondOldRange}
@@ -19,13 +19,13 @@ use Rattle.meaning.specs.declared.SceneAnswer as SceneAnswers
 use Rattle.meaning.specs.declared.SceneAnswer.{SceneAnswer}
 use Rattle.meaning.specs.declared.ListAnswer as ListAnswers
 use Rattle.meaning.specs.declared.ListAnswer.{ListAnswer}
-use Rattle.scenes.specs.Answering.{refuses, lets-pass, gives, refused-before, given-before}
-use Rattle.scenes.specs.Accepting.{after-accepted, after-refused}
-use Rattle.seam_table.specs.Alone.{tabled}
-use Rattle.scenes.specs.Checking.{Stitched, from-table}
-use Rattle.scene_words.specs.Listed.{pairsIn}
-use Rattle.scene_contacts.specs.Listed.{meetingsOf, metBytes, all-met}
-use Rattle.meaning.specs.OwnList.{askedFor, entryFaults, wordRoom, ownLimit, OwnMet}
+use Rattle.answers.specs.Answering.{refuses, lets-pass, gives, refused-before, given-before}
+use Rattle.scene_checks.specs.Accepting.{after-accepted, after-refused}
+use Rattle.scene_seams.specs.Alone.{tabled}
+use Rattle.scene_checks.specs.Checking.{Stitched, from-table}
+use Rattle.list_words.specs.Listed.{pairsIn}
+use Rattle.contact_scene.specs.Listed.{contactsOf, contactBytes, all-met}
+use Rattle.meaning.specs.OwnList.{askedFor, entryFaults, wordRoom, ownLimit, OwnContacts}
 use Rattle.own_words.specs.Faults.{FaultFound}
 
 abbrev IsLength : List ℕ → ℕ → Type 0
@@ -38,21 +38,21 @@ lastChecks s es b c = rangeCheck s ∷ wordRoom es (min (length b) (length c / r
 -- entries that are not at fault were met, in the old range and where there is room
 pub record SoundMet (s : Scene) (es b b′ c c′ : List ℕ) (r : ListAnswer) : Type 0 where
   pub answer : Answers (lastChecks s es b c) (IsLength es) (listSays r)
-  pub bytes : b′ ≡ leaves (listSays r) (metBytes s (map askedFor es)) b
-  pub rows : c′ ≡ rowsAfter (listSays r) (meetingsOf s (map askedFor es)) c
+  pub bytes : b′ ≡ leaves (listSays r) (contactBytes s (map askedFor es)) b
+  pub rows : c′ ≡ rowsAfter (listSays r) (contactsOf s (map askedFor es)) c
 
 -- the entries of an accepted scene were looked at and met
 pub record AskedMet (s : Scene) (es b b′ c c′ : List ℕ) (r : ListAnswer) : Type 0 where
   pub answer : Answers (entryFaults s es ++ lastChecks s es b c) (IsLength es) (listSays r)
-  pub bytes : b′ ≡ leaves (listSays r) (metBytes s (map askedFor es)) b
-  pub rows : c′ ≡ rowsAfter (listSays r) (meetingsOf s (map askedFor es)) c
+  pub bytes : b′ ≡ leaves (listSays r) (contactBytes s (map askedFor es)) b
+  pub rows : c′ ≡ rowsAfter (listSays r) (contactsOf s (map askedFor es)) c
 
 -- a list that is too long
-pub own-met-long : (s : Scene) (es b c : List ℕ) → ownLimit < length es → OwnMet s es b b c c (ListAnswers.the-variants.Refused Shape 0)
+pub own-met-long : (s : Scene) (es b c : List ℕ) → ownLimit < length es → OwnContacts s es b b c c (ListAnswers.the-variants.Refused Shape 0)
 unfolding listSays leaves rowsAfter numberOf
 own-met-long s es b c h = record {
   answer = refuses _ _ _ _ (lt-ltb _ _ h) refl;
-  meetings = meetingsOf s (map askedFor es);
+  contacts = contactsOf s (map askedFor es);
   right = all-met s (map askedFor es);
   bytes = refl;
   rows = refl;
@@ -62,20 +62,20 @@ module _ (s : Scene) (es b c : List ℕ) where
   -- ---- the scene
 
   pub own-met-refused : length es ≤ ownLimit → {checked : SceneAnswer} (x : Refusal) → SceneChecked s checked → checked ≡ SceneAnswers.the-variants.Refused x
-      → OwnMet s es b b c c (ListAnswers.the-variants.Refused x 0)
+      → OwnContacts s es b b c c (ListAnswers.the-variants.Refused x 0)
   unfolding listSays leaves rowsAfter
   own-met-refused few x p e = record {
     answer = lets-pass _ _ _ _ (le-ltb _ _ few) (after-refused s (entryFaults s es ++ lastChecks s es b c) (IsLength es) e p);
-    meetings = meetingsOf s (map askedFor es);
+    contacts = contactsOf s (map askedFor es);
     right = all-met s (map askedFor es);
     bytes = refl;
     rows = refl;
   }
 
-  pub own-met-accepted : length es ≤ ownLimit → {b′ c′ : List ℕ} {r : ListAnswer} → Accepted s → AskedMet s es b b′ c c′ r → OwnMet s es b b′ c c′ r
+  pub own-met-accepted : length es ≤ ownLimit → {b′ c′ : List ℕ} {r : ListAnswer} → Accepted s → AskedMet s es b b′ c c′ r → OwnContacts s es b b′ c c′ r
   own-met-accepted few {r = r} a j = record {
     answer = lets-pass _ _ _ _ (le-ltb _ _ few) (after-accepted s (entryFaults s es ++ lastChecks s es b c) (IsLength es) (listSays r) a (j .answer));
-    meetings = meetingsOf s (map askedFor es);
+    contacts = contactsOf s (map askedFor es);
     right = all-met s (map askedFor es);
     bytes = j .bytes;
     rows = j .rows;
@@ -117,13 +117,13 @@ module _ (s : Scene) (es b c : List ℕ) where
     all-of = ap (λ (l : List ℕ). map askedFor l) (take-length es)
 
     pub sound-met : {b′ c′ : List ℕ} → length es ≤ min (length b) (length c / rowLength)
-        → b′ ≡ written (metBytes s (pairsIn (length es) es)) b → c′ ≡ rowsLeft (meetingsOf s (pairsIn (length es) es)) c
+        → b′ ≡ written (contactBytes s (pairsIn (length es) es)) b → c′ ≡ rowsLeft (contactsOf s (pairsIn (length es) es)) c
         → SoundMet s es b b′ c c′ (ListAnswers.the-variants.Listed (record { count = length es }))
     unfolding listSays leaves rowsAfter
     sound-met h w v = record {
       answer = lets-pass _ _ _ _ near (lets-pass _ _ _ _ (le-ltb _ _ h) (gives _ _ refl));
-      bytes = w ∙ ap (λ (ps : List Pair). written (metBytes s ps) b) all-of;
-      rows = v ∙ ap (λ (ps : List Pair). rowsLeft (meetingsOf s ps) c) all-of;
+      bytes = w ∙ ap (λ (ps : List Pair). written (contactBytes s ps) b) all-of;
+      rows = v ∙ ap (λ (ps : List Pair). rowsLeft (contactsOf s ps) c) all-of;
     }
 
 -- what holds of the scene that the table tells holds of the scene

@@ -4,12 +4,13 @@ ghost use Prim.Native.Nat.{_≤_, min};
 ghost use mathlib.Core.Path.{_≡_};
 ghost use lib.ListN.{length};
 ghost use Rattle.meaning.specs.Scene.{sceneAtEntry, Accepted};
-ghost use Rattle.seam_table.specs.Alone.{tabledIn, tabledAtEntry};
-ghost use Rattle.seam_table.specs.Sewing.{Blank};
-ghost use Rattle.scenes.specs.Checking.{Stitched};
-ghost use Rattle.scene_words.specs.Listed.{AllThere};
-ghost use Rattle.meaning.specs.OwnList.{ownLimit, OwnMet};
+ghost use Rattle.scene_seams.specs.Alone.{tabledIn, tabledAtEntry};
+ghost use Rattle.scene_seams.specs.Sewing.{Blank};
+ghost use Rattle.scene_checks.specs.Checking.{Stitched};
+ghost use Rattle.list_words.specs.Listed.{AllThere};
+ghost use Rattle.meaning.specs.OwnList.{ownLimit, OwnContacts};
 ghost use Rattle.own_contacts.specs.Answering.{SoundMet, AskedMet};
+ghost use Rattle.sequences.specs.Lent.{atEntry, atExit};
 use meaning::ListAnswer;
 use meaning::Made;
 use meaning::ROW_NUMBERS;
@@ -25,7 +26,7 @@ fn smaller(a: usize, b: usize) -> usize
 }
 
 // Of entries that are not at fault: 16, then 7, else each is met.
-fn meet_sound(
+fn contact_sound(
     positions: &[i32],
     edges: &[u16],
     triangles: &[u16],
@@ -34,17 +35,19 @@ fn meet_sound(
     words: &mut [u8],
     contacts: &mut [u32],
 ) -> ListAnswer
-    requires { ⌜ Accepted (tabledIn positions edges triangles stands) × AllThere (tabledIn positions edges triangles stands) (length (now list)) (now list) ⌝ }
-    ensures { λ r. ⌜ SoundMet (tabledAtEntry positions edges triangles stands) (now (list .entry)) (now (words .entry)) (now (words .exit)) (now (contacts .entry)) (now (contacts .exit)) r ⌝ }
+    requires { ⌜ Accepted (tabledIn positions edges triangles stands)
+        × AllThere (tabledIn positions edges triangles stands) (length (now list)) (now list) ⌝ }
+    ensures { λ r. ⌜ SoundMet (tabledAtEntry positions edges triangles stands) (atEntry list) (atEntry words)
+        (atExit words) (atEntry contacts) (atExit contacts) r ⌝ }
 {
-    if meetings::beyond_old_range(positions) {
+    if contact_pair::beyond_old_range(positions) {
         return ListAnswer::Refused(Refusal::BeyondOldRange, 0);
     }
     let count = list.len();
     if smaller(words.len(), contacts.len() / ROW_NUMBERS) < count {
         return ListAnswer::Refused(Refusal::NoRoom, count);
     }
-    scene_contacts::meet_entries(
+    contact_scene::contact_entries(
         positions,
         edges,
         triangles,
@@ -58,7 +61,7 @@ fn meet_sound(
 }
 
 // For a scene that was checked already: nothing is written before it is known that no entry is at fault and that there is room.
-fn meet_asked(
+fn contact_asked(
     positions: &[i32],
     edges: &[u16],
     triangles: &[u16],
@@ -68,7 +71,8 @@ fn meet_asked(
     contacts: &mut [u32],
 ) -> ListAnswer
     requires { ⌜ Accepted (tabledIn positions edges triangles stands) ⌝ }
-    ensures { λ r. ⌜ AskedMet (tabledAtEntry positions edges triangles stands) (now (list .entry)) (now (words .entry)) (now (words .exit)) (now (contacts .entry)) (now (contacts .exit)) r ⌝ }
+    ensures { λ r. ⌜ AskedMet (tabledAtEntry positions edges triangles stands) (atEntry list) (atEntry words)
+        (atExit words) (atEntry contacts) (atExit contacts) r ⌝ }
 {
     if let ListAnswer::Refused(refusal, number) = own_words::first_fault(
         positions,
@@ -79,11 +83,11 @@ fn meet_asked(
     ) {
         return ListAnswer::Refused(refusal, number);
     }
-    meet_sound(positions, edges, triangles, stands, list, words, contacts)
+    contact_sound(positions, edges, triangles, stands, list, words, contacts)
 }
 
 // For a scene that may be anything and a list that is not too long, over a lent table without seams, which is that of the scene's seams afterwards.
-fn meet_into(
+fn contact_into(
     positions: &[i32],
     edges: &[u16],
     triangles: &[u16],
@@ -94,9 +98,11 @@ fn meet_into(
     contacts: &mut [u32],
 ) -> ListAnswer
     requires { ⌜ Blank (now seams) (now stands) × (length (now list) ≤ ownLimit) ⌝ }
-    ensures { λ r. ⌜ OwnMet (sceneAtEntry positions edges triangles seams) (now (list .entry)) (now (words .entry)) (now (words .exit)) (now (contacts .entry)) (now (contacts .exit)) r × Stitched (sceneAtEntry positions edges triangles seams) (now (stands .entry)) (now (stands .exit)) ⌝ }
+    ensures { λ r. ⌜ OwnContacts (sceneAtEntry positions edges triangles seams) (atEntry list) (atEntry words)
+        (atExit words) (atEntry contacts) (atExit contacts) r
+        × Stitched (sceneAtEntry positions edges triangles seams) (atEntry stands) (atExit stands) ⌝ }
 {
-    if let SceneAnswer::Refused(refusal) = scenes::check_into(
+    if let SceneAnswer::Refused(refusal) = scene_checks::check_into(
         positions,
         edges,
         triangles,
@@ -105,11 +111,11 @@ fn meet_into(
     ) {
         return ListAnswer::Refused(refusal, 0);
     }
-    meet_asked(positions, edges, triangles, stands, list, words, contacts)
+    contact_asked(positions, edges, triangles, stands, list, words, contacts)
 }
 
 // The words and contacts of the pairs that a list asks for. Where there are no seams nothing is looked up.
-pub fn meet_list(
+pub fn contact_list(
     positions: &[i32],
     edges: &[u16],
     triangles: &[u16],
@@ -118,14 +124,15 @@ pub fn meet_list(
     words: &mut [u8],
     contacts: &mut [u32],
 ) -> ListAnswer
-    ensures { λ r. ⌜ OwnMet (sceneAtEntry positions edges triangles seams) (now (list .entry)) (now (words .entry)) (now (words .exit)) (now (contacts .entry)) (now (contacts .exit)) r ⌝ }
+    ensures { λ r. ⌜ OwnContacts (sceneAtEntry positions edges triangles seams) (atEntry list) (atEntry words)
+        (atExit words) (atEntry contacts) (atExit contacts) r ⌝ }
 {
     if OWN_LIMIT < list.len() {
         return ListAnswer::Refused(Refusal::Shape, 0);
     }
     if seams.len() == 0 {
         let mut none = [0u16; 0];
-        return meet_into(
+        return contact_into(
             positions,
             edges,
             triangles,
@@ -137,7 +144,7 @@ pub fn meet_list(
         );
     }
     let mut stands = [0u16; VERTEX_LIMIT];
-    meet_into(
+    contact_into(
         positions,
         edges,
         triangles,

@@ -21,12 +21,12 @@ use Rattle.meaning.specs.declared.Kind.the-variants.{PointTriangle, EdgeEdge}
 use Rattle.meaning.specs.declared.Settled.{Settled}
 use Rattle.meaning.specs.declared.SettledAnswer.{SettledAnswer}
 use Rattle.meaning.specs.declared.ListAnswer.{ListAnswer}
-use Rattle.scenes.specs.Answering.{is-given, is-past}
-use Rattle.scenes.specs.Accepting.{past-accepted}
+use Rattle.answers.specs.Answering.{is-given, is-past}
+use Rattle.scene_checks.specs.Accepting.{past-accepted}
 use Rattle.corner_search.specs.Decided.{pair-word-is}
-use Rattle.entries.specs.Entries.{Narrow, number-back}
-use Rattle.scene_words.specs.Listed.{noPair, wordOfPair, wordsOf, bytesOf, all-judged, bytes-at, bytes-length, wordOfByte, byte-back}
-use Rattle.demands.specs.OneAnswer.{all-judged-one}
+use Rattle.list_entries.specs.Entries.{Narrow, number-back}
+use Rattle.list_words.specs.Listed.{noPair, wordOfPair, wordsOf, bytesOf, all-judged, bytes-at, bytes-length, wordOfByte, byte-back}
+use Rattle.list_words.specs.OneResult.{all-judged-one}
 use Rattle.meaning.specs.OwnList.{askedFor, entryFaults, wordRoom, sizeCheck, OwnSettled}
 use Rattle.own_words.specs.Faults.{Sound, entry-is-there, each-passed}
 

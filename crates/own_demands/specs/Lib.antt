@@ -1,4 +1,2 @@
 -- What was asked of a list of one's own, as theorems.
-pub mod OneOwn
 pub mod AsAlone
-pub mod Small

@@ -18,11 +18,11 @@ use Rattle.meaning.specs.declared.SceneAnswer as SceneAnswers
 use Rattle.meaning.specs.declared.SceneAnswer.{SceneAnswer}
 use Rattle.meaning.specs.declared.ListAnswer as ListAnswers
 use Rattle.meaning.specs.declared.ListAnswer.{ListAnswer}
-use Rattle.scenes.specs.Answering.{refuses, lets-pass, gives, refused-before, given-before}
-use Rattle.scenes.specs.Accepting.{after-accepted, after-refused}
-use Rattle.seam_table.specs.Alone.{tabled}
-use Rattle.scenes.specs.Checking.{Stitched, from-table}
-use Rattle.scene_words.specs.Listed.{wordsOf, bytesOf, all-judged, pairsIn, AllThere}
+use Rattle.answers.specs.Answering.{refuses, lets-pass, gives, refused-before, given-before}
+use Rattle.scene_checks.specs.Accepting.{after-accepted, after-refused}
+use Rattle.scene_seams.specs.Alone.{tabled}
+use Rattle.scene_checks.specs.Checking.{Stitched, from-table}
+use Rattle.list_words.specs.Listed.{wordsOf, bytesOf, all-judged, pairsIn, AllThere}
 use Rattle.meaning.specs.OwnList.{askedFor, entryFaults, wordRoom, ownLimit, OwnSettled}
 use Rattle.own_words.specs.Faults.{FaultFound}
 

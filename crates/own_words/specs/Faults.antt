@@ -16,10 +16,10 @@ use Rattle.meaning.specs.declared.Made.{Made}
 use Rattle.meaning.specs.declared.Refusal.the-variants.{NotThere, SharedVertex}
 use Rattle.meaning.specs.declared.ListAnswer as ListAnswers
 use Rattle.meaning.specs.declared.ListAnswer.{ListAnswer}
-use Rattle.scenes.specs.Answering.{refuses, lets-pass, gives, is-given}
-use Rattle.seam_table.specs.Below.{or-rest}
-use Rattle.entries.specs.Entries.{kindOf, firstOf, secondOf}
-use Rattle.scene_words.specs.Listed.{AllThere, entry-there}
+use Rattle.answers.specs.Answering.{refuses, lets-pass, gives, is-given}
+use Rattle.answers.specs.Below.{or-rest}
+use Rattle.list_entries.specs.Entries.{kindOf, firstOf, secondOf}
+use Rattle.list_words.specs.Listed.{AllThere, entry-there}
 use Rattle.meaning.specs.OwnList.{entryMissing, entryShared, missingCheck, sharedCheck, faultyFrom, entryFaults}
 
 -- ---- one entry

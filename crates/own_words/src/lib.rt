@@ -6,12 +6,13 @@ ghost use mathlib.Core.Path.{_≡_};
 ghost use Prim.Native.Nat.{ℕ, _≤_};
 ghost use lib.ListN.{length};
 ghost use Rattle.meaning.specs.Scene.{sceneOf, sceneAtEntry, Accepted};
-ghost use Rattle.seam_table.specs.Alone.{tabledIn, tabledAtEntry};
-ghost use Rattle.seam_table.specs.Sewing.{Blank};
-ghost use Rattle.scenes.specs.Checking.{Stitched};
+ghost use Rattle.scene_seams.specs.Alone.{tabledIn, tabledAtEntry};
+ghost use Rattle.scene_seams.specs.Sewing.{Blank};
+ghost use Rattle.scene_checks.specs.Checking.{Stitched};
 ghost use Rattle.meaning.specs.OwnList.{entryMissing, entryShared, ownLimit, OwnSettled};
 ghost use Rattle.own_words.specs.Faults.{FaultFound};
 ghost use Rattle.own_words.specs.Answering.{OwnJudged};
+ghost use Rattle.sequences.specs.Lent.{atEntry, atExit};
 use meaning::Kind;
 use meaning::ListAnswer;
 use meaning::Made;
@@ -27,15 +28,16 @@ pub const OWN_LIMIT: usize = 4294967295;
 
 // 5 of an entry.
 fn entry_missing(positions: &[i32], edges: &[u16], triangles: &[u16], entry: u32) -> bool
-    ensures { λ r. ⌜ ((w : List ℕ) → r ≡ entryMissing (sceneOf (now (positions .entry)) (now (edges .entry)) (now (triangles .entry)) w) entry) ⌝ }
+    ensures { λ r. ⌜ ((w : List ℕ) → r ≡ entryMissing
+        (sceneOf (atEntry positions) (atEntry edges) (atEntry triangles) w) entry) ⌝ }
 {
-    let missing = three_words::accepted::not_there(
+    let missing = scene_parts::asked::not_there(
         positions,
         edges,
         triangles,
-        entries::kind_of(entry),
-        entries::first_of(entry),
-        entries::second_of(entry),
+        list_entries::kind_of(entry),
+        list_entries::first_of(entry),
+        list_entries::second_of(entry),
     );
     (NO_NUMBER <= entry) | missing
 }
@@ -51,9 +53,9 @@ fn entry_shared(
     requires { ⌜ entryMissing (tabledIn positions edges triangles stands) entry ≡ false ⌝ }
     ensures { λ r. ⌜ r ≡ entryShared (tabledAtEntry positions edges triangles stands) entry ⌝ }
 {
-    let first = entries::first_of(entry);
-    let second = entries::second_of(entry);
-    match entries::kind_of(entry) {
+    let first = list_entries::first_of(entry);
+    let second = list_entries::second_of(entry);
+    match list_entries::kind_of(entry) {
         Kind::PointTriangle => scene_parts::shares_pt(triangles, stands, first, second),
         Kind::EdgeEdge => scene_parts::shares_ee(edges, stands, first, second),
     }
@@ -67,7 +69,7 @@ pub fn first_fault(
     stands: &[u16],
     list: &[u32],
 ) -> ListAnswer
-    ensures { λ r. ⌜ FaultFound (tabledAtEntry positions edges triangles stands) (now (list .entry)) r ⌝ }
+    ensures { λ r. ⌜ FaultFound (tabledAtEntry positions edges triangles stands) (atEntry list) r ⌝ }
 {
     let mut k = 0;
     while k < list.len() {
@@ -92,7 +94,8 @@ fn settle_asked(
     words: &mut [u8],
 ) -> ListAnswer
     requires { ⌜ Accepted (tabledIn positions edges triangles stands) ⌝ }
-    ensures { λ r. ⌜ OwnJudged (tabledAtEntry positions edges triangles stands) (now (list .entry)) (now (words .entry)) (now (words .exit)) r ⌝ }
+    ensures { λ r. ⌜ OwnJudged (tabledAtEntry positions edges triangles stands) (atEntry list) (atEntry words)
+        (atExit words) r ⌝ }
 {
     match first_fault(positions, edges, triangles, stands, list) {
         ListAnswer::Refused(refusal, number) => ListAnswer::Refused(refusal, number),
@@ -100,7 +103,7 @@ fn settle_asked(
             if words.len() < made.count {
                 return ListAnswer::Refused(Refusal::NoRoom, made.count);
             }
-            scene_words::settle_entries(
+            list_words::settle_entries(
                 positions,
                 edges,
                 triangles,
@@ -125,9 +128,10 @@ fn settle_into(
     words: &mut [u8],
 ) -> ListAnswer
     requires { ⌜ Blank (now seams) (now stands) × (length (now list) ≤ ownLimit) ⌝ }
-    ensures { λ r. ⌜ OwnSettled (sceneAtEntry positions edges triangles seams) (now (list .entry)) (now (words .entry)) (now (words .exit)) r × Stitched (sceneAtEntry positions edges triangles seams) (now (stands .entry)) (now (stands .exit)) ⌝ }
+    ensures { λ r. ⌜ OwnSettled (sceneAtEntry positions edges triangles seams) (atEntry list) (atEntry words)
+        (atExit words) r × Stitched (sceneAtEntry positions edges triangles seams) (atEntry stands) (atExit stands) ⌝ }
 {
-    if let SceneAnswer::Refused(refusal) = scenes::check_into(
+    if let SceneAnswer::Refused(refusal) = scene_checks::check_into(
         positions,
         edges,
         triangles,
@@ -148,7 +152,8 @@ pub fn settle_list(
     list: &[u32],
     words: &mut [u8],
 ) -> ListAnswer
-    ensures { λ r. ⌜ OwnSettled (sceneAtEntry positions edges triangles seams) (now (list .entry)) (now (words .entry)) (now (words .exit)) r ⌝ }
+    ensures { λ r. ⌜ OwnSettled (sceneAtEntry positions edges triangles seams) (atEntry list) (atEntry words)
+        (atExit words) r ⌝ }
 {
     if OWN_LIMIT < list.len() {
         return ListAnswer::Refused(Refusal::Shape, 0);

@@ -1,7 +1,7 @@
-// The report program: a scene text on standard input, its report on standard output. It reads and writes, and `summary` does the rest.
+// The report program: a scene text on standard input, its report on standard output. It reads and writes, and `scene_report` does the rest.
 
+use meaning::READ_BYTES;
 use meaning::REPORT_BYTES;
-use summary::READ_BYTES;
 
 // Whether the input was read to its end. `read_full` stops at the end of the input and at a read that fails; one more read tells the
 // two apart, so that a failed read does not look like a shorter scene.
@@ -23,7 +23,7 @@ fn main() {
         return;
     }
     let mut out = [0u8; REPORT_BYTES];
-    let length = summary::report_read(&text, count, &mut out);
+    let length = scene_report::report_read(&text, count, &mut out);
     // a part of a report may have gone out, and it is no report
     if !io::write_all(libc::STDOUT_FILENO, &out[..length]) {
         io::write_all(

@@ -12,10 +12,10 @@ use Rattle.meaning.specs.Scene.{Scene, Accepted, wrongShape, outOfRange, unknow
 use Rattle.meaning.specs.Refusals.{Outcome, given, refused, Check, Answers, numberOf}
 use Rattle.meaning.specs.List.{leaves}
 use Rattle.meaning.specs.declared.Refusal.{Refusal}
-use Rattle.demands.specs.Deciding.{Refuses, carriedBy, NoneHolds, absent, distinct, refused-exactly, number-known, gives-exactly}
+use Rattle.answers.specs.Deciding.{Refuses, carriedBy, NoneHolds, absent, distinct, refused-exactly, number-known, gives-exactly}
 use Rattle.demands.specs.Demand1.{SceneRows}
 use Rattle.meaning.specs.Saved.{savedText, saveSays, savedChecks, saveChecks, Measured, Saved}
-use Rattle.scene_saved.specs.Answering.{IsLength}
+use Rattle.saved_scene.specs.Answering.{IsLength}
 use Rattle.meaning.specs.declared.SaveAnswer.{SaveAnswer}
 use Rattle.meaning.specs.declared.SaveAnswer.the-variants.{Refused}
 

@@ -16,12 +16,12 @@ use Rattle.meaning.specs.Limits.{coordinateLimit, vertexLimit, edgeLimit, trian
 use Rattle.meaning.specs.Scene.{Scene, sceneOf, Accepted, someBelow, stoodFor, vertexCount, edgeCount, triangleCount, seamCount, sewn, onto, uneven, overSize, wrongShape, beyond, unknownIn, unknownVertex, replaced, comesApart, wrongSeam, brokenSeam, twiceInEdge, twiceInTriangle, repeatedVertex}
 use Rattle.meaning.specs.Text.{Entry, vertex, edge, triangle, seam, coordinates, sceneWith, late}
 use Rattle.meaning.specs.declared.SceneCounts.{SceneCounts}
-use Rattle.seam_table.specs.Below.{or-left, or-rest, none-passes, none-below}
-use Rattle.seam_table.specs.OneMore.{broken, stays-broken, broken-alike}
-use Rattle.scene_line.specs.Reading.{sortOf}
-use Rattle.scene_line.specs.Above.{Lengths, Bounded, bounded-by, lengths-more, countedBy}
-use Rattle.scene_line.specs.Adding.{one, twiceInTwo, twiceInThree}
-use Rattle.scene_line.specs.Checks.{with-vertex, with-edge, with-triangle, with-seam}
+use Rattle.answers.specs.Below.{or-left, or-rest, none-passes, none-below}
+use Rattle.scene_seams.specs.OneMore.{broken, stays-broken, broken-alike}
+use Rattle.text_line.specs.Reading.{sortOf}
+use Rattle.text_line.specs.Above.{Lengths, Bounded, bounded-by, lengths-more, countedBy}
+use Rattle.text_line.specs.Adding.{one, twiceInTwo, twiceInThree}
+use Rattle.text_line.specs.Checks.{with-vertex, with-edge, with-triangle, with-seam}
 use Rattle.saved_demands.specs.Records.{empty}
 
 -- ---- shape

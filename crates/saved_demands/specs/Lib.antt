@@ -2,6 +2,5 @@
 pub mod Records
 pub mod Fronts
 pub mod ReadBack
-pub mod OneSave
 pub mod Demand1
 pub mod Saving

@@ -16,13 +16,13 @@ use Rattle.meaning.specs.Scene.{Scene, sceneOf, Accepted, uneven, overSize, out
 use Rattle.meaning.specs.Refusals.{given, Answers}
 use Rattle.meaning.specs.Lines as Lines
 use Rattle.meaning.specs.Lines.{afterAll}
-use Rattle.meaning.specs.Text.{Entry, vertex, edge, triangle, seam, coordinates, coordinatesIn, endsIn, cornersIn, seamIn, numbersOf, Short, sceneWith, none, late, EntryJudged, sceneLines, sceneFrom, Sound, Holds}
+use Rattle.meaning.specs.Text.{Entry, vertex, edge, triangle, seam, coordinates, coordinatesIn, endsIn, cornersIn, seamIn, numbersOf, Short, sceneWith, none, late, EntryJudged, sceneLines, sceneFrom, SceneSound, Holds}
 use Rattle.meaning.specs.declared.SceneCounts.{SceneCounts}
-use Rattle.seam_table.specs.Below.{or-left, or-rest}
-use Rattle.scenes.specs.Facts.{Sized, accepted-sized}
-use Rattle.scene_line.specs.Reading.{sortOf}
-use Rattle.scene_line.specs.Above.{Above, Lengths, Bounded, above-none, bounded-by, lengths-more, countedBy, noCounts}
-use Rattle.scene_line.specs.Checks.{comes-vertex, comes-edge, comes-triangle, comes-seam}
+use Rattle.answers.specs.Below.{or-left, or-rest}
+use Rattle.scene_checks.specs.Facts.{Sized, accepted-sized}
+use Rattle.text_line.specs.Reading.{sortOf}
+use Rattle.text_line.specs.Above.{Above, Lengths, Bounded, above-none, bounded-by, lengths-more, countedBy, noCounts}
+use Rattle.text_line.specs.Checks.{comes-vertex, comes-edge, comes-triangle, comes-seam}
 use Rattle.meaning.specs.Saved.{verticesIn, edgesIn, trianglesIn, seamsIn, recordsOf, savedText}
 use Rattle.saved_demands.specs.Fronts.{few-of, accepted-before}
 
@@ -216,7 +216,7 @@ formed s c (seam i j) a b =
     (short-number n i (a .bounded .vertices) (or-left (leb n i) (leb n j) h), (short-number n j (a .bounded .vertices) (or-rest (leb n i) (leb n j) h), tt))
 
 -- from the last record back: where the scene of all is accepted, so is the scene of those above each
-sound-back : (s : Scene) (c : SceneCounts) (rs : List Entry) → Lengths s c → InOrder s rs → Accepted (afterAll sceneLines s rs) → Sound s rs × Accepted s
+sound-back : (s : Scene) (c : SceneCounts) (rs : List Entry) → Lengths s c → InOrder s rs → Accepted (afterAll sceneLines s rs) → SceneSound s rs × Accepted s
 unfolding InOrder Lines.Sound afterAll
 sound-back s c [] l o a = (tt, a)
 sound-back s c (r ∷ rs) l o a =

@@ -13,12 +13,12 @@ use Rattle.whole.specs.Vector.{Vector}
 use Rattle.meaning.specs.Scene.{Scene, sceneOf}
 use Rattle.meaning.specs.Lines as Lines
 use Rattle.meaning.specs.Lines.{afterAll}
-use Rattle.meaning.specs.Text.{Entry, vertex, edge, triangle, seam, coordinates, sceneWith, none, late, sceneLines, sceneFrom, textOf, Sound, Holds}
+use Rattle.meaning.specs.Text.{Entry, vertex, edge, triangle, seam, coordinates, sceneWith, none, late, sceneLines, sceneFrom, textOf, SceneSound, Holds}
 use Rattle.meaning.specs.declared.SceneCounts.{SceneCounts}
-use Rattle.seam_table.specs.Below.{or-left, or-rest}
-use Rattle.scene_line.specs.Reading.{sortOf}
-use Rattle.scene_line.specs.Above.{Above, Lengths, above-none, above-more, countedBy, noCounts, faultless}
-use Rattle.scene_line.specs.Checks.{with-vertex, with-edge, with-triangle, with-seam}
+use Rattle.answers.specs.Below.{or-left, or-rest}
+use Rattle.text_line.specs.Reading.{sortOf}
+use Rattle.text_line.specs.Above.{Above, Lengths, above-none, above-more, countedBy, noCounts, faultless}
+use Rattle.text_line.specs.Checks.{with-vertex, with-edge, with-triangle, with-seam}
 use Rattle.meaning.specs.Saved.{verticesIn, edgesIn, trianglesIn, seamsIn, recordsOf, savedText}
 
 -- a list without an element
@@ -126,7 +126,7 @@ records-more s c (seam i j) l h =
 
 -- ---- all records of a text
 
-all-records : (s : Scene) (c : SceneCounts) (rs : List Entry) → Above s c → Sound s rs → recordsOf (afterAll sceneLines s rs) ≡ recordsOf s ++ rs
+all-records : (s : Scene) (c : SceneCounts) (rs : List Entry) → Above s c → SceneSound s rs → recordsOf (afterAll sceneLines s rs) ≡ recordsOf s ++ rs
 unfolding Lines.Sound afterAll
 all-records s c [] a h = sym (append-nil (recordsOf s))
 all-records s c (r ∷ rs) a h =

@@ -17,18 +17,18 @@ use Rattle.meaning.specs.Text.{Holds, TextIs, shortBuffer, longText, TextOutcom
 use Rattle.meaning.specs.declared.SceneCounts.{SceneCounts}
 use Rattle.meaning.specs.declared.TextAnswer.{TextAnswer}
 use Rattle.meaning.specs.declared.TextAnswer.the-variants.{Read}
-use Rattle.scenes.specs.Answering.{is-given}
-use Rattle.scene_text.specs.Using.{frontOf, Came, came, byBuffers, byLength, byLines, holds-read, accepted-read, short-read}
-use Rattle.scene_text.specs.Unique.{text-unique}
+use Rattle.answers.specs.Answering.{is-given}
+use Rattle.text_scene.specs.Using.{frontOf, Came, came, byBuffers, byLength, byLines, holds-read, accepted-read, short-read}
+use Rattle.text_scene.specs.Unique.{text-unique}
 use Rattle.meaning.specs.Saved.{savedText, saveSays, savedChecks, saveChecks, Measured, Saved}
-use Rattle.scene_saved.specs.Answering.{IsLength, measured-given, measured-is, saved-given}
+use Rattle.saved_scene.specs.Answering.{IsLength, measured-given, measured-is, saved-given}
 use Rattle.meaning.specs.declared.SaveAnswer.{SaveAnswer}
 use Rattle.meaning.specs.declared.SaveAnswer.the-variants.{Bytes, Refused}
-use Rattle.scenes.specs.Accepting.{accepted-checked}
+use Rattle.scene_checks.specs.Accepting.{accepted-checked}
 use Rattle.meaning.specs.declared.SceneAnswer as SceneAnswers
 use Rattle.saved_demands.specs.Records.{same-bytes}
 use Rattle.saved_demands.specs.ReadBack.{reads-back}
-use Rattle.saved_demands.specs.OneSave.{one-saved}
+use Rattle.saved_scene.specs.OneSave.{one-saved}
 
 -- ---- a scene that was saved
 

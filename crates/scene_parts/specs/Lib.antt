@@ -1,2 +1,3 @@
--- Ends and corners in rising order of the vertices stood for.
+-- Ends and corners in rising order of the vertices stood for; pairs that are there.
 pub mod Ordering
+pub mod There

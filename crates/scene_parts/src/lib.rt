@@ -2,6 +2,7 @@
 // seams where vertices are compared; what it promises of a scene with these alone is, by computation, what it promises of the whole scene.
 // A scene without seams has a table without entries: there every vertex counts as itself, and none is looked up.
 
+pub mod asked; // asked.rt: what is asked of a pair before it is judged
 pub mod written; // written.rt: ends and corners as the scene writes them, and in rising number
 
 ghost use Prim.Native.Nat.{ℕ, _<_};
@@ -11,11 +12,12 @@ ghost use lib.IntN.{ℤ};
 ghost use Rattle.meaning.specs.Scene.{vertexCount, edgeCount, triangleCount, edgeEnd, corner, countsAs, endsOf, cornersOf};
 ghost use Rattle.meaning.specs.Refusals.{shares};
 ghost use Rattle.meaning.specs.declared.Kind.the-variants.{PointTriangle, EdgeEdge};
-ghost use Rattle.seam_table.specs.Alone.{onlyPositions, onlyEdges, onlyTriangles, onlyTable, edgesSewn, trianglesSewn, tabled};
+ghost use Rattle.scene_seams.specs.Alone.{onlyPositions, onlyEdges, onlyTriangles, onlyTable, edgesSewn, trianglesSewn, tabled};
 ghost use Rattle.scene_parts.specs.Ordering.{oneOfThree, oneInCommon};
+ghost use Rattle.sequences.specs.Lent.{atEntry};
 use meaning::Corners;
 use meaning::Ends;
-use seam_table::counts_as;
+use scene_seams::counts_as;
 use written::among;
 use written::corner;
 use written::edge_end;
@@ -23,26 +25,26 @@ use written::in_order;
 use written::rising;
 
 pub fn vertex_count(positions: &[i32]) -> usize
-    ensures { λ r. ⌜ r ≡ vertexCount (onlyPositions (now (positions .entry))) ⌝ }
+    ensures { λ r. ⌜ r ≡ vertexCount (onlyPositions (atEntry positions)) ⌝ }
 {
     positions.len() / 6
 }
 
 pub fn edge_count(edges: &[u16]) -> usize
-    ensures { λ r. ⌜ r ≡ edgeCount (onlyEdges (now (edges .entry))) ⌝ }
+    ensures { λ r. ⌜ r ≡ edgeCount (onlyEdges (atEntry edges)) ⌝ }
 {
     edges.len() / 2
 }
 
 pub fn triangle_count(triangles: &[u16]) -> usize
-    ensures { λ r. ⌜ r ≡ triangleCount (onlyTriangles (now (triangles .entry))) ⌝ }
+    ensures { λ r. ⌜ r ≡ triangleCount (onlyTriangles (atEntry triangles)) ⌝ }
 {
     triangles.len() / 3
 }
 
 pub fn ends_of(edges: &[u16], stands: &[u16], j: usize) -> Ends
     requires { ⌜ j < edgeCount (onlyEdges (now edges)) ⌝ }
-    ensures { λ r. ⌜ r ≡ endsOf (edgesSewn (now (edges .entry)) (now (stands .entry))) j ⌝ }
+    ensures { λ r. ⌜ r ≡ endsOf (edgesSewn (atEntry edges) (atEntry stands)) j ⌝ }
 {
     let a = edge_end(edges, j, 0);
     let b = edge_end(edges, j, 1);
@@ -55,7 +57,7 @@ pub fn ends_of(edges: &[u16], stands: &[u16], j: usize) -> Ends
 
 pub fn corners_of(triangles: &[u16], stands: &[u16], j: usize) -> Corners
     requires { ⌜ j < triangleCount (onlyTriangles (now triangles)) ⌝ }
-    ensures { λ r. ⌜ r ≡ cornersOf (trianglesSewn (now (triangles .entry)) (now (stands .entry))) j ⌝ }
+    ensures { λ r. ⌜ r ≡ cornersOf (trianglesSewn (atEntry triangles) (atEntry stands)) j ⌝ }
 {
     let a = corner(triangles, j, 0);
     let b = corner(triangles, j, 1);
@@ -78,14 +80,14 @@ pub fn corners_of(triangles: &[u16], stands: &[u16], j: usize) -> Corners
 // End k of edge j and corner k of triangle j, as the vertex stood for.
 pub fn end_counts_as(edges: &[u16], stands: &[u16], j: usize, k: usize) -> usize
     requires { ⌜ (j < edgeCount (onlyEdges (now edges))) × (k < 2) ⌝ }
-    ensures { λ r. ⌜ r ≡ countsAs (onlyTable (now (stands .entry))) (edgeEnd (onlyEdges (now (edges .entry))) j k) ⌝ }
+    ensures { λ r. ⌜ r ≡ countsAs (onlyTable (atEntry stands)) (edgeEnd (onlyEdges (atEntry edges)) j k) ⌝ }
 {
     counts_as(stands, edge_end(edges, j, k))
 }
 
 pub fn corner_counts_as(triangles: &[u16], stands: &[u16], j: usize, k: usize) -> usize
     requires { ⌜ (j < triangleCount (onlyTriangles (now triangles))) × (k < 3) ⌝ }
-    ensures { λ r. ⌜ r ≡ countsAs (onlyTable (now (stands .entry))) (corner (onlyTriangles (now (triangles .entry))) j k) ⌝ }
+    ensures { λ r. ⌜ r ≡ countsAs (onlyTable (atEntry stands)) (corner (onlyTriangles (atEntry triangles)) j k) ⌝ }
 {
     counts_as(stands, corner(triangles, j, k))
 }
@@ -99,7 +101,8 @@ fn one_of_three(v: usize, a: usize, b: usize, c: usize) -> bool
 // Whether vertex v is a corner of triangle j.
 pub fn shares_pt(triangles: &[u16], stands: &[u16], v: usize, j: usize) -> bool
     requires { ⌜ j < triangleCount (onlyTriangles (now triangles)) ⌝ }
-    ensures { λ r. ⌜ ((p : List ℤ) (e : List ℕ) → r ≡ shares (tabled p e (now (triangles .entry)) (now (stands .entry))) PointTriangle v j) ⌝ }
+    ensures { λ r. ⌜ ((p : List ℤ) (e : List ℕ)
+        → r ≡ shares (tabled p e (atEntry triangles) (atEntry stands)) PointTriangle v j) ⌝ }
 {
     let a = corner(triangles, j, 0);
     let b = corner(triangles, j, 1);
@@ -125,7 +128,8 @@ fn one_in_common(a: usize, b: usize, c: usize, d: usize) -> bool
 // Whether an end of edge i is an end of edge j.
 pub fn shares_ee(edges: &[u16], stands: &[u16], i: usize, j: usize) -> bool
     requires { ⌜ (i < edgeCount (onlyEdges (now edges))) × (j < edgeCount (onlyEdges (now edges))) ⌝ }
-    ensures { λ r. ⌜ ((p : List ℤ) (t : List ℕ) → r ≡ shares (tabled p (now (edges .entry)) t (now (stands .entry))) EdgeEdge i j) ⌝ }
+    ensures { λ r. ⌜ ((p : List ℤ) (t : List ℕ)
+        → r ≡ shares (tabled p (atEntry edges) t (atEntry stands)) EdgeEdge i j) ⌝ }
 {
     let a = edge_end(edges, i, 0);
     let b = edge_end(edges, i, 1);

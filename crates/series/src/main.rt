@@ -1,8 +1,8 @@
 // The program of series: the text of a series on standard input, its log, totals and first step with a hit on standard output. It reads and writes,
 // and `series_report` does the rest.
 
+use meaning::READ_BYTES;
 use series_report::SERIES_BYTES;
-use summary::READ_BYTES;
 
 // Whether the input was read to its end. `read_full` stops at the end of the input and at a read that fails; one more read tells the
 // two apart, so that a failed read does not look like a shorter scene.

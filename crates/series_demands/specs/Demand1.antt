@@ -15,9 +15,9 @@ use Rattle.meaning.specs.Lines.{Fault, unformed, misplaced, nothing, RecordJudg
 use Rattle.meaning.specs.List.{pairs}
 use Rattle.meaning.specs.Text.{longText}
 use Rattle.meaning.specs.Series.{Series, stepsOf, ToldRight}
-use Rattle.meaning.specs.SeriesText.{Item, of, ends, next, SoFar, itemChecks, seriesLines, HoldsSeries, SeriesFaultyAt, roomCheck, Ended, SeriesIs, faulty, read}
-use Rattle.scenes.specs.Answering.{refuses, lets-pass, gives, is-refused, is-past, is-given}
-use Rattle.demands.specs.Deciding.{holds-or-not, number-known}
+use Rattle.meaning.specs.SeriesText.{Item, of, ends, next, SoFar, itemChecks, seriesLines, HoldsSeries, SeriesFaultyAt, stepRoom, Ended, SeriesIs, faulty, read}
+use Rattle.answers.specs.Answering.{refuses, lets-pass, gives, is-refused, is-past, is-given}
+use Rattle.answers.specs.Deciding.{holds-or-not, number-known}
 use Rattle.series_demands.specs.OneSeries.{one-outcome}
 
 -- ---- the room of the steps
@@ -40,14 +40,14 @@ roomy-more room s ss here rest t m =
     ⊎-elim (λ (same : t ≡ s). subst (λ (u : Scene). length (pairs u) ≤ room) (sym same) here) (rest t) (List·Memᴰ·cases-cons m)
 
 module _ (room : ℕ) (Right : Ended → Type 0) where
-  room-refuses : (ss : List Scene) (n c : ℕ) → Answers (map (roomCheck room) ss) Right (refused n c) → (n ≡ 7) × NoRoom room ss c
-  unfolding Answers roomCheck
+  room-refuses : (ss : List Scene) (n c : ℕ) → Answers (map (stepRoom room) ss) Right (refused n c) → (n ≡ 7) × NoRoom room ss c
+  unfolding Answers stepRoom
   room-refuses [] n c a = absurd a
   room-refuses (s ∷ ss) n c a =
       holds-or-not (ltb room (length (pairs s)))
       (λ h.
       let e : _≡_ {A = Outcome Ended} (refused n c) (refused 7 (length (pairs s))) =
-      is-refused Right (roomCheck room s) (map (roomCheck room) ss) (refused n c) h a in (
+      is-refused Right (stepRoom room s) (map (stepRoom room) ss) (refused n c) h a in (
         cc,
         record {
           before = [];
@@ -60,7 +60,7 @@ module _ (room : ℕ) (Right : Ended → Type 0) where
         },
       ))
       (λ h.
-      let (seven, r) = room-refuses ss n c (is-past Right (roomCheck room s) (map (roomCheck room) ss) (refused n c) h a) in (
+      let (seven, r) = room-refuses ss n c (is-past Right (stepRoom room s) (map (stepRoom room) ss) (refused n c) h a) in (
         seven,
         record {
           before = s ∷ r .before;
@@ -74,36 +74,36 @@ module _ (room : ℕ) (Right : Ended → Type 0) where
       ))
 
   room-over : (before : List Scene) (s : Scene) (behind : List Scene) → AllRoomy room before → room < length (pairs s)
-      → Answers (map (roomCheck room) (before ++ (s ∷ behind))) Right (refused 7 (length (pairs s)))
-  unfolding roomCheck
+      → Answers (map (stepRoom room) (before ++ (s ∷ behind))) Right (refused 7 (length (pairs s)))
+  unfolding stepRoom
   room-over [] s behind roomy over =
-      refuses Right (roomCheck room s) (map (roomCheck room) behind) (refused 7 (length (pairs s))) (lt-ltb room (length (pairs s)) over) refl
+      refuses Right (stepRoom room s) (map (stepRoom room) behind) (refused 7 (length (pairs s))) (lt-ltb room (length (pairs s)) over) refl
   room-over (t ∷ before) s behind roomy over =
-      lets-pass Right (roomCheck room t) (map (roomCheck room) (before ++ (s ∷ behind))) (refused 7 (length (pairs s)))
+      lets-pass Right (stepRoom room t) (map (stepRoom room) (before ++ (s ∷ behind))) (refused 7 (length (pairs s)))
       (le-ltb room (length (pairs t)) (roomy t (List·Memᴰ·head refl)))
       (room-over before s behind (λ u m. roomy u (List·Memᴰ·tail m)) over)
 
-  refuses-room : (ss : List Scene) (c : ℕ) → NoRoom room ss c → Answers (map (roomCheck room) ss) Right (refused 7 c)
+  refuses-room : (ss : List Scene) (c : ℕ) → NoRoom room ss c → Answers (map (stepRoom room) ss) Right (refused 7 c)
   refuses-room ss c r =
       let here = room-over (r .before) (r .step) (r .behind) (r .roomy) (r .over) in
       let steps : r .before ++ (r .step ∷ r .behind) ≡ ss = sym (r .steps) in
       let need : length (pairs (r .step)) ≡ c = sym (r .needs) in
-      subst (λ (n : ℕ). Answers (map (roomCheck room) ss) Right (refused 7 n)) need
-      (subst (λ (l : List Scene). Answers (map (roomCheck room) l) Right (refused 7 (length (pairs (r .step))))) steps here)
+      subst (λ (n : ℕ). Answers (map (stepRoom room) ss) Right (refused 7 n)) need
+      (subst (λ (l : List Scene). Answers (map (stepRoom room) l) Right (refused 7 (length (pairs (r .step))))) steps here)
 
-  room-gives : (ss : List Scene) (e : Ended) → Answers (map (roomCheck room) ss) Right (given e) → AllRoomy room ss × Right e
-  unfolding Answers roomCheck
+  room-gives : (ss : List Scene) (e : Ended) → Answers (map (stepRoom room) ss) Right (given e) → AllRoomy room ss × Right e
+  unfolding Answers stepRoom
   room-gives [] e a = (λ t m. absurd (List·Memᴰ·not-nil m), a)
   room-gives (s ∷ ss) e a =
-      let (h, rest) = is-given Right (roomCheck room s) (map (roomCheck room) ss) e a in
+      let (h, rest) = is-given Right (stepRoom room s) (map (stepRoom room) ss) e a in
       let (roomy, right) = room-gives ss e rest in
       (roomy-more room s ss (ltb-false room (length (pairs s)) h) roomy, right)
 
-  gives-room : (ss : List Scene) (e : Ended) → AllRoomy room ss → Right e → Answers (map (roomCheck room) ss) Right (given e)
-  unfolding roomCheck
+  gives-room : (ss : List Scene) (e : Ended) → AllRoomy room ss → Right e → Answers (map (stepRoom room) ss) Right (given e)
+  unfolding stepRoom
   gives-room [] e roomy right = gives Right e right
   gives-room (s ∷ ss) e roomy right =
-      lets-pass Right (roomCheck room s) (map (roomCheck room) ss) (given e) (le-ltb room (length (pairs s)) (roomy s (List·Memᴰ·head refl)))
+      lets-pass Right (stepRoom room s) (map (stepRoom room) ss) (given e) (le-ltb room (length (pairs s)) (roomy s (List·Memᴰ·head refl)))
       (gives-room ss e (λ t m. roomy t (List·Memᴰ·tail m)) right)
 
 -- ---- the numbers of a line

@@ -14,7 +14,7 @@ use Rattle.meaning.specs.declared.Kind.{Kind}
 use Rattle.theory.specs.Moved.{Moves}
 use Rattle.demands.specs.Demand3.{KeepsVerdicts, demand3}
 use Rattle.meaning.specs.Series.{Series, goesOn, stepAfter, stepsFrom, stepsOf}
-use Rattle.steps.specs.Stepping.{step-length, step-vertices, step-at, step-edges, step-triangles, step-seams}
+use Rattle.series_laws.specs.Stepping.{step-length, step-vertices, step-at, step-edges, step-triangles, step-seams}
 
 module _ (m : Matrix) (shift : ℕ → Vector) where
   -- the next ends of a block are sent and shifted as boundary n

@@ -3,15 +3,15 @@ use Prim.Native.Nat.{ℕ}
 use mathlib.Core.Bool.{Bool, true, false, cond}
 use mathlib.Core.List.{List}
 use mathlib.Core.Path.{_≡_, sym, ap, _∙_}
-use lib.ListN.{length, take}
-use Rattle.sequences.specs.Wrote.{written}
+use lib.ListN.{take}
 use Rattle.meaning.specs.Limits.{reportRoom}
 use Rattle.meaning.specs.Refusals.{Outcome, refused}
 use Rattle.meaning.specs.Text.{longText}
-use Rattle.meaning.specs.ReadShown.{front-read}
+use Rattle.meaning.specs.shown.ReadShown.{front-read}
 use Rattle.meaning.specs.SeriesText.{Ended, SeriesIs}
 use Rattle.meaning.specs.SeriesLines.{outcomeLines, SeriesPrinted, SeriesReported, SeriesRead}
 use Rattle.series_demands.specs.OneSeries.{one-outcome}
+use Rattle.answers.specs.Printed.{one-in-front}
 
 outcome-one : (text : List ℕ) (o o′ : Outcome Ended) (b : Bool) → cond b (o ≡ refused 8 0) (SeriesIs text reportRoom o)
     → cond b (o′ ≡ refused 8 0) (SeriesIs text reportRoom o′) → o ≡ o′
@@ -24,10 +24,7 @@ one-printed {text} p q =
 
 pub one-series-reported : (text o o′ o″ : List ℕ) (n n′ : ℕ) → SeriesReported text o o′ n → SeriesReported text o o″ n′ → (n ≡ n′) × (o′ ≡ o″)
 one-series-reported text o o′ o″ n n′ p q =
-    let same : p .report ≡ q .report = one-printed (p .right) (q .right) in (
-      p .length-is ∙ ap (length {A = ℕ}) same ∙ sym (q .length-is),
-      p .buffer ∙ ap (λ (r : List ℕ). written r o) same ∙ sym (q .buffer),
-    )
+    one-in-front (SeriesPrinted text) (λ l k h j. one-printed h j) p q
 
 -- of what was read: there is always a text of which that was read
 pub one-series-read : (buffer o o′ o″ : List ℕ) (count n n′ : ℕ) → SeriesRead buffer count o o′ n → SeriesRead buffer count o o″ n′ → (n ≡ n′) × (o′ ≡ o″)

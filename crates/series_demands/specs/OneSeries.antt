@@ -7,8 +7,8 @@ use Rattle.meaning.specs.Scene.{Scene}
 use Rattle.meaning.specs.Refusals.{Outcome, given, refused, Answers}
 use Rattle.meaning.specs.Lines.{afterAll}
 use Rattle.meaning.specs.Text.{shortBuffer, longText}
-use Rattle.scenes.specs.Answering.{one-answer}
-use Rattle.lines.specs.Unique.{records-unique, sound-or-faulty, faulty-unique}
+use Rattle.answers.specs.Answering.{one-answer}
+use Rattle.text_laws.specs.Unique.{records-unique, sound-or-faulty, faulty-unique}
 use Rattle.meaning.specs.Series.{Series, Told, ToldRight}
 use Rattle.meaning.specs.SeriesText.{Item, nothingYet, seriesSoFar, seriesLines, HoldsSeries, SeriesFaultyAt, roomChecks, Ended, SeriesIs, faulty, read, SeriesOutcome}
 use Rattle.series_line.specs.Rendered.{series-readable}

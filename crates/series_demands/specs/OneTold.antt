@@ -7,9 +7,9 @@ use lib.ListN.{length}
 use Rattle.meaning.specs.Scene.{Scene}
 use Rattle.meaning.specs.List.{pairs}
 use Rattle.meaning.specs.declared.Settled.{Settled}
-use Rattle.demands.specs.OneAnswer.{all-judged-one}
+use Rattle.list_words.specs.OneResult.{all-judged-one}
 use Rattle.meaning.specs.Series.{Series, stepsOf, HitAt, StepsSettled, Told, toldOf, ToldRight}
-use Rattle.steps.specs.Longer.{longer, goes-on}
+use Rattle.series_laws.specs.Longer.{longer, goes-on}
 
 words-one : (ss : List Scene) (us vs : List (List Settled)) → StepsSettled ss us → StepsSettled ss vs → us ≡ vs
 unfolding StepsSettled

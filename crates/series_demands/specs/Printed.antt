@@ -19,16 +19,16 @@ use Rattle.meaning.specs.List.{pair, pairs}
 use Rattle.meaning.specs.Text.{vertex, triangle, letterOf, numbersOf, numeral, further, lineOf, Short, late, coordinatesIn, endsIn, cornersIn, seamIn}
 use Rattle.meaning.specs.SceneWords.{byteOf, AllSettled}
 use Rattle.meaning.specs.Report.{kindWord, verdictWord, isOne, howMany}
-use Rattle.meaning.specs.FirstFault.{firstHeld, noneOf, orElse, firstFault}
+use Rattle.meaning.specs.shown.FirstFault.{firstHeld, noneOf, orElse, firstFault}
 use Rattle.meaning.specs.Series.{stepAfter, stepsFrom, stepsOf, lastFrom, hitsHere, hitsIn, hitsFrom, StepsSettled, firstStep, listedIn, totalOf, toldOf, ToldRight}
-use Rattle.meaning.specs.SeriesText.{Item, of, ends, next, itemLine, nothingYet, withItem, sixNumbers, ItemFormed, wrongLength, itemChecks, seriesLines, HoldsSeries, roomCheck, SeriesIs, read}
-use Rattle.meaning.specs.SeriesShown.{place, thenAt, falling, words}
+use Rattle.meaning.specs.SeriesText.{Item, of, ends, next, itemLine, nothingYet, withItem, sixNumbers, ItemFormed, wrongLength, itemChecks, seriesLines, HoldsSeries, stepRoom, SeriesIs, read}
+use Rattle.meaning.specs.shown.SeriesShown.{place, thenAt, falling, words}
 use Rattle.meaning.specs.declared.Kind.the-variants.{PointTriangle}
 use Rattle.meaning.specs.declared.Settled.the-variants.{Hit, Touch}
 use Rattle.theory.specs.Reading.{verdictOf, agreeing}
 use Rattle.theory.specs.Computed.{pieceVerdict, joined, joinedBelow, pointDifferences}
-use Rattle.sign_sums.specs.BySigns.{keep}
-use Rattle.sign_sums.specs.OneWay.{oneWay}
+use Rattle.exact_signs.specs.BySigns.{keep}
+use Rattle.exact_signs.specs.OneWay.{oneWay}
 use Rattle.corner_laws.specs.Others.{skip}
 use Rattle.corner_laws.specs.Filled as Filled
 use Rattle.corner_laws.specs.Filled.{slot}
@@ -37,7 +37,7 @@ use Rattle.corner_leaf.specs.Answer.{baseIn, judgedIn, turnOf, otherwise, leafO
 use Rattle.corner_search.specs.Sixes.{pointSix, sixOf}
 use Rattle.corner_search.specs.Decided.{byLeaf, touching, settledBy, pieceWord, isTouch, pairWord, pair-word-is}
 use Rattle.demands.specs.Printed.{bytesOf}
-use Rattle.steps.specs.Faultless.{EachFormed, no-fault}
+use Rattle.series_laws.specs.Faultless.{EachFormed, no-fault}
 use Rattle.series_line.specs.Rendered.{series-readable}
 use Rattle.meaning.specs.SeriesLines.{hitLines, outcomeLines, SeriesPrinted}
 use Rattle.series_demands.specs.OnePrinted.{one-printed}
@@ -137,7 +137,7 @@ falling-told : ToldRight falling (toldOf falling words)
 falling-told = record { words = words; settled = falling-settled; told = refl }
 
 falling-is : SeriesIs fallingText reportRoom (given (record { series = falling; told = toldOf falling words }))
-unfolding Answers roomCheck stepsFrom
+unfolding Answers stepRoom stepsFrom
 falling-is = read falling falling-holds (rw (listed .0, listed .1, listed .2, listed .3, listed .4) (refl, falling-told))
 
 -- ---- and what is printed

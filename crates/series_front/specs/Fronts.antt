@@ -14,17 +14,17 @@ use Rattle.meaning.specs.Text as Text
 use Rattle.meaning.specs.Text.{Entry, none, sceneWith, sceneLines, lineFeed}
 use Rattle.meaning.specs.declared.Refusal.{Refusal}
 use Rattle.meaning.specs.declared.SceneCounts.{SceneCounts}
-use Rattle.scenes.specs.Answering.{lets-pass}
-use Rattle.lines.specs.Unique.{records-few}
-use Rattle.lines.specs.Going.{Reached, reached-fault}
-use Rattle.line_draft.specs.Drafting.{Drafted}
-use Rattle.scene_draft.specs.Reading.{Drafting, StoppedAt, total}
+use Rattle.answers.specs.Answering.{lets-pass}
+use Rattle.text_laws.specs.Unique.{records-few}
+use Rattle.text_laws.specs.Going.{Reached, reached-fault}
+use Rattle.text_record.specs.Drafting.{Drafted}
+use Rattle.text_draft.specs.Reading.{Drafting, StoppedAt, total}
 use Rattle.meaning.specs.Series.{lastFrom}
 use Rattle.meaning.specs.SeriesText.{Item, of, ends, next, itemLine, SoFar, nothingYet, withItem, ItemFormed, itemChecks, seriesLines}
-use Rattle.scene_line.specs.Rendered.{line-is}
+use Rattle.text_line.specs.Rendered.{line-is}
 use Rattle.series_line.specs.Rendered.{series-readable, letter-not-next}
 use Rattle.series_line.specs.Reading.{nextHere, next-stands, no-next}
-use Rattle.block_draft.specs.Reading.{StepHere}
+use Rattle.series_block.specs.Reading.{StepHere}
 use Rattle.series_front.specs.declared.FrontAnswer as Answers′
 use Rattle.series_front.specs.declared.FrontAnswer.{FrontAnswer}
 

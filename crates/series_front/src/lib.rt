@@ -1,15 +1,16 @@
 // The front of a series is its scene: a scene text up to the first `n`, read into a draft in one pass. Nothing that was lent is touched here.
 
 ghost use Rattle.meaning.specs.Scene.{sceneIn, sceneAtExit};
-ghost use Rattle.line_draft.specs.Putting.{Roomy};
-ghost use Rattle.scene_draft.specs.Reading.{BlankTable};
+ghost use Rattle.text_record.specs.Putting.{Roomy};
+ghost use Rattle.text_draft.specs.Reading.{BlankTable};
 ghost use Rattle.series_front.specs.Fronts.{FrontIs};
+ghost use Rattle.sequences.specs.Lent.{atEntry, atExit};
 use meaning::Refusal;
 use meaning::SceneCounts;
-use scene_draft::LinesDrafted;
-use scene_draft::draft_lines;
-use scene_draft::line_number;
 use series_line::next_here;
+use text_draft::LinesDrafted;
+use text_draft::draft_lines;
+use text_draft::line_number;
 
 // What the front gives: its fault with its line; or the counts of the scene, which the draft then holds, and the place behind it, where an `n`
 // stands or the text ends.
@@ -29,7 +30,7 @@ pub fn draft_front(
 ) -> FrontAnswer
     requires { ⌜ Roomy (sceneIn positions edges triangles seams) ⌝ }
     requires { ⌜ BlankTable (now stands) ⌝ }
-    ensures { λ r. ⌜ FrontIs (now (text .entry)) (sceneAtExit positions edges triangles seams) (now (stands .exit)) r ⌝ }
+    ensures { λ r. ⌜ FrontIs (atEntry text) (sceneAtExit positions edges triangles seams) (atExit stands) r ⌝ }
 {
     match draft_lines(text, positions, edges, triangles, seams, stands) {
         LinesDrafted::All(c, at) => FrontAnswer::Read(c, at),

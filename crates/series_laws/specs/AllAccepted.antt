@@ -20,13 +20,13 @@ use Rattle.meaning.specs.Text.{Entry}
 use Rattle.meaning.specs.Series.{Series, stepAfter, stepsFrom, lastFrom, stepsOf, lastStep}
 use Rattle.meaning.specs.SeriesText.{Item, of, ends, next, threeOf, SoFar, nothingYet, blocksSoFar, seriesSoFar, withItem, ItemFormed, blockFull, blockShort, wrongLength, farEnd, comesApartNow, itemChecks, seriesLines, HoldsSeries}
 use Rattle.meaning.specs.declared.SceneCounts.{SceneCounts}
-use Rattle.scenes.specs.Answering.{is-given}
-use Rattle.seam_table.specs.Below.{or-left, or-rest}
-use Rattle.scenes.specs.Facts.{accepted-sized}
-use Rattle.scene_line.specs.Reading.{sortOf}
-use Rattle.scene_line.specs.Above.{Above, above-none, above-more, countedBy, noCounts}
-use Rattle.steps.specs.Longer.{nextSteps, steps-append, last-append}
-use Rattle.steps.specs.Stepping.{AllNear, step-accepted, step-length, step-vertices}
+use Rattle.answers.specs.Answering.{is-given}
+use Rattle.answers.specs.Below.{or-left, or-rest}
+use Rattle.scene_checks.specs.Facts.{accepted-sized}
+use Rattle.text_line.specs.Reading.{sortOf}
+use Rattle.text_line.specs.Above.{Above, above-none, above-more, countedBy, noCounts}
+use Rattle.series_laws.specs.Longer.{nextSteps, steps-append, last-append}
+use Rattle.series_laws.specs.Stepping.{AllNear, step-accepted, step-length, step-vertices}
 
 abbrev pub EachAccepted : List Scene → Type 0
 EachAccepted ss = (s : Scene) → List·Memᴰ s ss → Accepted s

@@ -12,7 +12,7 @@ use Rattle.meaning.specs.SceneWords.{AllSettled}
 use Rattle.meaning.specs.Series.{Series, stepsOf, HitAt, hitAt, hitsHere, hitsIn, hitsFrom, hitsOf, StepsSettled, logOf, Told, ToldRight}
 use Rattle.meaning.specs.declared.Settled.{Settled}
 use Rattle.meaning.specs.declared.Settled.the-variants.{Hit, Miss, Touch, Apart}
-use Rattle.steps.specs.Front.{log-is-front}
+use Rattle.series_laws.specs.Front.{log-is-front}
 
 -- the pair has the word in the scene
 abbrev pub HasWord : Scene → Pair → Settled → Type 0

@@ -1,1 +1,1 @@
-// What follows of a series that was read from a text, in specs/. No code stands here.
+// A series of steps: what it is, what its text says and what follows, in specs/. No code stands here.

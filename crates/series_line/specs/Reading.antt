@@ -13,21 +13,21 @@ use Rattle.whole.specs.Vector.{Vector}
 use Rattle.sequences.specs.Pick.{both}
 use Rattle.sequences.specs.Stands.{Stands, stands-one, stands-then, stands-apart, stands-from}
 use Rattle.decimals.specs.Byte.{IsDigit, byteAt, byte-inside}
-use Rattle.fields.specs.Field.{front-byte}
-use Rattle.fields.specs.Rows.{EachAllowed, rowOf}
-use Rattle.fields.specs.Ended.{RowEnded, LineStands, InFront, row-ended, row-unended}
-use Rattle.fields.specs.Tabbed.{tab-parts, line-ends, first-of}
-use Rattle.fields.specs.declared.Ending.{Ending}
-use Rattle.fields.specs.declared.Ending.the-variants.{At, Nowhere}
+use Rattle.text_fields.specs.Field.{front-byte}
+use Rattle.text_fields.specs.Rows.{EachAllowed, rowOf}
+use Rattle.text_fields.specs.Ended.{RowEnded, LineStands, InFront, row-ended, row-unended}
+use Rattle.text_fields.specs.Tabbed.{tab-parts, line-ends, first-of}
+use Rattle.text_fields.specs.declared.Ending.{Ending}
+use Rattle.text_fields.specs.declared.Ending.the-variants.{At, Nowhere}
 use Rattle.meaning.specs.Limits.{digitLimit}
 use Rattle.meaning.specs.Refusals.{refused}
 use Rattle.meaning.specs.Lines.{Fault, unformed, misplaced}
 use Rattle.meaning.specs.Text as Text
 use Rattle.meaning.specs.Text.{Entry, vertex, edge, triangle, seam, letterOf, numbersOf, lineOf, lineFeed, Short, entryChecks}
-use Rattle.scenes.specs.Answering.{refuses}
-use Rattle.scene_line.specs.Rendered.{coordinateForm, line-is}
-use Rattle.scene_line.specs.Reading.{letter, many, formOf, lineEnded, LineRead, line-got, line-other}
-use Rattle.scene_line.specs.declared.Sort.{Sort}
+use Rattle.answers.specs.Answering.{refuses}
+use Rattle.text_line.specs.Rendered.{coordinateForm, line-is}
+use Rattle.text_line.specs.Reading.{letter, many, formOf, lineEnded, LineRead, line-got, line-other}
+use Rattle.text_line.specs.declared.Sort.{Sort}
 use Rattle.meaning.specs.SeriesText.{Item, of, ends, next, threeOf, itemLine, SoFar, sixNumbers, ItemFormed, itemChecks, seriesLines}
 use Rattle.series_line.specs.Rendered.{ends-line-is, letter-of-six, letter-not-next, six-not-here}
 use Rattle.series_line.specs.declared.BlockLine as Blocks

@@ -7,11 +7,11 @@ use native.Mathlib.Omega.{arith}
 use lib.IntN.{ℤ}
 use lib.ListN.{length}
 use Rattle.whole.specs.Vector.{Vector}
-use Rattle.fields.specs.Tabbed.{tab-parts, line-ends}
-use Rattle.fields.specs.Rows.{rowOf, row-cancel}
+use Rattle.text_fields.specs.Tabbed.{tab-parts, line-ends}
+use Rattle.text_fields.specs.Rows.{rowOf, row-cancel}
 use Rattle.meaning.specs.Text.{Entry, vertex, edge, triangle, seam, letterOf, numbersOf, lineOf, lineFeed}
-use Rattle.lines.specs.Unique.{Readable}
-use Rattle.scene_line.specs.Rendered.{coordinateForm, numberForm, line-is, line-cancel}
+use Rattle.text_laws.specs.Unique.{Readable}
+use Rattle.text_line.specs.Rendered.{coordinateForm, numberForm, line-is, line-cancel}
 use Rattle.meaning.specs.SeriesText.{Item, of, ends, next, threeOf, itemLine, SoFar, sixNumbers, ItemFormed, seriesLines}
 
 -- the line of an end: the letter, the row of its three numbers, LF

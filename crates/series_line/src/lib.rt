@@ -4,9 +4,10 @@ ghost use Prim.Native.Nat.{_≤_, _<_};
 ghost use lib.ListN.{length};
 ghost use mathlib.Core.Path.{_≡_};
 ghost use Rattle.series_line.specs.Reading.{nextHere, endsFound, partFound, OtherHere, BlockLineRead};
-use fields::Ending;
-use fields::Form;
+ghost use Rattle.sequences.specs.Lent.{atEntry, atExit};
 use meaning::DIGIT_LIMIT;
+use text_fields::Ending;
+use text_fields::Form;
 
 // What stands in a line below an `n`: the next end of a vertex, or another `n`, each with the place of the line behind it; a record that may
 // not stand there; or nothing of a series.
@@ -20,7 +21,7 @@ pub enum BlockLine {
 // Whether the line `n` stands at a place.
 pub fn next_here(text: &[u8], at: usize) -> bool
     requires { ⌜ at < length (now text) ⌝ }
-    ensures { λ r. ⌜ r ≡ nextHere (now (text .entry)) at ⌝ }
+    ensures { λ r. ⌜ r ≡ nextHere (atEntry text) at ⌝ }
 {
     let letter = decimals::byte_at(text, at);
     let behind = decimals::byte_at(text, at + 1);
@@ -51,7 +52,7 @@ fn other_line(text: &[u8], at: usize, sizes: &mut [u64], minus: &mut [bool]) -> 
     requires { ⌜ OtherHere (now text) at ⌝ }
     requires { ⌜ 6 ≤ length (now sizes) ⌝ }
     requires { ⌜ 6 ≤ length (now minus) ⌝ }
-    ensures { λ r. ⌜ BlockLineRead (now (text .entry)) at (now (sizes .exit)) (now (minus .exit)) r ⌝ }
+    ensures { λ r. ⌜ BlockLineRead (atEntry text) at (atExit sizes) (atExit minus) r ⌝ }
 {
     let letter = text[at];
     let form = Form {
@@ -60,13 +61,13 @@ fn other_line(text: &[u8], at: usize, sizes: &mut [u64], minus: &mut [bool]) -> 
         most: DIGIT_LIMIT,
     };
     if letter == b'e' {
-        return part_found(fields::read_row(text, at + 1, form, 2, sizes, minus));
+        return part_found(text_fields::read_row(text, at + 1, form, 2, sizes, minus));
     }
     if letter == b't' {
-        return part_found(fields::read_row(text, at + 1, form, 3, sizes, minus));
+        return part_found(text_fields::read_row(text, at + 1, form, 3, sizes, minus));
     }
     if letter == b'w' {
-        return part_found(fields::read_row(text, at + 1, form, 2, sizes, minus));
+        return part_found(text_fields::read_row(text, at + 1, form, 2, sizes, minus));
     }
     BlockLine::Bad
 }
@@ -76,7 +77,7 @@ pub fn block_line(text: &[u8], at: usize, sizes: &mut [u64], minus: &mut [bool])
     requires { ⌜ at < length (now text) ⌝ }
     requires { ⌜ 6 ≤ length (now sizes) ⌝ }
     requires { ⌜ 6 ≤ length (now minus) ⌝ }
-    ensures { λ r. ⌜ BlockLineRead (now (text .entry)) at (now (sizes .exit)) (now (minus .exit)) r ⌝ }
+    ensures { λ r. ⌜ BlockLineRead (atEntry text) at (atExit sizes) (atExit minus) r ⌝ }
 {
     if next_here(text, at) {
         return BlockLine::Next(at + 2);
@@ -88,7 +89,7 @@ pub fn block_line(text: &[u8], at: usize, sizes: &mut [u64], minus: &mut [bool])
             signed: true,
             most: DIGIT_LIMIT,
         };
-        return ends_found(fields::read_row(text, at + 1, form, 3, sizes, minus));
+        return ends_found(text_fields::read_row(text, at + 1, form, 3, sizes, minus));
     }
     other_line(text, at, sizes, minus)
 }

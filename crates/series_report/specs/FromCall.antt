@@ -12,10 +12,10 @@ use Rattle.meaning.specs.List.{roomOf}
 use Rattle.meaning.specs.Text.{shortBuffer, longText}
 use Rattle.meaning.specs.StoredBoxes.{shortBoxes}
 use Rattle.meaning.specs.SeriesText.{Ended, SeriesIs}
-use Rattle.first_causes.specs.Told.{answerSays}
-use Rattle.first_causes.specs.declared.SeriesAnswer.{SeriesAnswer}
-use Rattle.wording.specs.Lines.{wrote-as}
-use Rattle.series_told.specs.Called.{toldPart, SeriesCalled}
+use Rattle.meaning.specs.SeriesAnswers.{answerSays}
+use Rattle.meaning.specs.declared.SeriesAnswer.{SeriesAnswer}
+use Rattle.report_words.specs.Lines.{wrote-as}
+use Rattle.meaning.specs.SeriesCall.{toldPart, SeriesCalled}
 use Rattle.meaning.specs.SeriesLines.{outcomeLines, SeriesReported}
 use Rattle.series_report.specs.Whole.{answerLines, OutcomeRight, outcome-reported}
 

@@ -14,10 +14,10 @@ use Rattle.meaning.specs.Text.{tab, lineFeed, further}
 use Rattle.meaning.specs.List.{Pair}
 use Rattle.meaning.specs.Report.{kindWord, verdictWord, reportLine}
 use Rattle.meaning.specs.Series.{HitAt, logLimit, Told}
-use Rattle.wording.specs.Lines.{kind-short}
-use Rattle.first_causes.specs.Kept.{hitOf}
-use Rattle.first_causes.specs.declared.StepHit.{StepHit}
-use Rattle.first_causes.specs.declared.Log.{Log}
+use Rattle.report_words.specs.Lines.{kind-short}
+use Rattle.meaning.specs.SeriesAnswers.{hitOf}
+use Rattle.meaning.specs.declared.StepHit.{StepHit}
+use Rattle.meaning.specs.declared.Log.{Log}
 use Rattle.meaning.specs.SeriesLines.{laterWord, firstWord, pairFields, hitLine, hitLines, numberLine, seriesTotal, toldLines}
 
 abbrev pub hitWord : List ℕ

@@ -16,10 +16,10 @@ use Rattle.meaning.specs.Series.{Told}
 use Rattle.meaning.specs.SeriesText.{Ended, SeriesIs}
 use Rattle.meaning.specs.declared.Refusal.{Refusal}
 use Rattle.meaning.specs.declared.SceneCounts.{SceneCounts}
-use Rattle.first_causes.specs.Told.{outcomeSays}
-use Rattle.first_causes.specs.declared.SeriesOutcome as Outcomes
-use Rattle.first_causes.specs.declared.SeriesOutcome.{SeriesOutcome}
-use Rattle.summary.specs.ReadSoFar.{read-whole, read-full}
+use Rattle.meaning.specs.SeriesAnswers.{outcomeSays}
+use Rattle.meaning.specs.declared.SeriesEnding as Outcomes
+use Rattle.meaning.specs.declared.SeriesEnding.{SeriesEnding}
+use Rattle.text_scene.specs.ReadSoFar.{read-whole, read-full}
 use Rattle.meaning.specs.SeriesLines.{toldLines, outcomeLines, SeriesReported, SeriesRead}
 
 -- what the answer of a call prints
@@ -27,7 +27,7 @@ unfoldable pub answerLines : Outcome Told → List ℕ
 answerLines (given t) = toldLines t
 answerLines (refused n third) = refusedLine n third
 
-module _ {outcome : SeriesOutcome} (t : Told) where
+module _ {outcome : SeriesEnding} (t : Told) where
   pub told-answer : {c : SceneCounts} → outcome ≡ Outcomes.the-variants.Told c → toldLines t ≡ answerLines (outcomeSays outcome t)
   unfolding answerLines outcomeSays
   told-answer e = rw e refl

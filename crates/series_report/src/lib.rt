@@ -9,29 +9,30 @@ ghost use lib.ListN.{length};
 ghost use Rattle.sequences.specs.Wrote.{Wrote};
 ghost use Rattle.meaning.specs.Limits.{textLimit};
 ghost use Rattle.meaning.specs.Series.{logLimit};
-ghost use Rattle.first_causes.specs.Kept.{hitOf, entriesOf};
-ghost use Rattle.first_causes.specs.Told.{toldSays, outcomeSays};
+ghost use Rattle.meaning.specs.SeriesAnswers.{hitOf, entriesOf};
+ghost use Rattle.meaning.specs.SeriesAnswers.{toldSays, outcomeSays};
 ghost use Rattle.meaning.specs.SeriesLines.{hitLine, hitLines, toldLines, SeriesReported, SeriesRead};
 ghost use Rattle.series_report.specs.Sizes.{seriesLength};
 ghost use Rattle.series_report.specs.Whole.{answerLines};
-use first_causes::LOG_ROOM;
-use first_causes::Log;
-use first_causes::SeriesOutcome;
-use first_causes::SeriesTold;
-use first_causes::StepHit;
+ghost use Rattle.sequences.specs.Lent.{atEntry, atExit};
+use answers::number_of;
 use lines::hit_line;
 use lines::number_line;
 use meaning::BOX_NUMBERS;
 use meaning::EDGE_NUMBERS;
+use meaning::LOG_ROOM;
+use meaning::Log;
 use meaning::POSITION_NUMBERS;
+use meaning::READ_BYTES;
 use meaning::REPORT_ROOM;
 use meaning::SEAM_NUMBERS;
+use meaning::SeriesEnding;
+use meaning::SeriesTold;
+use meaning::StepHit;
 use meaning::TRIANGLE_NUMBERS;
-use series_told::tell_series;
-use summary::READ_BYTES;
-use wording::lines::refused_line;
-use wording::lines::total_line;
-use wording::number_of;
+use report_words::lines::refused_line;
+use report_words::lines::total_line;
+use series_call::tell_series;
 
 // The bytes that hold the lines of any series: 64 of at most 70, and 256 for those behind them.
 pub const SERIES_BYTES: usize = 70 * LOG_ROOM + 256;
@@ -39,7 +40,7 @@ pub const SERIES_BYTES: usize = 70 * LOG_ROOM + 256;
 // The line of one entry.
 fn entry_line(hit: StepHit, out: &mut [u8], at: usize) -> usize
     requires { ⌜ at + 70 ≤ length (now out) ⌝ }
-    ensures { λ r. ⌜ Wrote (now (out .entry)) at (hitLine (hitOf hit)) (now (out .exit)) r × (r ≤ at + 70) ⌝ }
+    ensures { λ r. ⌜ Wrote (atEntry out) at (hitLine (hitOf hit)) (atExit out) r × (r ≤ at + 70) ⌝ }
 {
     let kind = hit.kind;
     hit_line(
@@ -62,7 +63,7 @@ fn entries_held(held: usize) -> usize
 // A line for each entry of the log.
 fn log_lines(log: Log, out: &mut [u8]) -> usize
     requires { ⌜ length (now out) ≡ seriesLength ⌝ }
-    ensures { λ r. ⌜ Wrote (now (out .entry)) 0 (hitLines (entriesOf log)) (now (out .exit)) r × (r ≤ 70 * logLimit) ⌝ }
+    ensures { λ r. ⌜ Wrote (atEntry out) 0 (hitLines (entriesOf log)) (atExit out) r × (r ≤ 70 * logLimit) ⌝ }
 {
     let held = entries_held(log.held);
     let mut next = 0;
@@ -78,7 +79,7 @@ fn log_lines(log: Log, out: &mut [u8]) -> usize
 // The lines of what is told, in front of a buffer that has room for them.
 fn told_lines(told: SeriesTold, out: &mut [u8]) -> usize
     requires { ⌜ length (now out) ≡ seriesLength ⌝ }
-    ensures { λ r. ⌜ Wrote (now (out .entry)) 0 (toldLines (toldSays told)) (now (out .exit)) r ⌝ }
+    ensures { λ r. ⌜ Wrote (atEntry out) 0 (toldLines (toldSays told)) (atExit out) r ⌝ }
 {
     let log = told.log;
     let mut next = log_lines(log, out);
@@ -96,13 +97,13 @@ fn told_lines(told: SeriesTold, out: &mut [u8]) -> usize
 }
 
 // The lines of an answer: what is told, or the one line of a refusal.
-fn answer_lines(outcome: SeriesOutcome, told: SeriesTold, out: &mut [u8]) -> usize
+fn answer_lines(outcome: SeriesEnding, told: SeriesTold, out: &mut [u8]) -> usize
     requires { ⌜ length (now out) ≡ seriesLength ⌝ }
-    ensures { λ r. ⌜ Wrote (now (out .entry)) 0 (answerLines (outcomeSays outcome (toldSays told))) (now (out .exit)) r ⌝ }
+    ensures { λ r. ⌜ Wrote (atEntry out) 0 (answerLines (outcomeSays outcome (toldSays told))) (atExit out) r ⌝ }
 {
     match outcome {
-        SeriesOutcome::Told(_) => told_lines(told, out),
-        SeriesOutcome::Refused(refusal, third) => {
+        SeriesEnding::Told(_) => told_lines(told, out),
+        SeriesEnding::Refused(refusal, third) => {
             refused_line(out, 0, number_of(refusal), third as u64)
         }
     }
@@ -110,7 +111,7 @@ fn answer_lines(outcome: SeriesOutcome, told: SeriesTold, out: &mut [u8]) -> usi
 
 // What is printed for the text of a series: what is told of it, or its refusal.
 pub fn write_series(text: &[u8], out: &mut [u8; SERIES_BYTES]) -> usize
-    ensures { λ r. ⌜ SeriesReported (now (text .entry)) (now (out .entry)) (now (out .exit)) r ⌝ }
+    ensures { λ r. ⌜ SeriesReported (atEntry text) (atEntry out) (atExit out) r ⌝ }
 {
     let mut positions = [0i32; POSITION_NUMBERS];
     let mut edges = [0u16; EDGE_NUMBERS];
@@ -118,7 +119,7 @@ pub fn write_series(text: &[u8], out: &mut [u8; SERIES_BYTES]) -> usize
     let mut seams = [0u16; SEAM_NUMBERS];
     let mut boxes = [0i32; BOX_NUMBERS];
     let mut list = [0u32; REPORT_ROOM];
-    let answer = tell_series(
+    let all = tell_series(
         text,
         &mut positions,
         &mut edges,
@@ -127,6 +128,7 @@ pub fn write_series(text: &[u8], out: &mut [u8; SERIES_BYTES]) -> usize
         &mut boxes,
         &mut list,
     );
+    let answer = all.answer;
     let outcome = answer.outcome;
     let told = answer.told;
     answer_lines(outcome, told, out)
@@ -136,7 +138,7 @@ pub fn write_series(text: &[u8], out: &mut [u8; SERIES_BYTES]) -> usize
 // goes on; else it is the text.
 fn front_series(read: &[u8], count: usize, out: &mut [u8; SERIES_BYTES]) -> usize
     requires { ⌜ textLimit < length (now read) ⌝ }
-    ensures { λ r. ⌜ SeriesRead (now (read .entry)) count (now (out .entry)) (now (out .exit)) r ⌝ }
+    ensures { λ r. ⌜ SeriesRead (atEntry read) count (atEntry out) (atExit out) r ⌝ }
 {
     if count < read.len() {
         return write_series(&read[..count], out);
@@ -146,7 +148,7 @@ fn front_series(read: &[u8], count: usize, out: &mut [u8; SERIES_BYTES]) -> usiz
 
 // The same for what a program read: the first `count` bytes of its buffer.
 pub fn series_read(read: &[u8; READ_BYTES], count: usize, out: &mut [u8; SERIES_BYTES]) -> usize
-    ensures { λ r. ⌜ SeriesRead (now (read .entry)) count (now (out .entry)) (now (out .exit)) r ⌝ }
+    ensures { λ r. ⌜ SeriesRead (atEntry read) count (atEntry out) (atExit out) r ⌝ }
 {
     front_series(read, count, out)
 }

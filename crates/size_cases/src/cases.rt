@@ -1,8 +1,8 @@
 // Texts made of lines that stand many times, and buffers of other lengths.
 use crate::texts::repeat;
-use marked_reads::marks::print;
-use marked_reads::show_cut;
-use marked_reads::show_read;
+use case_marks::marks::print;
+use case_marks::show_cut;
+use case_marks::show_read;
 
 // So many of one line, then so many of the next, then so many of a third; the coordinates that are wanted then.
 fn show_lines(want: &[i32], a: &[u8], m: usize, b: &[u8], n: usize, c: &[u8], k: usize) {

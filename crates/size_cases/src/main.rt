@@ -9,5 +9,5 @@ fn main() {
     cases::longer();
     cases::longest();
     cases::buffers();
-    marked_reads::marks::print(b"\n");
+    case_marks::marks::print(b"\n");
 }

@@ -1,11 +1,12 @@
 // Texts made of lines, each so many times.
 ghost use Prim.Native.Nat.{_≤_};
 ghost use lib.ListN.{length};
+ghost use Rattle.sequences.specs.Lent.{atEntry};
 
 // Puts a line at a place, as far as there is room, and answers the place behind it.
 fn append(out: &mut [u8], at: usize, line: &[u8]) -> usize
     requires { ⌜ at ≤ length (now out) ⌝ }
-    ensures { λ r. ⌜ r ≤ length (now (out .entry)) ⌝ }
+    ensures { λ r. ⌜ r ≤ length (atEntry out) ⌝ }
 {
     let mut end = at;
     let mut i: usize = 0;
@@ -22,7 +23,7 @@ fn append(out: &mut [u8], at: usize, line: &[u8]) -> usize
 
 pub(crate) fn repeat(out: &mut [u8], at: usize, line: &[u8], times: usize) -> usize
     requires { ⌜ at ≤ length (now out) ⌝ }
-    ensures { λ r. ⌜ r ≤ length (now (out .entry)) ⌝ }
+    ensures { λ r. ⌜ r ≤ length (atEntry out) ⌝ }
 {
     let mut end = at;
     let mut left = times;

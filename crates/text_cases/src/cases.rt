@@ -2,9 +2,9 @@
 ghost use Prim.Native.Nat.{_≤_};
 ghost use lib.ListN.{length};
 use crate::texts::byte_from;
-use marked_reads::marks::print;
-use marked_reads::show;
-use marked_reads::show_read;
+use case_marks::marks::print;
+use case_marks::show;
+use case_marks::show_read;
 
 // The cases of standard input: a label, a colon, a text and a bar, one after the other.
 pub(crate) fn given(all: &[u8]) {

@@ -9,5 +9,5 @@ fn main() {
     let n = io::read_full(0, &mut buffer);
     cases::given(&buffer[..n]);
     cases::taken();
-    marked_reads::marks::print(b"\n");
+    case_marks::marks::print(b"\n");
 }

@@ -10,9 +10,9 @@ use Rattle.meaning.specs.declared.Verdict.{Verdict}
 use Rattle.meaning.specs.declared.Refusal.{Refusal}
 use Rattle.meaning.specs.declared.SceneAnswer as SceneAnswers
 use Rattle.meaning.specs.declared.SceneAnswer.{SceneAnswer}
-use Rattle.scenes.specs.Answering.{refuses, lets-pass, gives, is-refused, is-given, refused-before, given-before}
-use Rattle.scenes.specs.Accepting.{after-accepted}
-use Rattle.seam_table.specs.Below.{or-left, or-rest}
+use Rattle.answers.specs.Answering.{refuses, lets-pass, gives, is-refused, is-given, refused-before, given-before}
+use Rattle.scene_checks.specs.Accepting.{after-accepted}
+use Rattle.answers.specs.Below.{or-left, or-rest}
 
 -- checks 5 and 6, each with its test
 abbrev pub askedChecks : Bool → Bool → List Check

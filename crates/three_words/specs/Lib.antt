@@ -3,3 +3,4 @@ pub mod Ready
 pub mod Right
 pub mod Pairs
 pub mod Asked
+pub mod OneResult

@@ -14,7 +14,7 @@ use Rattle.meaning.specs.declared.Kind.{Kind}
 use Rattle.meaning.specs.declared.Kind.the-variants.{PointTriangle, EdgeEdge}
 use Rattle.meaning.specs.declared.Verdict.{Verdict}
 use Rattle.meaning.specs.declared.Verdict.the-variants.{Hit, Miss, Degenerate}
-use Rattle.seam_table.specs.Below.{or-left, or-rest}
+use Rattle.answers.specs.Below.{or-left, or-rest}
 use Rattle.theory.specs.Computed.{joined, joinedBelow, pieceVerdict, pairVerdict}
 use Rattle.theory.specs.OneVerdict.{piece-is, pair-is}
 
@@ -42,21 +42,6 @@ module _ (s : Scene) (i j : ℕ) where
       pair-is s EdgeEdge i j (joined a (joined b (joined c d))) .1
       (rw (piece-is s EdgeEdge i j 0 a .0 p, piece-is s EdgeEdge i j 1 b .0 q, piece-is s EdgeEdge i j 2 c .0 r, piece-is s EdgeEdge i j 3 d .0 t)
       (rw joined-miss refl))
-
-  -- what is there, in numbers
-  pub pt-there : notThere s PointTriangle i j ≡ false → (i < vertexCount s) × (j < triangleCount s)
-  unfolding notThere
-  pt-there e = (
-    leb-false (vertexCount s) i (or-left (leb (vertexCount s) i) (leb (triangleCount s) j) e),
-    leb-false (triangleCount s) j (or-rest (leb (vertexCount s) i) (leb (triangleCount s) j) e),
-  )
-
-  pub ee-there : notThere s EdgeEdge i j ≡ false → (i < edgeCount s) × (j < edgeCount s)
-  unfolding notThere
-  ee-there e = (
-    leb-false (edgeCount s) i (or-left (leb (edgeCount s) i) (leb (edgeCount s) j) e),
-    leb-false (edgeCount s) j (or-rest (leb (edgeCount s) i) (leb (edgeCount s) j) e),
-  )
 
   pub ee-smaller-there : notThere s EdgeEdge i j ≡ false → min i j < edgeCount s
   ee-smaller-there e = omega (arith, ee-there e)

@@ -12,7 +12,7 @@ use Rattle.meaning.specs.declared.Corners.{Corners}
 use Rattle.exact.specs.Places.{Bounded}
 use Rattle.exact.specs.Shared.{Moving}
 use Rattle.theory.specs.InOrder.{rising-keeps, among-keeps}
-use Rattle.scenes.specs.Facts.{accepted-coordinate, accepted-end, accepted-corner}
+use Rattle.scene_checks.specs.Facts.{accepted-coordinate, accepted-end, accepted-corner}
 
 pub record PointReady (ps : List ℤ) (p : ℕ) (c : Corners) : Type 0 where
   pub bounded : Bounded coordinateLimit ps

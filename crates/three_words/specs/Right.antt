@@ -15,7 +15,7 @@ use Rattle.meaning.specs.declared.Ends.{Ends}
 use Rattle.meaning.specs.declared.Corners.{Corners}
 use Rattle.meaning.specs.declared.Verdict.{Verdict}
 use Rattle.meaning.specs.declared.Verdict.the-variants.{Hit, Miss, Degenerate}
-use Rattle.sign_sums.specs.BySigns.{allAgree, bySigns, sum, keep, kept, pointVerdict, edgeVerdict}
+use Rattle.exact_signs.specs.BySigns.{allAgree, bySigns, sum, keep, kept, pointVerdict, edgeVerdict}
 use Rattle.exact.specs.Volumes.{four, fourOf, Holds, holds-same}
 use Rattle.exact.specs.declared.Volumes.{Volumes}
 use Rattle.theory.specs.Reading.{agreeing, verdictOf}

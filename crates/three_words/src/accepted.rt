@@ -9,78 +9,21 @@ ghost use Rattle.meaning.specs.Pieces.{pieceOf, pieceCount};
 ghost use Rattle.meaning.specs.Refusals.{notThere, shares};
 ghost use Rattle.meaning.specs.Verdicts.{PieceIs, PairIs};
 ghost use Rattle.meaning.specs.declared.Kind.the-variants.{PointTriangle, EdgeEdge};
-ghost use Rattle.seam_table.specs.Alone.{tabledIn, tabledAtEntry};
+ghost use Rattle.scene_seams.specs.Alone.{tabledIn, tabledAtEntry};
 ghost use Rattle.theory.specs.Computed.{joined};
-ghost use Rattle.sign_sums.specs.BySigns.{told};
+ghost use Rattle.exact_signs.specs.BySigns.{told};
 ghost use Rattle.three_words.specs.Ready.{PointReady, EdgesReady};
+ghost use Rattle.sequences.specs.Lent.{atEntry};
 use exact::shared::edge_volumes;
 use exact::shared::point_volumes;
+use exact_signs::Signs;
+use exact_signs::edge_signs;
+use exact_signs::point_signs;
+use exact_signs::verdict_of;
 use meaning::Corners;
 use meaning::Ends;
 use meaning::Kind;
 use meaning::Verdict;
-use sign_sums::Signs;
-use sign_sums::edge_signs;
-use sign_sums::point_signs;
-use sign_sums::verdict_of;
-
-// 5: a place that isn't there.
-pub fn not_there(
-    positions: &[i32],
-    edges: &[u16],
-    triangles: &[u16],
-    kind: Kind,
-    i: usize,
-    j: usize,
-) -> bool
-    ensures { λ r. ⌜ ((w : List ℕ) → r ≡ notThere (sceneOf (now (positions .entry)) (now (edges .entry)) (now (triangles .entry)) w) kind i j) ⌝ }
-{
-    match kind {
-        Kind::PointTriangle => (positions.len() / 6 <= i) | (triangles.len() / 3 <= j),
-        Kind::EdgeEdge => (edges.len() / 2 <= i) | (edges.len() / 2 <= j),
-    }
-}
-
-pub fn piece_count(kind: Kind) -> usize
-    ensures { λ r. ⌜ r ≡ pieceCount kind ⌝ }
-{
-    match kind {
-        Kind::PointTriangle => 3,
-        Kind::EdgeEdge => 4,
-    }
-}
-
-// 6: the two parts share a vertex.
-pub fn shares_vertex(
-    positions: &[i32],
-    edges: &[u16],
-    triangles: &[u16],
-    stands: &[u16],
-    kind: Kind,
-    i: usize,
-    j: usize,
-) -> bool
-    requires { ⌜ notThere (tabledIn positions edges triangles stands) kind i j ≡ false ⌝ }
-    ensures { λ r. ⌜ r ≡ shares (tabledAtEntry positions edges triangles stands) kind i j ⌝ }
-{
-    match kind {
-        Kind::PointTriangle => scene_parts::shares_pt(triangles, stands, i, j),
-        Kind::EdgeEdge => scene_parts::shares_ee(edges, stands, i, j),
-    }
-}
-
-// The lower of two places, and the higher.
-pub fn smaller(i: usize, j: usize) -> usize
-    ensures { λ r. ⌜ r ≡ min i j ⌝ }
-{
-    if i < j { i } else { j }
-}
-
-pub fn larger(i: usize, j: usize) -> usize
-    ensures { λ r. ⌜ r ≡ max i j ⌝ }
-{
-    if i < j { j } else { i }
-}
 
 // One piece of a pair.
 pub fn piece(
@@ -93,7 +36,8 @@ pub fn piece(
     j: usize,
     k: usize,
 ) -> Verdict
-    requires { ⌜ Accepted (tabledIn positions edges triangles stands) × (notThere (tabledIn positions edges triangles stands) kind i j ≡ false) ⌝ }
+    requires { ⌜ Accepted (tabledIn positions edges triangles stands)
+        × (notThere (tabledIn positions edges triangles stands) kind i j ≡ false) ⌝ }
     ensures { λ r. ⌜ PieceIs (pieceOf (tabledAtEntry positions edges triangles stands) kind i j k) r ⌝ }
 {
     match kind {
@@ -106,8 +50,8 @@ pub fn piece(
             )
         }
         Kind::EdgeEdge => {
-            let first = scene_parts::ends_of(edges, stands, smaller(i, j));
-            let second = scene_parts::ends_of(edges, stands, larger(i, j));
+            let first = scene_parts::ends_of(edges, stands, scene_parts::asked::smaller(i, j));
+            let second = scene_parts::ends_of(edges, stands, scene_parts::asked::larger(i, j));
             crate::pieces::edges_piece(positions, first, k / 2, second, k % 2)
         }
     }
@@ -125,7 +69,8 @@ pub fn either(a: Signs, b: Signs) -> Signs
 // The pieces of a pair share their determinants, so a pair takes the volumes of all its pieces at once.
 fn point_pair(positions: &[i32], p: usize, c: Corners) -> Verdict
     requires { ⌜ PointReady (now positions) p c ⌝ }
-    ensures { λ r. ⌜ ((e t w : List ℕ) (j : ℕ) → cornersOf (sceneOf (now (positions .entry)) e t w) j ≡ c → PairIs (sceneOf (now (positions .entry)) e t w) PointTriangle p j r) ⌝ }
+    ensures { λ r. ⌜ ((e t w : List ℕ) (j : ℕ) → cornersOf (sceneOf (atEntry positions) e t w) j ≡ c
+        → PairIs (sceneOf (atEntry positions) e t w) PointTriangle p j r) ⌝ }
 {
     let v = point_volumes(positions, 6 * p, 6 * c.low, 6 * c.middle, 6 * c.high);
     let first = v.first;
@@ -139,7 +84,9 @@ fn point_pair(positions: &[i32], p: usize, c: Corners) -> Verdict
 
 fn edges_pair(positions: &[i32], first: Ends, second: Ends) -> Verdict
     requires { ⌜ EdgesReady (now positions) first second ⌝ }
-    ensures { λ r. ⌜ ((e t w : List ℕ) (i j : ℕ) → endsOf (sceneOf (now (positions .entry)) e t w) (min i j) ≡ first → endsOf (sceneOf (now (positions .entry)) e t w) (max i j) ≡ second → PairIs (sceneOf (now (positions .entry)) e t w) EdgeEdge i j r) ⌝ }
+    ensures { λ r. ⌜ ((e t w : List ℕ) (i j : ℕ) → endsOf (sceneOf (atEntry positions) e t w) (min i j) ≡ first
+        → endsOf (sceneOf (atEntry positions) e t w) (max i j) ≡ second
+        → PairIs (sceneOf (atEntry positions) e t w) EdgeEdge i j r) ⌝ }
 {
     let v = edge_volumes(
         positions,
@@ -169,7 +116,8 @@ pub fn pair(
     i: usize,
     j: usize,
 ) -> Verdict
-    requires { ⌜ Accepted (tabledIn positions edges triangles stands) × (notThere (tabledIn positions edges triangles stands) kind i j ≡ false) ⌝ }
+    requires { ⌜ Accepted (tabledIn positions edges triangles stands)
+        × (notThere (tabledIn positions edges triangles stands) kind i j ≡ false) ⌝ }
     ensures { λ r. ⌜ PairIs (tabledAtEntry positions edges triangles stands) kind i j r ⌝ }
 {
     match kind {
@@ -177,8 +125,8 @@ pub fn pair(
             point_pair(positions, i, scene_parts::corners_of(triangles, stands, j))
         }
         Kind::EdgeEdge => {
-            let first = scene_parts::ends_of(edges, stands, smaller(i, j));
-            let second = scene_parts::ends_of(edges, stands, larger(i, j));
+            let first = scene_parts::ends_of(edges, stands, scene_parts::asked::smaller(i, j));
+            let second = scene_parts::ends_of(edges, stands, scene_parts::asked::larger(i, j));
             edges_pair(positions, first, second)
         }
     }

@@ -5,9 +5,10 @@ pub mod accepted; // accepted.rt: pieces and pairs of a scene that was checked a
 
 ghost use Rattle.meaning.specs.Scene.{sceneAtEntry};
 ghost use Rattle.meaning.specs.Refusals.{Answers, sceneSays, PairJudged, PieceJudged};
-ghost use Rattle.seam_table.specs.Sewing.{Blank};
-ghost use Rattle.scenes.specs.Checking.{Stitched};
+ghost use Rattle.scene_seams.specs.Sewing.{Blank};
+ghost use Rattle.scene_checks.specs.Checking.{Stitched};
 ghost use Rattle.three_words.specs.Asked.{Passes, askedChecks, PairAsked};
+ghost use Rattle.sequences.specs.Lent.{atEntry, atExit};
 use meaning::Kind;
 use meaning::PairAnswer;
 use meaning::Refusal;
@@ -41,9 +42,10 @@ fn asked(
     missing: bool,
 ) -> SceneAnswer
     requires { ⌜ Blank (now seams) (now stands) ⌝ }
-    ensures { λ r. ⌜ PairAsked (sceneAtEntry positions edges triangles seams) kind first second missing r × Stitched (sceneAtEntry positions edges triangles seams) (now (stands .entry)) (now (stands .exit)) ⌝ }
+    ensures { λ r. ⌜ PairAsked (sceneAtEntry positions edges triangles seams) kind first second missing r
+        × Stitched (sceneAtEntry positions edges triangles seams) (atEntry stands) (atExit stands) ⌝ }
 {
-    if let SceneAnswer::Refused(refusal) = scenes::check_into(
+    if let SceneAnswer::Refused(refusal) = scene_checks::check_into(
         positions,
         edges,
         triangles,
@@ -52,10 +54,18 @@ fn asked(
     ) {
         return SceneAnswer::Refused(refusal);
     }
-    if accepted::not_there(positions, edges, triangles, kind, first, second) {
+    if scene_parts::asked::not_there(positions, edges, triangles, kind, first, second) {
         return first_of(true, false);
     }
-    let shared = accepted::shares_vertex(positions, edges, triangles, stands, kind, first, second);
+    let shared = scene_parts::asked::shares_vertex(
+        positions,
+        edges,
+        triangles,
+        stands,
+        kind,
+        first,
+        second,
+    );
     first_of(missing, shared)
 }
 
@@ -71,7 +81,8 @@ pub fn pair_into(
     second: usize,
 ) -> PairAnswer
     requires { ⌜ Blank (now seams) (now stands) ⌝ }
-    ensures { λ r. ⌜ PairJudged (sceneAtEntry positions edges triangles seams) kind first second r × Stitched (sceneAtEntry positions edges triangles seams) (now (stands .entry)) (now (stands .exit)) ⌝ }
+    ensures { λ r. ⌜ PairJudged (sceneAtEntry positions edges triangles seams) kind first second r
+        × Stitched (sceneAtEntry positions edges triangles seams) (atEntry stands) (atExit stands) ⌝ }
 {
     match asked(
         positions,
@@ -147,9 +158,10 @@ pub fn piece_into(
     piece: usize,
 ) -> PairAnswer
     requires { ⌜ Blank (now seams) (now stands) ⌝ }
-    ensures { λ r. ⌜ PieceJudged (sceneAtEntry positions edges triangles seams) kind first second piece r × Stitched (sceneAtEntry positions edges triangles seams) (now (stands .entry)) (now (stands .exit)) ⌝ }
+    ensures { λ r. ⌜ PieceJudged (sceneAtEntry positions edges triangles seams) kind first second piece r
+        × Stitched (sceneAtEntry positions edges triangles seams) (atEntry stands) (atExit stands) ⌝ }
 {
-    let missing = accepted::piece_count(kind) <= piece;
+    let missing = scene_parts::asked::piece_count(kind) <= piece;
     match asked(
         positions,
         edges,

@@ -4,16 +4,21 @@
 ghost use Rattle.meaning.specs.Pieces.{movingPoint, movingTriangle, movingEdge};
 ghost use Rattle.meaning.specs.Verdicts.{PieceIs};
 ghost use Rattle.three_words.specs.Ready.{PointReady, EdgesReady};
+ghost use Rattle.sequences.specs.Lent.{atEntry};
+use exact_signs::judge_edges;
+use exact_signs::judge_point;
 use meaning::Corners;
 use meaning::Ends;
 use meaning::Verdict;
-use sign_sums::judge_edges;
-use sign_sums::judge_point;
 
 // Point p against piece k of a triangle: the base is p.
 pub fn point_piece(positions: &[i32], p: usize, c: Corners, k: usize) -> Verdict
     requires { ⌜ PointReady (now positions) p c ⌝ }
-    ensures { λ r. ⌜ PieceIs (record { first = movingPoint (now (positions .entry)) p; second = movingTriangle (now (positions .entry)) c k }) r ⌝ }
+    ensures { λ r. ⌜ PieceIs (record {
+      first = movingPoint (atEntry positions) p;
+      second = movingTriangle
+          (atEntry positions) c k;
+    }) r ⌝ }
 {
     let from = 6 * p;
     let to = from + 3;
@@ -33,7 +38,11 @@ pub fn point_piece(positions: &[i32], p: usize, c: Corners, k: usize) -> Verdict
 // at the end: these are the base.
 pub fn edges_piece(positions: &[i32], e: Ends, i: usize, f: Ends, j: usize) -> Verdict
     requires { ⌜ EdgesReady (now positions) e f ⌝ }
-    ensures { λ r. ⌜ PieceIs (record { first = movingEdge (now (positions .entry)) e i; second = movingEdge (now (positions .entry)) f j }) r ⌝ }
+    ensures { λ r. ⌜ PieceIs (record {
+      first = movingEdge (atEntry positions) e i;
+      second = movingEdge
+          (atEntry positions) f j;
+    }) r ⌝ }
 {
     if i == 0 {
         if j == 0 {
@@ -52,7 +61,11 @@ pub fn edges_piece(positions: &[i32], e: Ends, i: usize, f: Ends, j: usize) -> V
 
 fn both_a(positions: &[i32], e: Ends, f: Ends) -> Verdict
     requires { ⌜ EdgesReady (now positions) e f ⌝ }
-    ensures { λ r. ⌜ PieceIs (record { first = movingEdge (now (positions .entry)) e 0; second = movingEdge (now (positions .entry)) f 0 }) r ⌝ }
+    ensures { λ r. ⌜ PieceIs (record {
+      first = movingEdge (atEntry positions) e 0;
+      second = movingEdge
+          (atEntry positions) f 0;
+    }) r ⌝ }
 {
     let from = 6 * e.low;
     let other = 6 * e.high;
@@ -78,7 +91,11 @@ fn both_a(positions: &[i32], e: Ends, f: Ends) -> Verdict
 
 fn a_against_b(positions: &[i32], e: Ends, f: Ends) -> Verdict
     requires { ⌜ EdgesReady (now positions) e f ⌝ }
-    ensures { λ r. ⌜ PieceIs (record { first = movingEdge (now (positions .entry)) e 0; second = movingEdge (now (positions .entry)) f 1 }) r ⌝ }
+    ensures { λ r. ⌜ PieceIs (record {
+      first = movingEdge (atEntry positions) e 0;
+      second = movingEdge
+          (atEntry positions) f 1;
+    }) r ⌝ }
 {
     let from = 6 * e.low;
     let other = 6 * e.high;
@@ -104,7 +121,11 @@ fn a_against_b(positions: &[i32], e: Ends, f: Ends) -> Verdict
 
 fn b_against_a(positions: &[i32], e: Ends, f: Ends) -> Verdict
     requires { ⌜ EdgesReady (now positions) e f ⌝ }
-    ensures { λ r. ⌜ PieceIs (record { first = movingEdge (now (positions .entry)) e 1; second = movingEdge (now (positions .entry)) f 0 }) r ⌝ }
+    ensures { λ r. ⌜ PieceIs (record {
+      first = movingEdge (atEntry positions) e 1;
+      second = movingEdge
+          (atEntry positions) f 0;
+    }) r ⌝ }
 {
     let from = 6 * e.low;
     let to = 6 * e.high + 3;
@@ -130,7 +151,11 @@ fn b_against_a(positions: &[i32], e: Ends, f: Ends) -> Verdict
 
 fn both_b(positions: &[i32], e: Ends, f: Ends) -> Verdict
     requires { ⌜ EdgesReady (now positions) e f ⌝ }
-    ensures { λ r. ⌜ PieceIs (record { first = movingEdge (now (positions .entry)) e 1; second = movingEdge (now (positions .entry)) f 1 }) r ⌝ }
+    ensures { λ r. ⌜ PieceIs (record {
+      first = movingEdge (atEntry positions) e 1;
+      second = movingEdge
+          (atEntry positions) f 1;
+    }) r ⌝ }
 {
     let from = 6 * e.low;
     let to = 6 * e.high + 3;

@@ -10,7 +10,7 @@ use lib.IntN.{ℤ, pos}
 use lib.ListN.{length, getD, set, length-set}
 use lib.Seq.{getD-set-same, getD-set-other, ext-getD}
 use borrow.Author.Tests.{lt-ltb, le-ltb, eqb-true, eqb-false}
-use Rattle.backwards.specs.Turned.{source, source-inside, source-at, source-behind, source-twice}
+use Rattle.turning_laws.specs.Turned.{source, source-inside, source-at, source-behind, source-twice}
 
 -- l with the numbers at i and j in each other's place
 abbrev pub exchanged : List ℤ → ℕ → ℕ → List ℤ

@@ -2,3 +2,4 @@
 pub mod Exchanging
 pub mod Renumbering
 pub mod Scene
+pub mod OneTurning

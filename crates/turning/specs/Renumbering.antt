@@ -9,7 +9,7 @@ use lib.ListN.{length, getD, set, length-set, length-map}
 use lib.Seq.{getD-set-same, getD-set-other, ext-getD}
 use borrow.Author.Tests.{eqb-true, eqb-false}
 use Rattle.meaning.specs.Backwards.{fromLast}
-use Rattle.backwards.specs.Numbers.{mapped-at}
+use Rattle.turning_laws.specs.Numbers.{mapped-at}
 
 -- all numbers of the list are below n
 abbrev pub AllBelow : ℕ → List ℕ → Type 0

@@ -1,31 +1,25 @@
 -- The three lists turned round are the scene turned round. It has no seams before and none after.
 use Prim.Native.Nat.{ℕ, _*_, _/_, _≤_}
-use mathlib.Core.List.{List, [], map}
+use mathlib.Core.List.{List, map}
 use mathlib.Core.Path.{_≡_, refl, sym, _∙_}
 use native.Mathlib.Omega.{arith}
 use lib.IntN.{ℤ, pos}
 use lib.ListN.{length}
 use lib.Seq.{ext-getD}
-use denote.Ref.{RefT}
-use denote.Triple.Both.{Both}
 use Rattle.meaning.specs.Limits.{vertexLimit}
 use Rattle.meaning.specs.Scene.{Scene, sceneOf, Accepted, vertexCount}
 use Rattle.meaning.specs.Refusals.{sceneSays, SceneChecked}
-use Rattle.meaning.specs.Backwards.{fromLast, turnedRound, sceneLeft, Turning}
+use Rattle.meaning.specs.Backwards.{fromLast, turnedRound, turnedLeft, Turning}
 use Rattle.meaning.specs.declared.Refusal.{Refusal}
 use Rattle.meaning.specs.declared.SceneAnswer as Answer
 use Rattle.meaning.specs.declared.SceneAnswer.{SceneAnswer}
-use Rattle.seam_table.specs.Alone.{onlyPositions, unsewnIn}
-use Rattle.scenes.specs.Accepting.{accepted-checked}
-use Rattle.seam_table.specs.Below.{or-left, or-rest}
-use Rattle.scenes.specs.Facts.{known-inside, accepted-sized}
-use Rattle.backwards.specs.Turned.{as-long, coordinate}
+use Rattle.scene_seams.specs.Alone.{onlyPositions}
+use Rattle.scene_checks.specs.Accepting.{accepted-checked}
+use Rattle.answers.specs.Below.{or-left, or-rest}
+use Rattle.scene_checks.specs.Facts.{known-inside, accepted-sized}
+use Rattle.turning_laws.specs.Turned.{as-long, coordinate}
 use Rattle.turning.specs.Exchanging.{Exchanging, exchanging-ends}
 use Rattle.turning.specs.Renumbering.{AllBelow}
-
--- the scene of a call that has no seams, as it is when the call ends
-abbrev pub unsewnAtExit : {X Y Z : Type 0} → Both X (RefT (List ℤ)) → Both Y (RefT (List ℕ)) → Both Z (RefT (List ℕ)) → Scene
-unsewnAtExit p e t = unsewnIn (p .exit) (e .exit) (t .exit)
 
 -- the positions of the scene turned round, of which vertices alone are read
 abbrev pub positionsTurned : List ℤ → List ℤ
@@ -53,10 +47,10 @@ few-positions a = let z = accepted-sized a in omega arith
 pub turned-scene : (s : Scene) → Accepted s → {p : List ℤ} {e k : List ℕ} → p ≡ positionsTurned (s .positions)
     → e ≡ map (fromLast (vertexCount s)) (s .edges)
     → k ≡ map (fromLast (vertexCount s)) (s .triangles) → Turning s (sceneOf p e k (s .seams)) Answer.the-variants.Accepted
-unfolding sceneSays sceneLeft turnedRound
+unfolding sceneSays turnedLeft turnedRound
 turned-scene s a h i j = record { answer = accepted-checked s a; scene = λ x. record { positions = h x; edges = i x; triangles = j x; seams = s .seams } }
 
 pub scene-refused : (s : Scene) {r : SceneAnswer} (why : Refusal) → r ≡ Answer.the-variants.Refused why
     → SceneChecked s r → Turning s s (Answer.the-variants.Refused why)
-unfolding sceneSays sceneLeft
+unfolding sceneSays turnedLeft
 scene-refused s why e p = record { answer = rw e at p; scene = refl }

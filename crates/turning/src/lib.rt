@@ -7,14 +7,16 @@ ghost use mathlib.Core.Path.{_≡_};
 ghost use lib.ListN.{length};
 ghost use Rattle.meaning.specs.Limits.{vertexLimit};
 ghost use Rattle.meaning.specs.Backwards.{fromLast, Turning};
-ghost use Rattle.seam_table.specs.Alone.{unsewnAtEntry};
-ghost use Rattle.backwards.specs.Turned.{source};
+ghost use Rattle.meaning.specs.Scene.{unsewnAtEntry};
+ghost use Rattle.turning_laws.specs.Turned.{source};
 ghost use Rattle.turning.specs.Exchanging.{exchanged};
 ghost use Rattle.turning.specs.Renumbering.{AllBelow};
-ghost use Rattle.turning.specs.Scene.{positionsTurned, unsewnAtExit};
+ghost use Rattle.turning.specs.Scene.{positionsTurned};
+ghost use Rattle.meaning.specs.Scene.{unsewnAtExit};
+ghost use Rattle.sequences.specs.Lent.{atEntry, atExit};
 use meaning::SceneAnswer;
-use scenes::check_scene;
-use seam_table::wide;
+use scene_checks::check_scene;
+use scene_seams::wide;
 
 // Where the coordinate at place i comes from: the other half, start or end, of the vertex counted from the last.
 fn source(count: usize, i: usize) -> usize
@@ -26,7 +28,7 @@ fn source(count: usize, i: usize) -> usize
 
 fn exchange(positions: &mut [i32], i: usize, j: usize)
     requires { ⌜ (i < length (now positions)) × (j < length (now positions)) ⌝ }
-    ensures { λ _. ⌜ now (positions .exit) ≡ exchanged (now (positions .entry)) i j ⌝ }
+    ensures { λ _. ⌜ atExit positions ≡ exchanged (atEntry positions) i j ⌝ }
 {
     let first = positions[i];
     positions[i] = positions[j];
@@ -36,7 +38,7 @@ fn exchange(positions: &mut [i32], i: usize, j: usize)
 // What comes from the second half comes from a place that gets what stands in the first: each exchange puts two coordinates right.
 fn turn_positions(positions: &mut [i32])
     requires { ⌜ length (now positions) ≤ 6 * vertexLimit ⌝ }
-    ensures { λ _. ⌜ now (positions .exit) ≡ positionsTurned (now (positions .entry)) ⌝ }
+    ensures { λ _. ⌜ atExit positions ≡ positionsTurned (atEntry positions) ⌝ }
 {
     let count = positions.len() / 6;
     let mut i = 0;
@@ -56,7 +58,7 @@ fn from_last(count: usize, v: u16) -> u16
 
 fn renumber(numbers: &mut [u16], count: usize)
     requires { ⌜ (count ≤ vertexLimit) × AllBelow count (now numbers) ⌝ }
-    ensures { λ _. ⌜ now (numbers .exit) ≡ map (fromLast count) (now (numbers .entry)) ⌝ }
+    ensures { λ _. ⌜ atExit numbers ≡ map (fromLast count) (atEntry numbers) ⌝ }
 {
     let mut i = 0;
     while i < numbers.len() {

@@ -1,6 +1,6 @@
 -- The six points are the piece's, and the weights those in the buffer.
 use borrow.Author.Needs.{needs}
-use Rattle.seam_table.specs.Alone.{tabled}
+use Rattle.scene_seams.specs.Alone.{tabled}
 use Rattle.claim_answers.specs.Weighing.{points-in, points-answer}
 use Rattle.claim_answers.proofs.answer.Statement.{statement}
 use Rattle.claim_answers.proofs.answer.Tie as tie

@@ -4,7 +4,7 @@ use Prim.Native.Nat.{_-_}
 use native.Mathlib.Omega.{arith}
 use lib.ListN.{length}
 use borrow.Author.Needs.{needs}
-use Rattle.seam_table.specs.Alone.{tabled}
+use Rattle.scene_seams.specs.Alone.{tabled}
 use Rattle.claim_answers.specs.Weighing.{claim-there, claim-answer}
 use Rattle.claim_answers.specs.Answering.{Answering, answer-starts, answer-never, taken, answer-room, answer-goes, answer-ends}
 use Rattle.claim_answers.proofs.answer_all.Statement.{statement}

@@ -1,6 +1,6 @@
 -- `check_claims`: the table is its own, and without entries where there are no seams.
 use borrow.Author.Needs.{needs}
-use Rattle.seam_table.specs.Sewing.{blank-table}
+use Rattle.scene_seams.specs.Sewing.{blank-table}
 use Rattle.claim_answers.proofs.check_claims.Statement.{statement}
 use Rattle.claim_answers.proofs.check_claims.Tie as tie
 

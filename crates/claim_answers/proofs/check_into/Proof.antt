@@ -2,8 +2,8 @@
 -- beside the scene that the table tells, which is the scene.
 use borrow.Author.Needs.{needs}
 use Rattle.meaning.specs.Scene.{sceneIn, Accepted}
-use Rattle.scenes.specs.Accepting.{accepted-by}
-use Rattle.scenes.specs.Checking.{to-table}
+use Rattle.scene_checks.specs.Accepting.{accepted-by}
+use Rattle.scene_checks.specs.Checking.{to-table}
 use Rattle.claim_answers.specs.Checking.{checked-scene, checked-long, checked-faulty, checked-short, claims-roomy, checked-given, checked-in-table}
 use Rattle.claim_answers.proofs.check_into.Statement.{statement}
 use Rattle.claim_answers.proofs.check_into.Tie as tie

@@ -4,7 +4,7 @@ use Prim.Native.Nat.{_-_}
 use native.Mathlib.Omega.{arith}
 use lib.ListN.{length}
 use borrow.Author.Needs.{needs}
-use Rattle.seam_table.specs.Alone.{tabled}
+use Rattle.scene_seams.specs.Alone.{tabled}
 use Rattle.claim_answers.specs.Inspecting.{Inspecting, inspect-starts, inspect-goes, inspect-fails, inspect-ends}
 use Rattle.claim_answers.proofs.inspect.Statement.{statement}
 use Rattle.claim_answers.proofs.inspect.Tie as tie

@@ -5,7 +5,7 @@ use native.Mathlib.Omega.{arith}
 use lib.ListN.{length-replicate}
 use borrow.Author.Needs.{needs}
 use Rattle.meaning.specs.Report.{refusedLine}
-use Rattle.wording.specs.Lines.{wrote-as}
+use Rattle.report_words.specs.Lines.{wrote-as}
 use Rattle.claim_report.specs.Printed.{few-given, answers-written, refusal-written}
 use Rattle.claim_report.proofs.scene_answers.Statement.{statement}
 use Rattle.claim_report.proofs.scene_answers.Tie as tie

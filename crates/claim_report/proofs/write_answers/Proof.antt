@@ -8,8 +8,8 @@ use lib.Seq.{length-take-le}
 use borrow.Author.Needs.{needs}
 use Rattle.meaning.specs.Refusals.{numberOf}
 use Rattle.meaning.specs.Report.{refusedLine}
-use Rattle.wording.specs.Lines.{wrote-as}
-use Rattle.scene_text.specs.Using.{few-read, holds-read, short-read}
+use Rattle.report_words.specs.Lines.{wrote-as}
+use Rattle.text_scene.specs.Using.{few-read, holds-read, short-read}
 use Rattle.claim_report.specs.Printed.{scene-to-text, refused-scene}
 use Rattle.claim_report.proofs.write_answers.Statement.{statement}
 use Rattle.claim_report.proofs.write_answers.Tie as tie

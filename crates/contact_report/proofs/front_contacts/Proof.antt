@@ -8,7 +8,7 @@ use Rattle.contact_report.proofs.front_contacts.Tie as tie
 use Rattle.contact_report.proofs.front_contacts.Reads as reads
 use Rattle.contact_report.proofs.front_contacts.Lts as lts
 use Rattle.contact_report.proofs.write_contacts.Reads as write-contacts-reads
-use Rattle.wording.proofs.lines.refused_line.Reads as refused-line-reads
+use Rattle.report_words.proofs.lines.refused_line.Reads as refused-line-reads
 
 slice-aggregate-write-contacts : tie.Need-slice-aggregate-write-contacts
 slice-aggregate-write-contacts c = sym (length-take-le _ _ (omega (arith, c .before .if1 .taken)))

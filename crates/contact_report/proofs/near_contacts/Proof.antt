@@ -1,9 +1,9 @@
 -- The list is made, and each of its pairs met; or it has no room, and one line says so.
 use native.Mathlib.Omega.{arith}
 use Rattle.meaning.specs.Scene.{Scene}
-use Rattle.seam_table.specs.Alone.{tabled}
-use Rattle.scene_words.specs.Answering.{made-list, made-stands}
-use Rattle.meetings.specs.Ready.{old-accepted}
+use Rattle.scene_seams.specs.Alone.{tabled}
+use Rattle.list_words.specs.Answering.{made-list, made-stands}
+use Rattle.contact_pair.specs.Ready.{old-accepted}
 use Rattle.contact_report.specs.FromCalls.{own-room, no-room}
 use Rattle.contact_report.specs.Whole.{room-refused, contacts-stand}
 use borrow.Author.Needs.{needs}
@@ -12,8 +12,8 @@ use Rattle.contact_report.proofs.near_contacts.Tie as tie
 use Rattle.contact_report.proofs.near_contacts.Reads as reads
 use Rattle.contact_report.proofs.near_contacts.Lts as lts
 use Rattle.contact_report.proofs.hits.hits_report.Reads as hits-report-reads
-use Rattle.listing.proofs.accepted.list_accepted.Reads as list-accepted-reads
-use Rattle.wording.proofs.lines.refused_line.Reads as refused-line-reads
+use Rattle.list_pairs.proofs.accepted.list_accepted.Reads as list-accepted-reads
+use Rattle.report_words.proofs.lines.refused_line.Reads as refused-line-reads
 
 slice-aggregate-list-accepted : tie.Need-slice-aggregate-list-accepted
 slice-aggregate-list-accepted c = search needs

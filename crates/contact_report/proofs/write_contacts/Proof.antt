@@ -8,8 +8,8 @@ use lib.Seq.{length-take-le}
 use borrow.Author.Needs.{needs}
 use Rattle.meaning.specs.Refusals.{numberOf}
 use Rattle.meaning.specs.Report.{refusedLine}
-use Rattle.wording.specs.Lines.{wrote-as}
-use Rattle.scene_text.specs.Using.{few-read, holds-read, accepted-read, short-read}
+use Rattle.report_words.specs.Lines.{wrote-as}
+use Rattle.text_scene.specs.Using.{few-read, holds-read, accepted-read, short-read}
 use Rattle.contact_report.specs.FromCalls.{refused-read}
 use Rattle.contact_report.specs.Whole.{scene-to-text, refused-text}
 use Rattle.contact_report.proofs.write_contacts.Statement.{statement}

@@ -7,7 +7,7 @@ use lib.ListN.{length, take, length-append}
 use lib.Seq.{length-take-le}
 use borrow.Author.Needs.{needs}
 use Rattle.meaning.specs.ContactLines.{ContactsReported, ContactsRead}
-use Rattle.meaning.specs.ReadShown.{front-read}
+use Rattle.meaning.specs.shown.ReadShown.{front-read}
 use Rattle.contacts.proofs.main.Statement.{statement}
 use Rattle.contacts.proofs.main.Tie as tie
 use Rattle.contacts.proofs.main.Reads as reads

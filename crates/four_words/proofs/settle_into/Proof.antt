@@ -8,7 +8,7 @@ use Rattle.meaning.specs.Verdicts.{PairIs}
 use Rattle.meaning.specs.Resting.{PairSettled}
 use Rattle.meaning.specs.declared.Verdict.the-variants.{Degenerate}
 use Rattle.meaning.specs.declared.Settled.the-variants.{Hit, Miss}
-use Rattle.scenes.specs.Checking.{to-table, from-table}
+use Rattle.scene_checks.specs.Checking.{to-table, from-table}
 use Rattle.four_words.specs.Words.{hit-stays, miss-stays}
 use Rattle.four_words.specs.Deciding.{pair-given, pair-decided, pair-refused}
 use Rattle.four_words.proofs.settle_into.Statement.{statement}

@@ -1,6 +1,6 @@
 -- `settle_piece`: the table is its own, and without entries where there are no seams.
 use borrow.Author.Needs.{needs}
-use Rattle.seam_table.specs.Sewing.{blank-none, blank-table}
+use Rattle.scene_seams.specs.Sewing.{blank-none, blank-table}
 use Rattle.four_words.proofs.settle_piece.Statement.{statement}
 use Rattle.four_words.proofs.settle_piece.Tie as tie
 

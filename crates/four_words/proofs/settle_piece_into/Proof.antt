@@ -7,7 +7,7 @@ use Rattle.meaning.specs.Pieces.{pieceOf}
 use Rattle.meaning.specs.Refusals.{notThere}
 use Rattle.meaning.specs.Verdicts.{PieceIs}
 use Rattle.meaning.specs.Resting.{PieceSettled}
-use Rattle.scenes.specs.Checking.{to-table, from-table}
+use Rattle.scene_checks.specs.Checking.{to-table, from-table}
 use Rattle.four_words.specs.Deciding.{piece-given, piece-decided, piece-refused}
 use Rattle.four_words.proofs.settle_piece_into.Statement.{statement}
 use Rattle.four_words.proofs.settle_piece_into.Tie as tie

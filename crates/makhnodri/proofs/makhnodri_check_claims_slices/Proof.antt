@@ -1,5 +1,5 @@
 use borrow.Author.Needs.{needs}
-use Rattle.answer_numbers.specs.Claims.{claims-small}
+use Rattle.c_numbers.specs.Claims.{claims-small}
 use Rattle.makhnodri.proofs.makhnodri_check_claims_slices.Statement.{statement}
 use Rattle.makhnodri.proofs.makhnodri_check_claims_slices.Tie as tie
 

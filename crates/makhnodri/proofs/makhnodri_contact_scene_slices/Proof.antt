@@ -1,5 +1,5 @@
 use borrow.Author.Needs.{needs}
-use Rattle.answer_numbers.specs.Small.{met-small}
+use Rattle.c_numbers.specs.Small.{met-small}
 use Rattle.makhnodri.proofs.makhnodri_contact_scene_slices.Statement.{statement}
 use Rattle.makhnodri.proofs.makhnodri_contact_scene_slices.Tie as tie
 
@@ -8,7 +8,7 @@ makhnodri-contact-scene-slices-spec =
     tie.close
     (tie.spec
     (λ c κs. search needs)
-    (λ c κs. met-small (c .before .before .before .before .before .before .meet-scene .ensures))
+    (λ c κs. met-small (c .before .before .before .before .before .before .contact-scene .ensures))
     (λ c. search needs)
     (λ c. search needs)
     (λ c. search needs)

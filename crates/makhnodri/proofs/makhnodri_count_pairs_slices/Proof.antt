@@ -1,6 +1,6 @@
 use borrow.Author.Needs.{needs}
 use Rattle.meaning.specs.Scene.{sceneIn}
-use Rattle.answer_numbers.specs.Small.{counted-small}
+use Rattle.c_numbers.specs.Small.{counted-small}
 use Rattle.makhnodri.proofs.makhnodri_count_pairs_slices.Statement.{statement}
 use Rattle.makhnodri.proofs.makhnodri_count_pairs_slices.Tie as tie
 

@@ -1,5 +1,5 @@
 use borrow.Author.Needs.{needs}
-use Rattle.answer_numbers.specs.Small.{listing-small}
+use Rattle.c_numbers.specs.Small.{listing-small}
 use Rattle.makhnodri.proofs.makhnodri_list_pairs_slices.Statement.{statement}
 use Rattle.makhnodri.proofs.makhnodri_list_pairs_slices.Tie as tie
 

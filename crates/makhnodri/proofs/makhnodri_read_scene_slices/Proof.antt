@@ -1,5 +1,5 @@
 use borrow.Author.Needs.{needs}
-use Rattle.answer_numbers.specs.Telling.{text-line, text-read, text-refused}
+use Rattle.c_numbers.specs.Telling.{text-line, text-read, text-refused}
 use Rattle.makhnodri.proofs.makhnodri_read_scene_slices.Statement.{statement}
 use Rattle.makhnodri.proofs.makhnodri_read_scene_slices.Tie as tie
 

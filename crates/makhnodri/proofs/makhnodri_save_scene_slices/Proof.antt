@@ -1,5 +1,5 @@
 use borrow.Author.Needs.{needs}
-use Rattle.answer_numbers.specs.Saved.{saved-small}
+use Rattle.c_numbers.specs.Saved.{saved-small}
 use Rattle.makhnodri.proofs.makhnodri_save_scene_slices.Statement.{statement}
 use Rattle.makhnodri.proofs.makhnodri_save_scene_slices.Tie as tie
 

@@ -1,6 +1,6 @@
 use borrow.Author.Needs.{needs}
 use Rattle.meaning.specs.Scene.{sceneIn}
-use Rattle.answer_numbers.specs.Saved.{measured-small}
+use Rattle.c_numbers.specs.Saved.{measured-small}
 use Rattle.makhnodri.proofs.makhnodri_saved_length_slices.Statement.{statement}
 use Rattle.makhnodri.proofs.makhnodri_saved_length_slices.Tie as tie
 

@@ -4,7 +4,7 @@ use Prim.Native.Nat.{_+_, _-_}
 use native.Mathlib.Omega.{arith}
 use lib.ListN.{take, drop}
 use borrow.Author.Needs.{needs}
-use Rattle.obj_scenes.specs.Positive.{face-positive}
+use Rattle.obj_laws.specs.Positive.{face-positive}
 use Rattle.obj_draft.specs.Drafting.{stop-fits, take-unended, take-bad, take-skipped, take-vertex, take-face}
 use Rattle.obj_draft.proofs.take_line.Statement.{statement}
 use Rattle.obj_draft.proofs.take_line.Tie as tie

@@ -1,6 +1,6 @@
 -- `obj_records::first_fault` meets its contract: the tests that led to a return are the checks that do not hold, and the one that does.
 use Rattle.meaning.specs.Refusals.{Answers, numberOf}
-use Rattle.scene_line.specs.Judging.{judgedSays}
+use Rattle.text_line.specs.Judging.{judgedSays}
 use Rattle.obj_records.proofs.first_fault.Statement.{statement}
 use Rattle.obj_records.proofs.first_fault.Tie as tie
 

@@ -6,64 +6,64 @@ use lib.Seq.{length-take-le}
 use borrow.Author.Needs.{needs}
 use Rattle.meaning.specs.Report.{refusedLine}
 use Rattle.meaning.specs.ObjPrinted.{fileLine}
-use Rattle.wording.specs.Lines.{wrote-as}
-use Rattle.obj_demands.specs.Using.{scene-imported, few-imported, room-imported, accepted-imported}
+use Rattle.report_words.specs.Lines.{wrote-as}
+use Rattle.obj_scene.specs.Using.{scene-imported, few-imported, room-imported, accepted-imported}
 use Rattle.obj_report.specs.Printed.{printed-scene, printed-refusal, printed-refusal-in}
 use Rattle.obj_report.proofs.pair_shown.Statement.{statement}
 use Rattle.obj_report.proofs.pair_shown.Tie as tie
 
 mul-p : tie.Need-mul-p
-mul-p c = record { fits = omega (arith, few-imported (scene-imported (c .before .before .before .before .before .before .before .before .import-scene .ensures) (c .before .before .counts .given .1)) .vertices) }
+mul-p c = record { fits = omega (arith, few-imported (scene-imported (c .before .before .before .before .before .before .before .before .import-plain .ensures) (c .before .before .counts .given .1)) .vertices) }
 
 mul-e : tie.Need-mul-e
-mul-e c = record { fits = omega (arith, few-imported (scene-imported (c .before .before .before .before .before .before .before .before .before .import-scene .ensures) (c .before .before .before .counts .given .1)) .edges) }
+mul-e c = record { fits = omega (arith, few-imported (scene-imported (c .before .before .before .before .before .before .before .before .before .import-plain .ensures) (c .before .before .before .counts .given .1)) .edges) }
 
 mul-t : tie.Need-mul-t
-mul-t c = record { fits = omega (arith, few-imported (scene-imported (c .before .before .before .before .before .before .before .before .before .before .import-scene .ensures) (c .before .before .before .before .counts .given .1)) .triangles) }
+mul-t c = record { fits = omega (arith, few-imported (scene-imported (c .before .before .before .before .before .before .before .before .before .before .import-plain .ensures) (c .before .before .before .before .counts .given .1)) .triangles) }
 
 mul-w : tie.Need-mul-w
-mul-w c = record { fits = omega (arith, few-imported (scene-imported (c .before .before .before .before .before .before .before .before .before .before .before .import-scene .ensures) (c .before .before .before .before .before .counts .given .1)) .seams) }
+mul-w c = record { fits = omega (arith, few-imported (scene-imported (c .before .before .before .before .before .before .before .before .before .before .before .import-plain .ensures) (c .before .before .before .before .before .counts .given .1)) .seams) }
 
 array-share-prefix-positions : tie.Need-array-share-prefix-positions
-array-share-prefix-positions c = room-imported (scene-imported (c .before .before .before .before .before .before .before .before .before .before .before .import-scene .ensures) (c .before .before .before .before .before .counts .given .1)) .points
+array-share-prefix-positions c = room-imported (scene-imported (c .before .before .before .before .before .before .before .before .before .before .before .import-plain .ensures) (c .before .before .before .before .before .counts .given .1)) .points
 
 slice-aggregate-scene-shown : tie.Need-slice-aggregate-scene-shown
-slice-aggregate-scene-shown c = sym (length-take-le _ _ (room-imported (scene-imported (c .before .before .before .before .before .before .before .before .before .before .before .before .import-scene .ensures) (c .before .before .before .before .before .before .counts .given .1)) .points))
+slice-aggregate-scene-shown c = sym (length-take-le _ _ (room-imported (scene-imported (c .before .before .before .before .before .before .before .before .before .before .before .before .import-plain .ensures) (c .before .before .before .before .before .before .counts .given .1)) .points))
 
 array-share-prefix-edges : tie.Need-array-share-prefix-edges
-array-share-prefix-edges c = room-imported (scene-imported (c .before .before .before .before .before .before .before .before .before .before .before .before .import-scene .ensures) (c .before .before .before .before .before .before .counts .given .1)) .sides
+array-share-prefix-edges c = room-imported (scene-imported (c .before .before .before .before .before .before .before .before .before .before .before .before .import-plain .ensures) (c .before .before .before .before .before .before .counts .given .1)) .sides
 
 slice-aggregate-scene-shown-2 : tie.Need-slice-aggregate-scene-shown-2
-slice-aggregate-scene-shown-2 c = sym (length-take-le _ _ (room-imported (scene-imported (c .before .before .before .before .before .before .before .before .before .before .before .before .before .import-scene .ensures) (c .before .before .before .before .before .before .before .counts .given .1)) .sides))
+slice-aggregate-scene-shown-2 c = sym (length-take-le _ _ (room-imported (scene-imported (c .before .before .before .before .before .before .before .before .before .before .before .before .before .import-plain .ensures) (c .before .before .before .before .before .before .before .counts .given .1)) .sides))
 
 array-share-prefix-triangles : tie.Need-array-share-prefix-triangles
-array-share-prefix-triangles c = room-imported (scene-imported (c .before .before .before .before .before .before .before .before .before .before .before .before .before .import-scene .ensures) (c .before .before .before .before .before .before .before .counts .given .1)) .corners
+array-share-prefix-triangles c = room-imported (scene-imported (c .before .before .before .before .before .before .before .before .before .before .before .before .before .import-plain .ensures) (c .before .before .before .before .before .before .before .counts .given .1)) .corners
 
 slice-aggregate-scene-shown-3 : tie.Need-slice-aggregate-scene-shown-3
-slice-aggregate-scene-shown-3 c = sym (length-take-le _ _ (room-imported (scene-imported (c .before .before .before .before .before .before .before .before .before .before .before .before .before .before .import-scene .ensures) (c .before .before .before .before .before .before .before .before .counts .given .1)) .corners))
+slice-aggregate-scene-shown-3 c = sym (length-take-le _ _ (room-imported (scene-imported (c .before .before .before .before .before .before .before .before .before .before .before .before .before .before .import-plain .ensures) (c .before .before .before .before .before .before .before .before .counts .given .1)) .corners))
 
 array-share-prefix-seams : tie.Need-array-share-prefix-seams
-array-share-prefix-seams c = room-imported (scene-imported (c .before .before .before .before .before .before .before .before .before .before .before .before .before .before .import-scene .ensures) (c .before .before .before .before .before .before .before .before .counts .given .1)) .sewn
+array-share-prefix-seams c = room-imported (scene-imported (c .before .before .before .before .before .before .before .before .before .before .before .before .before .before .import-plain .ensures) (c .before .before .before .before .before .before .before .before .counts .given .1)) .sewn
 
 slice-aggregate-scene-shown-4 : tie.Need-slice-aggregate-scene-shown-4
-slice-aggregate-scene-shown-4 c = sym (length-take-le _ _ (room-imported (scene-imported (c .before .before .before .before .before .before .before .before .before .before .before .before .before .before .before .import-scene .ensures) (c .before .before .before .before .before .before .before .before .before .counts .given .1)) .sewn))
+slice-aggregate-scene-shown-4 c = sym (length-take-le _ _ (room-imported (scene-imported (c .before .before .before .before .before .before .before .before .before .before .before .before .before .before .before .import-plain .ensures) (c .before .before .before .before .before .before .before .before .before .counts .given .1)) .sewn))
 
 scene-shown-requires : tie.Need-scene-shown-requires
-scene-shown-requires c κs = (accepted-imported (scene-imported (c .before .before .before .before .before .before .before .before .before .before .before .before .before .before .before .before .import-scene .ensures) (c .before .before .before .before .before .before .before .before .before .before .counts .given .1)), search needs)
+scene-shown-requires c κs = (accepted-imported (scene-imported (c .before .before .before .before .before .before .before .before .before .before .before .before .before .before .before .before .import-plain .ensures) (c .before .before .before .before .before .before .before .before .before .before .counts .given .1)), search needs)
 
 returns : tie.Need-returns
-returns c = printed-scene _ (c .before .before .before .before .before .before .before .before .before .before .before .before .before .before .before .before .before .import-scene .ensures) (c .before .before .before .before .before .before .before .before .before .before .before .counts .given .1) (c .scene-shown .ensures)
+returns c = printed-scene _ (c .before .before .before .before .before .before .before .before .before .before .before .before .before .before .before .before .before .import-plain .ensures) (c .before .before .before .before .before .before .before .before .before .before .before .counts .given .1) (c .scene-shown .ensures)
 
 returns-2 : tie.Need-returns-2
 returns-2 c =
-    printed-refusal _ (c .before .before .before .before .before .before .before .before .before .before .import-scene .ensures) refl (c .before .before .before .before .why .given .1)
+    printed-refusal _ (c .before .before .before .before .before .before .before .before .before .before .import-plain .ensures) refl (c .before .before .before .before .why .given .1)
     (wrote-as (ap (λ (n : ℕ). refusedLine n 0) (c .before .number-of .ensures)) (c .refused-line .ensures))
 
 returns-3 : tie.Need-returns-3
 returns-3 c =
     let f = c .before .before .before .before .file .given .0 .0 in
     let line = c .before .before .before .before .file .given .0 .1 .1 .0 in
-    printed-refusal-in _ (c .before .before .before .before .before .before .before .before .before .before .import-scene .ensures) refl (c .before .before .before .before .file .given .1)
+    printed-refusal-in _ (c .before .before .before .before .before .before .before .before .before .before .import-plain .ensures) refl (c .before .before .before .before .file .given .1)
     (wrote-as (ap (λ (n : ℕ). fileLine f n line) (c .before .number-of2 .ensures)) (c .file-line .ensures))
 
 pub pair-shown-spec : {M : Type 1} → statement M

@@ -1,9 +1,9 @@
 -- `entry_shared`: the entry is taken apart, and its parts are compared as its kind says.
 use borrow.Author.Needs.{needs}
 use mathlib.Core.Path.{sym, _∙_}
-use Rattle.seam_table.specs.Alone.{tabled}
+use Rattle.scene_seams.specs.Alone.{tabled}
 use Rattle.meaning.specs.List.{pair}
-use Rattle.three_words.specs.Pairs.{pt-there, ee-there}
+use Rattle.scene_parts.specs.There.{pt-there, ee-there}
 use Rattle.own_words.specs.Faults.{shared-is, read-there}
 use Rattle.own_words.proofs.entry_shared.Statement.{statement}
 use Rattle.own_words.proofs.entry_shared.Tie as tie

@@ -4,8 +4,8 @@ use Prim.Native.Nat.{_-_, _≤_}
 use mathlib.Core.Path.{sym, _∙_}
 use native.Mathlib.Omega.{arith}
 use lib.ListN.{length}
-use Rattle.seam_table.specs.Table.{seamsOf}
-use Rattle.seam_table.specs.Alone.{tabled}
+use Rattle.scene_seams.specs.Table.{seamsOf}
+use Rattle.scene_seams.specs.Alone.{tabled}
 use Rattle.own_words.specs.Faults.{SoundUpTo, sound-start, missing-found, shared-found, sound-more, none-found}
 use Rattle.own_words.proofs.first_fault.Statement.{statement}
 use Rattle.own_words.proofs.first_fault.Tie as tie

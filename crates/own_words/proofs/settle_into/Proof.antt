@@ -1,8 +1,8 @@
 -- `settle_into`: refused as the scene is, or the entries are judged over the table.
 use borrow.Author.Needs.{needs}
 use Rattle.meaning.specs.Scene.{sceneIn, Accepted}
-use Rattle.scenes.specs.Accepting.{accepted-by}
-use Rattle.scenes.specs.Checking.{to-table}
+use Rattle.scene_checks.specs.Accepting.{accepted-by}
+use Rattle.scene_checks.specs.Checking.{to-table}
 use Rattle.own_words.specs.Answering.{own-refused, own-accepted, own-in-table}
 use Rattle.own_words.proofs.settle_into.Statement.{statement}
 use Rattle.own_words.proofs.settle_into.Tie as tie

@@ -1,6 +1,6 @@
 -- `settle_list`: a list that is too long is refused; the table is its own, and without entries where there are no seams.
 use borrow.Author.Needs.{needs}
-use Rattle.seam_table.specs.Sewing.{blank-none, blank-table}
+use Rattle.scene_seams.specs.Sewing.{blank-none, blank-table}
 use Rattle.own_words.specs.Answering.{own-long}
 use Rattle.own_words.proofs.settle_list.Statement.{statement}
 use Rattle.own_words.proofs.settle_list.Tie as tie

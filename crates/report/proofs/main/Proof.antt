@@ -6,7 +6,7 @@ use lib.ListN.{length, take, length-append}
 use lib.Seq.{length-take-le}
 use borrow.Author.Needs.{needs}
 use Rattle.meaning.specs.Report.{Reported, ReportedRead}
-use Rattle.meaning.specs.ReadShown.{front-read}
+use Rattle.meaning.specs.shown.ReadShown.{front-read}
 use Rattle.report.proofs.main.Statement.{statement}
 use Rattle.report.proofs.main.Tie as tie
 use Rattle.report.proofs.main.Reads as reads
@@ -14,7 +14,7 @@ use Rattle.report.proofs.main.Lts as lts
 use Rattle.io.proofs.read_full.Reads as read-full-reads
 use Rattle.io.proofs.write_all.Reads as write-all-reads
 use Rattle.report.proofs.is_at_end.Reads as is-at-end-reads
-use Rattle.summary.proofs.report_read.Reads as report-read-reads
+use Rattle.scene_report.proofs.report_read.Reads as report-read-reads
 
 -- a report fits the buffer that it stands in
 fits : {buffer o o′ : List ℕ} {count n : ℕ} → ReportedRead buffer count o o′ n → n ≤ length o′

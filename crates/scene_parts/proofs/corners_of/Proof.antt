@@ -2,8 +2,8 @@
 use borrow.Author.Needs.{needs}
 use mathlib.Core.Path.{sym, _∙_, ap}
 use denote.Ref.{now}
-use Rattle.seam_table.specs.Alone.{trianglesSewn}
-use Rattle.seam_table.specs.Table.{own-number}
+use Rattle.scene_seams.specs.Alone.{trianglesSewn}
+use Rattle.scene_seams.specs.Table.{own-number}
 use Rattle.meaning.specs.declared.Ends.{Ends}
 use Rattle.scene_parts.specs.Ordering.{amongEnds, plainly, corners-by}
 use Rattle.scene_parts.proofs.corners_of.Statement.{statement}

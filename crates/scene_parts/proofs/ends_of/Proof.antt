@@ -2,8 +2,8 @@
 use borrow.Author.Needs.{needs}
 use mathlib.Core.Path.{sym, _∙_}
 use denote.Ref.{now}
-use Rattle.seam_table.specs.Alone.{edgesSewn}
-use Rattle.seam_table.specs.Table.{own-number}
+use Rattle.scene_seams.specs.Alone.{edgesSewn}
+use Rattle.scene_seams.specs.Table.{own-number}
 use Rattle.scene_parts.specs.Ordering.{ends-by}
 use Rattle.scene_parts.proofs.ends_of.Statement.{statement}
 use Rattle.scene_parts.proofs.ends_of.Tie as tie

@@ -5,7 +5,7 @@ use mathlib.Core.Path.{_≡_, sym, _∙_, ap}
 use denote.Ref.{now}
 use Rattle.meaning.specs.Scene.{stoodFor}
 use Rattle.meaning.specs.Refusals.{shares}
-use Rattle.seam_table.specs.Table.{seamsOf, own-number}
+use Rattle.scene_seams.specs.Table.{seamsOf, own-number}
 use Rattle.scene_parts.specs.Ordering.{three-alike}
 use Rattle.scene_parts.proofs.shares_pt.Statement.{statement}
 use Rattle.scene_parts.proofs.shares_pt.Tie as tie

@@ -7,7 +7,7 @@ use lib.ListN.{length, take, length-append}
 use lib.Seq.{length-take-le}
 use borrow.Author.Needs.{needs}
 use Rattle.meaning.specs.SeriesLines.{SeriesReported, SeriesRead}
-use Rattle.meaning.specs.ReadShown.{front-read}
+use Rattle.meaning.specs.shown.ReadShown.{front-read}
 use Rattle.series.proofs.main.Statement.{statement}
 use Rattle.series.proofs.main.Tie as tie
 use Rattle.series.proofs.main.Reads as reads

@@ -1,7 +1,7 @@
 -- `series_front::draft_front` meets its contract: a scene's lines go on to the end, or to the first at fault, where an `n` may stand.
 use mathlib.Core.Path.{sym, _∙_}
 use borrow.Author.Needs.{needs}
-use Rattle.scene_draft.specs.Reading.{stopped-at, went-on}
+use Rattle.text_draft.specs.Reading.{stopped-at, went-on}
 use Rattle.series_front.specs.Fronts.{front-ends, front-next, front-fails}
 use Rattle.series_front.proofs.draft_front.Statement.{statement}
 use Rattle.series_front.proofs.draft_front.Tie as tie

@@ -1,7 +1,7 @@
 -- `series_line::other_line` meets its contract: the letter says which row would make it a record, and without one of the three there is none.
 use borrow.Author.Needs.{needs}
-use Rattle.scene_line.specs.Reading.{letter, many, formOf}
-use Rattle.scene_line.specs.declared.Sort.the-variants.{Edge, Triangle, Seam}
+use Rattle.text_line.specs.Reading.{letter, many, formOf}
+use Rattle.text_line.specs.declared.Sort.the-variants.{Edge, Triangle, Seam}
 use Rattle.series_line.specs.Reading.{part-got, no-part}
 use Rattle.series_line.proofs.other_line.Statement.{statement}
 use Rattle.series_line.proofs.other_line.Tie as tie

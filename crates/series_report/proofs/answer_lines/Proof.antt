@@ -3,16 +3,16 @@ use Prim.Native.Nat.{ℕ}
 use mathlib.Core.Path.{ap, _∙_}
 use borrow.Author.Needs.{needs}
 use Rattle.meaning.specs.Report.{refusedLine}
-use Rattle.first_causes.specs.Told.{toldSays}
-use Rattle.wording.specs.Lines.{wrote-as}
+use Rattle.meaning.specs.SeriesAnswers.{toldSays}
+use Rattle.report_words.specs.Lines.{wrote-as}
 use Rattle.series_report.specs.Whole.{told-answer, refused-answer}
 use Rattle.series_report.proofs.answer_lines.Statement.{statement}
 use Rattle.series_report.proofs.answer_lines.Tie as tie
 use Rattle.series_report.proofs.answer_lines.Reads as reads
 use Rattle.series_report.proofs.answer_lines.Lts as lts
 use Rattle.series_report.proofs.told_lines.Reads as told-lines-reads
-use Rattle.wording.proofs.lines.refused_line.Reads as refused-line-reads
-use Rattle.wording.proofs.number_of.Reads as number-of-reads
+use Rattle.report_words.proofs.lines.refused_line.Reads as refused-line-reads
+use Rattle.report_words.proofs.number_of.Reads as number-of-reads
 
 returns : tie.Need-returns
 returns c = wrote-as (told-answer (toldSays (c .before .before .before .before .before .before .before .args .told)) (c .before .before .before .before .enum-told .given .1)) (c .before .before .told-lines .ensures)

@@ -8,7 +8,7 @@ use Rattle.series_report.proofs.front_series.Tie as tie
 use Rattle.series_report.proofs.front_series.Reads as reads
 use Rattle.series_report.proofs.front_series.Lts as lts
 use Rattle.series_report.proofs.write_series.Reads as write-series-reads
-use Rattle.wording.proofs.lines.refused_line.Reads as refused-line-reads
+use Rattle.report_words.proofs.lines.refused_line.Reads as refused-line-reads
 
 slice-aggregate-write-series : tie.Need-slice-aggregate-write-series
 slice-aggregate-write-series c = sym (length-take-le _ _ (omega (arith, c .before .if1 .taken)))

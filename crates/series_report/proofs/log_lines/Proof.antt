@@ -6,7 +6,7 @@ use lib.ListN.{length, take, length-map}
 use borrow.Author.Needs.{needs}
 use Rattle.sequences.specs.Wrote.{Wrote, wrote-none, wrote-then}
 use Rattle.meaning.specs.Series.{logLimit}
-use Rattle.wording.specs.Lines.{wrote-as}
+use Rattle.report_words.specs.Lines.{wrote-as}
 use Rattle.series_report.specs.Lines.{linesOf, lines-none, lines-next, held-all}
 use Rattle.series_report.proofs.log_lines.Statement.{statement}
 use Rattle.series_report.proofs.log_lines.Tie as tie

@@ -3,8 +3,8 @@ use native.Mathlib.Omega.{arith}
 use borrow.Author.Needs.{needs}
 use Rattle.sequences.specs.Wrote.{wrote-then}
 use Rattle.meaning.specs.Report.{totalWord}
-use Rattle.first_causes.specs.Told.{toldSays}
-use Rattle.wording.specs.Lines.{wrote-as}
+use Rattle.meaning.specs.SeriesAnswers.{toldSays}
+use Rattle.report_words.specs.Lines.{wrote-as}
 use Rattle.series_report.specs.Lines.{total-short, told-parts}
 use Rattle.series_report.proofs.told_lines.Statement.{statement}
 use Rattle.series_report.proofs.told_lines.Tie as tie
@@ -12,7 +12,7 @@ use Rattle.series_report.proofs.told_lines.Reads as reads
 use Rattle.series_report.proofs.told_lines.Lts as lts
 use Rattle.series_report.proofs.lines.number_line.Reads as number-line-reads
 use Rattle.series_report.proofs.log_lines.Reads as log-lines-reads
-use Rattle.wording.proofs.lines.total_line.Reads as total-line-reads
+use Rattle.report_words.proofs.lines.total_line.Reads as total-line-reads
 
 number-line-requires-2 : tie.Need-number-line-requires-2
 number-line-requires-2 c κs =

@@ -4,8 +4,8 @@ use mathlib.Core.Path.{sym, _∙_, ap}
 use borrow.Author.Needs.{needs}
 use Rattle.meaning.specs.Scene.{Scene, sceneIn}
 use Rattle.meaning.specs.Refusals.{sceneSays, notThere, shares}
-use Rattle.scenes.specs.Accepting.{accepted-by, after-refused}
-use Rattle.scenes.specs.Checking.{one-scene}
+use Rattle.scene_checks.specs.Accepting.{accepted-by, after-refused}
+use Rattle.scene_checks.specs.Checking.{one-scene}
 use Rattle.three_words.specs.Asked.{Passes, askedChecks, gone-asked, there-asked}
 use Rattle.three_words.proofs.asked.Statement.{statement}
 use Rattle.three_words.proofs.asked.Tie as tie

@@ -1,6 +1,6 @@
 -- `judge_pair`: the table is its own, and without entries where there are no seams.
 use borrow.Author.Needs.{needs}
-use Rattle.seam_table.specs.Sewing.{blank-none, blank-table}
+use Rattle.scene_seams.specs.Sewing.{blank-none, blank-table}
 use Rattle.three_words.proofs.judge_pair.Statement.{statement}
 use Rattle.three_words.proofs.judge_pair.Tie as tie
 

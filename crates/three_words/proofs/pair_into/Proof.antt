@@ -5,7 +5,7 @@ use borrow.Author.Needs.{needs}
 use Rattle.meaning.specs.Scene.{Scene, sceneIn, Accepted}
 use Rattle.meaning.specs.Refusals.{pairSays, notThere}
 use Rattle.meaning.specs.Verdicts.{PairIs}
-use Rattle.scenes.specs.Checking.{to-table, from-table}
+use Rattle.scene_checks.specs.Checking.{to-table, from-table}
 use Rattle.three_words.specs.Asked.{asked-there, then-judged, then-refused, of-pair}
 use Rattle.three_words.proofs.pair_into.Statement.{statement}
 use Rattle.three_words.proofs.pair_into.Tie as tie

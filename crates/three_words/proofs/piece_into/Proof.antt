@@ -7,7 +7,7 @@ use Rattle.meaning.specs.Scene.{Scene, sceneIn, Accepted}
 use Rattle.meaning.specs.Pieces.{pieceOf}
 use Rattle.meaning.specs.Refusals.{pairSays, notThere}
 use Rattle.meaning.specs.Verdicts.{PieceIs}
-use Rattle.scenes.specs.Checking.{to-table, from-table}
+use Rattle.scene_checks.specs.Checking.{to-table, from-table}
 use Rattle.three_words.specs.Asked.{asked-there, then-judged, then-refused}
 use Rattle.three_words.proofs.piece_into.Statement.{statement}
 use Rattle.three_words.proofs.piece_into.Tie as tie

@@ -1,7 +1,7 @@
 -- `from_last`: of a vertex that is there.
 use native.Mathlib.Omega.{arith}
 use borrow.Author.Needs.{needs}
-use Rattle.backwards.specs.Numbers.{known-number}
+use Rattle.turning_laws.specs.Numbers.{known-number}
 use Rattle.turning.proofs.from_last.Statement.{statement}
 use Rattle.turning.proofs.from_last.Tie as tie
 

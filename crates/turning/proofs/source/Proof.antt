@@ -1,7 +1,7 @@
 -- `source`: inside the vertices, the place is what the definition computes.
 use native.Mathlib.Omega.{arith}
 use borrow.Author.Needs.{needs}
-use Rattle.backwards.specs.Turned.{source-inside}
+use Rattle.turning_laws.specs.Turned.{source-inside}
 use Rattle.turning.proofs.source.Statement.{statement}
 use Rattle.turning.proofs.source.Tie as tie
 

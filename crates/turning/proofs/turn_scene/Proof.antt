@@ -2,7 +2,7 @@
 use mathlib.Core.List.{[]}
 use borrow.Author.Needs.{needs}
 use Rattle.meaning.specs.Scene.{sceneOf}
-use Rattle.scenes.specs.Accepting.{accepted-by}
+use Rattle.scene_checks.specs.Accepting.{accepted-by}
 use Rattle.turning.specs.Scene.{ends-below, corners-below, few-vertices, few-positions, turned-scene, scene-refused}
 use Rattle.turning.proofs.turn_scene.Statement.{statement}
 use Rattle.turning.proofs.turn_scene.Tie as tie

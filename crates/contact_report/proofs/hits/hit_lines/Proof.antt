@@ -7,16 +7,16 @@ use lib.ListN.{length}
 use Rattle.sequences.specs.Writing.{Writing, writing-starts-front, writing-as, writing-steps}
 use Rattle.meaning.specs.Scene.{Scene}
 use Rattle.meaning.specs.List.{pairs}
-use Rattle.seam_table.specs.Alone.{tabled}
-use Rattle.scene_words.specs.Listed.{listed-all-there}
-use Rattle.scene_contacts.specs.Listed.{listed-meeting}
+use Rattle.scene_seams.specs.Alone.{tabled}
+use Rattle.list_words.specs.Listed.{listed-all-there}
+use Rattle.contact_scene.specs.Listed.{listed-whole-contact}
 use Rattle.contact_report.specs.Lines.{one-hit, linesFrom, lines-fit, lines-told, entry-next, hitsFrom, hits-next, hits-end, listed-line-short}
 use Rattle.contact_report.proofs.hits.hit_lines.Statement.{statement}
 use Rattle.contact_report.proofs.hits.hit_lines.Tie as tie
 use Rattle.contact_report.proofs.hits.hit_lines.Reads as reads
 use Rattle.contact_report.proofs.hits.hit_lines.Lts as lts
 use Rattle.contact_report.proofs.hits.tell_pair.Reads as tell-pair-reads
-use Rattle.scene_contacts.proofs.entry_meeting.Reads as entry-meeting-reads
+use Rattle.contact_scene.proofs.entry_contact.Reads as entry-contact-reads
 
 abbrev Inv-loop : tie.InvT-loop
 Inv-loop positions edges triangles stands list count out₀ lines₀ k₀ out lines k =
@@ -33,8 +33,8 @@ loop-holds c =
     let s : Scene = tabled (start .args .positions .now) (start .args .edges .now) (start .args .triangles .now) (start .args .stands .now) in
     (omega arith, omega arith, omega arith, writing-starts-front _ _ (omega (arith, start .pre .2, start .pre .3, start .pre .4, lines-fit s (start .args .list .now) (start .pre .1))), omega arith)
 
-entry-meeting-requires : tie.Need-entry-meeting-requires Inv-loop μ-loop
-entry-meeting-requires c κs =
+entry-contact-requires : tie.Need-entry-contact-requires Inv-loop μ-loop
+entry-contact-requires c κs =
     let p = c .before .before .before .before .before .before .before .pre in
     (p .0, omega (arith, p .1 .room, p .2, c .loop-test .taken), listed-all-there (p .1) (c .before .loop .k) (omega (arith, p .2, c .loop-test .taken)))
 
@@ -65,13 +65,13 @@ loop-again c =
     let k = c .before .before .before .before .before .before .before .loop .k in
     let i = c .before .before .before .before .before .before .before .loop .inv in
     let below : k < length (pairs s) = omega (arith, start .pre .2, c .before .before .before .before .before .before .loop-test .taken) in
-    let m = c .before .before .before .before .before .entry-meeting .ensures ∙ listed-meeting (start .pre .1) k below in
+    let m = c .before .before .before .before .before .entry-contact .ensures ∙ listed-whole-contact (start .pre .1) k below in
     let told = c .before .before .tell-pair .ensures in
-    let line = entry-next s (start .args .list .now) (start .pre .1) k below (c .before .before .before .before .before .entry-meeting .result) m in
+    let line = entry-next s (start .args .list .now) (start .pre .1) k below (c .before .before .before .before .before .entry-contact .result) m in
     let short = listed-line-short s (start .args .list .now) (start .pre .1) k below in (
       omega (arith, c .before .before .before .before .before .before .loop-test .taken),
       omega (arith, told .0 .place, i .1, rw (← m) at short),
-      omega (arith, told .1, i .2, one-hit (c .before .before .before .before .before .entry-meeting .result)),
+      omega (arith, told .1, i .2, one-hit (c .before .before .before .before .before .entry-contact .result)),
       writing-steps (writing-as line (i .3)) (told .0),
       omega (arith, told .1, i .4, rw (← m) at (hits-next s k below)),
     )
@@ -98,7 +98,7 @@ hit-lines-spec =
     Inv-loop
     μ-loop
     loop-holds
-    entry-meeting-requires
+    entry-contact-requires
     mul-tell-pair
     shared-slice-read-tell-pair
     tell-pair-requires

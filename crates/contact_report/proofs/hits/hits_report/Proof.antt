@@ -1,6 +1,6 @@
 -- The lines, then the totals behind them.
 use Rattle.meaning.specs.Scene.{Scene}
-use Rattle.seam_table.specs.Alone.{tabled}
+use Rattle.scene_seams.specs.Alone.{tabled}
 use Rattle.contact_report.specs.Lines.{whole-told}
 use borrow.Author.Needs.{needs}
 use Rattle.contact_report.proofs.hits.hits_report.Statement.{statement}
@@ -8,7 +8,7 @@ use Rattle.contact_report.proofs.hits.hits_report.Tie as tie
 use Rattle.contact_report.proofs.hits.hits_report.Reads as reads
 use Rattle.contact_report.proofs.hits.hits_report.Lts as lts
 use Rattle.contact_report.proofs.hits.hit_lines.Reads as hit-lines-reads
-use Rattle.wording.proofs.contact_lines.contact_total.Reads as contact-total-reads
+use Rattle.report_words.proofs.contact_lines.contact_total.Reads as contact-total-reads
 
 hit-lines-requires : tie.Need-hit-lines-requires
 hit-lines-requires c κs = search needs

@@ -8,32 +8,32 @@ use types.Run.{OneOf}
 use denote.Enum.Declared.{tagOf}
 use Rattle.sequences.specs.Wrote.{wrote-none}
 use Rattle.meaning.specs.List.{pair}
-use Rattle.meaning.specs.declared.Meeting.{Meeting}
-use Rattle.meaning.specs.declared.Meeting.the-variants.{Hit, Miss, Touch, Apart}
-use Rattle.meaning.proofs.Meeting.{the-type}
-use Rattle.wording.specs.Lines.{wrote-as}
+use Rattle.meaning.specs.declared.WholeContact.{WholeContact}
+use Rattle.meaning.specs.declared.WholeContact.the-variants.{Hit, Miss, Touch, Apart}
+use Rattle.meaning.proofs.WholeContact.{the-type}
+use Rattle.report_words.specs.Lines.{wrote-as}
 use Rattle.contact_report.specs.Lines.{NotHit, hit-told, hit-counts, miss-told, touch-told, apart-told}
 use Rattle.contact_report.proofs.hits.tell_pair.Statement.{statement}
 use Rattle.contact_report.proofs.hits.tell_pair.Tie as tie
 use Rattle.contact_report.proofs.hits.tell_pair.Reads as reads
 use Rattle.contact_report.proofs.hits.tell_pair.Lts as lts
-use Rattle.entries.proofs.first_of.Reads as first-of-reads
-use Rattle.entries.proofs.kind_of.Reads as kind-of-reads
-use Rattle.entries.proofs.second_of.Reads as second-of-reads
-use Rattle.wording.proofs.contact_lines.contact_line.Reads as contact-line-reads
+use Rattle.list_entries.proofs.first_of.Reads as first-of-reads
+use Rattle.list_entries.proofs.kind_of.Reads as kind-of-reads
+use Rattle.list_entries.proofs.second_of.Reads as second-of-reads
+use Rattle.report_words.proofs.contact_lines.contact_line.Reads as contact-line-reads
 
 nothing : OneOf (1 ∷ 2 ∷ 3 ∷ []) 0 → ⊥
 nothing k = ⊎-elim (λ e. omega arith) (λ r. ⊎-elim (λ e. omega arith) (λ e. omega arith) r) k
 
 -- the contact that was passed over is no hit
-passed : (m : Meeting) → OneOf (1 ∷ 2 ∷ 3 ∷ []) (tagOf the-type m) → NotHit m
+passed : (m : WholeContact) → OneOf (1 ∷ 2 ∷ 3 ∷ []) (tagOf the-type m) → NotHit m
 passed (Hit m) h = absurd (nothing h)
 passed Miss h = miss-told
 passed Touch h = touch-told
 passed Apart h = apart-told
 
-enum-known-meeting : tie.Need-enum-known-meeting
-enum-known-meeting c = search needs
+enum-known-contact : tie.Need-enum-known-contact
+enum-known-contact c = search needs
 
 kind-of-requires : tie.Need-kind-of-requires
 kind-of-requires c κs = search needs
@@ -56,8 +56,8 @@ same-length c = search needs
 returns : tie.Need-returns
 returns c =
     let start = c .before .before .before .before .before .before .before .before .before .before .before .before in
-    let m = c .before .before .before .before .before .before .before .before .before .meeting .given .0 .0 in
-    let is : start .args .meeting ≡ Hit m = search in (
+    let m = c .before .before .before .before .before .before .before .before .before .contact .given .0 .0 in
+    let is : start .args .contact ≡ Hit m = search in (
       wrote-as (hit-told is (λ t. pair (c .before .before .before .before .before .before .before .kind-of .ensures t) (c .before .before .before .before .before .before .first-of .ensures t) (c .before .before .before .before .before .second-of .ensures t))) (c .before .before .before .contact-line .ensures),
       omega (arith, hit-counts is),
     )
@@ -65,14 +65,14 @@ returns c =
 returns-2 : tie.Need-returns-2
 returns-2 c =
     let start = c .before .before in
-    let none = passed (start .args .meeting) (c .match .keys2) in
+    let none = passed (start .args .contact) (c .match .keys2) in
     (rw (none .noLine _) (wrote-none _ _), omega (arith, none .none))
 
 pub tell-pair-spec : {M : Type 1} → statement M
 tell-pair-spec =
     tie.close
     (tie.spec
-    enum-known-meeting
+    enum-known-contact
     kind-of-requires
     first-of-requires
     second-of-requires

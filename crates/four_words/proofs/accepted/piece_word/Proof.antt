@@ -1,6 +1,6 @@
 -- The search says of the six points what is to be said of the piece.
 use borrow.Author.Needs.{needs}
-use Rattle.seam_table.specs.Alone.{tabled}
+use Rattle.scene_seams.specs.Alone.{tabled}
 use Rattle.four_words.specs.Six.{asked, settled}
 use Rattle.four_words.proofs.accepted.piece_word.Statement.{statement}
 use Rattle.four_words.proofs.accepted.piece_word.Tie as tie

@@ -4,7 +4,7 @@ use native.Mathlib.Omega.{arith}
 use mathlib.Core.Path.{sym, subst}
 use borrow.Author.Needs.{needs}
 use Rattle.meaning.specs.Scene.{Scene}
-use Rattle.seam_table.specs.Alone.{tabled}
+use Rattle.scene_seams.specs.Alone.{tabled}
 use Rattle.corner_leaf.specs.Points.{SixIn}
 use Rattle.four_words.specs.Six.{six-in}
 use Rattle.four_words.specs.Words.{NoneBefore, none-before, one-more, touch-found, none-found}

@@ -1,8 +1,9 @@
 -- By kind: the points are those of the corners, or of the ends, that are there.
 use borrow.Author.Needs.{needs}
 use Rattle.meaning.specs.Scene.{Scene}
-use Rattle.seam_table.specs.Alone.{tabled}
-use Rattle.three_words.specs.Pairs.{pt-there, ee-smaller-there, ee-larger-there}
+use Rattle.scene_seams.specs.Alone.{tabled}
+use Rattle.three_words.specs.Pairs.{ee-smaller-there, ee-larger-there}
+use Rattle.scene_parts.specs.There.{pt-there}
 use Rattle.four_words.specs.Six.{pt-few, ee-few, pt-six, ee-six}
 use Rattle.four_words.proofs.six.six_of.Statement.{statement}
 use Rattle.four_words.proofs.six.six_of.Tie as tie

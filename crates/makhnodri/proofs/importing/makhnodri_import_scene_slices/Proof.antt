@@ -1,6 +1,6 @@
 use borrow.Author.Needs.{needs}
-use Rattle.import_numbers.specs.Numbers.{told-as}
-use Rattle.import_numbers.specs.Small.{import-near}
+use Rattle.c_numbers.specs.ImportNumbers.{told-as}
+use Rattle.c_numbers.specs.ImportSmall.{import-near}
 use Rattle.makhnodri.proofs.importing.makhnodri_import_scene_slices.Statement.{statement}
 use Rattle.makhnodri.proofs.importing.makhnodri_import_scene_slices.Tie as tie
 
@@ -10,10 +10,10 @@ makhnodri-import-scene-slices-spec =
     (tie.spec
     (λ c κs. search needs)
     (λ c κs. search needs)
-    (λ c κs. import-near (c .before .before .before .before .before .before .before .before .before .before .import-boxed .ensures))
+    (λ c κs. import-near (c .before .before .before .before .before .before .before .before .before .before .import-scene .ensures))
     (λ c. search needs)
     (λ c. search needs)
     (λ c. search needs)
     (λ c. search needs)
     (λ c. search needs)
-    (λ c. told-as (c .before .before .before .before .before .before .before .before .before .before .before .import-boxed .ensures) (c .before .put-counts .ensures) (c .import-number .ensures)))
+    (λ c. told-as (c .before .before .before .before .before .before .before .before .before .before .before .import-scene .ensures) (c .before .put-counts .ensures) (c .import-number .ensures)))

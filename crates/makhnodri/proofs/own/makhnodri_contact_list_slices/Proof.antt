@@ -1,5 +1,5 @@
 use borrow.Author.Needs.{needs}
-use Rattle.own_demands.specs.Small.{own-met-small}
+use Rattle.c_numbers.specs.OwnSmall.{own-met-small}
 use Rattle.makhnodri.proofs.own.makhnodri_contact_list_slices.Statement.{statement}
 use Rattle.makhnodri.proofs.own.makhnodri_contact_list_slices.Tie as tie
 
@@ -8,7 +8,7 @@ makhnodri-contact-list-slices-spec =
     tie.close
     (tie.spec
     (λ c κs. search needs)
-    (λ c κs. own-met-small (c .before .before .before .before .meet-list .ensures))
+    (λ c κs. own-met-small (c .before .before .before .before .contact-list .ensures))
     (λ c. search needs)
     (λ c. search needs)
     (λ c. search needs))

@@ -1,5 +1,5 @@
 use borrow.Author.Needs.{needs}
-use Rattle.own_demands.specs.Small.{own-small}
+use Rattle.c_numbers.specs.OwnSmall.{own-small}
 use Rattle.makhnodri.proofs.own.makhnodri_settle_list_slices.Statement.{statement}
 use Rattle.makhnodri.proofs.own.makhnodri_settle_list_slices.Tie as tie
 

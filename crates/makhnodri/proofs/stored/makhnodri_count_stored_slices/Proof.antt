@@ -1,6 +1,6 @@
 use borrow.Author.Needs.{needs}
 use Rattle.meaning.specs.Scene.{sceneIn}
-use Rattle.answer_numbers.specs.Stored.{stored-count-small}
+use Rattle.c_numbers.specs.Stored.{stored-count-small}
 use Rattle.makhnodri.proofs.stored.makhnodri_count_stored_slices.Statement.{statement}
 use Rattle.makhnodri.proofs.stored.makhnodri_count_stored_slices.Tie as tie
 

@@ -1,5 +1,5 @@
 use borrow.Author.Needs.{needs}
-use Rattle.answer_numbers.specs.Stored.{stored-list-small}
+use Rattle.c_numbers.specs.Stored.{stored-list-small}
 use Rattle.makhnodri.proofs.stored.makhnodri_list_stored_slices.Statement.{statement}
 use Rattle.makhnodri.proofs.stored.makhnodri_list_stored_slices.Tie as tie
 

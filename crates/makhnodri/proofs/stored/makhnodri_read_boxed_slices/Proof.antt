@@ -1,5 +1,5 @@
 use borrow.Author.Needs.{needs}
-use Rattle.answer_numbers.specs.Stored.{boxed-line, boxed-read, boxed-refused}
+use Rattle.c_numbers.specs.Stored.{boxed-line, boxed-read, boxed-refused}
 use Rattle.makhnodri.proofs.stored.makhnodri_read_boxed_slices.Statement.{statement}
 use Rattle.makhnodri.proofs.stored.makhnodri_read_boxed_slices.Tie as tie
 

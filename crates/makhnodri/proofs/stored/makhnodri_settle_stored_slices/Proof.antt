@@ -1,5 +1,5 @@
 use borrow.Author.Needs.{needs}
-use Rattle.answer_numbers.specs.Stored.{stored-words-small}
+use Rattle.c_numbers.specs.Stored.{stored-words-small}
 use Rattle.makhnodri.proofs.stored.makhnodri_settle_stored_slices.Statement.{statement}
 use Rattle.makhnodri.proofs.stored.makhnodri_settle_stored_slices.Tie as tie
 

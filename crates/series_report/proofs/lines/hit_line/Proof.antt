@@ -4,7 +4,7 @@ use Rattle.decimals.specs.Value.{digits-length-u64}
 use Rattle.sequences.specs.Wrote.{wrote-then}
 use Rattle.meaning.specs.List.{pair}
 use Rattle.meaning.specs.Series.{hitAt}
-use Rattle.wording.specs.Lines.{wrote-as}
+use Rattle.report_words.specs.Lines.{wrote-as}
 use Rattle.series_report.specs.Lines.{pair-short, hit-parts, hit-short}
 use borrow.Author.Needs.{needs}
 use Rattle.series_report.proofs.lines.hit_line.Statement.{statement}
@@ -12,9 +12,9 @@ use Rattle.series_report.proofs.lines.hit_line.Tie as tie
 use Rattle.series_report.proofs.lines.hit_line.Reads as reads
 use Rattle.series_report.proofs.lines.hit_line.Lts as lts
 use Rattle.series_report.proofs.lines.put_pair.Reads as put-pair-reads
-use Rattle.wording.proofs.words.put_byte.Reads as put-byte-reads
-use Rattle.wording.proofs.words.put_number.Reads as put-number-reads
-use Rattle.wording.proofs.words.put_word.Reads as put-word-reads
+use Rattle.report_words.proofs.words.put_byte.Reads as put-byte-reads
+use Rattle.report_words.proofs.words.put_number.Reads as put-number-reads
+use Rattle.report_words.proofs.words.put_word.Reads as put-word-reads
 
 slice-aggregate-put-word : tie.Need-slice-aggregate-put-word
 slice-aggregate-put-word c = search needs

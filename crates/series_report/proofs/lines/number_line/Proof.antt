@@ -2,16 +2,16 @@
 use native.Mathlib.Omega.{arith}
 use Rattle.decimals.specs.Value.{digits-length-u64}
 use Rattle.sequences.specs.Wrote.{wrote-then}
-use Rattle.wording.specs.Lines.{wrote-as}
+use Rattle.report_words.specs.Lines.{wrote-as}
 use Rattle.series_report.specs.Lines.{number-parts, number-short}
 use borrow.Author.Needs.{needs}
 use Rattle.series_report.proofs.lines.number_line.Statement.{statement}
 use Rattle.series_report.proofs.lines.number_line.Tie as tie
 use Rattle.series_report.proofs.lines.number_line.Reads as reads
 use Rattle.series_report.proofs.lines.number_line.Lts as lts
-use Rattle.wording.proofs.words.put_byte.Reads as put-byte-reads
-use Rattle.wording.proofs.words.put_number.Reads as put-number-reads
-use Rattle.wording.proofs.words.put_word.Reads as put-word-reads
+use Rattle.report_words.proofs.words.put_byte.Reads as put-byte-reads
+use Rattle.report_words.proofs.words.put_number.Reads as put-number-reads
+use Rattle.report_words.proofs.words.put_word.Reads as put-word-reads
 
 put-word-requires : tie.Need-put-word-requires
 put-word-requires c κs = search needs

@@ -3,16 +3,16 @@ use native.Mathlib.Omega.{arith}
 use Rattle.decimals.specs.Value.{digits-length-u64}
 use Rattle.sequences.specs.Wrote.{wrote-then}
 use Rattle.meaning.specs.List.{pair}
-use Rattle.wording.specs.Lines.{wrote-as, kind-short}
+use Rattle.report_words.specs.Lines.{wrote-as, kind-short}
 use Rattle.series_report.specs.Lines.{pair-parts}
 use borrow.Author.Needs.{needs}
 use Rattle.series_report.proofs.lines.put_pair.Statement.{statement}
 use Rattle.series_report.proofs.lines.put_pair.Tie as tie
 use Rattle.series_report.proofs.lines.put_pair.Reads as reads
 use Rattle.series_report.proofs.lines.put_pair.Lts as lts
-use Rattle.wording.proofs.lines.put_kind.Reads as put-kind-reads
-use Rattle.wording.proofs.words.put_byte.Reads as put-byte-reads
-use Rattle.wording.proofs.words.put_number.Reads as put-number-reads
+use Rattle.report_words.proofs.lines.put_kind.Reads as put-kind-reads
+use Rattle.report_words.proofs.words.put_byte.Reads as put-byte-reads
+use Rattle.report_words.proofs.words.put_number.Reads as put-number-reads
 
 put-byte-requires : tie.Need-put-byte-requires
 put-byte-requires c κs = search needs

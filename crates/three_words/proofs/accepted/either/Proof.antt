@@ -2,8 +2,8 @@
 use borrow.Author.Needs.{needs}
 use mathlib.Core.Path.{_≡_, refl}
 use mathlib.Core.Bool.{Bool, true, false, _||_}
-use Rattle.sign_sums.specs.BySigns.{told}
-use Rattle.sign_sums.specs.declared.Signs.{Signs}
+use Rattle.exact_signs.specs.BySigns.{told}
+use Rattle.exact_signs.specs.declared.Signs.{Signs}
 use Rattle.theory.specs.Computed.{joined}
 use Rattle.three_words.proofs.accepted.either.Statement.{statement}
 use Rattle.three_words.proofs.accepted.either.Tie as tie

@@ -1,7 +1,8 @@
 use borrow.Author.Needs.{needs}
 use mathlib.Core.Path.{sym}
-use Rattle.seam_table.specs.Alone.{tabled}
-use Rattle.three_words.specs.Pairs.{pt-there, ee-smaller-there, ee-larger-there, pt-ready, ee-ready}
+use Rattle.scene_seams.specs.Alone.{tabled}
+use Rattle.three_words.specs.Pairs.{ee-smaller-there, ee-larger-there, pt-ready, ee-ready}
+use Rattle.scene_parts.specs.There.{pt-there}
 use Rattle.three_words.proofs.accepted.pair.Statement.{statement}
 use Rattle.three_words.proofs.accepted.pair.Tie as tie
 use Rattle.three_words.proofs.accepted.pair.Reads as reads

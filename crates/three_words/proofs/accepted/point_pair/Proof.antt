@@ -2,7 +2,7 @@ use borrow.Author.Needs.{needs}
 use Rattle.meaning.specs.Scene.{Scene, sceneOf}
 use Rattle.meaning.specs.Pieces.{pieceOf}
 use Rattle.exact.specs.Volumes.{holds-small}
-use Rattle.sign_sums.specs.BySigns.{told}
+use Rattle.exact_signs.specs.BySigns.{told}
 use Rattle.theory.specs.Computed.{pointDifferences}
 use Rattle.three_words.specs.Pairs.{of-three}
 use Rattle.three_words.specs.Ready.{moving}

@@ -1,4 +1,0 @@
--- The log that keeps the first cause.
-pub mod Logged
-pub mod Kept
-pub mod Told

@@ -1,7 +1,0 @@
--- Texts made of lines, over any grammar.
-pub mod Below
-pub mod Unique
-pub mod Going
-pub mod Ahead
-pub mod Last
-pub mod Feed

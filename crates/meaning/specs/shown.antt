@@ -1,0 +1,7 @@
+-- Cases shown of the definitions, by computing: what each says of something, so that none can be emptied unseen.
+pub mod InMotion
+pub mod ReadShown
+pub mod FirstFault
+pub mod ObjShown
+pub mod SeriesShown
+pub mod NumbersShown

@@ -1,0 +1,54 @@
+-- `copying::copy_three`: three stores side by side, each of a number that was read.
+use native.Mathlib.Omega.{arith}
+use lib.IntN.{ℤ, pos}
+use lib.ListN.{length, getD, set, length-set}
+use mathlib.Core.List.{List, [], _∷_}
+use mathlib.Core.Path.{_≡_}
+use Prim.Native.Nat.{ℕ, _+_, _<_}
+use mir.Facts.{toZ-ofZ}
+use borrow.Author.Needs.{needs, sfits-of}
+use Rattle.sequences.specs.Wrote.{Wrote, wrote-three}
+use Rattle.obj_scene.proofs.copying.copy_three.Statement.{statement}
+use Rattle.obj_scene.proofs.copying.copy_three.Tie as tie
+
+wrote-point : (o : List ℤ) (at : ℕ) (x y z : ℤ) {a b d : ℤ} → a ≡ x → b ≡ y → d ≡ z → at + 2 < length o
+    → Wrote o at (x ∷ y ∷ z ∷ []) (set (set (set o at a) (at + 1) b) (at + 2) d) (at + 3)
+wrote-point o at x y z p q r h = rw (p, q, r) (wrote-three o at x y z h)
+
+slice-set-from-lent-2 : tie.Need-slice-set-from-lent-2
+slice-set-from-lent-2 c = simp length-set (omega arith)
+
+slice-set-from-lent-3 : tie.Need-slice-set-from-lent-3
+slice-set-from-lent-3 c = simp length-set (omega arith)
+
+returns : tie.Need-returns
+returns c =
+    let own = c .before .before .before .args .own .now in
+    let at = c .before .before .before .args .at in
+    wrote-point _ _ _ _ _ (toZ-ofZ {z = getD own at (pos 0)} (sfits-of (c .before .before .lent .given)))
+    (toZ-ofZ {z = getD own (at + 1) (pos 0)} (sfits-of (c .before .lent2 .given)))
+    (toZ-ofZ {z = getD own (at + 2) (pos 0)} (sfits-of (c .lent3 .given)))
+    (omega arith)
+
+pub copy-three-spec : {M : Type 1} → statement M
+copy-three-spec =
+    tie.close
+    (tie.spec
+    (λ c. search needs)
+    (λ c. search needs)
+    (λ c. search needs)
+    (λ c. search needs)
+    (λ c. search needs)
+    (λ c. search needs)
+    (λ c. search needs)
+    (λ c. search needs)
+    (λ c. search needs)
+    slice-set-from-lent-2
+    (λ c. search needs)
+    (λ c. search needs)
+    (λ c. search needs)
+    (λ c. search needs)
+    (λ c. search needs)
+    slice-set-from-lent-3
+    (λ c. search needs)
+    returns)

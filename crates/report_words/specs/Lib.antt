@@ -1,0 +1,3 @@
+-- How large the lines of a report are.
+pub mod Lines
+pub mod ContactLines

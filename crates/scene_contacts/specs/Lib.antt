@@ -1,6 +1,0 @@
--- The contacts of a whole scene: each pair has one, and how they stand in lent buffers.
-pub mod OneMeeting
-pub mod Computed
-pub mod Rows
-pub mod Listed
-pub mod Answering

@@ -1,0 +1,96 @@
+-- `scene_report::write_report` meets its contract: the text is read, and its scene reported; a text that is refused has one line.
+use Prim.Native.Nat.{ℕ}
+use mathlib.Core.Path.{refl, sym, ap}
+use native.Mathlib.Omega.{arith}
+use lib.IntN.{pos}
+use lib.ListN.{length-replicate}
+use lib.Seq.{length-take-le}
+use borrow.Author.Needs.{needs}
+use Rattle.meaning.specs.Refusals.{numberOf}
+use Rattle.meaning.specs.Report.{refusedLine}
+use Rattle.report_words.specs.Lines.{wrote-as}
+use Rattle.text_scene.specs.Using.{few-read, holds-read, accepted-read, short-read}
+use Rattle.scene_report.specs.FromCalls.{refused-read}
+use Rattle.scene_report.specs.Whole.{scene-to-text, refused-text}
+use Rattle.scene_report.proofs.write_report.Statement.{statement}
+use Rattle.scene_report.proofs.write_report.Tie as tie
+
+mul-p : tie.Need-mul-p
+mul-p c = record { fits = omega (arith, few-read {c = c .before .before .counts .given .0 .0} (c .before .before .before .before .before .before .before .before .read-scene .ensures) (search) .vertices) }
+
+mul-e : tie.Need-mul-e
+mul-e c = record { fits = omega (arith, few-read {c = c .before .before .before .counts .given .0 .0} (c .before .before .before .before .before .before .before .before .before .read-scene .ensures) (search) .edges) }
+
+mul-t : tie.Need-mul-t
+mul-t c = record { fits = omega (arith, few-read {c = c .before .before .before .before .counts .given .0 .0} (c .before .before .before .before .before .before .before .before .before .before .read-scene .ensures) (search) .triangles) }
+
+mul-w : tie.Need-mul-w
+mul-w c = record { fits = omega (arith, few-read {c = c .before .before .before .before .before .counts .given .0 .0} (c .before .before .before .before .before .before .before .before .before .before .before .read-scene .ensures) (search) .seams) }
+
+array-share-prefix-positions : tie.Need-array-share-prefix-positions
+array-share-prefix-positions c = omega (arith, few-read {c = c .before .before .before .before .before .counts .given .0 .0} (c .before .before .before .before .before .before .before .before .before .before .before .read-scene .ensures) (search) .vertices, c .before .before .before .before .before .before .before .before .before .before .before .read-scene .kept .1 .0, length-replicate 3072 (pos 0))
+
+slice-aggregate-scene-report : tie.Need-slice-aggregate-scene-report
+slice-aggregate-scene-report c = sym (length-take-le _ _ (omega (arith, few-read {c = c .before .before .before .before .before .before .counts .given .0 .0} (c .before .before .before .before .before .before .before .before .before .before .before .before .read-scene .ensures) (search) .vertices, c .before .before .before .before .before .before .before .before .before .before .before .before .read-scene .kept .1 .0, length-replicate 3072 (pos 0))))
+
+array-share-prefix-edges : tie.Need-array-share-prefix-edges
+array-share-prefix-edges c = omega (arith, few-read {c = c .before .before .before .before .before .before .counts .given .0 .0} (c .before .before .before .before .before .before .before .before .before .before .before .before .read-scene .ensures) (search) .edges, c .before .before .before .before .before .before .before .before .before .before .before .before .read-scene .kept .1 .1 .0, length-replicate {A = ℕ} 2048 0)
+
+slice-aggregate-scene-report-2 : tie.Need-slice-aggregate-scene-report-2
+slice-aggregate-scene-report-2 c = sym (length-take-le _ _ (omega (arith, few-read {c = c .before .before .before .before .before .before .before .counts .given .0 .0} (c .before .before .before .before .before .before .before .before .before .before .before .before .before .read-scene .ensures) (search) .edges, c .before .before .before .before .before .before .before .before .before .before .before .before .before .read-scene .kept .1 .1 .0, length-replicate {A = ℕ} 2048 0)))
+
+array-share-prefix-triangles : tie.Need-array-share-prefix-triangles
+array-share-prefix-triangles c = omega (arith, few-read {c = c .before .before .before .before .before .before .before .counts .given .0 .0} (c .before .before .before .before .before .before .before .before .before .before .before .before .before .read-scene .ensures) (search) .triangles, c .before .before .before .before .before .before .before .before .before .before .before .before .before .read-scene .kept .1 .1 .1 .0, length-replicate {A = ℕ} 1536 0)
+
+slice-aggregate-scene-report-3 : tie.Need-slice-aggregate-scene-report-3
+slice-aggregate-scene-report-3 c = sym (length-take-le _ _ (omega (arith, few-read {c = c .before .before .before .before .before .before .before .before .counts .given .0 .0} (c .before .before .before .before .before .before .before .before .before .before .before .before .before .before .read-scene .ensures) (search) .triangles, c .before .before .before .before .before .before .before .before .before .before .before .before .before .before .read-scene .kept .1 .1 .1 .0, length-replicate {A = ℕ} 1536 0)))
+
+array-share-prefix-seams : tie.Need-array-share-prefix-seams
+array-share-prefix-seams c = omega (arith, few-read {c = c .before .before .before .before .before .before .before .before .counts .given .0 .0} (c .before .before .before .before .before .before .before .before .before .before .before .before .before .before .read-scene .ensures) (search) .seams, c .before .before .before .before .before .before .before .before .before .before .before .before .before .before .read-scene .kept .1 .1 .1 .1 .0, length-replicate {A = ℕ} 1024 0)
+
+slice-aggregate-scene-report-4 : tie.Need-slice-aggregate-scene-report-4
+slice-aggregate-scene-report-4 c = sym (length-take-le _ _ (omega (arith, few-read {c = c .before .before .before .before .before .before .before .before .before .counts .given .0 .0} (c .before .before .before .before .before .before .before .before .before .before .before .before .before .before .before .read-scene .ensures) (search) .seams, c .before .before .before .before .before .before .before .before .before .before .before .before .before .before .before .read-scene .kept .1 .1 .1 .1 .0, length-replicate {A = ℕ} 1024 0)))
+
+scene-report-requires : tie.Need-scene-report-requires
+scene-report-requires c κs = (accepted-read {c = c .before .before .before .before .before .before .before .before .before .before .counts .given .0 .0} (c .before .before .before .before .before .before .before .before .before .before .before .before .before .before .before .before .read-scene .ensures) (search), search needs)
+
+returns : tie.Need-returns
+returns c =
+    let a = c .before .before .before .before .before .before .before .before .before .before .before .before .before .before .before .before .before .read-scene .ensures in
+    scene-to-text _ (short-read {c = c .before .before .before .before .before .before .before .before .before .before .before .counts .given .0 .0} a (search)) (holds-read {c = c .before .before .before .before .before .before .before .before .before .before .before .counts .given .0 .0} a (search)) (c .scene-report .ensures)
+
+returns-2 : tie.Need-returns-2
+returns-2 c =
+    let x = c .before .before .before .before .refusal .given .0 .0 in
+    let line = c .before .before .before .before .refusal .given .0 .1 .0 in
+    refused-text (numberOf x) line (refused-read {x = x} {line = line} refl (c .before .before .before .before .before .before .before .before .before .before .read-scene .ensures) (search))
+    (wrote-as (ap (λ (n : ℕ). refusedLine n line) (c .before .number-of .ensures)) (c .refused-line .ensures))
+
+pub write-report-spec : {M : Type 1} → statement M
+write-report-spec =
+    tie.close
+    (tie.spec
+    (λ c. search needs)
+    (λ c. search needs)
+    (λ c. search needs)
+    (λ c. search needs)
+    (λ c κs. search needs)
+    (λ c. search needs)
+    mul-p
+    mul-e
+    mul-t
+    mul-w
+    array-share-prefix-positions
+    slice-aggregate-scene-report
+    array-share-prefix-edges
+    slice-aggregate-scene-report-2
+    array-share-prefix-triangles
+    slice-aggregate-scene-report-3
+    array-share-prefix-seams
+    slice-aggregate-scene-report-4
+    scene-report-requires
+    (λ c. search needs)
+    (λ c κs. search needs)
+    (λ c κs. search needs)
+    returns
+    returns-2)

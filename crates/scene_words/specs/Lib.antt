@@ -1,3 +1,0 @@
--- The words of a list of pairs, and their bytes.
-pub mod Listed
-pub mod Answering

@@ -1,8 +1,0 @@
--- Accepted scenes: what the five checks give to whoever passes them, and how an answer is built on them.
-pub mod Answering
-pub mod Speaking
-pub mod Accepting
-pub mod Facts
-pub mod Checking
-pub mod AsWritten
-pub mod InRows

@@ -1,0 +1,3 @@
+-- A series in one call.
+pub mod Leaving
+pub mod Answering

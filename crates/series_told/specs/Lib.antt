@@ -1,4 +1,0 @@
--- A series in one call.
-pub mod Called
-pub mod Leaving
-pub mod Answering

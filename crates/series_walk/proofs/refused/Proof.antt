@@ -1,0 +1,10 @@
+use borrow.Author.Needs.{needs}
+use mathlib.Core.Path.{refl}
+use Rattle.series_walk.proofs.refused.Statement.{statement}
+use Rattle.series_walk.proofs.refused.Tie as tie
+
+returns : tie.Need-returns
+returns c = rw (c .nothing-told .ensures) refl
+
+pub refused-spec : {M : Type 1} → statement M
+refused-spec = tie.close (tie.spec (λ c κs. search needs) returns)

@@ -1,6 +1,0 @@
-use borrow.Author.Needs.{needs}
-use Rattle.sign_sums.proofs.alike.Statement.{statement}
-use Rattle.sign_sums.proofs.alike.Tie as tie
-
-pub alike-spec : {M : Type 1} → statement M
-alike-spec = tie.close (tie.spec (λ c. search needs) (λ c. search needs))

@@ -1,1 +1,0 @@
-// A series of steps: what it is and what its text says, in specs/. No code stands here.

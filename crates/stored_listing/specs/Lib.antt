@@ -1,2 +1,0 @@
--- The look over the stored boxes, and what the calls that list from them answer.
-pub mod Looked

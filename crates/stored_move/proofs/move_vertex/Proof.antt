@@ -1,0 +1,99 @@
+-- `move_vertex`: each return is right by the tests that led to it.
+use borrow.Author.Needs.{needs}
+use native.Mathlib.Omega.{arith}
+use mathlib.Core.Path.{sym, _∙_}
+use borrow.Author.Tests.{lt-ltb, le-ltb, le-leb, lt-leb}
+use Rattle.meaning.specs.Scene.{sceneIn}
+use Rattle.scene_checks.specs.Accepting.{accepted-by}
+use Rattle.meaning.specs.Dragging.{movedScene}
+use Rattle.scene_checks.specs.Facts.{accepted-sized}
+use Rattle.list_boxes.specs.Parts.{accepted-drawn}
+use Rattle.stored_laws.specs.Torn.{together}
+use Rattle.stored_laws.specs.Placed.{placed-length}
+use Rattle.stored_laws.specs.Moved.{moved-accepted}
+use Rattle.stored_move.specs.Answering.{moved-short, moved-refused, moved-not-there, moved-outside, moved-torn, moved-done}
+use Rattle.stored_move.proofs.move_vertex.Statement.{statement}
+use Rattle.stored_move.proofs.move_vertex.Tie as tie
+
+returns : tie.Need-returns
+returns c =
+    let a = c .before .before .before .before .args in
+    let s = sceneIn (a .positions) (a .edges) (a .triangles) (a .seams) in
+    moved-short s (a .v) (a .coordinates .now) (a .boxes .now) (lt-ltb _ _ (c .if1 .taken))
+
+returns-2 : tie.Need-returns-2
+returns-2 c =
+    let a = c .before .before .before .before .before .before .before .before .before .args in
+    let s = sceneIn (a .positions) (a .edges) (a .triangles) (a .seams) in
+    moved-refused s (a .v) (a .coordinates .now) (a .boxes .now) (le-ltb _ _ (c .before .before .before .before .before .if1 .left)) (c .before .why .given .0 .0) (search) (c .before .before .before .check-scene .ensures)
+
+returns-3 : tie.Need-returns-3
+returns-3 c =
+    let a = c .before .before .before .before .before .before .before .before .before .before .before .args in
+    let s = sceneIn (a .positions) (a .edges) (a .triangles) (a .seams) in
+    let accepted = accepted-by s (c .before .before .before .enum-told .given .1) (c .before .before .before .before .before .check-scene .ensures) in
+    moved-not-there s (a .v) (a .coordinates .now) (a .boxes .now) (le-ltb _ _ (c .before .before .before .before .before .before .before .if1 .left)) accepted (rw (c .before .vertex-count .ensures) at (le-leb _ _ (c .if2 .taken)))
+
+returns-4 : tie.Need-returns-4
+returns-4 c =
+    let a = c .before .before .before .before .before .before .before .before .before .before .before .before .before .before .args in
+    let s = sceneIn (a .positions) (a .edges) (a .triangles) (a .seams) in
+    let accepted = accepted-by s (c .before .before .before .before .before .before .enum-told .given .1) (c .before .before .before .before .before .before .before .before .check-scene .ensures) in
+    moved-outside s (a .v) (a .coordinates .now) (a .boxes .now) (le-ltb _ _ (c .before .before .before .before .before .before .before .before .before .before .if1 .left)) accepted (rw (c .before .before .before .before .vertex-count .ensures) at (lt-leb _ _ (c .before .before .before .if2 .left))) (sym (c .before .new-outside .ensures) ∙ c .if3 .taken)
+
+tears-seam-requires : tie.Need-tears-seam-requires
+tears-seam-requires c κs =
+    let a = c .before .before .before .before .before .before .before .before .before .before .before .before .before .before .before .before .args in
+    let s = sceneIn (a .positions) (a .edges) (a .triangles) (a .seams) in
+    let accepted = accepted-by s (c .before .before .before .before .before .before .before .before .enum-told .given .1) (c .before .before .before .before .before .before .before .before .before .before .check-scene .ensures) in
+    (together accepted, omega (arith, c .before .before .before .before .before .if2 .left, c .before .before .before .before .before .before .vertex-count .ensures), search needs)
+
+returns-5 : tie.Need-returns-5
+returns-5 c =
+    let a = c .before .before .before .before .before .before .before .before .before .before .before .before .before .before .before .before .before .before .args in
+    let s = sceneIn (a .positions) (a .edges) (a .triangles) (a .seams) in
+    let accepted = accepted-by s (c .before .before .before .before .before .before .before .before .before .before .enum-told .given .1) (c .before .before .before .before .before .before .before .before .before .before .before .before .check-scene .ensures) in
+    moved-torn s (a .v) (a .coordinates .now) (a .boxes .now) (le-ltb _ _ (c .before .before .before .before .before .before .before .before .before .before .before .before .before .before .if1 .left)) accepted (rw (c .before .before .before .before .before .before .before .before .vertex-count .ensures) at (lt-leb _ _ (c .before .before .before .before .before .before .before .if2 .left))) (sym (c .before .before .before .before .before .new-outside .ensures) ∙ c .before .before .before .before .if3 .left) (sym (c .before .tears-seam .ensures) ∙ c .if4 .taken)
+
+place-requires : tie.Need-place-requires
+place-requires c κs = (omega (arith, c .before .before .before .before .before .before .before .before .before .if2 .left, c .before .before .before .before .before .before .before .before .before .before .vertex-count .ensures), search needs)
+
+mend-requires : tie.Need-mend-requires
+mend-requires c κs =
+    let a = c .before .before .before .before .before .before .before .before .before .before .before .before .before .before .before .before .before .before .before .before .before .before .before .before .args in
+    let s = sceneIn (a .positions) (a .edges) (a .triangles) (a .seams) in
+    let accepted = accepted-by s (c .before .before .before .before .before .before .before .before .before .before .before .before .before .before .before .before .enum-told .given .1) (c .before .before .before .before .before .before .before .before .before .before .before .before .before .before .before .before .before .before .check-scene .ensures) in
+    let moved = moved-accepted s (a .v) (a .coordinates .now) accepted (omega (arith, c .before .before .before .before .before .before .before .before .before .before .before .before .before .if2 .left, c .before .before .before .before .before .before .before .before .before .before .before .before .before .before .vertex-count .ensures)) (sym (c .before .before .before .before .before .before .before .before .before .before .before .new-outside .ensures) ∙ c .before .before .before .before .before .before .before .before .before .before .if3 .left) (sym (c .before .before .before .before .before .before .before .tears-seam .ensures) ∙ c .before .before .before .before .before .before .if4 .left) in
+    rw (c .before .before .before .place .ensures) (accepted-drawn moved, accepted-sized moved .fewVertices, omega (arith, placed-length (s .positions) (a .v) (a .coordinates .now), c .before .before .before .before .before .before .before .before .before .before .before .before .before .if2 .left, c .before .before .before .before .before .before .before .before .before .before .before .before .before .before .vertex-count .ensures), c .before .before .before .before .before .before .before .before .before .before .before .before .before .before .before .before .before .before .before .before .if1 .left)
+
+returns-6 : tie.Need-returns-6
+returns-6 c =
+    let a = c .before .before .before .before .before .before .before .before .before .before .before .before .before .before .before .before .before .before .before .before .before .before .before .before .before .before .args in
+    let s = sceneIn (a .positions) (a .edges) (a .triangles) (a .seams) in
+    let accepted = accepted-by s (c .before .before .before .before .before .before .before .before .before .before .before .before .before .before .before .before .before .before .enum-told .given .1) (c .before .before .before .before .before .before .before .before .before .before .before .before .before .before .before .before .before .before .before .before .check-scene .ensures) in
+    moved-done s (a .v) (a .coordinates .now) (a .boxes .now) (le-ltb _ _ (c .before .before .before .before .before .before .before .before .before .before .before .before .before .before .before .before .before .before .before .before .before .before .if1 .left)) accepted (rw (c .before .before .before .before .before .before .before .before .before .before .before .before .before .before .before .before .vertex-count .ensures) at (lt-leb _ _ (c .before .before .before .before .before .before .before .before .before .before .before .before .before .before .before .if2 .left))) (sym (c .before .before .before .before .before .before .before .before .before .before .before .before .before .new-outside .ensures) ∙ c .before .before .before .before .before .before .before .before .before .before .before .before .if3 .left) (sym (c .before .before .before .before .before .before .before .before .before .tears-seam .ensures) ∙ c .before .before .before .before .before .before .before .before .if4 .left) (c .before .before .before .before .before .place .ensures) (rw (c .before .before .before .before .before .place .ensures) at (c .before .mend .ensures (a .seams .now)))
+
+pub move-vertex-spec : {M : Type 1} → statement M
+move-vertex-spec =
+    tie.close
+    (tie.spec
+    returns
+    (λ c κs. search needs)
+    (λ c. search needs)
+    (λ c. search needs)
+    returns-2
+    (λ c. search needs)
+    (λ c κs. search needs)
+    (λ c. search needs)
+    returns-3
+    (λ c κs. search needs)
+    (λ c. search needs)
+    returns-4
+    tears-seam-requires
+    (λ c. search needs)
+    returns-5
+    place-requires
+    mend-requires
+    (λ c. search needs)
+    (λ c. search needs)
+    returns-6)

@@ -1,0 +1,3 @@
+-- What the calls answer.
+pub mod Answering
+pub mod OneResult

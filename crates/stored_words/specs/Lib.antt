@@ -1,2 +1,0 @@
--- What the call answers.
-pub mod Answering

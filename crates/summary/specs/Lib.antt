@@ -1,7 +1,0 @@
--- The report of a list in its buffers, and of a text.
-pub mod Rendered
-pub mod Sizes
-pub mod Whole
-pub mod FromCalls
-pub mod ReadSoFar
-pub mod Fits
