@@ -15,7 +15,7 @@ use Rattle.meaning.specs.declared.SeriesEnding.{SeriesEnding}
 use Rattle.meaning.specs.SeriesCall.{ToldWhole, SeriesCounted}
 use Rattle.meaning.specs.declared.SeriesListed.{SeriesListed}
 use Rattle.meaning.specs.SeriesNumbers.{rowsOf, toldNumbers, refusedNumber}
-use Rattle.meaning.specs.SeriesNumbers.{answerNumber, seriesCounts, rowsLeft, numbersLeft, SeriesInto}
+use Rattle.meaning.specs.SeriesNumbers.{answerNumber, seriesCounts, logLeft, numbersLeft, SeriesInto}
 
 -- a log that is told has room for what it holds
 pub told-few : {text : List ℕ} {lent left : Scene} {b b′ : List ℤ} {l l′ : List ℕ} (all : SeriesListed) {k : SceneCounts}
@@ -27,14 +27,14 @@ module _ {text : List ℕ} {lent left : Scene} {b b′ : List ℤ} {l l′ c row
     (h : SeriesCounted text lent left b b′ l l′ all) where
   pub into-refused : {f : Refusal} {k r : ℕ} → all .answer .outcome ≡ Outcomes.the-variants.Refused f k → r ≡ refusedNumber f k
       → SeriesInto text lent left b b′ l l′ c c rows rows told told r
-  unfolding answerNumber seriesCounts rowsLeft numbersLeft
+  unfolding answerNumber seriesCounts logLeft numbersLeft
   into-refused e is =
       record {
         all = all;
         right = h;
         is = is ∙ sym (ap (λ (o : SeriesEnding). answerNumber o (all .count)) e);
         counts = sym (ap (λ (o : SeriesEnding). seriesCounts o c) e);
-        log = sym (ap (λ (o : SeriesEnding). rowsLeft o (all .answer .told) rows) e);
+        log = sym (ap (λ (o : SeriesEnding). logLeft o (all .answer .told) rows) e);
         numbers = sym (ap (λ (o : SeriesEnding). numbersLeft o (all .answer .told) told) e);
       }
 
@@ -43,13 +43,13 @@ module _ {text : List ℕ} {lent left : Scene} {b b′ : List ℤ} {l l′ c row
       → rows′ ≡ written (rowsOf (take (all .answer .told .log .held) (all .answer .told .log .hits))) rows
       → told′ ≡ toldNumbers (all .answer .told)
       → SeriesInto text lent left b b′ l l′ c c′ rows rows′ told told′ r
-  unfolding answerNumber seriesCounts rowsLeft numbersLeft
+  unfolding answerNumber seriesCounts logLeft numbersLeft
   into-told e is counts log numbers =
       record {
         all = all;
         right = h;
         is = is ∙ sym (ap (λ (o : SeriesEnding). answerNumber o (all .count)) e);
         counts = counts ∙ sym (ap (λ (o : SeriesEnding). seriesCounts o c) e);
-        log = log ∙ sym (ap (λ (o : SeriesEnding). rowsLeft o (all .answer .told) rows) e);
+        log = log ∙ sym (ap (λ (o : SeriesEnding). logLeft o (all .answer .told) rows) e);
         numbers = numbers ∙ sym (ap (λ (o : SeriesEnding). numbersLeft o (all .answer .told) told) e);
       }

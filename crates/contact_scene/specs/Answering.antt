@@ -5,10 +5,11 @@ use mathlib.Core.List.{List, [], _∷_, map}
 use mathlib.Core.Path.{_≡_, refl, ap, _∙_}
 use Rattle.sequences.specs.Wrote.{written}
 use Rattle.meaning.specs.Limits.{contactLimit}
+use lib.ListN.{length}
 use Rattle.meaning.specs.Scene.{Scene, reachesBeyond, Accepted}
-use Rattle.meaning.specs.Refusals.{SceneChecked, Answers, given, refused, numberOf}
+use Rattle.meaning.specs.Refusals.{SceneChecked, Answers, given, refused, numberOf, roomCheck}
 use Rattle.meaning.specs.List.{Pair, pairs, roomOf, listSays, leaves}
-use Rattle.meaning.specs.WholeContacts.{rangeCheck, roomCheck, contactRoom, rowsLeft, rowsAfter, ContactsListed}
+use Rattle.meaning.specs.WholeContacts.{rangeCheck, contactRoom, rowsLeft, rowsAfter, ContactsListed}
 use Rattle.meaning.specs.declared.Made.{Made}
 use Rattle.meaning.specs.declared.Refusal.{Refusal}
 use Rattle.meaning.specs.declared.Refusal.the-variants.{BeyondOldRange}
@@ -34,7 +35,7 @@ module _ (s : Scene) (o b c : List ℕ) where
       → ContactsListed s o o b b c c (ListAnswers.the-variants.Refused x 0)
   unfolding listSays leaves rowsAfter
   met-refused x p e = record {
-    answer = after-refused s (rangeCheck s ∷ roomCheck s (contactRoom o b c) ∷ []) (IsCount s) e p;
+    answer = after-refused s (rangeCheck s ∷ roomCheck (contactRoom o b c) (length (pairs s)) ∷ []) (IsCount s) e p;
     list = refl;
     contacts = contactsOf s (pairs s);
     right = all-met s (pairs s);
@@ -45,7 +46,7 @@ module _ (s : Scene) (o b c : List ℕ) where
   pub met-beyond : Accepted s → reachesBeyond contactLimit s ≡ true → ContactsListed s o o b b c c (ListAnswers.the-variants.Refused BeyondOldRange 0)
   unfolding listSays leaves rowsAfter numberOf
   met-beyond a far = record {
-    answer = after-accepted s (rangeCheck s ∷ roomCheck s (contactRoom o b c) ∷ []) (IsCount s) (refused 16 0) a (refuses (IsCount s) (rangeCheck s) _ (refused 16 0) far refl);
+    answer = after-accepted s (rangeCheck s ∷ roomCheck (contactRoom o b c) (length (pairs s)) ∷ []) (IsCount s) (refused 16 0) a (refuses (IsCount s) (rangeCheck s) _ (refused 16 0) far refl);
     list = refl;
     contacts = contactsOf s (pairs s);
     right = all-met s (pairs s);
@@ -56,7 +57,7 @@ module _ (s : Scene) (o b c : List ℕ) where
   pub met-near : {o′ b′ c′ : List ℕ} {r : ListAnswer} → Accepted s → reachesBeyond contactLimit s ≡ false → MetNear s (contactRoom o b c) o o′ b b′ c c′ r
       → ContactsListed s o o′ b b′ c c′ r
   met-near {r = r} a near j = record {
-    answer = after-accepted s (rangeCheck s ∷ roomCheck s (contactRoom o b c) ∷ []) (IsCount s) (listSays r) a (lets-pass (IsCount s) (rangeCheck s) _ (listSays r) near (j .list .answer));
+    answer = after-accepted s (rangeCheck s ∷ roomCheck (contactRoom o b c) (length (pairs s)) ∷ []) (IsCount s) (listSays r) a (lets-pass (IsCount s) (rangeCheck s) _ (listSays r) near (j .list .answer));
     list = j .list .buffer;
     contacts = contactsOf s (pairs s);
     right = all-met s (pairs s);

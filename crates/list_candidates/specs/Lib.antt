@@ -1,3 +1,3 @@
 -- The pairs that can be listed: rows of them, and the test of one.
 pub mod Rows
-pub mod WholeContact
+pub mod Meeting

@@ -22,7 +22,7 @@ use Rattle.meaning.specs.declared.SeriesEnding as Outcomes
 use Rattle.meaning.specs.declared.SeriesEnding.{SeriesEnding}
 use Rattle.meaning.specs.SeriesCall.{BoxedSeries, toldPart, ToldWhole, countsPart, countsSaid, lastCount}
 use Rattle.meaning.specs.SeriesNumbers.{rowStep, rowsOf}
-use Rattle.meaning.specs.SeriesNumbers.{SeriesInto, answerNumber, seriesCounts, rowsLeft, numbersLeft}
+use Rattle.meaning.specs.SeriesNumbers.{SeriesInto, answerNumber, seriesCounts, logLeft, numbersLeft}
 use Rattle.series_demands.specs.OneCall.{told-refused}
 use Rattle.meaning.specs.Numbers.{upper, numberFor}
 use Rattle.c_numbers.specs.Small.{lineIn, number-in-table}
@@ -100,8 +100,8 @@ module _ {text : List ℕ} {e : Ended} (x : TextOf text e) where
 
 rows-are : {text : List ℕ} (q : SeriesEnding) (o : Outcome Ended) (t : SeriesTold) (rows : List ℕ) → outcomeSays q (toldSays t) ≡ toldPart o
     → ((e : Ended) → o ≡ given e → TextOf text e)
-    → rowsLeft q t rows ≡ rowsAfter o rows
-unfolding outcomeSays toldPart rowsLeft rowsAfter
+    → logLeft q t rows ≡ rowsAfter o rows
+unfolding outcomeSays toldPart logLeft rowsAfter
 rows-are (Outcomes.the-variants.Told c) (given e) t rows says p =
     let same : toldSays t ≡ e .told = cc in
     ap (λ (l : List ℕ). written l rows) (log-rows (p e refl) t same)

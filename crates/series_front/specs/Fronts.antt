@@ -80,7 +80,7 @@ module _ {text : List ℕ} {s : Scene} {at : ℕ} (i : Reached sceneLines none t
     within = i .within;
   }
 
-of-fault : (text : List ℕ) (at : ℕ) (s : Scene) {n : ℕ} → nextHere text at ≡ false → Text.Fault s (drop at text) n
+of-fault : (text : List ℕ) (at : ℕ) (s : Scene) {n : ℕ} → nextHere text at ≡ false → Text.SceneFault s (drop at text) n
     → Fault seriesLines (sceneAlone s) (drop at text) n
 unfolding ItemFormed itemLine itemChecks
 of-fault text at s no-n (unformed e some never) = unformed e some no-line
@@ -140,7 +140,7 @@ unfolding itemLine
 next-first text at here = next-stands text at here .here
 
 -- an `n` is no record of a scene, so that a scene is at fault there with 9
-next-is-nine : (text : List ℕ) (at : ℕ) (s : Scene) {n : ℕ} → nextHere text at ≡ true → Text.Fault s (drop at text) n → n ≡ 9
+next-is-nine : (text : List ℕ) (at : ℕ) (s : Scene) {n : ℕ} → nextHere text at ≡ true → Text.SceneFault s (drop at text) n → n ≡ 9
 next-is-nine text at s here (unformed e some never) = e
 next-is-nine text at s here (misplaced r rest formed eq j) =
     absurd (letter-not-next r (head-eq-of-cons-eq (sym (line-is r rest) ∙ sym eq ∙ next-first text at here)))

@@ -33,7 +33,7 @@ pub record Took (text : List ℕ) (at : ℕ) (s : Scene) (c : SceneCounts) (size
   pub adds : after ≡ countedBy c (sortOf (line .entry))
 
 unfoldable pub Stepped : List ℕ → ℕ → Scene → SceneCounts → List ℕ → List Bool → Step → Type 0
-Stepped text at s c sizes minus (Fault r) = Text.Fault s (drop at text) (numberOf r)
+Stepped text at s c sizes minus (Fault r) = Text.SceneFault s (drop at text) (numberOf r)
 Stepped text at s c sizes minus (Taken sort after next) = Took text at s c sizes minus sort after next
 
 -- below any scene with these counts

@@ -292,7 +292,7 @@ pub record TookLine (text : List ℕ) (at : ℕ) (c : SceneCounts) (s b : Scene)
 
 -- the line is at fault; where it is no record's, the draft holds what it held
 pub record FaultHere (text : List ℕ) (at : ℕ) (c : SceneCounts) (s b : Scene) (table : List ℕ) (f : Refusal) : Type 0 where
-  pub fault : Text.Fault s (drop at text) (numberOf f)
+  pub fault : Text.SceneFault s (drop at text) (numberOf f)
   pub kept : numberOf f ≡ 9 → Drafted b table s c
 
 unfoldable pub TakenAs : List ℕ → ℕ → SceneCounts → Scene → Scene → List ℕ → Taken → Type 0
@@ -308,7 +308,7 @@ module _ (text : List ℕ) (at : ℕ) (c : SceneCounts) (sizes : List ℕ) (minu
   unfolding Stepped TakenAs
   take-fault {f} b table e s d =
       let a : Stepped text at s c sizes minus r = step s (d .above) in
-      let fault : Text.Fault s (drop at text) (numberOf f) = rw e at a in
+      let fault : Text.SceneFault s (drop at text) (numberOf f) = rw e at a in
       record { fault = fault; kept = λ nine. d }
 
   module _ {sort : Sort} {after : SceneCounts} {next : ℕ} (e : r ≡ Steps.the-variants.Taken sort after next) where

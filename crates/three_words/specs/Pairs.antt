@@ -3,8 +3,6 @@ use Prim.Native.Nat.{ℕ, zero, suc, _/_, _%_, min, max, _<_, _≤_}
 use mathlib.Core.Path.{_≡_, refl, sym, ap, subst, _∙_}
 use mathlib.Core.Bool.{Bool, true, false, _||_}
 use native.Mathlib.Omega.{arith}
-use lib.Dec.{leb}
-use borrow.Author.Tests.{leb-false}
 use Rattle.meaning.specs.Scene.{Scene, vertexCount, edgeCount, triangleCount, endsOf, cornersOf, Accepted}
 use Rattle.three_words.specs.Ready.{PointReady, EdgesReady, point-ready, edges-ready}
 use Rattle.meaning.specs.Pieces.{Piece, pieceOf, pieceCount, movingPoint, movingTriangle, movingEdge}
@@ -14,7 +12,7 @@ use Rattle.meaning.specs.declared.Kind.{Kind}
 use Rattle.meaning.specs.declared.Kind.the-variants.{PointTriangle, EdgeEdge}
 use Rattle.meaning.specs.declared.Verdict.{Verdict}
 use Rattle.meaning.specs.declared.Verdict.the-variants.{Hit, Miss, Degenerate}
-use Rattle.answers.specs.Below.{or-left, or-rest}
+use Rattle.scene_parts.specs.There.{pt-there, ee-there}
 use Rattle.theory.specs.Computed.{joined, joinedBelow, pieceVerdict, pairVerdict}
 use Rattle.theory.specs.OneVerdict.{piece-is, pair-is}
 
@@ -44,14 +42,14 @@ module _ (s : Scene) (i j : ℕ) where
       (rw joined-miss refl))
 
   pub ee-smaller-there : notThere s EdgeEdge i j ≡ false → min i j < edgeCount s
-  ee-smaller-there e = omega (arith, ee-there e)
+  ee-smaller-there e = omega (arith, ee-there s i j e)
 
   pub ee-larger-there : notThere s EdgeEdge i j ≡ false → max i j < edgeCount s
-  ee-larger-there e = omega (arith, ee-there e)
+  ee-larger-there e = omega (arith, ee-there s i j e)
 
   -- what the verdict asks is there
   pub pt-ready : Accepted s → notThere s PointTriangle i j ≡ false → PointReady (s .positions) i (cornersOf s j)
-  pt-ready a e = point-ready a i j (pt-there e .0) (pt-there e .1)
+  pt-ready a e = point-ready a i j (pt-there s i j e .0) (pt-there s i j e .1)
 
   pub ee-ready : Accepted s → notThere s EdgeEdge i j ≡ false
       → EdgesReady (s .positions) (endsOf s (min i j)) (endsOf s (max i j))

@@ -3,7 +3,7 @@ use borrow.Author.Needs.{needs}
 use native.Mathlib.Omega.{arith}
 use Rattle.scene_seams.specs.Alone.{tabled}
 use Rattle.meaning.specs.declared.Kind.the-variants.{EdgeEdge}
-use Rattle.list_candidates.specs.WholeContact.{meets-ee, listed-unless, not-listed}
+use Rattle.list_candidates.specs.Meeting.{meets-ee, listed-unless, not-listed}
 use Rattle.list_candidates.proofs.listed_ee.Statement.{statement}
 use Rattle.list_candidates.proofs.listed_ee.Tie as tie
 

@@ -10,9 +10,9 @@ use Rattle.three_words.proofs.accepted.pair.Lts as lts
 use Rattle.scene_parts.proofs.corners_of.Reads as corners-of-reads
 use Rattle.scene_parts.proofs.ends_of.Reads as ends-of-reads
 use Rattle.three_words.proofs.accepted.edges_pair.Reads as edges-pair-reads
-use Rattle.three_words.proofs.accepted.larger.Reads as larger-reads
+use Rattle.scene_parts.proofs.asked.larger.Reads as larger-reads
 use Rattle.three_words.proofs.accepted.point_pair.Reads as point-pair-reads
-use Rattle.three_words.proofs.accepted.smaller.Reads as smaller-reads
+use Rattle.scene_parts.proofs.asked.smaller.Reads as smaller-reads
 
 -- src/accepted.rt:137:38
 enum-told : tie.Need-enum-told

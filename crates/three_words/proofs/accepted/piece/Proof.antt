@@ -9,8 +9,8 @@ use Rattle.three_words.proofs.accepted.piece.Reads as reads
 use Rattle.three_words.proofs.accepted.piece.Lts as lts
 use Rattle.scene_parts.proofs.corners_of.Reads as corners-of-reads
 use Rattle.scene_parts.proofs.ends_of.Reads as ends-of-reads
-use Rattle.three_words.proofs.accepted.larger.Reads as larger-reads
-use Rattle.three_words.proofs.accepted.smaller.Reads as smaller-reads
+use Rattle.scene_parts.proofs.asked.larger.Reads as larger-reads
+use Rattle.scene_parts.proofs.asked.smaller.Reads as smaller-reads
 use Rattle.three_words.proofs.pieces.edges_piece.Reads as edges-piece-reads
 use Rattle.three_words.proofs.pieces.point_piece.Reads as point-piece-reads
 
