@@ -6,7 +6,8 @@ docs/promises/CRATE.txt has a paragraph for each function: its name, then lines 
     words   what it does, where the comment above it does not say as much as a caller wants to know
     called  by integrators, where they may call it: then it has no `requires`
     laws    the definitions and theorems that tie the promise to the meaning
-    fixed   how two results that meet the promise are one: `equation`, a theorem `crate/File.name`, or `open: ` and what is left open, and why
+    fixed   how two results that meet the promise are one: `equation`, or a theorem `crate/File.name`
+    open    what the promise leaves open, and why; 'Exceptions' at the end of the page has all of these
     wrong   two programs or more that do not meet it, parted by `; `
     edits   edits that show it and stand elsewhere
     caught  where a mistake in it is caught
@@ -23,7 +24,7 @@ from functions import TOP
 WIDTH = 160
 DATA = TOP / "docs/promises"
 PAGE = TOP / "docs/PROMISES.md"
-WORDS = ("about", "words", "called", "laws", "fixed", "wrong", "edits", "caught")
+WORDS = ("about", "words", "called", "laws", "fixed", "open", "wrong", "edits", "caught")
 
 
 def entries_in(text):
@@ -143,16 +144,16 @@ def sentence(words):
     return words[:1].upper() + words[1:] + ("" if words.endswith(".") else ".")
 
 
-def fixed_line(how):
-    if how == "equation":
-        return "Fixed: the promise is an equation."
-    return sentence("left open" + how.removeprefix("open")) if how.startswith("open: ") else sentence(f"fixed by {how}")
+def fixed_notes(said):
+    how = said.get("fixed")
+    notes = ["Fixed: the promise is an equation."] if how == "equation" else [sentence(f"fixed by {how}")] if how else []
+    return notes + ([sentence(f"open: {said['open']}")] if "open" in said else [])
 
 
 def notes_on(function):
     """The lines of a list under a function's contract."""
     said = entry_of(function)
-    notes = [fixed_line(said.get("fixed", "?"))]
+    notes = fixed_notes(said)
     notes += [sentence("meaning: " + said["laws"])] if "laws" in said else []
     notes.append(sentence("wrong: " + "; ".join(wrong_programs(said))))
     shows = edits_of(function)
@@ -199,8 +200,18 @@ def room_lines(title, crates):
     return [f"## {title}", ""] + [line for crate in crates for line in crate_lines(crate)]
 
 
+def exceptions():
+    """What promises leave open, each once, with the functions that leave it open."""
+    found = {}
+    for function in (function for crate in functions.crates() for function in shown(crate)):
+        said = entry_of(function)
+        if "open" in said:
+            found.setdefault(said["open"], []).append(f"`{function.full}`")
+    rows = [wrapped(f"{', '.join(names)}: {sentence(words)}", "- ", "  ") for words, names in found.items()]
+    return ["## Exceptions: what a promise does not fix", "", *(line for row in rows for line in row)]
+
+
 def page():
     front = (DATA / "front.md").read_text(encoding="utf-8").rstrip().splitlines()
-    behind = (DATA / "behind.md").read_text(encoding="utf-8").rstrip().splitlines()
     rooms = [line for title, crates in functions.rooms() for line in room_lines(title or "Crates", crates)]
-    return "\n".join([*front, "", *rooms, *behind]) + "\n"
+    return "\n".join([*front, "", *rooms, *exceptions()]) + "\n"
