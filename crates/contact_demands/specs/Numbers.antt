@@ -30,7 +30,7 @@ module _ (s : Scene) (kind : Kind) (i j : ℕ) where
   pub contact-exactly-when-hit : HasContact s kind i j ↔ PairIs s kind i j Verdicts.the-variants.Hit
   unfolding PairIs PairSettled
   contact-exactly-when-hit = (
-    λ h. record { which = h .contact_numbers .piece; there = h .is .there; has = h .is .hit },
+    λ h. record { which = h .numbers .piece; there = h .is .there; has = h .is .hit },
     λ h. hit-has-contact s kind i j (some-hit s kind i j .0 h),
   )
 

@@ -275,12 +275,12 @@ module _ (s : Scene) (kind : Kind) (i j : ℕ) where
 
 -- a hit pair has a contact
 pub record HasContact (s : Scene) (kind : Kind) (i j : ℕ) : Type 0 where
-  pub contact_numbers : ContactNumbers
-  pub is : ContactNumbersAre s kind i j contact_numbers
+  pub numbers : ContactNumbers
+  pub is : ContactNumbersAre s kind i j numbers
 
 module _ (s : Scene) (kind : Kind) (i j : ℕ) where
   pub hit-has-contact : PairSettled s kind i j Settled.Hit → HasContact s kind i j
-  hit-has-contact h = record { contact_numbers = contactNumbersOf s kind i j; is = contact-numbers-of s kind i j h }
+  hit-has-contact h = record { numbers = contactNumbersOf s kind i j; is = contact-numbers-of s kind i j h }
 
   pub contact-small : (m : ContactNumbers) → ContactNumbersAre s kind i j m → SmallNumbers m
   unfolding PairSettled PieceSettled

@@ -23,6 +23,7 @@ use meaning::SEAM_NUMBERS;
 use meaning::SceneCounts;
 use meaning::SeriesAnswer;
 use meaning::SeriesEnding;
+use meaning::SeriesListed;
 use meaning::TEXT_LIMIT;
 use meaning::TRIANGLE_NUMBERS;
 use meaning::VERTEX_LIMIT;

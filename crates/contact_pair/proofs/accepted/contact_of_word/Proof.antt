@@ -11,7 +11,7 @@ contact-numbers-requires c κs = let p = c .before .before .before .before .befo
 
 returns : tie.Need-returns
 unfolding WholeContactIs
-returns c = c .contact_numbers .ensures
+returns c = c .contact-numbers .ensures
 
 returns-2 : tie.Need-returns-2
 unfolding WholeContactIs
