@@ -7,8 +7,8 @@ use Prim.Native.Nat.{ℕ, zero, suc, _*_, _<_}
 use native.Mathlib.Nat.{suc-mul, add-suc, zero-mul, mul-zero, eq-of-mul-eq-mul-left}
 use native.Mathlib.Omega.{arith}
 use lib.Dec.{T, T-not, not-T, leb·zero, leb·suc-zero, leb·suc-suc}
-use lib.IntN.{ℤ, pos, negsuc, negℤ, natAbs, _*ℤ_}
-use lib.Signed.{ltZ, leZ, _≤ℤ_, _<ℤ_}
+use lib.IntN.{ℤ, pos, negsuc, negℤ, natAbs, _-ℤ_, _*ℤ_, +ℤ-idl}
+use lib.Signed.{nonNeg, ltZ, leZ, _≤ℤ_, _<ℤ_}
 
 pub data Sgn : Type 0 where
   negative : Sgn
@@ -172,6 +172,25 @@ natAbs-mul (pos a) (pos b) = refl
 natAbs-mul (pos a) (negsuc b) = natAbs-neg (pos (a * suc b))
 natAbs-mul (negsuc a) (pos b) = natAbs-neg (pos (suc a * b))
 natAbs-mul (negsuc a) (negsuc b) = refl
+
+-- a number taken from 0: its size is the same, and it is not negative where the number is
+pub turned-size : (z : ℤ) → natAbs (pos 0 -ℤ z) ≡ natAbs z
+turned-size z = ap natAbs (+ℤ-idl (negℤ z)) ∙ natAbs-neg z
+
+pub turned-up : (z : ℤ) → ltZ z (pos 0) ≡ true → T (nonNeg (pos 0 -ℤ z))
+turned-up z e = go z (sym (lt-nought z) ∙ e)
+  where
+    go : (z : ℤ) → isNegative (sgn z) ≡ true → T (nonNeg (pos 0 -ℤ z))
+    go (pos zero) h = tt
+    go (pos (suc n)) h = absurd (subst T (sym h) tt)
+    go (negsuc n) h = tt
+
+pub not-down : (z : ℤ) → ltZ z (pos 0) ≡ false → T (nonNeg z)
+not-down z e = go z (sym (lt-nought z) ∙ e)
+  where
+    go : (z : ℤ) → isNegative (sgn z) ≡ false → T (nonNeg z)
+    go (pos n) h = tt
+    go (negsuc n) h = subst T h tt
 
 -- size and sign fix a number
 pub same-number : (a b : ℤ) → natAbs a ≡ natAbs b → sgn a ≡ sgn b → a ≡ b

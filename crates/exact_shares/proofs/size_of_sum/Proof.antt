@@ -1,14 +1,12 @@
 -- The size of a sum of four: in this range each sum on the way fits.
-use Prim.Native.Nat.{ℕ, zero, suc, _+_, _^_, _<_}
+use Prim.Native.Nat.{ℕ, _+_, _^_, _<_}
 use native.Mathlib.Nat.{lt-trans}
-use mathlib.Core.Bool.{true, false}
-use mathlib.Core.Path.{_≡_, ap, sym, _∙_, subst}
-use lib.Dec.{T, lit<, lit≤}
-use lib.IntN.{ℤ, pos, negsuc, negℤ, natAbs, _+ℤ_, _-ℤ_, +ℤ-idl}
-use lib.Signed.{nonNeg, ltZ}
+use mathlib.Core.Path.{_≡_, ap, _∙_}
+use lib.Dec.{lit<, lit≤}
+use lib.IntN.{ℤ, pos, natAbs, _+ℤ_, _-ℤ_}
 use mir.Syntax.{w64}
 use mir.Val.{Fits}
-use Rattle.whole.specs.Signs.{sgn, isNegative, lt-nought, natAbs-neg}
+use Rattle.whole.specs.Signs.{turned-size, turned-up, not-down}
 use Rattle.whole.specs.Sizes.{Within, Is, is-exact, is-add, is-sub, held, fits, back}
 use Rattle.exact.specs.Volumes.{fourOf}
 use Rattle.exact.specs.declared.Volumes.{Volumes}
@@ -44,24 +42,6 @@ module _ {v : Volumes} (h : InRange (fourOf v)) where
 
   turned-held : held w64 (pos 0 -ℤ held w64 (addedAll v)) ≡ pos 0 -ℤ sum (fourOf v)
   turned-held = back w64 turned-is tt .same
-
-turned-size : (z : ℤ) → natAbs (pos 0 -ℤ z) ≡ natAbs z
-turned-size z = ap natAbs (+ℤ-idl (negℤ z)) ∙ natAbs-neg z
-
-turned-up : (z : ℤ) → ltZ z (pos 0) ≡ true → T (nonNeg (pos 0 -ℤ z))
-turned-up z e = go z (sym (lt-nought z) ∙ e)
-  where
-    go : (z : ℤ) → isNegative (sgn z) ≡ true → T (nonNeg (pos 0 -ℤ z))
-    go (pos zero) h = tt
-    go (pos (suc n)) h = absurd (subst T (sym h) tt)
-    go (negsuc n) h = tt
-
-not-down : (z : ℤ) → ltZ z (pos 0) ≡ false → T (nonNeg z)
-not-down z e = go z (sym (lt-nought z) ∙ e)
-  where
-    go : (z : ℤ) → isNegative (sgn z) ≡ false → T (nonNeg z)
-    go (pos n) h = tt
-    go (negsuc n) h = subst T h tt
 
 small-fits : (n : ℕ) → n < 2 ^ 62 → Fits w64 n
 small-fits n h = record { fits = lt-trans h (lit< tt) }

@@ -1,18 +1,16 @@
 -- `size_of`: the sign of a coordinate in its range is taken away within 32 bits.
 use borrow.Author.Needs.{needs}
-use Prim.Native.Nat.{ℕ, zero, suc, _+_, _^_, _<_, _≤_}
+use Prim.Native.Nat.{ℕ, _+_, _≤_}
 use native.Mathlib.Nat.{lt-of-le-of-lt}
 use native.Mathlib.Omega.{arith}
-use mathlib.Core.Bool.{true, false}
 use mathlib.Core.List.{List}
-use mathlib.Core.Path.{_≡_, ap, sym, _∙_, subst}
-use lib.Dec.{T, lit<, lit≤}
-use lib.IntN.{ℤ, pos, negsuc, negℤ, natAbs, _-ℤ_, +ℤ-idl}
+use mathlib.Core.Path.{_≡_, ap, _∙_}
+use lib.Dec.{lit<, lit≤}
+use lib.IntN.{ℤ, pos, natAbs, _-ℤ_}
 use lib.ListN.{getD}
-use lib.Signed.{nonNeg, ltZ}
 use mir.Syntax.{w32, w64}
 use mir.Val.{Fits}
-use Rattle.whole.specs.Signs.{sgn, isNegative, lt-nought, natAbs-neg}
+use Rattle.whole.specs.Signs.{turned-size, turned-up, not-down}
 use Rattle.whole.specs.Sizes.{Within, Is, is-exact, is-sub, held, fits, back}
 use Rattle.meaning.specs.Limits.{coordinateLimit}
 use Rattle.saved_numbers.specs.Marked.{Coordinates}
@@ -31,24 +29,6 @@ module _ {z : ℤ} (h : Within coordinateLimit z) where
 
   turned-held : held w32 (pos 0 -ℤ held w32 z) ≡ pos 0 -ℤ z
   turned-held = back w32 turned tt .same
-
-turned-size : (z : ℤ) → natAbs (pos 0 -ℤ z) ≡ natAbs z
-turned-size z = ap natAbs (+ℤ-idl (negℤ z)) ∙ natAbs-neg z
-
-turned-up : (z : ℤ) → ltZ z (pos 0) ≡ true → T (nonNeg (pos 0 -ℤ z))
-turned-up z e = go z (sym (lt-nought z) ∙ e)
-  where
-    go : (z : ℤ) → isNegative (sgn z) ≡ true → T (nonNeg (pos 0 -ℤ z))
-    go (pos zero) h = tt
-    go (pos (suc n)) h = absurd (subst T (sym h) tt)
-    go (negsuc n) h = tt
-
-not-down : (z : ℤ) → ltZ z (pos 0) ≡ false → T (nonNeg z)
-not-down z e = go z (sym (lt-nought z) ∙ e)
-  where
-    go : (z : ℤ) → isNegative (sgn z) ≡ false → T (nonNeg z)
-    go (pos n) h = tt
-    go (negsuc n) h = subst T h tt
 
 small-fits : (n : ℕ) → n ≤ coordinateLimit → Fits w64 n
 small-fits n h = record { fits = lt-of-le-of-lt h (lit< tt) }
