@@ -1,7 +1,7 @@
 -- Every step of a series that was read from a text is accepted: nobody checks it twice.
 use Prim.Native.Nat.{ℕ}
 use mathlib.Core.Bool.{Bool, true, false, cond, not, _&&_, true≢false}
-use mathlib.Core.List.{List, [], _∷_, _++_, flatMap, List·Memᴰ, List·Memᴰ·head, List·Memᴰ·tail, List·Memᴰ·append-cases, List·Memᴰ·eq-of-singleton}
+use mathlib.Core.List.{List, [], _∷_, _++_, flatMap, List·Memᴰ, List·Memᴰ·append-cases, List·Memᴰ·eq-of-singleton}
 use mathlib.Core.Logic.{⊎-elim}
 use mathlib.Core.Path.{_≡_, refl, sym, ap, _∙_, subst}
 use native.Mathlib.Omega.{arith}
@@ -23,18 +23,13 @@ use Rattle.answers.specs.Below.{or-left, or-rest}
 use Rattle.scene_checks.specs.Facts.{accepted-sized}
 use Rattle.text_line.specs.Reading.{sortOf}
 use Rattle.text_line.specs.Above.{Above, above-none, above-more, countedBy, noCounts}
-use Rattle.series_laws.specs.Longer.{nextSteps, steps-append, last-append}
+use Rattle.series_laws.specs.Longer.{nextSteps, steps-append, last-append, last-among}
 use Rattle.series_laws.specs.Stepping.{AllNear, near-more, step-accepted, step-length, step-vertices}
 
 abbrev pub EachAccepted : List Scene → Type 0
 EachAccepted ss = (s : Scene) → List·Memᴰ s ss → Accepted s
 
 -- ---- steps
-
-last-among : (s : Scene) (bs : List (List ℤ)) → List·Memᴰ (lastFrom s bs) (stepsFrom s bs)
-unfolding lastFrom stepsFrom
-last-among s [] = List·Memᴰ·head refl
-last-among s (b ∷ bs) = List·Memᴰ·tail (last-among (stepAfter s b) bs)
 
 last-vertices : (s : Scene) (bs : List (List ℤ)) → vertexCount (lastFrom s bs) ≡ vertexCount s
 unfolding lastFrom

@@ -1,22 +1,25 @@
 -- A longer series has the steps of the shorter one in front, and so its words, its hits and its log.
-use Prim.Native.Nat.{ℕ, _+_}
-use mathlib.Core.List.{List, [], _∷_, _++_, append-assoc}
+use Prim.Native.Nat.{ℕ, _+_, _≤_}
+use mathlib.Core.Bool.{Bool, true, false, cond}
+use mathlib.Core.List.{List, [], _∷_, _++_, append-assoc, List·Memᴰ, List·Memᴰ·head, List·Memᴰ·tail}
 use mathlib.Core.Path.{_≡_, refl, sym, ap, _∙_, subst}
 use native.Mathlib.Omega.{arith}
 use native.Mathlib.Nat.{add-zero, add-assoc}
 use lib.IntN.{ℤ}
-use lib.ListN.{length}
+use lib.ListN.{length, length-append}
 use Rattle.meaning.specs.Scene.{Scene}
+use Rattle.meaning.specs.Lines.{afterAll}
 use Rattle.meaning.specs.List.{pairs}
 use Rattle.meaning.specs.SceneWords.{AllSettled}
 use Rattle.meaning.specs.declared.Settled.{Settled}
 use Rattle.meaning.specs.Series.{Series, stepAfter, stepsFrom, lastFrom, stepsOf, lastStep, HitAt, hitsIn, hitsFrom, hitsOf, StepsSettled, logOf, firstStep, Told, toldOf, ToldRight}
+use Rattle.meaning.specs.SeriesText.{Item, of, ends, next, threeOf, SoFar, blocksSoFar, withItem, seriesLines}
 use Rattle.series_laws.specs.Front.{log-kept}
 
 -- the steps behind this one
 unfoldable pub nextSteps : Scene → List (List ℤ) → List Scene
 nextSteps s [] = []
-nextSteps s (ends ∷ more) = stepAfter s ends ∷ nextSteps (stepAfter s ends) more
+nextSteps s (b ∷ bs) = stepAfter s b ∷ nextSteps (stepAfter s b) bs
 
 steps-from : (s : Scene) (bs : List (List ℤ)) → stepsFrom s bs ≡ s ∷ nextSteps s bs
 unfolding stepsFrom nextSteps
@@ -39,6 +42,31 @@ pub steps-count : (s : Scene) (bs : List (List ℤ)) → length (stepsFrom s bs)
 unfolding stepsFrom
 steps-count s [] = refl
 steps-count s (b ∷ bs) = omega (arith, steps-count (stepAfter s b) bs)
+
+-- the last step is one of them
+pub last-among : (s : Scene) (bs : List (List ℤ)) → List·Memᴰ (lastFrom s bs) (stepsFrom s bs)
+unfolding lastFrom stepsFrom
+last-among s [] = List·Memᴰ·head refl
+last-among s (b ∷ bs) = List·Memᴰ·tail (last-among (stepAfter s b) bs)
+
+-- ---- no more blocks than records
+
+blocks-more : (x : SoFar) (i : Item) → length (blocksSoFar (withItem x i)) ≤ length (blocksSoFar x) + 1
+unfolding withItem
+blocks-more x (of e) = omega arith
+blocks-more x (ends p) = by-begun (x .begun)
+  where
+    by-begun : (b : Bool) → length (cond b (x .blocks ++ ((x .block ++ threeOf p) ∷ [])) []) ≤ length (cond b (x .blocks ++ (x .block ∷ [])) []) + 1
+    by-begun true = omega (arith, length-append (x .blocks) ((x .block ++ threeOf p) ∷ []), length-append (x .blocks) (x .block ∷ []))
+    by-begun false = omega arith
+blocks-more x next = omega (arith, length-append (blocksSoFar x) ([] ∷ []))
+
+pub blocks-few : (x : SoFar) (is : List Item) → length (blocksSoFar (afterAll seriesLines x is)) ≤ length (blocksSoFar x) + length is
+unfolding afterAll
+blocks-few x [] = omega arith
+blocks-few x (i ∷ is) = omega (arith, blocks-few (withItem x i) is, blocks-more x i)
+
+-- ---- words and hits
 
 -- words of some steps and of those behind them
 pub record Parted (ss ts : List Scene) (us : List (List Settled)) : Type 0 where

@@ -1,6 +1,5 @@
 -- The steps of a text, from its scene to its last block: which step the positions hold, and what is told of the steps so far.
 use Prim.Native.Nat.{ℕ, _+_, _≤_, _<_}
-use mathlib.Core.Bool.{Bool, true, false, cond}
 use mathlib.Core.List.{List, [], _∷_, _++_}
 use mathlib.Core.Path.{_≡_, refl, sym, ap, _∙_, subst}
 use mathlib.Core.Logic.{_⊎_, ⊎-elim}
@@ -15,14 +14,14 @@ use Rattle.scene_seams.specs.Table.{seamsOf}
 use Rattle.meaning.specs.Limits.{textLimit}
 use Rattle.meaning.specs.Scene.{Scene, sceneOf, Accepted}
 use Rattle.meaning.specs.Refusals.{refused, Answers, numberOf}
-use Rattle.meaning.specs.Lines.{afterAll, FaultyAt}
+use Rattle.meaning.specs.Lines.{FaultyAt}
 use Rattle.meaning.specs.Series.{Series, stepAfter, stepsFrom, stepsOf, lastFrom, lastStep, Told, ToldRight}
-use Rattle.meaning.specs.SeriesText.{Item, of, ends, next, threeOf, itemLine, SoFar, nothingYet, blocksSoFar, seriesSoFar, withItem, seriesLines, HoldsSeries, roomChecks, Ended, SeriesIs, faulty, read}
+use Rattle.meaning.specs.SeriesText.{next, itemLine, SoFar, nothingYet, blocksSoFar, seriesSoFar, seriesLines, HoldsSeries, roomChecks, Ended, SeriesIs, faulty, read}
 use Rattle.meaning.specs.declared.SceneCounts.{SceneCounts}
 use Rattle.meaning.specs.declared.Refusal.{Refusal}
 use Rattle.meaning.specs.declared.Refusal.the-variants.{NoRoom}
 use Rattle.text_laws.specs.Going.{reached-end}
-use Rattle.series_laws.specs.Longer.{nextSteps, steps-append, last-append, steps-count}
+use Rattle.series_laws.specs.Longer.{nextSteps, steps-append, last-append, steps-count, blocks-few}
 use Rattle.series_laws.specs.Stepping.{step-edges, step-triangles}
 use Rattle.series_block.specs.Taking.{faultNumber}
 use Rattle.series_block.specs.Reading.{StepHere, AtStep, AtSomeStep, NextStep, BlockIs, BlockRead}
@@ -69,23 +68,6 @@ unfoldable pub StepsAre : List ℕ → ℕ → List ℤ → List ℕ → List �
 StepsAre text room p e t w c (Outcomes.the-variants.Told c′) told = (c′ ≡ c) × LastTold text room p e t w told
 StepsAre text room p e t w c (Outcomes.the-variants.Refused f n) told =
     SeriesIs text room (refused (numberOf f) n) × (told ≡ nothingTold)
-
--- ---- no more steps than lines
-
-blocks-more : (x : SoFar) (i : Item) → length (blocksSoFar (withItem x i)) ≤ length (blocksSoFar x) + 1
-unfolding withItem
-blocks-more x (of e) = omega arith
-blocks-more x (ends p) = by-begun (x .begun)
-  where
-    by-begun : (b : Bool) → length (cond b (x .blocks ++ ((x .block ++ threeOf p) ∷ [])) []) ≤ length (cond b (x .blocks ++ (x .block ∷ [])) []) + 1
-    by-begun true = omega (arith, length-append (x .blocks) ((x .block ++ threeOf p) ∷ []), length-append (x .blocks) (x .block ∷ []))
-    by-begun false = omega arith
-blocks-more x next = omega (arith, length-append (blocksSoFar x) ([] ∷ []))
-
-blocks-few : (x : SoFar) (is : List Item) → length (blocksSoFar (afterAll seriesLines x is)) ≤ length (blocksSoFar x) + length is
-unfolding afterAll
-blocks-few x [] = omega arith
-blocks-few x (i ∷ is) = omega (arith, blocks-few (withItem x i) is, blocks-more x i)
 
 -- ---- on the way
 
