@@ -1,13 +1,13 @@
 -- What one step over a line promises: the line's fault, or the claim that it holds.
 use mathlib.Core.Bool.{Bool, true, false, _||_}
-use mathlib.Core.List.{List, [], _∷_, _++_}
-use mathlib.Core.Logic.{_≢_}
-use mathlib.Core.Path.{_≡_, refl, sym, ap, _∙_, subst}
+use mathlib.Core.List.{List, _∷_, _++_}
+use mathlib.Core.Path.{_≡_, refl, sym, _∙_, subst}
 use Prim.Native.Nat.{ℕ, _+_, _≤_, _<_}
 use native.Mathlib.Omega.{arith}
 use lib.Dec.{leb}
-use lib.ListN.{length, getD, drop, length-drop}
+use lib.ListN.{length, getD, drop}
 use Rattle.sequences.specs.Stands.{stands-from}
+use Rattle.sequences.specs.Parts.{some-left}
 use Rattle.answers.specs.Answering.{refuses, lets-pass, gives}
 use Rattle.text_fields.specs.Tabbed.{sized-at}
 use Rattle.meaning.specs.Scene.{Scene}
@@ -67,9 +67,6 @@ pub record Took (s : Scene) (text : List ℕ) (at : ℕ) (sizes : List ℕ) (min
 unfoldable pub Stepped : Scene → List ℕ → ℕ → List ℕ → List Bool → Step → Type 0
 Stepped s text at sizes minus (Fault r) = Lines.Fault (claimLines s) tt (drop at text) (numberOf r)
 Stepped s text at sizes minus (Taken kind next) = Took s text at sizes minus kind next
-
-some-left : (text : List ℕ) (at : ℕ) → at < length text → drop at text ≢ []
-some-left text at h e = omega (arith, simp length-drop at (ap length e))
 
 -- the places and the piece, as they stand in the buffer
 pub record Named (sizes : List ℕ) (c : Claim) : Type 0 where

@@ -1,11 +1,12 @@
 -- Laws of take, drop, ++ and set that lib.ListN and lib.Seq lack, at i + 1 as code writes it, and the part of a list that stands between two places.
 use mathlib.Core.List.{List, [], _∷_, _++_}
-use mathlib.Core.Path.{_≡_, refl, sym, _∙_}
+use mathlib.Core.Logic.{_≢_}
+use mathlib.Core.Path.{_≡_, refl, sym, ap, _∙_}
 use Prim.Native.Nat.{ℕ, _+_, _-_, _≤_, _<_}
 use native.Mathlib.Nat.{suc-inj, suc-ne-zero}
 use native.Mathlib.Numerals.{add-one}
 use native.Mathlib.Omega.{arith}
-use lib.ListN.{length, take, drop, getD, set, take-append-drop}
+use lib.ListN.{length, take, drop, getD, set, length-drop, take-append-drop}
 use lib.Seq.{take-suc, drop-cons, take-suc-set, drop-set-lt, drop-drop, take-take, lt-length-set, getD-set-same}
 
 module _ {ℓ} {A : Type ℓ} where
@@ -22,6 +23,15 @@ module _ {ℓ} {A : Type ℓ} where
 
   pub drop-next-set : (l : List A) (i : ℕ) (a : A) → drop (i + 1) (set l i a) ≡ drop (i + 1) l
   drop-next-set l i a = drop-set-lt (i + 1) l i a (omega arith)
+
+  -- ---- nothing, and something left
+
+  pub none-of : (l : List A) → length l ≡ 0 → l ≡ []
+  none-of [] e = refl
+  none-of (a ∷ l) e = absurd (omega arith)
+
+  pub some-left : (l : List A) (n : ℕ) → n < length l → drop n l ≢ []
+  some-left l n h e = omega (arith, simp length-drop at (ap length e))
 
   -- ---- two cuts of one list at the same place
 

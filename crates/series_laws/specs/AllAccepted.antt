@@ -6,10 +6,10 @@ use mathlib.Core.Logic.{⊎-elim}
 use mathlib.Core.Path.{_≡_, refl, sym, ap, _∙_, subst}
 use native.Mathlib.Omega.{arith}
 use lib.IntN.{ℤ}
-use lib.ListN.{length}
 use borrow.Author.Tests.{leb-true, not-false}
 use Rattle.whole.specs.Vector.{Vector}
 use Rattle.sequences.specs.Pick.{either}
+use Rattle.sequences.specs.Parts.{none-of}
 use Rattle.meaning.specs.Scene.{Scene, sceneOf, vertexCount, brokenSeam, Accepted}
 use Rattle.meaning.specs.Refusals.{given}
 use Rattle.meaning.specs.Lines as Lines
@@ -48,13 +48,9 @@ one-more s bs b all new t m =
 still : (s : Scene) → Accepted s → vertexCount s ≡ 0 → brokenSeam (stepAfter s []) ≡ false
 unfolding stepAfter
 still s a few =
-    let here : s .positions ≡ [] = empty-of (s .positions) (omega (arith, accepted-sized a .positionsLong)) in
-    let there : stepAfter s [] .positions ≡ [] = empty-of (stepAfter s [] .positions) (omega (arith, step-length s [])) in
+    let here : s .positions ≡ [] = none-of (s .positions) (omega (arith, accepted-sized a .positionsLong)) in
+    let there : stepAfter s [] .positions ≡ [] = none-of (stepAfter s [] .positions) (omega (arith, step-length s [])) in
     ap (λ (p : List ℤ). brokenSeam (sceneOf p (s .edges) (s .triangles) (s .seams))) (there ∙ sym here) ∙ a .sewnWell
-  where
-    empty-of : (l : List ℤ) → length l ≡ 0 → l ≡ []
-    empty-of [] e = refl
-    empty-of (z ∷ l) e = absurd (omega arith)
 
 -- ---- what holds below records that are not at fault
 

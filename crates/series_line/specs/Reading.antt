@@ -2,19 +2,19 @@
 use mathlib.Core.Bool.{Bool, true, false, true≢false, _&&_}
 use mathlib.Core.List.{List, [], _∷_, _++_, head-eq-of-cons-eq}
 use mathlib.Core.Path.{_≡_, refl, sym, ap, _∙_, subst}
-use mathlib.Core.Logic.{_≢_}
 use Prim.Native.Nat.{ℕ, _+_, _≤_, _<_}
 use native.Mathlib.Omega.{arith}
 use lib.Dec.{eqb}
 use lib.IntN.{ℤ, pos}
-use lib.ListN.{length, drop, length-drop}
+use lib.ListN.{length, drop}
 use borrow.Author.Tests.{eq-eqb, eqb-true}
 use Rattle.whole.specs.Vector.{Vector}
 use Rattle.sequences.specs.Pick.{both}
 use Rattle.sequences.specs.Stands.{Stands, stands-one, stands-then, stands-apart, stands-from}
+use Rattle.sequences.specs.Parts.{none-of, some-left}
 use Rattle.decimals.specs.Byte.{IsDigit, byteAt, byte-inside}
 use Rattle.text_fields.specs.Field.{front-byte}
-use Rattle.text_fields.specs.Rows.{EachAllowed, rowOf}
+use Rattle.text_fields.specs.Rows.{rowOf}
 use Rattle.text_fields.specs.Ended.{RowEnded, LineStands, InFront, row-ended, row-unended}
 use Rattle.text_fields.specs.Tabbed.{tab-parts, line-ends, first-of}
 use Rattle.text_fields.specs.declared.Ending.{Ending}
@@ -26,7 +26,7 @@ use Rattle.meaning.specs.Text as Text
 use Rattle.meaning.specs.Text.{Entry, vertex, edge, triangle, seam, letterOf, numbersOf, lineOf, lineFeed, Short, entryChecks}
 use Rattle.answers.specs.Answering.{refuses}
 use Rattle.text_line.specs.Rendered.{coordinateForm, line-is}
-use Rattle.text_line.specs.Reading.{letter, many, formOf, lineEnded, LineRead, line-got, line-other}
+use Rattle.text_line.specs.Reading.{letter, many, formOf, lineEnded, LineRead, line-got, line-other, short-signed, allowed-short}
 use Rattle.text_line.specs.declared.Sort.{Sort}
 use Rattle.meaning.specs.SeriesText.{Item, of, ends, next, threeOf, itemLine, SoFar, sixNumbers, ItemFormed, itemChecks, seriesLines}
 use Rattle.series_line.specs.Rendered.{ends-line-is, letter-of-six, letter-not-next, six-not-here}
@@ -101,29 +101,12 @@ no-next text at test rest e =
 
 -- ---- a `v` line
 
-short-signed : (zs : List ℤ) → Short digitLimit zs → EachAllowed coordinateForm zs
-unfolding Short EachAllowed
-short-signed [] s = tt
-short-signed (z ∷ zs) s = (record { short = s .0; sign = λ e. refl }, short-signed zs (s .1))
-
-allowed-short : (zs : List ℤ) → EachAllowed coordinateForm zs → Short digitLimit zs
-unfolding Short EachAllowed
-allowed-short [] a = tt
-allowed-short (z ∷ zs) a = (a .0 .short, allowed-short zs (a .1))
-
-none-of : (zs : List ℤ) → length zs ≡ 0 → zs ≡ []
-none-of [] e = refl
-none-of (z ∷ zs) e = absurd (omega arith)
-
 vector-of : (zs : List ℤ) → length zs ≡ 3 → (p : Vector) × (zs ≡ threeOf p)
 vector-of zs n =
     let (z0, w0, e0, n0) = first-of zs 2 n in
     let (z1, w1, e1, n1) = first-of w0 1 n0 in
     let (z2, w2, e2, n2) = first-of w1 0 n1 in
     (record { x = z0; y = z1; z = z2 }, cc (none-of w2 n2))
-
-some-left : (text : List ℕ) (at : ℕ) → at < length text → drop at text ≢ []
-some-left text at h e = omega (arith, simp length-drop at (ap length e))
 
 first-byte : (text : List ℕ) (at : ℕ) {b : ℕ} (l : List ℕ) → drop at text ≡ b ∷ l → byteAt text at ≡ b
 first-byte text at {b} l e = front-byte (stands-from text at (b ∷ []) l e)
@@ -162,7 +145,7 @@ ends-got {text} {at} {sizes} {sizes′} {minus} {minus′} {e} {r} h b row is = 
         let first : Stands text at (118 ∷ []) (at + 1) = rw b at (stands-one text at 0 h) in
         record {
           place = p;
-          short = rw numbers at (allowed-short (row .read .zs) (line .row .allowed));
+          short = rw numbers at (allowed-short coordinateForm (row .read .zs) (line .row .allowed));
           stands = rw numbers at (stands-then first (stands-then (line .row .stands) (line .ended)));
           front = rw numbers at front;
         }

@@ -12,6 +12,7 @@ use lib.ListN.{length, getD}
 use borrow.Author.Tests.{ltb-true, ltb-false, leb-true, leb-false, lt-ltb, le-ltb, lt-leb}
 use Rattle.whole.specs.Vector.{Vector}
 use Rattle.sequences.specs.Pick.{either}
+use Rattle.sequences.specs.Parts.{none-of}
 use Rattle.answers.specs.Below.{or-left, or-rest, none-passes, none-below}
 use Rattle.meaning.specs.Limits.{coordinateLimit, vertexLimit, edgeLimit, triangleLimit, seamLimit}
 use Rattle.meaning.specs.Scene.{Scene, sceneOf, someBelow, stoodFor, vertexCount, overSize, outside, outOfRange, unknownIn, unknownVertex, brokenSeam, twiceInEdge, twiceInTriangle, repeatedVertex}
@@ -95,10 +96,6 @@ module _ {s : Scene} {c : SceneCounts} (l : Lengths s c) where
 
   count-is : vertexCount s ≡ c .vertices
   count-is = omega (arith, l .positions)
-
-none-of : {A : Type 0} (l : List A) → length l ≡ 0 → l ≡ []
-none-of [] e = refl
-none-of (a ∷ l) e = absurd (omega arith)
 
 -- a number below n is below a larger one
 unknown-wider : (n m : ℕ) (l : List ℕ) → n ≤ m → unknownIn n l ≡ false → unknownIn m l ≡ false

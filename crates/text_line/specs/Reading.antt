@@ -7,6 +7,7 @@ use native.Mathlib.Omega.{arith}
 use lib.IntN.{ℤ, pos, negsuc, natAbs}
 use lib.ListN.{length, drop}
 use Rattle.sequences.specs.Stands.{Stands, stands-one, stands-then, stands-apart}
+use Rattle.sequences.specs.Parts.{none-of}
 use Rattle.decimals.specs.Byte.{IsDigit, byteAt}
 use Rattle.decimals.specs.Digits.{digits}
 use Rattle.text_fields.specs.Field.{Allowed, front-byte}
@@ -101,7 +102,7 @@ entry-many (edge a b) = refl
 entry-many (triangle a b c) = refl
 entry-many (seam a b) = refl
 
-short-signed : (zs : List ℤ) → Short digitLimit zs → EachAllowed coordinateForm zs
+pub short-signed : (zs : List ℤ) → Short digitLimit zs → EachAllowed coordinateForm zs
 unfolding Short EachAllowed
 short-signed [] s = tt
 short-signed (z ∷ zs) s = (record { short = s .0; sign = λ e. refl }, short-signed zs (s .1))
@@ -118,7 +119,7 @@ entry-allowed (triangle a b c) s =
     short-plain a (pos b ∷ pos c ∷ []) (s .0) (short-plain b (pos c ∷ []) (s .1 .0) (short-plain c [] (s .1 .1 .0) tt))
 entry-allowed (seam a b) s = short-plain a (pos b ∷ []) (s .0) (short-plain b [] (s .1 .0) tt)
 
-allowed-short : (f : Form) (zs : List ℤ) → EachAllowed f zs → Short (f .most) zs
+pub allowed-short : (f : Form) (zs : List ℤ) → EachAllowed f zs → Short (f .most) zs
 unfolding Short EachAllowed
 allowed-short f [] a = tt
 allowed-short f (z ∷ zs) a = (a .0 .short, allowed-short f zs (a .1))
@@ -136,10 +137,6 @@ record Made (sort : Sort) (zs : List ℤ) : Type 0 where
   entry : Entry
   sorted : sortOf entry ≡ sort
   numbers : numbersOf entry ≡ zs
-
-none-of : (zs : List ℤ) → length zs ≡ 0 → zs ≡ []
-none-of [] e = refl
-none-of (z ∷ zs) e = absurd (omega arith)
 
 unsigned : (z : ℤ) → Allowed numberForm z → z ≡ pos (natAbs z)
 unsigned (pos n) a = refl

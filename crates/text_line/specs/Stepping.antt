@@ -1,12 +1,11 @@
 -- What one step over a line promises: the line's fault, or the record that it holds.
 use mathlib.Core.Bool.{Bool, true, false}
-use mathlib.Core.List.{List, [], _∷_, _++_}
-use mathlib.Core.Logic.{_≢_}
+use mathlib.Core.List.{List, _∷_, _++_}
 use mathlib.Core.Path.{_≡_, refl, sym, ap, _∙_}
 use Prim.Native.Nat.{ℕ, _+_, _≤_, _<_}
-use native.Mathlib.Omega.{arith}
-use lib.ListN.{length, drop, length-drop}
+use lib.ListN.{length, drop}
 use Rattle.sequences.specs.Stands.{stands-from}
+use Rattle.sequences.specs.Parts.{some-left}
 use Rattle.meaning.specs.Scene.{Scene}
 use Rattle.meaning.specs.Refusals.{given, refused, numberOf}
 use Rattle.meaning.specs.Lines.{unformed, misplaced}
@@ -39,9 +38,6 @@ Stepped text at s c sizes minus (Taken sort after next) = Took text at s c sizes
 -- below any scene with these counts
 abbrev pub LineStepped : List ℕ → ℕ → SceneCounts → List ℕ → List Bool → Step → Type 0
 LineStepped text at c sizes minus r = (s : Scene) → Above s c → Stepped text at s c sizes minus r
-
-some-left : (text : List ℕ) (at : ℕ) → at < length text → drop at text ≢ []
-some-left text at h e = omega (arith, simp length-drop at (ap length e))
 
 module _ (text : List ℕ) (at : ℕ) (c : SceneCounts) (sizes : List ℕ) (minus : List Bool) where
   pub step-bad : {l : Line} → at < length text → LineRead text at sizes minus l → l ≡ Lines.the-variants.Bad
