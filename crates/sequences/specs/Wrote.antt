@@ -80,6 +80,11 @@ module _ {ℓ} {A : Type ℓ} where
   wrote-three o n a b c h = rw (add-assoc n 2 1) at
       (wrote-then (wrote-two o n a b (omega arith)) (wrote-one (set (set o n a) (n + 1) b) (n + 2) c (simp length-set h)))
 
+  -- three that are known to be those
+  pub wrote-three-as : (o : List A) (n : ℕ) (x y z : A) {a b c : A} → a ≡ x → b ≡ y → c ≡ z → n + 2 < length o
+      → Wrote o n (x ∷ y ∷ z ∷ []) (set (set (set o n a) (n + 1) b) (n + 2) c) (n + 3)
+  wrote-three-as o n x y z p q r h = rw (p, q, r) (wrote-three o n x y z h)
+
   -- ---- the list in front
 
   module _ (l o : List A) where

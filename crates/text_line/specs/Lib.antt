@@ -2,6 +2,7 @@
 -- that read and judge a line promise.
 pub mod Rendered
 pub mod Reading
+pub mod Coordinate
 pub mod Above
 pub mod Adding
 pub mod Checks
