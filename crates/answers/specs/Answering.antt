@@ -28,14 +28,15 @@ pub gives : {A : Type 0} (Right : A → Type 0) (a : A) → Right a → Answers 
 unfolding Answers
 gives Right a h = h
 
-is-either : (b : Bool) {P : Type 0} → (b ≡ true → P) → (b ≡ false → P) → P
-is-either true t f = t refl
-is-either false t f = f refl
+-- a check holds or does not
+pub holds-or-not : (b : Bool) {P : Type 0} → (b ≡ true → P) → (b ≡ false → P) → P
+holds-or-not true t f = t refl
+holds-or-not false t f = f refl
 
 -- a value is given only where the check does not hold
 pub is-given : {A : Type 0} (Right : A → Type 0) (k : Check) (ks : List Check) (a : A) → Answers (k ∷ ks) Right (given a) → (k .holds ≡ false) × Answers ks Right (given a)
 is-given Right k ks a p =
-    is-either (k .holds)
+    holds-or-not (k .holds)
     (λ h. let e = is-refused Right k ks (given a) h p in let z : _≡_ {A = ℕ} 0 1 = cc in absurd (omega arith))
     (λ h. (h, is-past Right k ks (given a) h p))
 
@@ -45,7 +46,7 @@ module _ {A B : Type 0} (R : A → Type 0) (S : B → Type 0) where
   unfolding Answers
   refused-before [] more n c a = absurd a
   refused-before (k ∷ ks) more n c a =
-      is-either (k .holds)
+      holds-or-not (k .holds)
       (λ h. refuses S k (ks ++ more) (refused n c) h (let e : _≡_ {A = Outcome A} (refused n c) (refused (k .number) (k .carries)) = is-refused R k ks (refused n c) h a in cc))
       (λ h. lets-pass S k (ks ++ more) (refused n c) h (refused-before ks more n c (is-past R k ks (refused n c) h a)))
 
@@ -69,7 +70,7 @@ unfolding Answers
 answers-also R S f [] (given a) p = f a p
 answers-also R S f [] (refused n c) p = absurd p
 answers-also R S f (k ∷ ks) o p =
-    is-either (k .holds)
+    holds-or-not (k .holds)
     (λ h. refuses S k ks o h (is-refused R k ks o h p))
     (λ h. lets-pass S k ks o h (answers-also R S f ks o (is-past R k ks o h p)))
 
@@ -81,6 +82,6 @@ one-answer Right one [] (given a) (refused n c) p q = absurd q
 one-answer Right one [] (refused n c) (given b) p q = absurd p
 one-answer Right one [] (refused n c) (refused m d) p q = absurd p
 one-answer Right one (k ∷ ks) o o′ p q =
-    is-either (k .holds)
+    holds-or-not (k .holds)
     (λ h. is-refused Right k ks o h p ∙ sym (is-refused Right k ks o′ h q))
     (λ h. one-answer Right one ks o o′ (is-past Right k ks o h p) (is-past Right k ks o′ h q))

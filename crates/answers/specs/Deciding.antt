@@ -11,6 +11,7 @@ use borrow.Author.Tests.{eqb-true, eq-eqb, not-true}
 use Rattle.sequences.specs.Pick.{both}
 use Rattle.meaning.specs.Refusals.{Outcome, given, refused, Check, Answers}
 use Rattle.answers.specs.Answering.{refuses, lets-pass, is-refused, is-past, is-given}
+pub use Rattle.answers.specs.Answering.{holds-or-not}
 
 -- n's condition holds, and no check before it does
 unfoldable pub Refuses : List Check → ℕ → Type 0
@@ -34,10 +35,6 @@ absent n (k ∷ ks) = not (eqb (k .number) n) && absent n ks
 unfoldable pub distinct : List Check → Bool
 distinct [] = true
 distinct (k ∷ ks) = absent (k .number) ks && distinct ks
-
-pub holds-or-not : (b : Bool) {P : Type 0} → (b ≡ true → P) → (b ≡ false → P) → P
-holds-or-not true t f = t refl
-holds-or-not false t f = f refl
 
 module _ {A : Type 0} (Right : A → Type 0) where
   -- a number that no check has is never given

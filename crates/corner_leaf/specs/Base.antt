@@ -10,6 +10,7 @@ use lib.IntN.{ℤ, pos}
 use Rattle.whole.specs.Cramer.{Place, pick}
 use Rattle.meaning.specs.Pieces.{Event}
 use Rattle.exact_signs.specs.BySignsLaws.{clock}
+use Rattle.sequences.specs.Pick.{both}
 use Rattle.corner_leaf.specs.declared.SixPoints.{SixPoints}
 use Rattle.corner_laws.specs.Others.{order-of, othersOf}
 use Rattle.corner_laws.specs.Slots.{Based, eventIn, Preferred}
@@ -19,10 +20,6 @@ use Rattle.corner_leaf.specs.Answer.{sameBool, baseIn, baseOf}
 
 never : true ≡ false → ⊥
 never e = let x : _≡_ {A = ℕ} 0 1 = cc in omega arith
-
-both : (a b : Bool) → a && b ≡ true → (a ≡ true) × (b ≡ true)
-both true b h = (refl, h)
-both false b h = absurd (never (sym h))
 
 one-not : (a b : Bool) → a && b ≡ false → b ≡ true → a ≡ false
 one-not true b h e = absurd (never (sym e ∙ h))

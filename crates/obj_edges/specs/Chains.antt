@@ -12,7 +12,7 @@ use lib.Seq.{length-take-le, getD-set-same, getD-set-other, take-set-le}
 use borrow.Author.Tests.{eqb-true, eqb-false, eq-eqb}
 use Rattle.sequences.specs.Parts.{take-next}
 use Rattle.sequences.specs.Wrote.{Wrote, wrote-two}
-use Rattle.sequences.specs.Pick.{pick, pick-true, pick-false, either, both, one-of}
+use Rattle.sequences.specs.Pick.{pick, pick-true, pick-false, either, both, one-of, or-true}
 use Rattle.meaning.specs.ObjFile.{joined}
 
 -- where the table stands: behind the ends of as many edges as there may be, and of three more
@@ -125,10 +125,6 @@ other-sum a b x y n =
 or-false : (p q : Bool) → q ≡ false → p || q ≡ p
 or-false true q e = refl
 or-false false q e = e
-
-or-true : (p q : Bool) → q ≡ true → p || q ≡ true
-or-true true q e = refl
-or-true false q e = e
 
 module _ (a b : ℕ) (o : List ℕ) where
   abbrev upTo : ℕ → Bool

@@ -13,6 +13,7 @@ use borrow.Author.Tests.{ltb-false, leb-false, eqb-true}
 use Rattle.meaning.specs.Limits.{vertexLimit}
 use Rattle.meaning.specs.Scene.{Scene, sceneOf, comesApart, brokenSeam, someBelow}
 use Rattle.answers.specs.Below.{some-alike, found-below}
+use Rattle.sequences.specs.Pick.{neither}
 use Rattle.scene_seams.specs.OneMore.{leastOf, broken, breaks, stays-broken, below-least, one-more, broken-alike}
 use Rattle.scene_seams.specs.Table.{seamsFrom, seamsOf, sewnTo, firstIn, first-looked-up, no-seams-from, sewn-adds}
 
@@ -253,10 +254,6 @@ module _ (p : List ℤ) (w t₀ : List ℕ) where
         by-found true f =
             sym (ap (λ (l : List ℕ). brokenSeam (seamsAlone p l)) (take-pair k h) ∙ broken-stays (take (2 * k) w) i j even p (sym (s .finds) ∙ f))
         by-found false f = by-table f ∙ ap (λ (l : List ℕ). brokenSeam (seamsAlone p l)) (taken (s .tells f))
-
-        neither : (a b : Bool) → a || b ≡ false → (a ≡ false) × (b ≡ false)
-        neither true b q = absurd (true≢false q)
-        neither false b q = (refl, q)
 
         entered : found || now ≡ false → seamsOf (sewnTo t i j) ≡ take (2 * (k + 1)) w
         entered q =

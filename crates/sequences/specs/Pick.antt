@@ -29,6 +29,10 @@ pub one-of : (s t : Bool) → s || t ≡ true → (s ≡ true) ⊎ ((s ≡ false
 one-of true t e = inl refl
 one-of false t e = inr (refl, e)
 
+pub or-true : (s t : Bool) → t ≡ true → s || t ≡ true
+or-true true t e = refl
+or-true false t e = e
+
 -- ---- choice
 
 module _ {ℓ} {A : Type ℓ} where

@@ -1,8 +1,8 @@
 -- What each check says of a scene with one record more, where it did not hold of the scene above: what the record itself says.
-use mathlib.Core.Bool.{Bool, true, false, _||_}
+use mathlib.Core.Bool.{Bool, false, _||_, or-assoc}
 use mathlib.Core.List.{List, [], _∷_, _++_, append-nil}
 use mathlib.Core.Path.{_≡_, refl, sym, ap, _∙_}
-use Prim.Native.Nat.{ℕ, zero, suc, _+_, _*_, _/_, _≤_, _<_}
+use Prim.Native.Nat.{ℕ, _+_, _*_, _/_, _<_}
 use native.Mathlib.Omega.{arith}
 use lib.Dec.{leb, ltb, eqb}
 use lib.IntN.{ℤ, pos}
@@ -10,27 +10,13 @@ use lib.ListN.{length, getD, length-append, List·getD-append}
 use lib.Seq.{getD-append-add}
 use Rattle.meaning.specs.Limits.{coordinateLimit}
 use Rattle.meaning.specs.Scene.{someBelow, stoodFor, outside, unknownIn}
-use Rattle.answers.specs.Below.{some-more}
-
-or-false : (b : Bool) → b || false ≡ b
-or-false true = refl
-or-false false = refl
-
-or-assoc : (a b c : Bool) → (a || b) || c ≡ a || (b || c)
-or-assoc true b c = refl
-or-assoc false b c = refl
+use Rattle.answers.specs.Below.{some-more, some-first, some-alike}
 
 -- ---- tests over a list, element by element
 
 unfoldable pub anyOf : {A : Type 0} → (A → Bool) → List A → Bool
 anyOf t [] = false
 anyOf t (a ∷ l) = t a || anyOf t l
-
-some-first : (test : ℕ → Bool) (n : ℕ) → someBelow (suc n) test ≡ test 0 || someBelow n (λ i. test (suc i))
-unfolding someBelow
-some-first test zero = sym (or-false (test 0))
-some-first test (suc n) =
-    ap (λ (b : Bool). b || test (suc n)) (some-first test n) ∙ or-assoc (test 0) (someBelow n (λ i. test (suc i))) (test (suc n))
 
 module _ {A : Type 0} (t : A → Bool) (d : A) where
   some-any : (l : List A) → someBelow (length l) (λ i. t (getD l i d)) ≡ anyOf t l
@@ -48,15 +34,6 @@ module _ {A : Type 0} (t : A → Bool) (d : A) where
       → someBelow (length (l ++ k)) (λ i. t (getD (l ++ k) i d)) ≡ anyOf t k
   some-behind l k e =
       some-any (l ++ k) ∙ any-append l k ∙ ap (λ (b : Bool). b || anyOf t k) (sym (some-any l) ∙ e)
-
--- two tests that agree below n
-pub some-same : (f g : ℕ → Bool) (n : ℕ) → ((i : ℕ) → i < n → f i ≡ g i) → someBelow n f ≡ someBelow n g
-unfolding someBelow
-some-same f g zero same = refl
-some-same f g (suc n) same =
-    let below : someBelow n f ≡ someBelow n g = some-same f g n (λ i h. same i (omega arith)) in
-    let here : f n ≡ g n = same n (omega arith) in
-    cc
 
 -- ---- a vertex twice in one part, by the vertices that w says
 
@@ -88,7 +65,7 @@ edges-more w e a b n long none =
     let last : twiceInTwo w e′ n ≡ one w a b =
     cc (behind e (a ∷ b ∷ []) (2 * n) 0 (2 * n + 0) long refl, behind e (a ∷ b ∷ []) (2 * n) 1 (2 * n + 1) long refl) in
     let old : someBelow n (twiceInTwo w e′) ≡ false =
-    some-same (twiceInTwo w e′) (twiceInTwo w e) n same ∙ ap (λ (k : ℕ). someBelow k (twiceInTwo w e)) (sym count) ∙ none in
+    some-alike (twiceInTwo w e′) (twiceInTwo w e) n same ∙ ap (λ (k : ℕ). someBelow k (twiceInTwo w e)) (sym count) ∙ none in
     ap (λ (k : ℕ). someBelow k (twiceInTwo w e′)) more
     ∙ some-more (twiceInTwo w e′) n
     ∙ ap (λ (x : Bool). x || twiceInTwo w e′ n) old
@@ -114,7 +91,7 @@ triangles-more w t a b d n long none =
       behind t k (3 * n) 2 (3 * n + 2) long refl,
     ) in
     let old : someBelow n (twiceInThree w t′) ≡ false =
-    some-same (twiceInThree w t′) (twiceInThree w t) n same ∙ ap (λ (x : ℕ). someBelow x (twiceInThree w t)) (sym count) ∙ none in
+    some-alike (twiceInThree w t′) (twiceInThree w t) n same ∙ ap (λ (x : ℕ). someBelow x (twiceInThree w t)) (sym count) ∙ none in
     ap (λ (x : ℕ). someBelow x (twiceInThree w t′)) more
     ∙ some-more (twiceInThree w t′) n
     ∙ ap (λ (x : Bool). x || twiceInThree w t′ n) old
