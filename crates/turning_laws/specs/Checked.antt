@@ -1,6 +1,6 @@
 -- A scene without seams turned round passes and fails each of the five checks where the scene does: it is accepted exactly when the scene is, and
 -- refused with the same number.
-use Prim.Native.Nat.{ℕ, zero, suc, _+_, _*_, _/_, _%_, _≤_, _<_}
+use Prim.Native.Nat.{ℕ, _*_, _/_, _%_, _<_}
 use mathlib.Core.Bool.{Bool, true, false, not, _||_}
 use mathlib.Core.List.{List, [], _∷_, map}
 use mathlib.Core.Logic.{_↔_}
@@ -14,18 +14,13 @@ use Rattle.meaning.specs.Limits.{vertexLimit, edgeLimit, triangleLimit, seamLim
 use Rattle.meaning.specs.Scene.{Scene, sceneOf, Accepted, vertexCount, edgeCount, triangleCount, edgeEnd, corner, same, someBelow, wrongShape, outside, outOfRange, unknownIn, unknownVertex, brokenSeam, twiceInEdge, twiceInTriangle, repeatedVertex}
 use Rattle.meaning.specs.Refusals.{Check, sceneChecks}
 use Rattle.meaning.specs.Backwards.{fromLast, turnedRound}
-use Rattle.answers.specs.Below.{Found, found-below, none-passes, none-below, some-passes}
+use Rattle.answers.specs.Below.{found-below, none-passes, none-below, some-passes, some-alike}
 use Rattle.turning_laws.specs.Numbers.{mapped-at, number-unknown, number-same}
 use Rattle.turning_laws.specs.Turned.{source, source-below, source-behind, source-twice, as-long, coordinate, turns-round}
 use Rattle.turning_laws.specs.Unsewn.{counts-itself}
 use Rattle.turning_laws.specs.Pieces.{edge-end-turned, corner-turned}
 
 -- ---- some number below n passes
-
-some-same : (n : ℕ) (test other : ℕ → Bool) → ((i : ℕ) → i < n → test i ≡ other i) → someBelow n test ≡ someBelow n other
-unfolding someBelow
-some-same zero test other e = refl
-some-same (suc n) test other e = ap₂ _||_ (some-same n test other (λ i h. e i (omega arith))) (e n (omega arith))
 
 -- whatever their order
 some-onto : (n : ℕ) (f : ℕ → ℕ) → ((i : ℕ) → i < n → f i < n) → ((i : ℕ) → f (f i) ≡ i) → (test : ℕ → Bool)
@@ -93,7 +88,7 @@ module _ (s : Scene) where
   unknown-in-turned : (l : List ℕ) → unknownIn n (map (fromLast n) l) ≡ unknownIn n l
   unknown-in-turned l =
       ap (λ k. someBelow k (λ i. leb n (getD (map (fromLast n) l) i 0))) (simp length-map)
-      ∙ some-same (length l) (λ i. leb n (getD (map (fromLast n) l) i 0)) (λ i. leb n (getD l i 0)) (λ i h.
+      ∙ some-alike (λ i. leb n (getD (map (fromLast n) l) i 0)) (λ i. leb n (getD l i 0)) (length l) (λ i h.
       ap (leb n) (mapped-at (fromLast n) l i 0 0 h) ∙ number-unknown n (getD l i 0))
 
   pub unknown-turned : unknownVertex t ≡ unknownVertex s
@@ -119,8 +114,8 @@ module _ (s : Scene) where
 
     pub repeated-turned : repeatedVertex t ≡ repeatedVertex s
     repeated-turned =
-        ap₂ _||_ (ap (λ k. someBelow k (twiceInEdge t)) edges-turned ∙ some-same (edgeCount s) (twiceInEdge t) (twiceInEdge s) twice-edge)
-        (ap (λ k. someBelow k (twiceInTriangle t)) triangles-turned ∙ some-same (triangleCount s) (twiceInTriangle t) (twiceInTriangle s) twice-triangle)
+        ap₂ _||_ (ap (λ k. someBelow k (twiceInEdge t)) edges-turned ∙ some-alike (twiceInEdge t) (twiceInEdge s) (edgeCount s) twice-edge)
+        (ap (λ k. someBelow k (twiceInTriangle t)) triangles-turned ∙ some-alike (twiceInTriangle t) (twiceInTriangle s) (triangleCount s) twice-triangle)
       where
         twice-edge : (j : ℕ) → j < edgeCount s → twiceInEdge t j ≡ twiceInEdge s j
         twice-edge j h =
