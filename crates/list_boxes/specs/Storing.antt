@@ -1,15 +1,18 @@
 -- What it is to store a box: it stands there, and every other number of the list is as it was.
 use Prim.Native.Nat.{ℕ, _+_, _*_, _≤_, _<_}
+use mathlib.Core.Bool.{Bool, true, false, cond}
 use mathlib.Core.List.{List}
 use mathlib.Core.Logic.{_≢_, ⊎-elim}
-use mathlib.Core.Path.{_≡_, _∙_}
+use mathlib.Core.Path.{_≡_, refl, _∙_}
 use native.Mathlib.Omega.{arith}
 use lib.IntN.{ℤ, pos}
 use lib.ListN.{length, getD, set, length-set}
 use lib.Seq.{getD-set-same, getD-set-other}
+use lib.Signed.{leZ}
 use Rattle.sequences.specs.Range.{le-or-lt}
-use Rattle.meaning.specs.Boxes.{Span}
+use Rattle.meaning.specs.Boxes.{Span, joint}
 use Rattle.meaning.specs.StoredBoxes.{Box, spanAt, boxAt}
+use Rattle.list_boxes.specs.Kept.{jointBox}
 
 -- a list with a span stored at a place
 abbrev pub withSpan : List ℤ → ℕ → Span → List ℤ
@@ -104,3 +107,18 @@ others-kept {l} {l′} {k} so i h =
     (λ le. same-box l l′ i (λ n p q. so .behind n (omega arith)))
     (λ lt. same-box l l′ i (λ n p q. so .front n (omega arith)))
     (le-or-lt k i)
+
+-- ---- a box joined with itself
+
+either-way : (c : Bool) (a : ℤ) → cond c a a ≡ a
+either-way true a = refl
+either-way false a = refl
+
+joint-itself : (p : Span) → joint p p ≡ p
+joint-itself p =
+    let low = either-way (leZ (p .low) (p .low)) (p .low) in
+    let high = either-way (leZ (p .high) (p .high)) (p .high) in
+    λ t. record { low = low t; high = high t }
+
+pub box-itself : (b : Box) → jointBox b b ≡ b
+box-itself b = λ t. record { x = joint-itself (b .x) t; y = joint-itself (b .y) t; z = joint-itself (b .z) t }

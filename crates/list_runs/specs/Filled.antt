@@ -1,35 +1,19 @@
 -- Runs of the boxes in a list: their joint boxes stand behind all of these, in order.
 use Prim.Native.Nat.{ℕ, suc, _+_, _*_, _-_, _/_, _≤_, _<_, min}
-use mathlib.Core.Bool.{Bool, true, false, cond}
 use mathlib.Core.List.{List}
 use mathlib.Core.Path.{_≡_, refl, sym, ap, _∙_, subst}
 use native.Mathlib.Numerals.{add-one}
 use native.Mathlib.Omega.{arith}
 use lib.IntN.{ℤ, pos}
 use lib.ListN.{length, getD}
-use lib.Signed.{leZ}
-use Rattle.meaning.specs.Boxes.{Span, joint}
 use Rattle.meaning.specs.Runs.{runsOf, runFrom, runTo}
 use Rattle.meaning.specs.StoredBoxes.{Box, boxAt, BoxesStand}
 use Rattle.list_boxes.specs.Kept.{jointBox}
-use Rattle.list_boxes.specs.Storing.{BoxStored, others-kept, same-box}
+use Rattle.list_boxes.specs.Storing.{BoxStored, others-kept, same-box, box-itself}
 use Rattle.list_boxes.specs.Filling.{holds-none, holds-more, holds-all}
 use Rattle.list_runs.specs.Joined.{jointBoxes, joint-same, joint-moved}
 
 -- ---- one run: its first box, then the joint box with each further one
-
-either-way : (c : Bool) (a : ℤ) → cond c a a ≡ a
-either-way true a = refl
-either-way false a = refl
-
-joint-itself : (p : Span) → joint p p ≡ p
-joint-itself p =
-    let low = either-way (leZ (p .low) (p .low)) (p .low) in
-    let high = either-way (leZ (p .high) (p .high)) (p .high) in
-    λ t. record { low = low t; high = high t }
-
-box-itself : (b : Box) → jointBox b b ≡ b
-box-itself b = λ t. record { x = joint-itself (b .x) t; y = joint-itself (b .y) t; z = joint-itself (b .z) t }
 
 module _ (at : ℕ) {to : ℕ} where
   -- the first box is stored: joined with itself it is itself

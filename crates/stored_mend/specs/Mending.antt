@@ -10,16 +10,14 @@ use lib.Dec.{eqb}
 use lib.IntN.{ℤ, pos}
 use lib.ListN.{length, getD, take, drop}
 use lib.Seq.{getD-take, getD-drop}
-use lib.Signed.{leZ}
 use Rattle.sequences.specs.Range.{le-or-lt}
-use Rattle.meaning.specs.Boxes.{Span, joint}
 use Rattle.meaning.specs.Scene.{Scene, edgeCount, triangleCount}
 use Rattle.meaning.specs.StoredBoxes.{Box, spanAt, boxAt, vertexBox, BoxesStand, KeptBehind, boxNumbers}
 use Rattle.meaning.specs.Dragging.{edgeHas, triangleHas}
 use Rattle.scene_seams.specs.Alone.{onlyPositions}
 use Rattle.answers.specs.Below.{or-left, or-rest}
 use Rattle.list_boxes.specs.Kept.{jointBox, between}
-use Rattle.list_boxes.specs.Storing.{BoxStored, withSpan, withBox, box-stored, others-kept, same-box}
+use Rattle.list_boxes.specs.Storing.{BoxStored, withSpan, withBox, box-stored, others-kept, same-box, box-itself}
 use Rattle.list_boxes.specs.Parts.{Drawn}
 
 -- the box of one vertex, and the joint box so far
@@ -57,24 +55,6 @@ module _ (p : List ℤ) (v m : ℕ) (h : 6 ≤ m) where
       → BoxStored l 0 (vertexBox (onlyPositions p) v) l′
   vertex-taken {l} {l′} = subst (λ (b : Box). BoxStored l 0 b l′) first-left
 
--- a box joined with itself
-chosen-alike : (b : Bool) (z : ℤ) → cond b z z ≡ z
-chosen-alike true z = refl
-chosen-alike false z = refl
-
-joint-alike : (p : Span) → joint p p ≡ p
-joint-alike p =
-    let low = chosen-alike (leZ (p .low) (p .low)) (p .low) in
-    let high = chosen-alike (leZ (p .high) (p .high)) (p .high) in
-    λ t. record { low = low t; high = high t }
-
-box-alike : (b : Box) → jointBox b b ≡ b
-box-alike b =
-    let x = joint-alike (b .x) in
-    let y = joint-alike (b .y) in
-    let z = joint-alike (b .z) in
-    λ t. record { x = x t; y = y t; z = z t }
-
 pub one-more-joined : {p q : Box} {l l₁ l₂ : List ℤ} → WorkedOut p l → BoxStored l 0 q l₁ → BoxStored l₁ 1 (jointBox (boxAt l₁ 1) (boxAt l₁ 0)) l₂
     → WorkedOut (jointBox p q) l₂
 one-more-joined so stored joined =
@@ -88,7 +68,7 @@ pub two-joined : {p q : Box} {l l₁ l₂ l₃ l₄ : List ℤ} → length l ≡
     → WorkedOut (jointBox p q) l₄
 two-joined {p} {q} {l} {l₁} long first alone stored joined =
     let one = first .here in
-    let so : WorkedOut p _ = record { here = alone .here ∙ box-alike (boxAt l₁ 0) ∙ one; same = alone .same ∙ first .same ∙ long } in
+    let so : WorkedOut p _ = record { here = alone .here ∙ box-itself (boxAt l₁ 0) ∙ one; same = alone .same ∙ first .same ∙ long } in
     one-more-joined so stored joined
 
 -- copied span by span
