@@ -1,17 +1,20 @@
 //! Contacts by document 02, §5: what the document says of them by multiplying out, held by other ways to the same numbers; the demands on
 //! scenes from seeds; and that each mistake is noticed.
 
-use compare::affine::Affine;
 use compare::contacts::making::{self, fixed, seeded, within, Trial};
 use compare::contacts::mistakes::{self, ALL};
 use compare::contacts::{chosen, hits, of_pair, printed, Contact, Fraction, Solved, UNIT};
-use compare::generate::{self, rewritten};
-use compare::pieces::pieces;
-use compare::random::Random;
+use compare::making::cases;
+use compare::making::generate::{self, rewritten};
+use compare::making::kept;
+use compare::numbers::random::Random;
+use compare::numbers::whole::Whole;
+use compare::scene::affine::Affine;
+use compare::scene::pieces::pieces;
 use compare::scene::*;
-use compare::settled::{self, Settled};
-use compare::whole::Whole;
-use compare::{cases, kept, signs, verdict};
+use compare::verdicts::settled::{self, Settled};
+use compare::verdicts::verdict;
+use compare::ways::signs;
 use std::cmp::Ordering;
 
 const SEEDS: u64 = 60;

@@ -8,10 +8,10 @@
 use compare::contacts::making::{fixed, seeded};
 use compare::contacts::mistakes::{self, ALL};
 use compare::contacts::printed;
-use compare::looks::parting;
+use compare::running::looks::parting;
+use compare::running::streams::{input, print};
 use compare::running::Program;
 use compare::scene::REPORT_ROOM;
-use compare::streams::{input, print};
 use std::collections::BTreeMap;
 use std::process::exit;
 use std::time::Duration;

@@ -9,7 +9,7 @@
 use compare::obj::faults::{cells, reached, Cell};
 use compare::obj::making::{fixed, seeded, Trial};
 use compare::obj::{import, import_with, reported, saved, Wrong, WRONG};
-use compare::streams::print;
+use compare::running::streams::print;
 use std::collections::BTreeSet;
 use std::path::Path;
 use std::process::{exit, Command, Stdio};

@@ -6,13 +6,13 @@
 //! and where some refusal or some sort of line was never wanted. LAUNCHER is a command to put before the program, as a loader. With `--exact`, what
 //! the independent program prints; with `--wrong`, what a program prints that makes this mistake, or the mistakes; with `--sleeve`, scenes/series/sleeve.series.
 
-use compare::looks::parting;
+use compare::running::looks::parting;
+use compare::running::streams::{input, print};
 use compare::running::Program;
 use compare::scene::REPORT_ROOM;
 use compare::series::making::{everywhere, fixed, seeded, Trial};
 use compare::series::mistakes::{self, Right};
 use compare::series::{printed, sleeve, write};
-use compare::streams::{input, print};
 use std::collections::BTreeMap;
 use std::process::exit;
 use std::time::Duration;

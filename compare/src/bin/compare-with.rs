@@ -5,15 +5,15 @@
 //! some two faults at once, untried; `--table` shows how often each was tried. LAUNCHER is a command to put before
 //! the program, as a loader.
 
-use compare::faults::{self, Cell, LINE_CHECKS};
-use compare::looks::{in_words, like, parting};
-use compare::mistakes::{self, Mistake, Right};
-use compare::refusal::{NO_ROOM, TEXT_TOO_LONG};
+use compare::report::mistakes::{self, Mistake, Right};
+use compare::report::trials::{self, Trial};
 use compare::report::{judged, written, Judged};
+use compare::running::looks::{in_words, like, parting};
 use compare::running::{Failed, Program};
+use compare::scene::refusal::{NO_ROOM, TEXT_TOO_LONG};
 use compare::scene::REPORT_ROOM;
-use compare::settled::WORDS;
-use compare::trials::{self, Trial};
+use compare::text::faults::{self, Cell, LINE_CHECKS};
+use compare::verdicts::settled::WORDS;
 use std::collections::BTreeMap;
 use std::process::exit;
 use std::time::Duration;
