@@ -9,13 +9,13 @@
 use compare::obj::faults::{cells, reached, Cell};
 use compare::obj::making::{fixed, seeded, Trial};
 use compare::obj::{import, import_with, reported, saved, Wrong, WRONG};
+use compare::running::comparing::{give_up, on_files, Folder, MOST_SHOWN};
 use compare::running::streams::print;
 use std::collections::BTreeSet;
-use std::path::Path;
-use std::process::{exit, Command, Stdio};
+use std::path::PathBuf;
+use std::process::exit;
 
 const SEEDS: u64 = 300;
-const MOST_SHOWN: usize = 3;
 
 fn main() {
     let words: Vec<String> = std::env::args().skip(1).collect();
@@ -26,29 +26,23 @@ fn main() {
         ["--wrong"] => WRONG.iter().for_each(|wrong| compare::say!("{wrong:?}")),
         ["--wrong", key, start, end] => {
             let found = WRONG.into_iter().find(|wrong| format!("{wrong:?}") == key);
-            let wrong = found.unwrap_or_else(|| give_up(&format!("no mistake is called {key}")));
+            let wrong = found.unwrap_or_else(|| give_up("obj", &format!("no mistake is called {key}")));
             print(&reported(&import_with(&read(start), &read(end), wrong)));
         }
         [obj, import] => compare([obj, import], SEEDS, &[]),
         [obj, import, seeds, ref launcher @ ..] => {
-            compare([obj, import], seeds.parse().unwrap_or_else(|_| give_up(&format!("{seeds} is no number"))), launcher)
+            compare([obj, import], seeds.parse().unwrap_or_else(|_| give_up("obj", &format!("{seeds} is no number"))), launcher)
         }
-        _ => give_up("usage: compare-obj OBJ_PROGRAM IMPORT_PROGRAM [SEEDS [LAUNCHER WORDS...]]"),
+        _ => give_up("obj", "usage: compare-obj OBJ_PROGRAM IMPORT_PROGRAM [SEEDS [LAUNCHER WORDS...]]"),
     }
 }
 
 fn read(name: &str) -> Vec<u8> {
-    std::fs::read(name).unwrap_or_else(|error| give_up(&format!("{name}: {error}")))
-}
-
-fn give_up(why: &str) -> ! {
-    eprintln!("compare-obj: {why}");
-    exit(2);
+    std::fs::read(name).unwrap_or_else(|error| give_up("obj", &format!("{name}: {error}")))
 }
 
 fn compare(programs: [&str; 2], seeds: u64, launcher: &[&str]) {
-    let folder = std::env::temp_dir().join(format!("compare-obj-{}", std::process::id()));
-    std::fs::create_dir_all(&folder).unwrap_or_else(|error| give_up(&error.to_string()));
+    let folder = Folder::new("obj");
     let (mut pairs, mut scenes, mut differences) = (0usize, 0usize, 0);
     let mut missing: BTreeSet<Cell> = cells().into_iter().collect();
     let wanted_cells = missing.len();
@@ -58,16 +52,18 @@ fn compare(programs: [&str; 2], seeds: u64, launcher: &[&str]) {
         scenes += imported.is_ok() as usize;
         let reached = reached(&trial.start, &trial.end);
         missing.retain(|cell| !reached.contains(cell));
-        let files = written(&folder, &trial);
-        for (program, wanted) in programs.iter().zip([reported(&imported), saved(&imported)]) {
-            let given = run(program, launcher, &files);
+        for (program, wanted) in programs.into_iter().zip([reported(&imported), saved(&imported)]) {
+            // the place of the next difference, which is taken by the next run where this is none
+            let files = written(&folder, &format!("difference-{}", differences + 1), &trial);
+            let given = on_files(&[launcher, &[program]].concat(), &files);
+            let given = given.unwrap_or_else(|error| give_up("obj", &format!("{program}: {error}")));
             if given == wanted {
                 continue;
             }
             differences += 1;
             let at = given.lines().zip(wanted.lines()).position(|(a, b)| a != b).unwrap_or(0);
             let line = |text: &str| text.lines().nth(at).unwrap_or("").to_string();
-            println!("obj: {program}: {}: the two files are in {}", trial.name, folder.display());
+            println!("obj: {program}: {}: the two files are in {}", trial.name, files[0].parent().expect("a folder").display());
             println!("    at line {}: {:?} and should be {:?}", at + 1, line(&given), line(&wanted));
             println!("    it looks like {:?}", like(&trial, &given));
             if differences == MOST_SHOWN {
@@ -75,11 +71,9 @@ fn compare(programs: [&str; 2], seeds: u64, launcher: &[&str]) {
             }
         }
     }
+    folder.clear(&format!("difference-{}", differences + 1)).unwrap_or_else(|error| give_up("obj", &error.to_string()));
     if !missing.is_empty() {
         println!("obj: never tried: {missing:?}");
-    }
-    if differences == 0 {
-        std::fs::remove_dir_all(&folder).unwrap_or_else(|error| give_up(&error.to_string()));
     }
     println!(
         "obj: {pairs} pairs of files, {scenes} of them scenes, {} of {wanted_cells} faults and pairs of faults tried, each byte of reports \
@@ -97,20 +91,8 @@ fn like(trial: &Trial, given: &str) -> Vec<Wrong> {
     WRONG.into_iter().filter(prints).collect()
 }
 
-fn written(folder: &Path, trial: &Trial) -> [std::path::PathBuf; 2] {
-    let files = ["start.obj", "end.obj"].map(|name| folder.join(name));
-    for (file, text) in files.iter().zip([&trial.start, &trial.end]) {
-        std::fs::write(file, text).unwrap_or_else(|error| give_up(&error.to_string()));
-    }
-    files
-}
-
-fn run(program: &str, launcher: &[&str], files: &[std::path::PathBuf; 2]) -> String {
-    let words: Vec<&str> = launcher.iter().copied().chain([program]).collect();
-    let run = Command::new(words[0]).args(&words[1..]).args(files).stdin(Stdio::null()).output();
-    let run = run.unwrap_or_else(|error| give_up(&format!("{program}: {error}")));
-    if !run.status.success() || !run.stderr.is_empty() {
-        return format!("{} {}", run.status, String::from_utf8_lossy(&run.stderr));
-    }
-    String::from_utf8_lossy(&run.stdout).into_owned()
+fn written(folder: &Folder, place: &str, trial: &Trial) -> [PathBuf; 2] {
+    [("start.obj", &trial.start), ("end.obj", &trial.end)].map(|(name, text)| {
+        folder.keep(&format!("{place}/{name}"), text).unwrap_or_else(|error| give_up("obj", &error.to_string()))
+    })
 }

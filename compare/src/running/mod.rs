@@ -1,5 +1,6 @@
 //! A program under test: text in, report out, and no longer than it may take.
 
+pub mod comparing;
 pub mod looks;
 pub mod streams;
 
