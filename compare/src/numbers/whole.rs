@@ -13,11 +13,20 @@ pub struct Whole {
 impl Whole {
     pub const ZERO: Whole = Whole { negative: false, limbs: Vec::new() };
 
-    fn new(negative: bool, mut limbs: Vec<u64>) -> Whole {
+    /// The number of this sign whose limbs are these, lowest first.
+    pub fn new(negative: bool, mut limbs: Vec<u64>) -> Whole {
         while limbs.last() == Some(&0) {
             limbs.pop();
         }
         Whole { negative: negative && !limbs.is_empty(), limbs }
+    }
+
+    /// As Python reads it: -0x1f, 0x0.
+    pub fn in_hex(&self) -> String {
+        let sign = if self.negative { "-" } else { "" };
+        let limbs = self.limbs.iter().rev().map(|limb| format!("{limb:016x}")).collect::<String>();
+        let digits = limbs.trim_start_matches('0');
+        format!("{sign}0x{}", if digits.is_empty() { "0" } else { digits })
     }
 
     /// Its value, where that is under 2^63 in size.
