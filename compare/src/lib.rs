@@ -53,7 +53,7 @@ pub mod running;
 /// Why a pair has its word, and what deciding takes.
 pub mod showing;
 
-// What others call by these names: `use compare::numbers::random::Random` says the folder.
+// The shorter names by which bench/, bindings/tests and garment/check call these.
 pub use calls::{slices, stored};
 pub use list::{box_tests, listing};
 pub use making::{cases, generate, kept, sewing};

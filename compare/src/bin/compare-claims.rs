@@ -7,12 +7,17 @@
 use compare::claims::making::{fixed, seeded, Trial};
 use compare::claims::mistakes::{self, ALL};
 use compare::claims::printed;
-use compare::running::comparing::{give_up, on_files, Folder, MOST_SHOWN};
+use compare::running::comparing::{give_up, OfFiles, MOST_SHOWN};
 use std::collections::BTreeMap;
-use std::path::PathBuf;
 use std::process::exit;
 
 const SEEDS: u64 = 300;
+
+/// What must have been wanted.
+const WORDS: [&str; 11] = [
+    "yes", "no", "refused 2", "refused 3", "refused 4", "refused 5", "refused 6", "refused 8", "refused 9", "refused 10",
+    "refused 15",
+];
 
 fn main() {
     let words: Vec<String> = std::env::args().skip(1).collect();
@@ -30,9 +35,8 @@ fn main() {
 }
 
 fn compare(program: &str, seeds: u64, launcher: &[String]) {
-    let folder = Folder::new("claims");
-    let command: Vec<&str> = launcher.iter().map(String::as_str).chain([program]).collect();
-    let (mut texts, mut differences) = (0usize, 0);
+    let mut comparison = OfFiles::new("claims", launcher);
+    let mut texts = 0usize;
     let mut wanted_words: BTreeMap<String, usize> = BTreeMap::new();
     for trial in fixed().into_iter().chain((0..seeds).flat_map(seeded)) {
         let wanted = printed(&trial.scene, &trial.claims);
@@ -41,49 +45,29 @@ fn compare(program: &str, seeds: u64, launcher: &[String]) {
             *wanted_words.entry(word.join(" ")).or_default() += 1;
         }
         texts += 1;
-        // the place of the next difference, which is taken by the next trial where this is none
-        let files = written(&folder, &format!("difference-{}", differences + 1), &trial);
-        let given = on_files(&command, &files).unwrap_or_else(|error| give_up("claims", &format!("{program}: {error}")));
-        if given == wanted {
-            continue;
+        let files: [(&str, &[u8]); 2] = [("scene", &trial.scene), ("claims", &trial.claims)];
+        if let Some((given, kept)) = comparison.differing(program, &files, &wanted) {
+            println!("claims: the answers differ, and the two texts are in {}", kept.display());
+            tell(&trial, &given, &wanted);
         }
-        differences += 1;
-        println!("claims: the answers differ, and the two texts are in {}", files[0].parent().expect("a folder").display());
-        let parts = given.lines().zip(wanted.lines()).position(|(a, b)| a != b);
-        println!(
-            "    at line {:?}: {:?} and should be {:?}",
-            parts.map(|at| at + 1),
-            first(&given, parts),
-            first(&wanted, parts)
-        );
-        let like: Vec<_> =
-            ALL.iter().filter(|&&mistake| mistakes::printed(mistake, &trial.scene, &trial.claims) == given).collect();
-        println!("    it looks like {like:?}");
-        if differences == MOST_SHOWN {
+        if comparison.differences == MOST_SHOWN {
             exit(1);
         }
     }
-    folder.clear(&format!("difference-{}", differences + 1)).unwrap_or_else(|error| give_up("claims", &error.to_string()));
-    for word in [
-        "yes", "no", "refused 2", "refused 3", "refused 4", "refused 5", "refused 6", "refused 8", "refused 9", "refused 10",
-        "refused 15",
-    ] {
-        if !wanted_words.contains_key(word) {
-            println!("claims: never wanted: {word}");
-            differences += 1;
-        }
-    }
+    comparison.clear();
+    let never: Vec<&&str> = WORDS.iter().filter(|word| !wanted_words.contains_key(**word)).collect();
+    never.iter().for_each(|word| println!("claims: never wanted: {word}"));
+    let differences = comparison.differences + never.len();
     let count = |word: &str| wanted_words.get(word).copied().unwrap_or(0);
     println!("claims: {texts} texts, {} yes and {} no, each byte compared: {differences} differences", count("yes"), count("no"));
     exit((differences > 0) as i32);
 }
 
-fn first(text: &str, at: Option<usize>) -> String {
-    text.lines().nth(at.unwrap_or(0)).unwrap_or("").to_string()
-}
-
-fn written(folder: &Folder, place: &str, trial: &Trial) -> [PathBuf; 2] {
-    [("scene", &trial.scene), ("claims", &trial.claims)].map(|(name, text)| {
-        folder.keep(&format!("{place}/{name}"), text).unwrap_or_else(|error| give_up("claims", &error.to_string()))
-    })
+/// The line at which the answers part, and which mistakes part there.
+fn tell(trial: &Trial, given: &str, wanted: &str) {
+    let at = given.lines().zip(wanted.lines()).position(|(a, b)| a != b);
+    let line = |text: &str| text.lines().nth(at.unwrap_or(0)).unwrap_or("").to_string();
+    println!("    at line {:?}: {:?} and should be {:?}", at.map(|at| at + 1), line(given), line(wanted));
+    let prints = |mistake: &&mistakes::Mistake| mistakes::printed(**mistake, &trial.scene, &trial.claims) == given;
+    println!("    it looks like {:?}", ALL.iter().filter(prints).collect::<Vec<_>>());
 }

@@ -9,10 +9,9 @@
 use compare::obj::faults::{cells, reached, Cell};
 use compare::obj::making::{fixed, seeded, Trial};
 use compare::obj::{import, import_with, reported, saved, Wrong, WRONG};
-use compare::running::comparing::{give_up, on_files, Folder, MOST_SHOWN};
+use compare::running::comparing::{give_up, OfFiles, MOST_SHOWN};
 use compare::running::streams::print;
 use std::collections::BTreeSet;
-use std::path::PathBuf;
 use std::process::exit;
 
 const SEEDS: u64 = 300;
@@ -42,8 +41,8 @@ fn read(name: &str) -> Vec<u8> {
 }
 
 fn compare(programs: [&str; 2], seeds: u64, launcher: &[&str]) {
-    let folder = Folder::new("obj");
-    let (mut pairs, mut scenes, mut differences) = (0usize, 0usize, 0);
+    let mut comparison = OfFiles::new("obj", &launcher.iter().map(|word| word.to_string()).collect::<Vec<String>>());
+    let (mut pairs, mut scenes) = (0usize, 0usize);
     let mut missing: BTreeSet<Cell> = cells().into_iter().collect();
     let wanted_cells = missing.len();
     for trial in fixed().into_iter().chain((0..seeds).flat_map(seeded)) {
@@ -52,35 +51,35 @@ fn compare(programs: [&str; 2], seeds: u64, launcher: &[&str]) {
         scenes += imported.is_ok() as usize;
         let reached = reached(&trial.start, &trial.end);
         missing.retain(|cell| !reached.contains(cell));
-        for (program, wanted) in programs.into_iter().zip([reported(&imported), saved(&imported)]) {
-            // the place of the next difference, which is taken by the next run where this is none
-            let files = written(&folder, &format!("difference-{}", differences + 1), &trial);
-            let given = on_files(&[launcher, &[program]].concat(), &files);
-            let given = given.unwrap_or_else(|error| give_up("obj", &format!("{program}: {error}")));
-            if given == wanted {
-                continue;
-            }
-            differences += 1;
-            let at = given.lines().zip(wanted.lines()).position(|(a, b)| a != b).unwrap_or(0);
-            let line = |text: &str| text.lines().nth(at).unwrap_or("").to_string();
-            println!("obj: {program}: {}: the two files are in {}", trial.name, files[0].parent().expect("a folder").display());
-            println!("    at line {}: {:?} and should be {:?}", at + 1, line(&given), line(&wanted));
-            println!("    it looks like {:?}", like(&trial, &given));
-            if differences == MOST_SHOWN {
-                exit(1);
-            }
-        }
+        hold(&mut comparison, &trial, [(programs[0], reported(&imported)), (programs[1], saved(&imported))]);
     }
-    folder.clear(&format!("difference-{}", differences + 1)).unwrap_or_else(|error| give_up("obj", &error.to_string()));
+    comparison.clear();
     if !missing.is_empty() {
         println!("obj: never tried: {missing:?}");
     }
     println!(
         "obj: {pairs} pairs of files, {scenes} of them scenes, {} of {wanted_cells} faults and pairs of faults tried, each byte of reports \
-         and scenes compared: {differences} differences",
-        wanted_cells - missing.len()
+         and scenes compared: {} differences",
+        wanted_cells - missing.len(),
+        comparison.differences
     );
-    exit((differences > 0 || !missing.is_empty()) as i32);
+    exit((comparison.differences > 0 || !missing.is_empty()) as i32);
+}
+
+/// Each program on the two files, with what it must print.
+fn hold(comparison: &mut OfFiles, trial: &Trial, programs: [(&str, String); 2]) {
+    let files: [(&str, &[u8]); 2] = [("start.obj", &trial.start), ("end.obj", &trial.end)];
+    for (program, wanted) in programs {
+        let Some((given, kept)) = comparison.differing(program, &files, &wanted) else { continue };
+        let at = given.lines().zip(wanted.lines()).position(|(a, b)| a != b).unwrap_or(0);
+        let line = |text: &str| text.lines().nth(at).unwrap_or("").to_string();
+        println!("obj: {program}: {}: the two files are in {}", trial.name, kept.display());
+        println!("    at line {}: {:?} and should be {:?}", at + 1, line(&given), line(&wanted));
+        println!("    it looks like {:?}", like(trial, &given));
+        if comparison.differences == MOST_SHOWN {
+            exit(1);
+        }
+    }
 }
 
 fn like(trial: &Trial, given: &str) -> Vec<Wrong> {
@@ -89,10 +88,4 @@ fn like(trial: &Trial, given: &str) -> Vec<Wrong> {
         [reported(&imported), saved(&imported)].contains(&given.to_string())
     };
     WRONG.into_iter().filter(prints).collect()
-}
-
-fn written(folder: &Folder, place: &str, trial: &Trial) -> [PathBuf; 2] {
-    [("start.obj", &trial.start), ("end.obj", &trial.end)].map(|(name, text)| {
-        folder.keep(&format!("{place}/{name}"), text).unwrap_or_else(|error| give_up("obj", &error.to_string()))
-    })
 }

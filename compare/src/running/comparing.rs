@@ -42,15 +42,6 @@ impl Folder {
     }
 }
 
-/// What a program prints that takes files by name; how it ended where it failed.
-pub fn on_files(command: &[&str], files: &[PathBuf]) -> std::io::Result<String> {
-    let run = Command::new(command[0]).args(&command[1..]).args(files).stdin(Stdio::null()).output()?;
-    if !run.status.success() || !run.stderr.is_empty() {
-        return Ok(format!("{} {}", run.status, String::from_utf8_lossy(&run.stderr)));
-    }
-    Ok(String::from_utf8_lossy(&run.stdout).into_owned())
-}
-
 /// A program of texts, and what was seen of it.
 pub struct Comparison {
     name: &'static str,
@@ -107,6 +98,55 @@ impl Comparison {
     pub fn close(&self, seen: &str) -> ! {
         println!("{}: {} texts, {seen}, each byte compared: {} differences", self.name, self.texts, self.differences);
         exit((self.differences > 0) as i32);
+    }
+}
+
+/// Programs that take files by name, and how often one of them printed something else than was wanted.
+pub struct OfFiles {
+    name: &'static str,
+    launcher: Vec<String>,
+    folder: Folder,
+    pub differences: usize,
+}
+
+impl OfFiles {
+    pub fn new(name: &'static str, launcher: &[String]) -> OfFiles {
+        OfFiles { name, launcher: launcher.to_vec(), folder: Folder::new(name), differences: 0 }
+    }
+
+    /// Where the files of a difference are kept. Those of the next one stand there while a program runs on them, and stay if it is one.
+    fn place(number: usize) -> String {
+        format!("difference-{number}")
+    }
+
+    /// What the program prints for these files, if that is not what is wanted, and the folder that they are kept in then.
+    pub fn differing(&mut self, program: &str, files: &[(&str, &[u8])], wanted: &str) -> Option<(String, PathBuf)> {
+        let place = OfFiles::place(self.differences + 1);
+        let keep = |(name, text): &(&str, &[u8])| self.folder.keep(&format!("{place}/{name}"), text);
+        let paths = files.iter().map(keep).collect::<std::io::Result<Vec<PathBuf>>>();
+        let paths = paths.unwrap_or_else(|error| give_up(self.name, &error.to_string()));
+        let given = self.printed(program, &paths).unwrap_or_else(|error| give_up(self.name, &format!("{program}: {error}")));
+        if given == wanted {
+            return None;
+        }
+        self.differences += 1;
+        Some((given, self.folder.path.join(place)))
+    }
+
+    /// What a program prints; how it ended where it failed.
+    fn printed(&self, program: &str, files: &[PathBuf]) -> std::io::Result<String> {
+        let words = [&self.launcher[..], &[program.to_string()]].concat();
+        let run = Command::new(&words[0]).args(&words[1..]).args(files).stdin(Stdio::null()).output()?;
+        if !run.status.success() || !run.stderr.is_empty() {
+            return Ok(format!("{} {}", run.status, String::from_utf8_lossy(&run.stderr)));
+        }
+        Ok(String::from_utf8_lossy(&run.stdout).into_owned())
+    }
+
+    /// Takes away the files of the last run, if that was no difference.
+    pub fn clear(&self) {
+        let cleared = self.folder.clear(&OfFiles::place(self.differences + 1));
+        cleared.unwrap_or_else(|error| give_up(self.name, &error.to_string()));
     }
 }
 
