@@ -1,9 +1,9 @@
 //! Programs of contacts that are wrong in one respect each, as trainees would write them.
 
 use super::*;
-use crate::equations::Point;
-use crate::pieces::Piece;
-use crate::signs::{self, Number};
+use crate::numbers::equations::Point;
+use crate::scene::pieces::Piece;
+use crate::ways::signs::{self, Number};
 
 #[derive(Clone, Copy, Debug, PartialEq, Eq)]
 pub enum Mistake {

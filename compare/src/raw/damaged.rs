@@ -1,29 +1,18 @@
 //! Answers that are wrong in one respect each, so that the comparison can be seen to fail.
 
+use super::change::{damage, Damage};
 use super::expected::{self, Expecting};
 use super::harm::{of_asked, of_range, of_scene, SCENE_CHECKS, SCENE_FAULTS};
 use super::question::*;
 use super::sorts::row;
 use super::stored_damaged;
-use crate::backwards;
-use crate::box_tests;
 use crate::contacts::mistakes::{self, Mistake};
-use crate::listing;
+use crate::list::box_tests;
+use crate::list::listing;
 use crate::obj;
-use crate::refusal::*;
+use crate::scene::backwards;
+use crate::scene::refusal::*;
 use crate::scene::{Kind, Pair, Scene, COORDINATE_LIMIT, FIRST_COORDINATE_LIMIT};
-
-/// Changes a right answer, or leaves it.
-type Change = Box<dyn Fn(&Question, &mut Answer)>;
-
-pub struct Damage {
-    pub name: String,
-    pub change: Change,
-}
-
-pub fn damage(name: impl Into<String>, change: impl Fn(&Question, &mut Answer) + 'static) -> Damage {
-    Damage { name: name.into(), change: Box::new(change) }
-}
 
 pub fn all() -> Vec<Damage> {
     let mut out = numbers();
