@@ -194,7 +194,7 @@ fn the_trials_have_what_is_hard() {
         counts[4] += (first.k == UNIT) as u32;
         let time = hits.iter().find(|solved| solved.piece == first.piece).unwrap().time();
         let just = Fraction { above: Whole::from(first.k as i128), below: Whole::from(UNIT as i128) };
-        counts[5] += (first.k % 4 != 0 && time.compare(&just) == Ordering::Equal) as u32;
+        counts[5] += (!first.k.is_multiple_of(4) && time.compare(&just) == Ordering::Equal) as u32;
         counts[6] += first.shares.contains(&0) as u32;
         counts[7] += first.shares.contains(&UNIT) as u32;
         counts[8] += (first.shares.len() == 3 && first.shares.iter().sum::<u32>() < UNIT) as u32;

@@ -69,7 +69,7 @@ pub fn claims(random: &mut Random, scene: &Scene) -> Vec<Claim> {
             pair = Pair { first: pair.second, second: pair.first, ..pair };
         }
         let Some(weights) = true_weights(&made[piece]) else {
-            out.extend(random.chance(8).then(|| Claim { pair, piece, weights: [1; 6] }));
+            out.extend(random.chance(8).then_some(Claim { pair, piece, weights: [1; 6] }));
             continue;
         };
         out.push(Claim { pair, piece, weights });

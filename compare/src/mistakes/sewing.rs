@@ -115,7 +115,7 @@ fn by_reader(key: &str, says: &str, take: Take) -> Mistake {
 }
 
 /// The text with its w lines, where they are of the form, taken in another way.
-fn read_with(text: &[u8], take: &mut dyn FnMut(&mut Scene, [usize; 2]) -> Result<(), u64>) -> Result<Scene, Refusal> {
+fn read_with(text: &[u8], take: &mut impl FnMut(&mut Scene, [usize; 2]) -> Result<(), u64>) -> Result<Scene, Refusal> {
     if text.len() > TEXT_LIMIT {
         return text::read(text);
     }

@@ -522,7 +522,7 @@ fn of_room(question: &Question, count: usize) -> Vec<String> {
         add(short == [false, true, false], "the words too short");
         add(short == [false, false, true], "the contacts too short");
         add(short == [true, true, true], "all too short");
-        add(rows >= count && question.lent.contacts.len() % ROW > 0, "a part of a row left over");
+        add(rows >= count && !question.lent.contacts.len().is_multiple_of(ROW), "a part of a row left over");
     }
     out
 }
