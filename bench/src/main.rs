@@ -359,21 +359,19 @@ impl Bench {
         let steps: Vec<String> = series.steps().iter().map(write).collect();
         let (mut report, mut slices) = ([0; product::REPORT_BYTES], Slices::with_room());
         let (mut boxes, mut list) = (vec![0; compare::stored::BOX_NUMBERS], [0; REPORT_ROOM]);
-        let mut told = product::Told { log: [0; 128], told: [0; 8] };
+        let (mut log, mut told): (product::Log, product::Told) = ([0; 128], [0; 8]);
         let ways = vec![
             Way::new("the library's reports of the steps", || {
                 steps.iter().map(|step| product.report(step.as_bytes(), &mut report) as u64).sum()
             }),
             Way::new(OURS, || {
-                product.tell_series(text.as_bytes(), &mut slices, &mut boxes, &mut list, &mut told).expect("a series") as u64
+                let steps = product.tell_series(text.as_bytes(), &mut slices, &mut boxes, &mut list, &mut log, &mut told);
+                steps.expect("a series") as u64
             }),
         ];
         let times = shortest(ways, self.rounds);
         let right = compare::series::ended(text.as_bytes(), REPORT_ROOM).expect("a series").told;
-        assert!(
-            told.told[2] == right.listed && told.told[3..7] == right.totals,
-            "the library tells what the independent program tells"
-        );
+        assert!(told[2] == right.listed && told[3..7] == right.totals, "the library tells what the independent program tells");
         let title = format!("a series, {name} ({} bytes, {} steps, {} pairs)", text.len(), steps.len(), right.listed);
         table(&title, ("us", 1e6), &times);
     }

@@ -120,7 +120,12 @@ fn the_header_has_the_same_words() {
         assert_eq!(returned(name), refusal.words());
     }
     for word in [Settled::Hit, Settled::Miss, Settled::Touch, Settled::Apart] {
-        assert_eq!(returned(&format!("{word:?}").to_uppercase()), format!("{word:?}").to_lowercase());
+        assert_eq!(returned(&format!("{word:?}").to_uppercase()), word.to_string());
+        assert_eq!(Settled::of_byte(word as u8), Some(word));
     }
-    assert_eq!(returned("DEGENERATE"), "degenerate");
+    for word in [Verdict::Hit, Verdict::Miss, Verdict::Degenerate] {
+        assert_eq!(returned(&format!("{word:?}").to_uppercase()), word.to_string());
+    }
+    let bytes = (0..=u8::MAX).filter(|&byte| Settled::of_byte(byte).is_some());
+    assert_eq!(bytes.collect::<Vec<_>>(), [0, 1, 3, 4]);
 }

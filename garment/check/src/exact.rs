@@ -68,7 +68,7 @@ pub fn report(mesh: &Mesh) -> String {
     for pair in listed(mesh) {
         let word = settled(&scene, pair);
         tally.add(word);
-        text += &format!("{}\t{}\t{}\t{}\n", pair.kind.letters(), pair.first, pair.second, garment::report::letters(word));
+        text += &format!("{}\t{}\t{}\t{word}\n", pair.kind, pair.first, pair.second);
     }
     let [hit, miss, touch, apart] = garment::report::WORDS.map(|word| tally.of(word));
     text + &format!("total\t{}\t{hit}\t{miss}\t{touch}\t{apart}\n", tally.listed())
