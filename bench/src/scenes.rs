@@ -1,6 +1,6 @@
 //! The scenes that are timed.
 
-use compare::random::Random;
+use compare::numbers::random::Random;
 use compare::scene::{Scene, EDGE_LIMIT, TRIANGLE_LIMIT, VERTEX_LIMIT};
 
 /// Two layers of cloth as deep in each other as layers get: a sheet falls through another, both creased. Vertices and

@@ -52,13 +52,3 @@ pub mod running;
 
 /// Why a pair has its word, and what deciding takes.
 pub mod showing;
-
-// The shorter names by which bench/, bindings/tests and garment/check call these.
-pub use calls::{slices, stored};
-pub use list::{box_tests, listing};
-pub use making::{cases, generate, kept, sewing};
-pub use numbers::{random, whole};
-pub use report::trials;
-pub use scene::{affine, backwards, refusal};
-pub use verdicts::{settled, verdict};
-pub use ways::{cubic, signs};

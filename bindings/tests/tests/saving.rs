@@ -1,6 +1,8 @@
 //! A scene saved through the wrapper: against the independent writer, read again, in buffers of every length near its own, and refused.
 
-use compare::{generate, text, trials};
+use compare::making::generate;
+use compare::report::trials;
+use compare::text;
 use makhnodri::{Refusal, SaveRefusal, Scene, TEXT_LIMIT};
 use makhnodri_tests::*;
 use std::error::Error;

@@ -1,6 +1,6 @@
 //! Series through the wrapper: against the independent program, in every lent number, and refused.
 
-use compare::random::Random;
+use compare::numbers::random::Random;
 use compare::series::making::{everywhere, own, seeded, up_and_down};
 use compare::series::{self as independent, least_lengths, LOG_LIMIT};
 use makhnodri::*;

@@ -1,9 +1,9 @@
 //! The independent program's answers for a mesh of any size.
 
 use compare::contacts::{self, Contact};
-use compare::listing::{boxes_meet, is_listed};
+use compare::list::listing::{boxes_meet, is_listed};
 use compare::scene::{Pair as ExactPair, Scene as ExactScene};
-use compare::settled::of_pair;
+use compare::verdicts::settled::of_pair;
 use garment::mesh::Mesh;
 use garment::pairs::{Kind, Pair};
 use makhnodri::Settled;
@@ -46,10 +46,10 @@ pub fn listed(mesh: &Mesh) -> Vec<Pair> {
 
 pub fn settled(scene: &ExactScene, pair: Pair) -> Settled {
     match of_pair(scene, exactly(pair)) {
-        compare::settled::Settled::Hit => Settled::Hit,
-        compare::settled::Settled::Miss => Settled::Miss,
-        compare::settled::Settled::Touch => Settled::Touch,
-        compare::settled::Settled::Apart => Settled::Apart,
+        compare::verdicts::settled::Settled::Hit => Settled::Hit,
+        compare::verdicts::settled::Settled::Miss => Settled::Miss,
+        compare::verdicts::settled::Settled::Touch => Settled::Touch,
+        compare::verdicts::settled::Settled::Apart => Settled::Apart,
     }
 }
 

@@ -1,7 +1,7 @@
 //! The program's own way as the command goes it, without files: from the texts of two OBJ files to the text of a report.
 
 use crate::cloth::Cloth;
-use compare::random::Random;
+use compare::numbers::random::Random;
 use compare::scene::Scene as ExactScene;
 use garment::fault::Fault;
 use garment::mesh::{self, Mesh};

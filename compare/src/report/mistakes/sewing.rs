@@ -104,8 +104,6 @@ fn by_list(key: &str, says: &str, list: fn(&Scene) -> Vec<Pair>) -> Mistake {
 
 /// A seam taken by the rules, or refused by its number.
 type Take = fn(&mut Scene, [usize; 2]) -> Result<(), u64>;
-/// The same by what may look at what it took before.
-type Taking<'a> = &'a mut dyn FnMut(&mut Scene, [usize; 2]) -> Result<(), u64>;
 
 fn right(scene: &mut Scene, seam: [usize; 2]) -> Result<(), u64> {
     text::take(scene, format!("w\t{}\t{}", seam[0], seam[1]).as_bytes())
@@ -117,7 +115,7 @@ fn by_reader(key: &str, says: &str, take: Take) -> Mistake {
 }
 
 /// The text with its w lines, where they are of the form, taken in another way.
-fn read_with(text: &[u8], take: Taking) -> Result<Scene, Refusal> {
+fn read_with(text: &[u8], take: &mut impl FnMut(&mut Scene, [usize; 2]) -> Result<(), u64>) -> Result<Scene, Refusal> {
     if text.len() > TEXT_LIMIT {
         return text::read(text);
     }
