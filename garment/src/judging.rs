@@ -3,11 +3,11 @@
 //! A pair is judged by its own four vertices, so a scene of these is enough, as long as it keeps what the pieces of a pair go by: the order
 //! of its vertices, by the vertex that each stands for, and which of two edges is the lower. A pair that is listed shares no vertex, so its
 //! four stand for four, and the scene needs no seam. Words and contacts are asked of the same scene, `Alone::asked`. That it speaks for the
-//! mesh is proved: crates/parts_of_meshes/specs/Alone.antt, `settled-alone` and `contact-alone`.
+//! mesh is proved: crates/mesh_demands/specs/Alone.antt, `settled-alone` and `contact-alone`.
 //!
 //! A call for each pair costs more than the pair. So as many pairs as a scene has room for stand in it side by side, each with four vertices
 //! of its own, and one call is asked for all: `Packed`. That scene and its entries are `together` and `entriesOf` of
-//! crates/parts_of_meshes/specs/Together.antt, and it is proved that the call gives what the pairs have in the mesh: `settled-together` in Given.antt
+//! crates/mesh_demands/specs/Together.antt, and it is proved that the call gives what the pairs have in the mesh: `settled-together` in Given.antt
 //! beside it, and `contacts-together`.
 
 use crate::mesh::Mesh;
