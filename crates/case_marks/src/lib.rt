@@ -5,6 +5,7 @@ ghost use lib.ListN.{length};
 
 pub mod marks; // marks.rt: what is seen of a buffer after a call
 
+use answers::number_of;
 use marks::kept;
 use marks::kept_plain;
 use marks::print;
@@ -15,28 +16,6 @@ use meaning::Refusal;
 use meaning::SceneCounts;
 use meaning::TextAnswer;
 use text_scene::read_scene;
-
-fn number_of(refusal: Refusal) -> usize {
-    match refusal {
-        Refusal::Shape => 1,
-        Refusal::Coordinate => 2,
-        Refusal::UnknownVertex => 3,
-        Refusal::RepeatedVertex => 4,
-        Refusal::NotThere => 5,
-        Refusal::SharedVertex => 6,
-        Refusal::NoRoom => 7,
-        Refusal::LongText => 8,
-        Refusal::BadLine => 9,
-        Refusal::LateRecord => 10,
-        Refusal::TooMany => 11,
-        Refusal::ShortBuffer => 12,
-        Refusal::BlockLength => 13,
-        Refusal::FilesDiffer => 14,
-        Refusal::BrokenSeam => 15,
-        Refusal::BeyondOldRange => 16,
-        Refusal::StaleBox => 17,
-    }
-}
 
 fn print_kept(all: bool) {
     if all {
@@ -110,7 +89,7 @@ fn print_refused(
     seams: &[u16],
 ) {
     print(b": refused");
-    print_number(number_of(refusal));
+    print_number(number_of(refusal) as usize);
     print_number(line);
     print_kept(
         kept(positions, 0) & kept_plain(edges, 0) & kept_plain(triangles, 0) & kept_plain(seams, 0),

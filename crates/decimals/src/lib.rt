@@ -1,5 +1,5 @@
 // The decimal digits of a number, read from bytes and written into them.
-ghost use Prim.Native.Nat.{_+_, _≤_};
+ghost use Prim.Native.Nat.{_+_, _≤_, _<_};
 ghost use lib.ListN.{length};
 ghost use mathlib.Core.Path.{_≡_};
 ghost use Rattle.decimals.specs.Byte.{byteAt, digitTest};
@@ -73,8 +73,8 @@ pub fn read_number(bytes: &[u8], at: usize, limit: usize) -> NumberRead
     }
 }
 
-// How many digits a number has.
-pub fn digit_count(n: u64) -> usize
+// How many digits a number has, by dividing.
+fn digit_count(n: u64) -> usize
     ensures { λ r. ⌜ r ≡ length (digits n) ⌝ }
 {
     let mut rest = n;
@@ -86,12 +86,39 @@ pub fn digit_count(n: u64) -> usize
     count
 }
 
+// How many digits a number below 1,000 has, as most numbers of vertices are.
+fn short_count(n: u64) -> usize
+    requires { ⌜ n < 1000 ⌝ }
+    ensures { λ r. ⌜ r ≡ length (digits n) ⌝ }
+{
+    if n < 10 {
+        return 1;
+    }
+    if n < 100 { 2 } else { 3 }
+}
+
+// How many digits a number has: by its size, with no division, since most numbers have six at most.
+pub fn count_digits(n: u64) -> usize
+    ensures { λ r. ⌜ r ≡ length (digits n) ⌝ }
+{
+    if n < 1000 {
+        return short_count(n);
+    }
+    if n < 10000 {
+        return 4;
+    }
+    if n < 100000 {
+        return 5;
+    }
+    if n < 1000000 { 6 } else { digit_count(n) }
+}
+
 // Writes a number from a place on, where there is room for it, and returns the place behind it.
 pub fn write_number(out: &mut [u8], at: usize, n: u64) -> usize
     requires { ⌜ at + length (digits n) ≤ length (now out) ⌝ }
     ensures { λ r. ⌜ Wrote (atEntry out) at (digits n) (atExit out) r ⌝ }
 {
-    let end = at + digit_count(n);
+    let end = at + count_digits(n);
     let mut next = end;
     let mut rest = n;
     while at < next {

@@ -9,7 +9,7 @@ ghost use Rattle.meaning.specs.Limits.{coordinateLimit};
 ghost use Rattle.meaning.specs.ObjFile.{signed};
 ghost use Rattle.text_line.specs.Above.{Bounded};
 ghost use Rattle.obj_edges.specs.Chains.{Knows};
-ghost use Rattle.text_line.specs.Judging.{FaultIs, judgedSays};
+ghost use Rattle.text_line.specs.Judging.{judgedSays};
 ghost use Rattle.obj_records.specs.Faults.{VertexFault, FaceFault};
 ghost use Rattle.obj_records.specs.Adding.{Near, pointOf, VertexAdded, Positive, FaceRoom, FaceAdded};
 ghost use Rattle.sequences.specs.Lent.{atEntry, atExit};
@@ -22,6 +22,7 @@ use meaning::TRIANGLE_LIMIT;
 use meaning::VERTEX_LIMIT;
 use obj_edges::add_sides;
 use text_line::Judged;
+use text_line::first_fault;
 
 // The largest size of a coordinate, as sizes are held.
 const LARGEST: u64 = COORDINATE_LIMIT as u64;
@@ -30,28 +31,6 @@ const LARGEST: u64 = COORDINATE_LIMIT as u64;
 pub enum Added {
     Fault(Refusal),
     Counts(SceneCounts),
-}
-
-// The first check of a record that holds.
-fn first_fault(late: bool, excess: bool, far: bool, unknown: bool, twice: bool) -> Judged
-    ensures { λ r. ⌜ FaultIs late excess far unknown twice (judgedSays r) ⌝ }
-{
-    if late {
-        return Judged::Fault(Refusal::LateRecord);
-    }
-    if excess {
-        return Judged::Fault(Refusal::TooMany);
-    }
-    if far {
-        return Judged::Fault(Refusal::Coordinate);
-    }
-    if unknown {
-        return Judged::Fault(Refusal::UnknownVertex);
-    }
-    if twice {
-        return Judged::Fault(Refusal::RepeatedVertex);
-    }
-    Judged::Good
 }
 
 fn judge_vertex(c: SceneCounts, x: Hundredths, y: Hundredths, z: Hundredths) -> Judged

@@ -1,17 +1,11 @@
 -- What whoever calls the import has of its answer: after success the front of the buffers is the scene of the two files, and it is accepted; a
 -- refusal left them as they were.
 use mathlib.Core.Bool.{Bool, true, false, cond}
-use mathlib.Core.List.{List, _++_}
+use mathlib.Core.List.{List}
 use mathlib.Core.Path.{_≡_, refl, sym, ap, _∙_, subst}
-use Prim.Native.Nat.{ℕ, _*_, _≤_}
+use Prim.Native.Nat.{ℕ}
 use native.Mathlib.Omega.{arith}
-use borrow.Author.Tests.{ltb-false}
-use lib.ListN.{length, take, drop, length-append}
-use lib.Seq.{take-append-seam}
-use Rattle.answers.specs.Below.{or-left, or-rest}
-use Rattle.scene_checks.specs.Facts.{Sized, accepted-sized}
-use Rattle.meaning.specs.Limits.{seamLimit}
-use Rattle.meaning.specs.Scene.{Scene, Accepted, seamCount, wrongShape}
+use Rattle.meaning.specs.Scene.{Scene, Accepted}
 use Rattle.meaning.specs.Refusals.{given, numberOf}
 use Rattle.meaning.specs.Text.{shortBuffer, longText, countsOf, filled}
 use Rattle.meaning.specs.ObjPair.{ImportOutcome, read, refused, refusedIn, FilesAre, PairOutcome, ImportIs, counts, number, numberIn, importSays, importTold, importLeft, Imported}
@@ -21,7 +15,7 @@ use Rattle.meaning.specs.declared.WhichFile.{WhichFile}
 use Rattle.meaning.specs.declared.WhichFile.the-variants.{Start, End}
 use Rattle.meaning.specs.declared.ImportAnswer.{ImportAnswer}
 use Rattle.meaning.specs.declared.ImportAnswer.the-variants.{Read, Refused, RefusedIn}
-use Rattle.text_scene.specs.Using.{frontOf, FewOf}
+use Rattle.text_scene.specs.Using.{frontOf, FewOf, Fronts, FilledWith, few-filled, fronts-filled, front-filled, accepted-filled}
 use Rattle.obj_scene.specs.AcceptedImport.{imports-accepted}
 
 -- ---- which outcome an answer tells
@@ -81,19 +75,6 @@ pub record SceneImported (start end : List ℕ) (lent left : Scene) (o : ImportO
   pub counts : c ≡ countsOf scene
   pub leaves : left ≡ filled (given scene) lent
 
-front-is : {A : Type 0} (l o b : List A) (n : ℕ) → b ≡ l ++ drop (length l) o → length l ≡ n → take n b ≡ l
-front-is l o b n e h = cc (take-append-seam l (drop (length l) o))
-
-room-of : {A : Type 0} (l o b : List A) (n : ℕ) → b ≡ l ++ drop (length l) o → length l ≡ n → n ≤ length b
-room-of l o b n e h = omega (arith, h, ap length e, length-append l (drop (length l) o))
-
--- as many numbers are in the buffers
-pub record RoomFor (c : SceneCounts) (b : Scene) : Type 0 where
-  pub points : 6 * c .vertices ≤ length (b .positions)
-  pub sides : 2 * c .edges ≤ length (b .edges)
-  pub corners : 3 * c .triangles ≤ length (b .triangles)
-  pub sewn : 2 * c .seams ≤ length (b .seams)
-
 module _ {start end : List ℕ} {lent left : Scene} {o : ImportOutcome} {c : SceneCounts} where
   -- whichever buffers 12 asks for
   pub scene-behind : (short : Bool) → cond short (o ≡ refused 12) (PairOutcome start end o) → counts c ≡ importTold o → left ≡ importLeft o lent
@@ -113,49 +94,21 @@ module _ {start end : List ℕ} {lent left : Scene} {o : ImportOutcome} {c : Sce
       }
 
   module _ (i : SceneImported start end lent left o c) where
-    sized : Sized (i .scene)
-    sized = accepted-sized (i .accepted)
-
-    points : length (i .scene .positions) ≡ 6 * c .vertices
-    points = sized .positionsLong ∙ ap (λ (k : SceneCounts). 6 * k .vertices) (sym (i .counts))
-
-    sides : length (i .scene .edges) ≡ 2 * c .edges
-    sides = sized .edgesLong ∙ ap (λ (k : SceneCounts). 2 * k .edges) (sym (i .counts))
-
-    corners : length (i .scene .triangles) ≡ 3 * c .triangles
-    corners = sized .trianglesLong ∙ ap (λ (k : SceneCounts). 3 * k .triangles) (sym (i .counts))
-
-    sewn : length (i .scene .seams) ≡ 2 * c .seams
-    sewn = sized .seamsLong ∙ ap (λ (k : SceneCounts). 2 * k .seams) (sym (i .counts))
+    abbrev in-front : FilledWith lent left c
+    in-front = record { scene = i .scene; accepted = i .accepted; counts = i .counts; leaves = i .leaves }
 
     pub few-imported : FewOf c
-    few-imported =
-        let shapely : wrongShape (i .scene) ≡ false = i .accepted .shapely in
-        let few : seamCount (i .scene) ≤ seamLimit = ltb-false _ _ (search (or-left, or-rest)) in
-        rw (i .counts) (record { vertices = sized .fewVertices; edges = sized .fewEdges; triangles = sized .fewTriangles; seams = few })
+    few-imported = few-filled in-front
 
-    pub room-imported : RoomFor c left
-    unfolding filled
-    room-imported =
-        record {
-          points = room-of (i .scene .positions) (lent .positions) (left .positions) _ (ap (λ (b : Scene). b .positions) (i .leaves)) points;
-          sides = room-of (i .scene .edges) (lent .edges) (left .edges) _ (ap (λ (b : Scene). b .edges) (i .leaves)) sides;
-          corners = room-of (i .scene .triangles) (lent .triangles) (left .triangles) _ (ap (λ (b : Scene). b .triangles) (i .leaves)) corners;
-          sewn = room-of (i .scene .seams) (lent .seams) (left .seams) _ (ap (λ (b : Scene). b .seams) (i .leaves)) sewn;
-        }
+    pub fronts-imported : Fronts c left
+    fronts-imported = fronts-filled in-front
 
     -- as much of the buffers as the counts say is the scene
     pub front-imported : frontOf c left ≡ i .scene
-    unfolding filled
-    front-imported =
-        let p = front-is (i .scene .positions) (lent .positions) (left .positions) _ (ap (λ (b : Scene). b .positions) (i .leaves)) points in
-        let e = front-is (i .scene .edges) (lent .edges) (left .edges) _ (ap (λ (b : Scene). b .edges) (i .leaves)) sides in
-        let t = front-is (i .scene .triangles) (lent .triangles) (left .triangles) _ (ap (λ (b : Scene). b .triangles) (i .leaves)) corners in
-        let w = front-is (i .scene .seams) (lent .seams) (left .seams) _ (ap (λ (b : Scene). b .seams) (i .leaves)) sewn in
-        λ k. record { positions = p k; edges = e k; triangles = t k; seams = w k }
+    front-imported = front-filled in-front
 
     pub accepted-imported : Accepted (frontOf c left)
-    accepted-imported = rw front-imported (i .accepted)
+    accepted-imported = accepted-filled in-front
 
 -- ---- an answer that turned out so
 

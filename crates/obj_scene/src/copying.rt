@@ -1,6 +1,6 @@
 // Two drafts go into the lent buffers: where a vertex starts from the one, where it ends from the other, edges and triangles from the first.
 ghost use Prim.Native.Nat.{_+_, _*_, _≤_};
-ghost use lib.ListN.{length, take};
+ghost use lib.ListN.{length};
 ghost use mathlib.Core.Path.{_≡_};
 ghost use Rattle.sequences.specs.Wrote.{Wrote, written};
 ghost use Rattle.obj_scene.specs.Between.{threeAt, between};
@@ -8,6 +8,7 @@ ghost use Rattle.text_line.specs.Above.{Bounded};
 ghost use Rattle.obj_scene.specs.Ending.{Lent, Drafts, PairCopied};
 ghost use Rattle.sequences.specs.Lent.{atEntry, atExit};
 use meaning::SceneCounts;
+use text_scene::copying::copy_numbers;
 
 // Three coordinates, those at a place.
 fn copy_three(own: &[i32], lent: &mut [i32], at: usize)
@@ -28,17 +29,6 @@ fn copy_positions(p: &[i32], q: &[i32], lent: &mut [i32], count: usize)
         copy_three(p, lent, 6 * v);
         copy_three(q, lent, 6 * v + 3);
         v += 1;
-    }
-}
-
-fn copy_numbers(own: &[u16], lent: &mut [u16], count: usize)
-    requires { ⌜ (count ≤ length (now own)) × (count ≤ length (now lent)) ⌝ }
-    ensures { λ _. ⌜ atExit lent ≡ written (take count (atEntry own)) (atEntry lent) ⌝ }
-{
-    let mut k = 0;
-    while k < count {
-        lent[k] = own[k];
-        k += 1;
     }
 }
 

@@ -1,3 +1,2 @@
 -- Numbers of a scene as fields of its text.
 pub mod Marked
-pub mod Counting

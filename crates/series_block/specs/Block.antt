@@ -1,5 +1,5 @@
 -- A block part of the way: which series stands above, which step the block goes on from, and that the positions have gone as far as its lines.
-use Prim.Native.Nat.{ℕ, zero, suc, _+_, _*_, _-_, _/_, _≤_, _<_}
+use Prim.Native.Nat.{ℕ, _+_, _*_, _/_, _≤_, _<_}
 use mathlib.Core.Bool.{Bool, true, false, cond, not, _||_, _&&_}
 use mathlib.Core.List.{List, [], _∷_, _++_}
 use mathlib.Core.Path.{_≡_, refl, sym, ap, _∙_, subst}
@@ -7,8 +7,7 @@ use mathlib.Core.Logic.{⊎-elim}
 use native.Mathlib.Omega.{arith}
 use lib.Dec.{leb, ltb}
 use lib.IntN.{ℤ, pos, natAbs}
-use lib.ListN.{length, getD, drop, replicate, length-append, List·getD-append, List·getD-eq-default}
-use lib.Seq.{getD-append-add}
+use lib.ListN.{length, getD, drop, replicate, length-append, List·getD-eq-default}
 use borrow.Author.Tests.{le-leb, lt-leb, lt-ltb, le-ltb, leb-false}
 use Rattle.whole.specs.Vector.{Vector}
 use Rattle.sequences.specs.Range.{le-or-lt}
@@ -17,19 +16,19 @@ use Rattle.sequences.specs.Wrote.{patched}
 use Rattle.text_fields.specs.Ended.{InFront}
 use Rattle.text_fields.specs.Tabbed.{sized-at}
 use Rattle.meaning.specs.Limits.{coordinateLimit, vertexLimit}
-use Rattle.meaning.specs.Scene.{Scene, vertexCount, endOf, outside, someBelow, brokenSeam, Accepted}
+use Rattle.meaning.specs.Scene.{Scene, vertexCount, endOf, someBelow, brokenSeam, Accepted}
 use Rattle.meaning.specs.Refusals.{Outcome, given, refused, Check, Answers}
 use Rattle.meaning.specs.Lines.{Fault, misplaced, nothing, RecordJudged}
 use Rattle.meaning.specs.Text.{coordinates}
 use Rattle.answers.specs.Answering.{refuses, is-refused, is-past, is-given, lets-pass}
-use Rattle.answers.specs.Below.{or-left, or-rest}
+use Rattle.answers.specs.Below.{or-left}
 use Rattle.scene_checks.specs.Checking.{sewable}
 use Rattle.scene_seams.specs.Sewing.{seamsAlone, Sewable, blank-table}
 use Rattle.text_record.specs.Putting.{pointFrom, signedAt, signed-at}
 use Rattle.meaning.specs.Series.{lastFrom, stepAfter, lastStep}
 use Rattle.meaning.specs.SeriesText.{Item, ends, next, threeOf, itemLine, SoFar, blocksSoFar, seriesSoFar, withItem, ItemFormed, blockFull, blockShort, wrongLength, farEnd, comesApartNow, itemChecks, seriesLines}
 use Rattle.series_laws.specs.Longer.{last-append}
-use Rattle.series_laws.specs.Stepping.{AllNear, step-length}
+use Rattle.series_laws.specs.Stepping.{AllNear, near-more}
 use Rattle.series_laws.specs.PartWay.{partWay, part-length, part-at, part-next, part-ends}
 use Rattle.series_block.specs.Moving.{threeAt, movedOn, farThree, wrongHere, lastHere, endChecks, endSays, EndReady, EndIs, sewable-as-long}
 use Rattle.series_block.specs.declared.moving.EndTaken.the-variants.{Good}
@@ -54,22 +53,6 @@ not-at-most a b =
     (λ le. rw (le-leb a b le, le-ltb b a le) refl)
     (λ lt. rw (lt-leb a b lt, lt-ltb b a lt) refl)
     (le-or-lt a b)
-
-three-near : (v : Vector) → farEnd v ≡ false → (j : ℕ) → outside (getD (threeOf v) j (pos 0)) ≡ false
-three-near v h zero = search (or-left, or-rest)
-three-near v h (suc zero) = search (or-left, or-rest)
-three-near v h (suc (suc zero)) = search (or-left, or-rest)
-three-near v h (suc (suc (suc j))) = refl
-
-near-more : (l : List ℤ) (v : Vector) → AllNear l → farEnd v ≡ false → AllNear (l ++ threeOf v)
-near-more l v old new i =
-    ⊎-elim
-    (λ past.
-    let here : length l + (i - length l) ≡ i = omega arith in
-    subst (λ (n : ℕ). outside (getD (l ++ threeOf v) n (pos 0)) ≡ false) here
-    (rw (getD-append-add l (threeOf v) (i - length l) (pos 0)) (three-near v new (i - length l))))
-    (λ below. rw (List·getD-append l (threeOf v) (pos 0) i below) (old i))
-    (le-or-lt (length l) i)
 
 module _ {x : SoFar} {s : Scene} {k : ℕ} {p : List ℤ} {w : List ℕ} (b : InBlock x s k p w) where
   draft-long : length p ≡ 6 * vertexCount s

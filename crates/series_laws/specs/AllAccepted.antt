@@ -1,24 +1,22 @@
 -- Every step of a series that was read from a text is accepted: nobody checks it twice.
-use Prim.Native.Nat.{ℕ, zero, suc, _+_, _-_}
+use Prim.Native.Nat.{ℕ}
 use mathlib.Core.Bool.{Bool, true, false, cond, not, _&&_, true≢false}
 use mathlib.Core.List.{List, [], _∷_, _++_, flatMap, List·Memᴰ, List·Memᴰ·head, List·Memᴰ·tail, List·Memᴰ·append-cases, List·Memᴰ·eq-of-singleton}
 use mathlib.Core.Logic.{⊎-elim}
 use mathlib.Core.Path.{_≡_, refl, sym, ap, _∙_, subst}
 use native.Mathlib.Omega.{arith}
-use lib.IntN.{ℤ, pos}
-use lib.ListN.{length, getD, List·getD-append}
-use lib.Seq.{getD-append-add}
+use lib.IntN.{ℤ}
+use lib.ListN.{length}
 use borrow.Author.Tests.{leb-true, not-false}
 use Rattle.whole.specs.Vector.{Vector}
-use Rattle.sequences.specs.Range.{le-or-lt}
 use Rattle.sequences.specs.Pick.{either}
-use Rattle.meaning.specs.Scene.{Scene, sceneOf, vertexCount, outside, brokenSeam, Accepted}
+use Rattle.meaning.specs.Scene.{Scene, sceneOf, vertexCount, brokenSeam, Accepted}
 use Rattle.meaning.specs.Refusals.{given}
 use Rattle.meaning.specs.Lines as Lines
 use Rattle.meaning.specs.Lines.{nothing, afterAll, RecordJudged}
 use Rattle.meaning.specs.Text.{Entry}
 use Rattle.meaning.specs.Series.{Series, stepAfter, stepsFrom, lastFrom, stepsOf, lastStep}
-use Rattle.meaning.specs.SeriesText.{Item, of, ends, next, threeOf, SoFar, nothingYet, blocksSoFar, seriesSoFar, withItem, ItemFormed, blockFull, blockShort, wrongLength, farEnd, comesApartNow, itemChecks, seriesLines, HoldsSeries}
+use Rattle.meaning.specs.SeriesText.{Item, of, ends, next, SoFar, nothingYet, blocksSoFar, seriesSoFar, withItem, ItemFormed, blockFull, blockShort, wrongLength, farEnd, comesApartNow, itemChecks, seriesLines, HoldsSeries}
 use Rattle.meaning.specs.declared.SceneCounts.{SceneCounts}
 use Rattle.answers.specs.Answering.{is-given}
 use Rattle.answers.specs.Below.{or-left, or-rest}
@@ -26,7 +24,7 @@ use Rattle.scene_checks.specs.Facts.{accepted-sized}
 use Rattle.text_line.specs.Reading.{sortOf}
 use Rattle.text_line.specs.Above.{Above, above-none, above-more, countedBy, noCounts}
 use Rattle.series_laws.specs.Longer.{nextSteps, steps-append, last-append}
-use Rattle.series_laws.specs.Stepping.{AllNear, step-accepted, step-length, step-vertices}
+use Rattle.series_laws.specs.Stepping.{AllNear, near-more, step-accepted, step-length, step-vertices}
 
 abbrev pub EachAccepted : List Scene → Type 0
 EachAccepted ss = (s : Scene) → List·Memᴰ s ss → Accepted s
@@ -62,24 +60,6 @@ still s a few =
     empty-of : (l : List ℤ) → length l ≡ 0 → l ≡ []
     empty-of [] e = refl
     empty-of (z ∷ l) e = absurd (omega arith)
-
--- ---- numbers in range
-
-three-near : (v : Vector) → farEnd v ≡ false → (j : ℕ) → outside (getD (threeOf v) j (pos 0)) ≡ false
-three-near v h zero = search (or-left, or-rest)
-three-near v h (suc zero) = search (or-left, or-rest)
-three-near v h (suc (suc zero)) = search (or-left, or-rest)
-three-near v h (suc (suc (suc j))) = refl
-
-near-more : (l : List ℤ) (v : Vector) → AllNear l → farEnd v ≡ false → AllNear (l ++ threeOf v)
-near-more l v old new i =
-    ⊎-elim
-    (λ past.
-    let here : length l + (i - length l) ≡ i = omega arith in
-    subst (λ (n : ℕ). outside (getD (l ++ threeOf v) n (pos 0)) ≡ false) here
-    (rw (getD-append-add l (threeOf v) (i - length l) (pos 0)) (three-near v new (i - length l))))
-    (λ below. rw (List·getD-append l (threeOf v) (pos 0) i below) (old i))
-    (le-or-lt (length l) i)
 
 -- ---- what holds below records that are not at fault
 

@@ -7,14 +7,17 @@ use mathlib.Core.Logic.{⊎-elim}
 use native.Mathlib.Omega.{arith}
 use lib.Dec.{ltb, leb, eqb}
 use lib.IntN.{ℤ, pos}
-use lib.ListN.{length, getD, List·getD-eq-default}
+use lib.ListN.{length, getD, List·getD-append, List·getD-eq-default}
+use lib.Seq.{getD-append-add}
 use borrow.Author.Tests.{eq-eqb}
+use Rattle.whole.specs.Vector.{Vector}
 use Rattle.sequences.specs.Gather.{gather}
 use Rattle.sequences.specs.Range.{le-or-lt}
 use Rattle.answers.specs.Below.{or-left, or-rest, none-passes, none-below}
 use Rattle.meaning.specs.Scene.{Scene, sceneOf, vertexCount, someBelow, uneven, overSize, wrongShape, outside, outOfRange, unknownIn, unknownVertex, brokenSeam, repeatedVertex, Accepted}
 use Rattle.sequences.specs.Blocks.{gather-wide, gather-at}
 use Rattle.meaning.specs.Series.{goesOn, stepAfter}
+use Rattle.meaning.specs.SeriesText.{threeOf, farEnd}
 
 -- what holds of six numbers holds of each
 pub each-of-six : (P : ℤ → Type 0) (a b c d e f : ℤ) → P a → P b → P c → P d → P e → P f
@@ -37,6 +40,23 @@ all-near l h i =
     ⊎-elim
     (λ past. rw (List·getD-eq-default l (pos 0) {n = i} past) refl)
     (λ below. none-passes (λ j. outside (getD l j (pos 0))) (length l) h i below)
+    (le-or-lt (length l) i)
+
+-- a point in range behind numbers in range
+three-near : (v : Vector) → farEnd v ≡ false → (j : ℕ) → outside (getD (threeOf v) j (pos 0)) ≡ false
+three-near v h zero = search (or-left, or-rest)
+three-near v h (suc zero) = search (or-left, or-rest)
+three-near v h (suc (suc zero)) = search (or-left, or-rest)
+three-near v h (suc (suc (suc j))) = refl
+
+pub near-more : (l : List ℤ) (v : Vector) → AllNear l → farEnd v ≡ false → AllNear (l ++ threeOf v)
+near-more l v old new i =
+    ⊎-elim
+    (λ past.
+    let here : length l + (i - length l) ≡ i = omega arith in
+    subst (λ (n : ℕ). outside (getD (l ++ threeOf v) n (pos 0)) ≡ false) here
+    (rw (getD-append-add l (threeOf v) (i - length l) (pos 0)) (three-near v new (i - length l))))
+    (λ below. rw (List·getD-append l (threeOf v) (pos 0) i below) (old i))
     (le-or-lt (length l) i)
 
 module _ (s : Scene) (ends : List ℤ) where

@@ -143,6 +143,14 @@ unfolding howMany
 many-behind v [] vs = omega arith
 many-behind v (u ∷ us) vs = omega (arith, many-behind v us vs)
 
+one-by : (v w : Settled) → isOne v w ≡ cond (eqb (byteOf v) (byteOf w)) 1 0
+unfolding isOne
+one-by v w = refl
+
+-- a count of the one word, after the other
+abbrev after : Settled → Settled → ℕ → ℕ
+after v w n = cond (eqb (byteOf v) (byteOf w)) (oneMore n) n
+
 module _ (ws : List Settled) (w : Settled) (n : ℕ) where
   one-listed : n ≡ counted (length ws) → oneMore n ≡ counted (length (ws ++ (w ∷ [])))
   one-listed e = ap oneMore e ∙ count-more (length ws) ∙ ap counted (sym (length-append ws (w ∷ [])))
@@ -151,46 +159,41 @@ module _ (ws : List Settled) (w : Settled) (n : ℕ) where
   unfolding howMany
   one-behind v = many-behind v ws (w ∷ []) ∙ omega arith
 
-  taken : (v : Settled) → isOne v w ≡ 1 → n ≡ counted (howMany v ws) → oneMore n ≡ counted (howMany v (ws ++ (w ∷ [])))
-  taken v same e = ap oneMore e ∙ count-more (howMany v ws) ∙ ap counted (omega (arith, one-behind v))
+  -- the count of a word, behind one word more
+  count-goes : (v : Settled) → n ≡ counted (howMany v ws) → after v w n ≡ counted (howMany v (ws ++ (w ∷ [])))
+  count-goes v e = by-word (eqb (byteOf v) (byteOf w)) (one-by v w)
+    where
+      by-word : (b : Bool) → isOne v w ≡ cond b 1 0 → cond b (oneMore n) n ≡ counted (howMany v (ws ++ (w ∷ [])))
+      by-word true h = ap oneMore e ∙ count-more (howMany v ws) ∙ ap counted (omega (arith, one-behind v))
+      by-word false h = e ∙ ap counted (omega (arith, one-behind v))
 
-  passed : (v : Settled) → isOne v w ≡ 0 → n ≡ counted (howMany v ws) → n ≡ counted (howMany v (ws ++ (w ∷ [])))
-  passed v other e = e ∙ ap counted (omega (arith, one-behind v))
+abbrev tallyAfter : Tally → Settled → Tally
+tallyAfter t w =
+    record {
+      listed = oneMore (t .listed);
+      hits = after Hit w (t .hits);
+      misses = after Miss w (t .misses);
+      touches = after Touch w (t .touches);
+      aparts = after Apart w (t .aparts);
+    }
+
+tallied-by : (t : Tally) (w : Settled) → tallied t w ≡ tallyAfter t w
+unfolding tallied byteOf
+tallied-by t Hit = refl
+tallied-by t Miss = refl
+tallied-by t Touch = refl
+tallied-by t Apart = refl
 
 pub totals-go : {ws : List Settled} {t : Tally} (w : Settled) → TotalsOf ws t → TotalsOf (ws ++ (w ∷ [])) (tallied t w)
-unfolding tallied isOne byteOf
-totals-go {ws} {t} Hit h =
-    record {
-      listed = one-listed ws Hit (t .listed) (h .listed);
-      hits = taken ws Hit (t .hits) Hit refl (h .hits);
-      misses = passed ws Hit (t .misses) Miss refl (h .misses);
-      touches = passed ws Hit (t .touches) Touch refl (h .touches);
-      aparts = passed ws Hit (t .aparts) Apart refl (h .aparts);
-    }
-totals-go {ws} {t} Miss h =
-    record {
-      listed = one-listed ws Miss (t .listed) (h .listed);
-      hits = passed ws Miss (t .hits) Hit refl (h .hits);
-      misses = taken ws Miss (t .misses) Miss refl (h .misses);
-      touches = passed ws Miss (t .touches) Touch refl (h .touches);
-      aparts = passed ws Miss (t .aparts) Apart refl (h .aparts);
-    }
-totals-go {ws} {t} Touch h =
-    record {
-      listed = one-listed ws Touch (t .listed) (h .listed);
-      hits = passed ws Touch (t .hits) Hit refl (h .hits);
-      misses = passed ws Touch (t .misses) Miss refl (h .misses);
-      touches = taken ws Touch (t .touches) Touch refl (h .touches);
-      aparts = passed ws Touch (t .aparts) Apart refl (h .aparts);
-    }
-totals-go {ws} {t} Apart h =
-    record {
-      listed = one-listed ws Apart (t .listed) (h .listed);
-      hits = passed ws Apart (t .hits) Hit refl (h .hits);
-      misses = passed ws Apart (t .misses) Miss refl (h .misses);
-      touches = passed ws Apart (t .touches) Touch refl (h .touches);
-      aparts = taken ws Apart (t .aparts) Apart refl (h .aparts);
-    }
+totals-go {ws} {t} w h =
+    rw (tallied-by t w)
+    (record {
+      listed = one-listed ws w (t .listed) (h .listed);
+      hits = count-goes ws w (t .hits) Hit (h .hits);
+      misses = count-goes ws w (t .misses) Miss (h .misses);
+      touches = count-goes ws w (t .touches) Touch (h .touches);
+      aparts = count-goes ws w (t .aparts) Apart (h .aparts);
+    })
 
 -- a tally that took these words behind whatever it had taken
 pub record TallyGoes (ws : List Settled) (t t′ : Tally) : Type 0 where

@@ -20,10 +20,10 @@ use Rattle.meaning.specs.declared.SceneCounts.{SceneCounts}
 use Rattle.meaning.specs.declared.WhichFile.{WhichFile}
 use Rattle.meaning.specs.declared.ImportAnswer.{ImportAnswer}
 use Rattle.meaning.specs.declared.ImportAnswer.the-variants.{Read, Refused, RefusedIn}
-use Rattle.text_scene.specs.Using.{FewOf}
+use Rattle.text_scene.specs.Using.{FewOf, Fronts}
 use Rattle.list_boxes.specs.Parts.{Drawn, accepted-drawn}
 use Rattle.stored_reading.specs.Front.{frontWith, InFront}
-use Rattle.obj_scene.specs.Using.{SceneImported, scene-imported, RoomFor, room-imported, few-imported, front-imported, accepted-imported, import-refusal, import-refusal-in}
+use Rattle.obj_scene.specs.Using.{SceneImported, scene-imported, fronts-imported, few-imported, front-imported, accepted-imported, import-refusal, import-refusal-in}
 
 -- what filling in asks for
 module _ {start end : List ℕ} {lent left : Scene} {r : ImportAnswer} (a : Imported start end lent left r) {c : SceneCounts} (e : r ≡ Read c) where
@@ -31,7 +31,7 @@ module _ {start end : List ℕ} {lent left : Scene} {r : ImportAnswer} (a : Impo
   import-in-front =
       let i : SceneImported start end lent left (a .outcome) c = scene-imported a e in
       let few : FewOf c = few-imported i in
-      let room : RoomFor c left = room-imported i in
+      let room : Fronts c left = fronts-imported i in
       record {
         fewVertices = few .vertices;
         fewEdges = few .edges;

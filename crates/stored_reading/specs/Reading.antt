@@ -1,11 +1,11 @@
 -- Each way out of the call that reads a text with its boxes.
-use Prim.Native.Nat.{ℕ, _*_, _≤_}
+use Prim.Native.Nat.{ℕ, _*_}
 use mathlib.Core.Bool.{true, false, _||_}
-use mathlib.Core.List.{List, [], _++_}
-use mathlib.Core.Path.{_≡_, refl, sym, ap, subst, _∙_}
+use mathlib.Core.List.{List, []}
+use mathlib.Core.Path.{_≡_, refl, ap, subst, _∙_}
 use native.Mathlib.Omega.{arith}
 use lib.IntN.{ℤ}
-use lib.ListN.{length, take, drop, length-append}
+use lib.ListN.{take}
 use Rattle.meaning.specs.Scene.{Scene}
 use Rattle.meaning.specs.Refusals.{Outcome, given, refused, numberOf}
 use Rattle.meaning.specs.Text.{TextIs, countsOf, countsTold, textSays, filled, TextRead}
@@ -15,10 +15,9 @@ use Rattle.meaning.specs.declared.Refusal.the-variants.{ShortBuffer}
 use Rattle.meaning.specs.declared.SceneCounts.{SceneCounts}
 use Rattle.meaning.specs.declared.TextAnswer.{TextAnswer}
 use Rattle.meaning.specs.declared.TextAnswer.the-variants.{Read, Refused}
-use Rattle.scene_checks.specs.Facts.{Sized, accepted-sized}
 use Rattle.list_boxes.specs.Parts.{Drawn, accepted-drawn}
 use Rattle.text_scene.specs.Unique.{text-unique}
-use Rattle.text_scene.specs.Using.{Came, byBuffers, byLength, byLines, came, frontOf, FewOf, few-read, holds-read, accepted-read, read-refusal-of}
+use Rattle.text_scene.specs.Using.{Came, byBuffers, byLength, byLines, came, frontOf, FewOf, Fronts, few-read, fronts-read, holds-read, accepted-read, read-refusal-of}
 use Rattle.stored_reading.specs.Front.{frontWith, InFront}
 
 -- what was read is the front of the buffers
@@ -41,9 +40,6 @@ module _ {text : List ℕ} {lent left : Scene} {c : SceneCounts} (a : TextRead t
 
 -- ---- what filling in asks for
 
-front-room : {A : Type 0} (l o b : List A) (n : ℕ) → b ≡ l ++ drop (length l) o → length l ≡ n → n ≤ length b
-front-room l o b n e h = omega (arith, h, ap length e ∙ length-append l (drop (length l) o))
-
 module _ {text : List ℕ} {lent left : Scene} {r : TextAnswer} (a : TextRead text lent left r) {c : SceneCounts} (e : r ≡ Read c) where
   abbrev given-so : TextRead text lent left (Read c)
   given-so = subst (TextRead text lent left) e a
@@ -56,25 +52,16 @@ module _ {text : List ℕ} {lent left : Scene} {r : TextAnswer} (a : TextRead te
   leaves = given-so .leaves ∙ ap (λ o. filled o lent) (outcome-front given-so)
 
   pub read-in-front : InFront c (left .positions) (left .edges) (left .triangles)
-  unfolding filled
   read-in-front =
       let few : FewOf c = few-read a e in
-      let s : Scene = frontOf c left in
-      let sized : Sized s = accepted-sized (accepted-read a e) in
-      let same : c ≡ countsOf s = cc counts in
+      let room : Fronts c left = fronts-read a e in
       record {
         fewVertices = few .vertices;
         fewEdges = few .edges;
         fewTriangles = few .triangles;
-        positions =
-            front-room (s .positions) (lent .positions) (left .positions) (6 * c .vertices) (ap (λ (b : Scene). b .positions) leaves)
-            (sized .positionsLong ∙ ap (λ (k : SceneCounts). 6 * k .vertices) (sym same));
-        edges =
-            front-room (s .edges) (lent .edges) (left .edges) (2 * c .edges) (ap (λ (b : Scene). b .edges) leaves)
-            (sized .edgesLong ∙ ap (λ (k : SceneCounts). 2 * k .edges) (sym same));
-        triangles =
-            front-room (s .triangles) (lent .triangles) (left .triangles) (3 * c .triangles) (ap (λ (b : Scene). b .triangles) leaves)
-            (sized .trianglesLong ∙ ap (λ (k : SceneCounts). 3 * k .triangles) (sym same));
+        positions = room .points;
+        edges = room .sides;
+        triangles = room .corners;
       }
 
   pub read-drawn : Drawn (frontWith c (left .positions) (left .edges) (left .triangles) [])

@@ -96,7 +96,7 @@ pub enum Judged {
 }
 
 // The first check of a record that holds.
-fn first_fault(late: bool, excess: bool, far: bool, unknown: bool, twice: bool) -> Judged
+pub fn first_fault(late: bool, excess: bool, far: bool, unknown: bool, twice: bool) -> Judged
     ensures { λ r. ⌜ FaultIs late excess far unknown twice (judgedSays r) ⌝ }
 {
     if late {

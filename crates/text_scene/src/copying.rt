@@ -21,7 +21,8 @@ fn copy_positions(own: &[i32], lent: &mut [i32], count: usize)
     }
 }
 
-fn copy_numbers(own: &[u16], lent: &mut [u16], count: usize)
+// The front of one buffer goes to the front of another.
+pub fn copy_numbers(own: &[u16], lent: &mut [u16], count: usize)
     requires { ⌜ (count ≤ length (now own)) × (count ≤ length (now lent)) ⌝ }
     ensures { λ _. ⌜ atExit lent ≡ written (take count (atEntry own)) (atEntry lent) ⌝ }
 {

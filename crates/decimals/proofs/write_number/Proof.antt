@@ -11,14 +11,14 @@ Inv-loop out₀ at n end next₀ rest₀ out next rest = Putting out₀ at n out
 abbrev μ-loop : tie.MeasureT-loop
 μ-loop out₀ at n end next₀ rest₀ out next rest = next
 
-digit-count-requires : tie.Need-digit-count-requires Inv-loop μ-loop
-digit-count-requires c κs = search needs
+count-digits-requires : tie.Need-count-digits-requires Inv-loop μ-loop
+count-digits-requires c κs = search needs
 
 add-end : tie.Need-add-end Inv-loop μ-loop
-add-end c = omega (arith, c .digit-count .ensures)
+add-end c = omega (arith, c .count-digits .ensures)
 
 loop-holds : tie.Need-loop-holds Inv-loop μ-loop
-loop-holds c = put-starts _ _ (c .digit-count .ensures) (c .before .before .pre)
+loop-holds c = put-starts _ _ (c .count-digits .ensures) (c .before .before .pre)
 
 sub-next : tie.Need-sub-next Inv-loop μ-loop
 sub-next c = omega arith
@@ -42,7 +42,7 @@ same-length : tie.Need-same-length Inv-loop μ-loop
 same-length c = c .before .loop .inv .down .same
 
 returns : tie.Need-returns Inv-loop μ-loop
-returns c = put-ends (c .before .loop .inv) (c .before .before .digit-count .ensures) (c .loop-test .left)
+returns c = put-ends (c .before .loop .inv) (c .before .before .count-digits .ensures) (c .loop-test .left)
 
 pub write-number-spec : {M : Type 1} → statement M
 write-number-spec =
@@ -50,7 +50,7 @@ write-number-spec =
     (tie.spec
     Inv-loop
     μ-loop
-    digit-count-requires
+    count-digits-requires
     add-end
     loop-holds
     sub-next

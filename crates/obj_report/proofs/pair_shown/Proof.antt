@@ -1,52 +1,50 @@
 -- The two files are brought in and their scene shown; a refusal has one line.
 use Prim.Native.Nat.{ℕ}
-use mathlib.Core.Path.{refl, sym, ap}
-use native.Mathlib.Omega.{arith}
-use lib.Seq.{length-take-le}
+use mathlib.Core.Path.{refl, ap}
 use borrow.Author.Needs.{needs}
 use Rattle.meaning.specs.Report.{refusedLine}
 use Rattle.meaning.specs.ObjPrinted.{fileLine}
 use Rattle.report_words.specs.Lines.{wrote-as}
-use Rattle.obj_scene.specs.Using.{scene-imported, few-imported, room-imported, accepted-imported}
+use Rattle.obj_scene.specs.Using.{scene-imported, fronts-imported, accepted-imported}
 use Rattle.obj_report.specs.Printed.{printed-scene, printed-refusal, printed-refusal-in}
 use Rattle.obj_report.proofs.pair_shown.Statement.{statement}
 use Rattle.obj_report.proofs.pair_shown.Tie as tie
 
 mul-p : tie.Need-mul-p
-mul-p c = record { fits = omega (arith, few-imported (scene-imported (c .before .before .before .before .before .before .before .before .import-plain .ensures) (c .before .before .counts .given .1)) .vertices) }
+mul-p c = fronts-imported (scene-imported (c .before .before .before .before .before .before .before .before .import-plain .ensures) (c .before .before .counts .given .1)) .pointsFit
 
 mul-e : tie.Need-mul-e
-mul-e c = record { fits = omega (arith, few-imported (scene-imported (c .before .before .before .before .before .before .before .before .before .import-plain .ensures) (c .before .before .before .counts .given .1)) .edges) }
+mul-e c = fronts-imported (scene-imported (c .before .before .before .before .before .before .before .before .before .import-plain .ensures) (c .before .before .before .counts .given .1)) .sidesFit
 
 mul-t : tie.Need-mul-t
-mul-t c = record { fits = omega (arith, few-imported (scene-imported (c .before .before .before .before .before .before .before .before .before .before .import-plain .ensures) (c .before .before .before .before .counts .given .1)) .triangles) }
+mul-t c = fronts-imported (scene-imported (c .before .before .before .before .before .before .before .before .before .before .import-plain .ensures) (c .before .before .before .before .counts .given .1)) .cornersFit
 
 mul-w : tie.Need-mul-w
-mul-w c = record { fits = omega (arith, few-imported (scene-imported (c .before .before .before .before .before .before .before .before .before .before .before .import-plain .ensures) (c .before .before .before .before .before .counts .given .1)) .seams) }
+mul-w c = fronts-imported (scene-imported (c .before .before .before .before .before .before .before .before .before .before .before .import-plain .ensures) (c .before .before .before .before .before .counts .given .1)) .sewnFit
 
 array-share-prefix-positions : tie.Need-array-share-prefix-positions
-array-share-prefix-positions c = room-imported (scene-imported (c .before .before .before .before .before .before .before .before .before .before .before .import-plain .ensures) (c .before .before .before .before .before .counts .given .1)) .points
+array-share-prefix-positions c = fronts-imported (scene-imported (c .before .before .before .before .before .before .before .before .before .before .before .import-plain .ensures) (c .before .before .before .before .before .counts .given .1)) .points
 
 slice-aggregate-scene-shown : tie.Need-slice-aggregate-scene-shown
-slice-aggregate-scene-shown c = sym (length-take-le _ _ (room-imported (scene-imported (c .before .before .before .before .before .before .before .before .before .before .before .before .import-plain .ensures) (c .before .before .before .before .before .before .counts .given .1)) .points))
+slice-aggregate-scene-shown c = fronts-imported (scene-imported (c .before .before .before .before .before .before .before .before .before .before .before .before .import-plain .ensures) (c .before .before .before .before .before .before .counts .given .1)) .pointsLong
 
 array-share-prefix-edges : tie.Need-array-share-prefix-edges
-array-share-prefix-edges c = room-imported (scene-imported (c .before .before .before .before .before .before .before .before .before .before .before .before .import-plain .ensures) (c .before .before .before .before .before .before .counts .given .1)) .sides
+array-share-prefix-edges c = fronts-imported (scene-imported (c .before .before .before .before .before .before .before .before .before .before .before .before .import-plain .ensures) (c .before .before .before .before .before .before .counts .given .1)) .sides
 
 slice-aggregate-scene-shown-2 : tie.Need-slice-aggregate-scene-shown-2
-slice-aggregate-scene-shown-2 c = sym (length-take-le _ _ (room-imported (scene-imported (c .before .before .before .before .before .before .before .before .before .before .before .before .before .import-plain .ensures) (c .before .before .before .before .before .before .before .counts .given .1)) .sides))
+slice-aggregate-scene-shown-2 c = fronts-imported (scene-imported (c .before .before .before .before .before .before .before .before .before .before .before .before .before .import-plain .ensures) (c .before .before .before .before .before .before .before .counts .given .1)) .sidesLong
 
 array-share-prefix-triangles : tie.Need-array-share-prefix-triangles
-array-share-prefix-triangles c = room-imported (scene-imported (c .before .before .before .before .before .before .before .before .before .before .before .before .before .import-plain .ensures) (c .before .before .before .before .before .before .before .counts .given .1)) .corners
+array-share-prefix-triangles c = fronts-imported (scene-imported (c .before .before .before .before .before .before .before .before .before .before .before .before .before .import-plain .ensures) (c .before .before .before .before .before .before .before .counts .given .1)) .corners
 
 slice-aggregate-scene-shown-3 : tie.Need-slice-aggregate-scene-shown-3
-slice-aggregate-scene-shown-3 c = sym (length-take-le _ _ (room-imported (scene-imported (c .before .before .before .before .before .before .before .before .before .before .before .before .before .before .import-plain .ensures) (c .before .before .before .before .before .before .before .before .counts .given .1)) .corners))
+slice-aggregate-scene-shown-3 c = fronts-imported (scene-imported (c .before .before .before .before .before .before .before .before .before .before .before .before .before .before .import-plain .ensures) (c .before .before .before .before .before .before .before .before .counts .given .1)) .cornersLong
 
 array-share-prefix-seams : tie.Need-array-share-prefix-seams
-array-share-prefix-seams c = room-imported (scene-imported (c .before .before .before .before .before .before .before .before .before .before .before .before .before .before .import-plain .ensures) (c .before .before .before .before .before .before .before .before .counts .given .1)) .sewn
+array-share-prefix-seams c = fronts-imported (scene-imported (c .before .before .before .before .before .before .before .before .before .before .before .before .before .before .import-plain .ensures) (c .before .before .before .before .before .before .before .before .counts .given .1)) .sewn
 
 slice-aggregate-scene-shown-4 : tie.Need-slice-aggregate-scene-shown-4
-slice-aggregate-scene-shown-4 c = sym (length-take-le _ _ (room-imported (scene-imported (c .before .before .before .before .before .before .before .before .before .before .before .before .before .before .before .import-plain .ensures) (c .before .before .before .before .before .before .before .before .before .counts .given .1)) .sewn))
+slice-aggregate-scene-shown-4 c = fronts-imported (scene-imported (c .before .before .before .before .before .before .before .before .before .before .before .before .before .before .before .import-plain .ensures) (c .before .before .before .before .before .before .before .before .before .counts .given .1)) .sewnLong
 
 scene-shown-requires : tie.Need-scene-shown-requires
 scene-shown-requires c κs = (accepted-imported (scene-imported (c .before .before .before .before .before .before .before .before .before .before .before .before .before .before .before .before .import-plain .ensures) (c .before .before .before .before .before .before .before .before .before .before .counts .given .1)), search needs)

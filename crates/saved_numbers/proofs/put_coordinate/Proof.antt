@@ -25,8 +25,8 @@ size-of-requires : tie.Need-size-of-requires
 size-of-requires c κs = search needs
 
 -- src/lib.rt:78:5
-put-digits-requires : tie.Need-put-digits-requires
-put-digits-requires c κs =
+write-number-requires : tie.Need-write-number-requires
+write-number-requires c κs =
     let a = c .before .before .before .before .before .before .before .args in
     let z = getD (a .positions .now) (a .i) (pos 0) in
     omega (arith, numeral-length z, ap (λ n. length (digits n)) (c .size-of .ensures))
@@ -40,10 +40,10 @@ returns : tie.Need-returns
 returns c =
     let a = c .before .before .before .before .before .before .before .before .before .before .args in
     let z = getD (a .positions .now) (a .i) (pos 0) in
-    let both = wrote-then (c .before .before .before .before .before .before .before .put-mark .ensures) (rw (c .before .before .before .size-of .ensures) at (c .before .before .put-digits .ensures)) in
+    let both = wrote-then (c .before .before .before .before .before .before .before .put-mark .ensures) (rw (c .before .before .before .size-of .ensures) at (c .before .before .write-number .ensures)) in
     rw (mark-digits z) at both
 
 pub put-coordinate-spec : {M : Type 1} → statement M
 put-coordinate-spec =
     tie.close
-    (tie.spec put-mark-requires size-of-requires put-digits-requires same-length returns)
+    (tie.spec put-mark-requires size-of-requires write-number-requires same-length returns)

@@ -26,9 +26,9 @@ wide-requires : tie.Need-wide-requires
 wide-requires c κs = search needs
 
 -- src/lib.rt:93:5
-put-digits-requires : tie.Need-put-digits-requires
+write-number-requires : tie.Need-write-number-requires
 unfolding numeral
-put-digits-requires c κs = omega (arith, ap (λ n. length (digits n)) (c .wide .ensures .0))
+write-number-requires c κs = omega (arith, ap (λ n. length (digits n)) (c .wide .ensures .0))
 
 -- src/lib.rt:87:1
 same-length : tie.Need-same-length
@@ -37,7 +37,7 @@ same-length c = search needs
 -- src/lib.rt:87:1
 returns : tie.Need-returns
 unfolding numeral
-returns c = wrote-then (c .before .before .before .before .before .before .before .before .put-byte .ensures) (rw (c .before .before .before .wide .ensures .0) at (c .before .before .put-digits .ensures))
+returns c = wrote-then (c .before .before .before .before .before .before .before .before .put-byte .ensures) (rw (c .before .before .before .wide .ensures .0) at (c .before .before .write-number .ensures))
 
 pub put-number-spec : {M : Type 1} → statement M
 put-number-spec =
@@ -47,6 +47,6 @@ put-number-spec =
     mul-wide
     shared-slice-read-wide
     wide-requires
-    put-digits-requires
+    write-number-requires
     same-length
     returns)

@@ -1,12 +1,12 @@
 -- `short_count`: by size.
 use mathlib.Core.Path.{sym}
 use native.Mathlib.Omega.{arith}
-use Rattle.saved_numbers.specs.Counting.{one-digit, two-digits, three-digits}
-use Rattle.saved_numbers.proofs.short_count.Statement.{statement}
-use Rattle.saved_numbers.proofs.short_count.Tie as tie
+use Rattle.decimals.proofs.Put.{length-small, two-digits, three-digits}
+use Rattle.decimals.proofs.short_count.Statement.{statement}
+use Rattle.decimals.proofs.short_count.Tie as tie
 
 returns : tie.Need-returns
-returns c = sym (one-digit _ (omega arith))
+returns c = sym (length-small _ (omega arith))
 
 returns-2 : tie.Need-returns-2
 returns-2 c = sym (two-digits _ (omega arith) (omega arith))

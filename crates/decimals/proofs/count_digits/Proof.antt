@@ -2,9 +2,9 @@
 use borrow.Author.Needs.{needs}
 use mathlib.Core.Path.{sym}
 use native.Mathlib.Omega.{arith}
-use Rattle.saved_numbers.specs.Counting.{four-digits, five-digits, six-digits}
-use Rattle.saved_numbers.proofs.count_digits.Statement.{statement}
-use Rattle.saved_numbers.proofs.count_digits.Tie as tie
+use Rattle.decimals.proofs.Put.{four-digits, five-digits, six-digits}
+use Rattle.decimals.proofs.count_digits.Statement.{statement}
+use Rattle.decimals.proofs.count_digits.Tie as tie
 
 short-count-requires : tie.Need-short-count-requires
 short-count-requires c κs = search needs
