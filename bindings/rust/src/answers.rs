@@ -112,6 +112,7 @@ impl Pair {
         ((self.kind as u32) << 20) + ((self.first as u32) << 10) + self.second as u32
     }
 
+    /// The pair of a number: a point and a triangle below 2^20 and two edges from there on, also of a number from 2^21 on, which no pair has.
     pub fn of_entry(entry: u32) -> Pair {
         let kind = if entry < 1 << 20 { Kind::PointTriangle } else { Kind::EdgeEdge };
         Pair { kind, first: (entry >> 10 & 1_023) as usize, second: (entry & 1_023) as usize }
