@@ -5,6 +5,10 @@ pub mod OneTold
 pub mod Demand2
 -- demand 3 of a series
 pub mod Demand3
+-- a series sent through one matrix with a shift for each boundary: there is one, and demand 3 is of it
+pub mod SentSeries
+-- no step before the first with a hit has a listed hit
+pub mod NoneBefore
 -- two outcomes of a text are one
 pub mod OneSeries
 -- demand 1 of the outcome
