@@ -21,6 +21,8 @@ pub mod Printed
 pub mod OneCall
 -- demand 1 of the call
 pub mod Demand1Call
+-- demand 1 of the call as rows
+pub mod CallRows
 -- what is heard in numbers: nothing is cut
 pub mod Few
 -- the log and the refusal are read again
