@@ -63,7 +63,7 @@ eqb-turned a b = go (eqb a b) refl
     go false e = sym (ne-eqb b a (λ q. eqb-false a b e (sym q)))
 
 -- an edge is itself, and asked for from either side
-same-edge : (a b : ℕ) → joined a b (a ∷ b ∷ []) ≡ true
+pub same-edge : (a b : ℕ) → joined a b (a ∷ b ∷ []) ≡ true
 unfolding joined
 same-edge a b = rw (eq-eqb a a refl, eq-eqb b b refl)
 

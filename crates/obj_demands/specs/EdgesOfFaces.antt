@@ -16,7 +16,7 @@ use Rattle.meaning.specs.ObjFile.{joined, withSide, withSides, edgesFrom, edges
 use Rattle.meaning.specs.ObjPair.{FileRead, imported}
 use Rattle.meaning.specs.declared.ObjLine.{ObjLine}
 use Rattle.meaning.specs.declared.ObjLine.the-variants.{Skipped, Vertex, Face, Bad}
-use Rattle.obj_demands.specs.Edges.{Paired, HasFace, SidesIn, Once, joined-append, paired-side, paired-sides, side-in-front, every-side, none-twice, first-in-front}
+use Rattle.obj_demands.specs.Edges.{Paired, HasFace, SidesIn, Once, joined-append, same-edge, paired-side, paired-sides, side-in-front, every-side, none-twice, first-in-front}
 
 -- ---- faces behind faces
 
@@ -41,6 +41,18 @@ edges-then l [] more t = refl
 edges-then l (x ∷ []) more t = absurd t
 edges-then l (x ∷ y ∷ []) more t = absurd t
 edges-then l (x ∷ y ∷ z ∷ k) more t = edges-then (withSides l x y z) k more t
+
+-- two numbers an edge
+pub paired-from : (l k : List ℕ) → Paired l → Paired (edgesFrom l k)
+unfolding edgesFrom
+paired-from l [] p = p
+paired-from l (a ∷ []) p = p
+paired-from l (a ∷ b ∷ []) p = p
+paired-from l (a ∷ b ∷ c ∷ k) p = paired-from (withSides l a b c) k (paired-sides a b c l p)
+
+pub paired-edges : (k : List ℕ) → Paired (edgesOf k)
+unfolding Paired
+paired-edges k = paired-from [] k tt
 
 -- ---- the scene of a file
 
@@ -81,7 +93,7 @@ unfolding HasFace
 has-face [] j h = absurd (omega arith)
 has-face (x ∷ []) j h = absurd (omega arith)
 has-face (x ∷ y ∷ []) j h = absurd (omega arith)
-has-face (x ∷ y ∷ z ∷ k) zero h = inl (refl, refl, refl)
+has-face (x ∷ y ∷ z ∷ k) zero h = let here : (x ≡ x) × (y ≡ y) × (z ≡ z) = (refl, refl, refl) in inl here
 has-face (x ∷ y ∷ z ∷ k) (suc j) h =
     let e : 3 * suc j ≡ suc (suc (suc (3 * j))) = omega arith in
     let f : 3 * suc j + 1 ≡ suc (suc (suc (3 * j + 1))) = omega arith in
@@ -107,6 +119,9 @@ module _ (text : List ℕ) (s : Scene) (r : FileRead text s) where
 -- x y is a side of the face a b c, either way round
 abbrev pub SideOfFace : ℕ → ℕ → ℕ → ℕ → ℕ → Type 0
 SideOfFace x y a b c = (joined x y (a ∷ b ∷ []) ≡ true) ⊎ ((joined x y (b ∷ c ∷ []) ≡ true) ⊎ (joined x y (c ∷ a ∷ []) ≡ true))
+
+pub three-sides : (a b c : ℕ) → SideOfFace a b a b c × SideOfFace b c a b c × SideOfFace c a a b c
+three-sides a b c = (inl (same-edge a b), inr (inl (same-edge b c)), inr (inr (same-edge c a)))
 
 -- of one of the faces
 unfoldable pub SideOf : ℕ → ℕ → List ℕ → Type 0
