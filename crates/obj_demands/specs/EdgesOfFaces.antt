@@ -13,7 +13,7 @@ use Rattle.meaning.specs.Lines.{afterAll}
 use Rattle.meaning.specs.Text.{none, coordinatesIn, endsIn, cornersIn, seamIn}
 use Rattle.meaning.specs.ObjLine.{says}
 use Rattle.meaning.specs.ObjFile.{joined, withSide, withSides, edgesFrom, edgesOf, sceneAfter, objLines}
-use Rattle.meaning.specs.ObjPair.{FileRead, imported}
+use Rattle.meaning.specs.ObjPair.{FileRead, BothRead, imported}
 use Rattle.meaning.specs.declared.ObjLine.{ObjLine}
 use Rattle.meaning.specs.declared.ObjLine.the-variants.{Skipped, Vertex, Face, Bad}
 use Rattle.obj_demands.specs.Edges.{Paired, HasFace, SidesIn, Once, joined-append, same-edge, paired-side, paired-sides, side-in-front, every-side, none-twice, first-in-front}
@@ -84,6 +84,10 @@ lines-keep s (l ∷ ls) h = lines-keep (sceneAfter s (says l)) ls (line-keeps s 
 pub file-of-faces : (text : List ℕ) (s : Scene) → FileRead text s → OfFaces s
 unfolding Tripled edgesFrom
 file-of-faces text s r = subst OfFaces (sym (r .scene)) (lines-keep none (r .lines) (record { whole = tt; edges = refl }))
+
+-- so of two files that are one scene
+pub import-of-faces : (start end : List ℕ) (b : BothRead start end false) → OfFaces (imported (b .starts) (b .ends))
+import-of-faces start end b = let one = file-of-faces start (b .starts) (b .first) in record { whole = one .whole; edges = one .edges }
 
 -- ---- each side is there, and none twice
 
