@@ -11,13 +11,13 @@ fn of_all_sizes() -> impl Iterator<Item = Pair> {
 /// Every pair that a scene can have: its number by the document's sum, back to the pair, each number above the one before.
 #[test]
 fn every_pair_has_a_number_of_its_own() {
-    let mut before = None;
+    let (mut before, mut pair_before) = (None, None);
     for pair in of_all_sizes() {
         let part = if pair.kind == Kind::EdgeEdge { 2_usize.pow(20) } else { 0 };
         assert_eq!(pair.entry() as usize, part + 2_usize.pow(10) * pair.first + pair.second);
         assert_eq!(Pair::of_entry(pair.entry()), pair);
-        assert!(before < Some(pair.entry()), "{pair:?}");
-        before = Some(pair.entry());
+        assert!(before < Some(pair.entry()) && pair_before < Some(pair), "{pair:?}");
+        (before, pair_before) = (Some(pair.entry()), Some(pair));
     }
     assert!(before < Some(1 << 21));
 }
