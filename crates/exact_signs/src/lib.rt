@@ -1,4 +1,4 @@
-// What the signs of exact volumes, and of their sums, say of a piece. But for share_sums this is the one place that adds determinants, never more
+// What the signs of exact volumes, and of their sums, say of a piece. But for exact_shares this is the one place that adds determinants, never more
 // than two, and no sum leaves it as a number.
 
 pub mod ways; // ways.rt: numbers of one sign, for cloth at rest
