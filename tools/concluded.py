@@ -2,7 +2,8 @@
 
 A definition that stands only among what theorems ask for can be emptied, and everything is still proved. So each must be concluded somewhere, by a
 theorem, a value or a contract that does not ask for it itself, and that asks for nothing that is not shown in turn. What is asked for and what is
-concluded is read off the signatures; a field of a record is concluded where the record is. tools/shown.txt has those that a signature does not tell.
+concluded is read off the signatures; a field of a record is concluded where the record is. A name counts as concluded wherever it stands in what a
+signature gives, so this finds what is never given at all and does not weigh what it is given of. tools/shown.txt has those that no signature tells.
 """
 import dataclasses
 import functools
@@ -65,9 +66,10 @@ def groups(text):
 
 
 def given_by(text):
-    """What a type gives, with what its parts in brackets ask for left out; an equivalence in brackets gives neither side."""
-    last = split_at("→", text)[-1]
-    last = "" if "↔" in split_at("(", last)[0] else re.sub(r"¬ (?:\([^()]*\)|\S+)", "", last)
+    """What a type gives, with what is denied and what its parts in brackets ask for left out. An equivalence in brackets gives neither side."""
+    last = re.sub(r"¬ (?:\([^()]*\)|\S+)", "", split_at("→", text)[-1])
+    if "↔" in last:
+        return ""
     found, start = "", 0
     for opening, closing in groups(last):
         found += last[start : opening + 1] + given_by(last[opening + 1 : closing]) + ")"
