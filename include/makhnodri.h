@@ -176,8 +176,8 @@ enum {
  */
 static inline uint32_t makhnodri_entry(uint32_t kind, uint32_t first, uint32_t second) { return (kind << 20) + (first << 10) + second; }
 
-/* and back: MAKHNODRI_PT or MAKHNODRI_EE, and the two places */
-static inline uint32_t makhnodri_entry_kind(uint32_t entry) { return entry >> 20; }
+/* and back: MAKHNODRI_PT below 2^20 and MAKHNODRI_EE from there on, also of a number from 2^21 on, which no pair has; and the two places */
+static inline uint32_t makhnodri_entry_kind(uint32_t entry) { return entry < 1048576 ? MAKHNODRI_PT : MAKHNODRI_EE; }
 static inline uint32_t makhnodri_entry_first(uint32_t entry) { return entry >> 10 & 1023; }
 static inline uint32_t makhnodri_entry_second(uint32_t entry) { return entry & 1023; }
 

@@ -5,10 +5,10 @@ use crate::scenes::{RESTING, SLIDING};
 use crate::slices::{parts, Slices};
 use crate::timing::{shortest, Way};
 use crate::{earlier, plain, plain_rest, Bench};
-use compare::generate;
-use compare::random::Random;
+use compare::making::generate;
+use compare::numbers::random::Random;
 use compare::scene::Scene;
-use compare::settled::WORDS;
+use compare::verdicts::settled::WORDS;
 
 /// Pairs of one scene that are also asked for piece by piece.
 const ASKED_ALONE: usize = 40;

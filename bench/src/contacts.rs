@@ -6,7 +6,7 @@ use crate::scenes::layers;
 use crate::slices::Slices;
 use crate::timing::{shortest, Way};
 use crate::{plain, plain_rest, Bench};
-use compare::random::Random;
+use compare::numbers::random::Random;
 use compare::scene::Scene;
 
 /// Places far from each other, in each of which the same parts stand several times, so that every listed pair is hit, and no two places alike.

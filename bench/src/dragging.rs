@@ -6,9 +6,9 @@ use crate::scenes;
 use crate::slices::Slices;
 use crate::timing::{shortest, Way};
 use crate::Bench;
-use compare::random::Random;
+use compare::calls::stored::{self, Wrong, BOX_NUMBERS};
+use compare::numbers::random::Random;
 use compare::scene::Scene;
-use compare::stored::{self, Wrong, BOX_NUMBERS};
 use compare::text::write;
 
 /// A call of a microsecond is timed over so many.

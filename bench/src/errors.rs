@@ -4,10 +4,10 @@
 use crate::product::{self, Product};
 use crate::slices::Slices;
 use crate::wide;
-use compare::cubic;
-use compare::random::Random;
+use compare::numbers::random::Random;
 use compare::scene::{Scene, COORDINATE_LIMIT};
-use compare::verdict::Verdict;
+use compare::verdicts::verdict::Verdict;
+use compare::ways::cubic;
 
 pub const TOLERANCES: [f64; 4] = [0.0, 1e-9, 1e-6, 1e-3];
 

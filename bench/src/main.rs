@@ -27,12 +27,12 @@ mod tests;
 mod timing;
 mod wide;
 
-use compare::box_tests;
-use compare::cubic;
-use compare::random::Random;
+use compare::list::box_tests;
+use compare::making::sewing::split;
+use compare::numbers::random::Random;
 use compare::scene::{Scene, REPORT_ROOM};
-use compare::sewing::split;
 use compare::text::write;
+use compare::ways::cubic;
 use product::Product;
 use slices::{parts, Slices};
 use timing::{shortest, Timed, Way};
@@ -341,7 +341,7 @@ impl Bench {
 
     /// The series that is kept, a long text of few large steps, and one of many small ones: over the reports of their steps, one after the other.
     fn series(&self) {
-        let kept = std::fs::read(compare::kept::folder().join("series/sleeve.series")).expect("the sleeve");
+        let kept = std::fs::read(compare::making::kept::folder().join("series/sleeve.series")).expect("the sleeve");
         let kept = compare::series::read(&kept).expect("a series");
         let texts = [
             ("a patch drawn through a sleeve", kept),
@@ -358,22 +358,20 @@ impl Bench {
         let text = compare::series::write(series);
         let steps: Vec<String> = series.steps().iter().map(write).collect();
         let (mut report, mut slices) = ([0; product::REPORT_BYTES], Slices::with_room());
-        let (mut boxes, mut list) = (vec![0; compare::stored::BOX_NUMBERS], [0; REPORT_ROOM]);
-        let mut told = product::Told { log: [0; 128], told: [0; 8] };
+        let (mut boxes, mut list) = (vec![0; compare::calls::stored::BOX_NUMBERS], [0; REPORT_ROOM]);
+        let (mut log, mut told): (product::Log, product::Told) = ([0; 128], [0; 8]);
         let ways = vec![
             Way::new("the library's reports of the steps", || {
                 steps.iter().map(|step| product.report(step.as_bytes(), &mut report) as u64).sum()
             }),
             Way::new(OURS, || {
-                product.tell_series(text.as_bytes(), &mut slices, &mut boxes, &mut list, &mut told).expect("a series") as u64
+                let steps = product.tell_series(text.as_bytes(), &mut slices, &mut boxes, &mut list, &mut log, &mut told);
+                steps.expect("a series") as u64
             }),
         ];
         let times = shortest(ways, self.rounds);
         let right = compare::series::ended(text.as_bytes(), REPORT_ROOM).expect("a series").told;
-        assert!(
-            told.told[2] == right.listed && told.told[3..7] == right.totals,
-            "the library tells what the independent program tells"
-        );
+        assert!(told[2] == right.listed && told[3..7] == right.totals, "the library tells what the independent program tells");
         let title = format!("a series, {name} ({} bytes, {} steps, {} pairs)", text.len(), steps.len(), right.listed);
         table(&title, ("us", 1e6), &times);
     }

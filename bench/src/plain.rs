@@ -1,7 +1,7 @@
 //! The library's own way in plain safe Rust: what the proofs are held to cost nothing beside.
 
 use crate::slices::{entry, parts, Slices};
-use compare::verdict::Verdict;
+use compare::verdicts::verdict::Verdict;
 
 pub type Vector = [i64; 3];
 

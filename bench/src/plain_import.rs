@@ -1,10 +1,10 @@
 //! Two OBJ files in plain safe Rust: each file a mesh with its edges, every check in its order, then the scene and the boxes of its parts. The edges are
 //! looked for one by one among those that stand there, as the library does it, or found by a table.
 
+use compare::calls::stored::BOX_NUMBERS;
 use compare::obj::{File, Refused};
-use compare::refusal::*;
+use compare::scene::refusal::*;
 use compare::scene::{COORDINATE_LIMIT, EDGE_LIMIT, TEXT_LIMIT, TRIANGLE_LIMIT, VERTEX_LIMIT};
-use compare::stored::BOX_NUMBERS;
 
 /// The lists of a scene without seams, and the boxes of its parts, each with room for the largest scene in front of which it stands.
 pub struct Room {

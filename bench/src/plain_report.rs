@@ -3,9 +3,9 @@
 use crate::plain;
 use crate::plain_rest::settle;
 use crate::slices::{parts, Slices};
-use compare::refusal::*;
+use compare::scene::refusal::*;
 use compare::scene::{COORDINATE_LIMIT, EDGE_LIMIT, REPORT_ROOM, SEAM_LIMIT, TEXT_LIMIT, TRIANGLE_LIMIT, VERTEX_LIMIT};
-use compare::settled::Settled;
+use compare::verdicts::settled::Settled;
 
 /// The report, behind what `out` holds; `list` is the room that is lent for pairs.
 pub fn report(text: &[u8], list: &mut [u32; REPORT_ROOM], out: &mut Vec<u8>) {

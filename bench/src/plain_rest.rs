@@ -3,8 +3,8 @@
 
 use crate::plain::{edge_verdicts, judge, point_verdicts, volumes, Corner, Vector, END, START};
 use crate::slices::{parts, Slices};
-use compare::settled::Settled;
-use compare::verdict::Verdict;
+use compare::verdicts::settled::Settled;
+use compare::verdicts::verdict::Verdict;
 
 /// Which of the six corners are left, those of the first simplex first.
 type Left = [bool; 6];

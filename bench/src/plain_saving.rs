@@ -2,7 +2,7 @@
 //! with `write!`, with no look at the scene.
 
 use crate::slices::Slices;
-use compare::refusal::*;
+use compare::scene::refusal::*;
 use compare::scene::{COORDINATE_LIMIT, EDGE_LIMIT, SEAM_LIMIT, TEXT_LIMIT, TRIANGLE_LIMIT, VERTEX_LIMIT};
 use std::io::Write;
 

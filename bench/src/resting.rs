@@ -6,9 +6,9 @@ use crate::scenes::{RESTING, SLIDING};
 use crate::slices::{parts, Slices};
 use crate::timing::{shortest, Timed, Way};
 use crate::{plain, Bench};
-use compare::random::Random;
+use compare::numbers::random::Random;
 use compare::scene::Scene;
-use compare::settled::{joined, Settled, WORDS};
+use compare::verdicts::settled::{joined, Settled, WORDS};
 
 /// A scene with room for its list and its words.
 struct Lent {

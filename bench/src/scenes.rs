@@ -1,6 +1,6 @@
 //! The scenes that are timed.
 
-use compare::random::Random;
+use compare::numbers::random::Random;
 use compare::scene::{Scene, EDGE_LIMIT, TRIANGLE_LIMIT, VERTEX_LIMIT};
 
 /// Two layers of cloth as deep in each other as layers get: a sheet falls through another, both creased. Vertices and
@@ -117,10 +117,10 @@ fn and_at_rest(scene: Scene) -> [Scene; 2] {
     [scene, rest]
 }
 
-type Maker = fn(&mut Random) -> [Scene; 2];
+type Maker<T> = fn(&mut Random) -> T;
 
 /// Full-size scenes, each moving and at rest. In the flat ones all that is listed at rest lies in one plane.
-pub const RESTING: [(&str, Maker); 5] = [
+pub const RESTING: [(&str, Maker<[Scene; 2]>); 5] = [
     ("a creased sheet", |random| and_at_rest(folds(random, 32, 60, 20))),
     ("creased folds of 8 columns", |random| and_at_rest(folds(random, 8, 60, 20))),
     ("a flat sheet", |random| and_at_rest(folds(random, 32, 0, 0))),
@@ -136,7 +136,7 @@ fn flattened(mut scene: Scene) -> Scene {
 
 /// Full-size flat scenes that move in their plane, so that every listed pair is singular and hardly one rests: as a whole, or each vertex its own
 /// way; lying across z, across x, and askew.
-pub const SLIDING: [(&str, fn(&mut Random) -> Scene); 5] = [
+pub const SLIDING: [(&str, Maker<Scene>); 5] = [
     ("a flat sheet, shifted in its plane", |random| shifted(folds(random, 32, 0, 0))),
     ("flat folds, each vertex its own way in the plane", |random| in_plane(folds(random, 8, 0, 0))),
     ("creased in one plane, each its own way in it", |random| in_plane(folds(random, 8, 0, 20))),

@@ -1,7 +1,7 @@
 //! A scene as it is lent to the library, and the numbers that a cubic works on.
 
-use compare::cubic::Moving;
 use compare::scene::{Scene, EDGE_LIMIT, SEAM_LIMIT, TRIANGLE_LIMIT, VERTEX_LIMIT};
+use compare::ways::cubic::Moving;
 
 /// An entry of the list: 2^20 for two edges or 0 for a point and a triangle, plus 2^10 times the first place, plus the second.
 pub fn entry(kind: u32, first: usize, second: usize) -> u32 {

@@ -4,17 +4,17 @@ use crate::errors::{self, Kind, Set, Source};
 use crate::scenes;
 use crate::slices::Slices;
 use crate::{plain, plain_contacts, plain_import, plain_report, plain_rest, plain_saving, sweep, wide};
-use compare::box_tests;
 use compare::contacts::{self, making};
-use compare::generate;
-use compare::listing::listed;
-use compare::random::Random;
+use compare::list::box_tests;
+use compare::list::listing::listed;
+use compare::making::generate;
+use compare::numbers::random::Random;
 use compare::report::report;
+use compare::report::trials;
 use compare::scene::{Kind as PairKind, REPORT_ROOM};
-use compare::settled;
-use compare::signs::determinant;
-use compare::trials;
-use compare::verdict::of_pair;
+use compare::verdicts::settled;
+use compare::verdicts::verdict::of_pair;
+use compare::ways::signs::determinant;
 
 #[test]
 fn plain_and_wide_verdicts_and_lists_are_the_exact_ones() {
@@ -156,7 +156,7 @@ fn plain_importing_is_the_exact_one() {
             assert_eq!(given, Ok(()), "{}", trial.name);
             let slices = Slices::of(scene);
             let boxes: Vec<i32> =
-                compare::stored::boxes(scene, compare::stored::Wrong::None).into_iter().map(|n| n as i32).collect();
+                compare::calls::stored::boxes(scene, compare::calls::stored::Wrong::None).into_iter().map(|n| n as i32).collect();
             assert_eq!(room.positions[..slices.positions.len()], slices.positions, "{}", trial.name);
             assert_eq!(room.edges[..slices.edges.len()], slices.edges, "{}", trial.name);
             assert_eq!(room.triangles[..slices.triangles.len()], slices.triangles, "{}", trial.name);

@@ -3,7 +3,7 @@
 
 use crate::plain::joined;
 use crate::slices::{parts, Slices};
-use compare::verdict::Verdict;
+use compare::verdicts::verdict::Verdict;
 
 /// x, y, z and the time.
 type Point = [i128; 4];

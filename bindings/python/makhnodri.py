@@ -171,7 +171,8 @@ def entry(kind, first, second):
 
 
 def entry_kind(number):
-    return Kind(number >> 20)
+    """PT below 2^20 and EE from there on, also of a number from 2^21 on, which no pair has."""
+    return Kind.PT if number < 1 << 20 else Kind.EE
 
 
 def entry_first(number):

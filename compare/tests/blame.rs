@@ -1,9 +1,9 @@
 //! What is wrong with a refused text is told in words, and told of every refused text.
 
-use compare::blame::in_words;
-use compare::refusal::BAD_LINE;
+use compare::report::trials::{fixed, seeded};
+use compare::scene::refusal::BAD_LINE;
 use compare::scene::COORDINATE_LIMIT;
-use compare::trials::{fixed, seeded};
+use compare::text::blame::in_words;
 
 /// The words below the line for a text, joined.
 fn blamed(text: &[u8]) -> String {

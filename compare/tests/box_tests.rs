@@ -1,8 +1,11 @@
 //! The count of box tests of §12 of document 02, by hand where that can be, and whether wrong counts are told apart.
 
-use compare::box_tests::{heap, most, of, strip, wrong, SIZES};
+use compare::list::box_tests::{heap, most, of, strip, wrong, SIZES};
+use compare::list::listing;
+use compare::making::cases;
+use compare::making::generate;
 use compare::scene::Scene;
-use compare::{cases, generate, listing, text};
+use compare::text;
 
 fn scenes() -> Vec<Scene> {
     let seeded = (0..60).map(generate::scene);

@@ -3,13 +3,13 @@
 use compare::claims::making::{fixed, own_weights, point_on_point, seeded, true_weights, Trial};
 use compare::claims::mistakes::{self, ALL};
 use compare::claims::{printed, yes, WEIGHT_LIMIT};
-use compare::generate;
-use compare::kept;
-use compare::listing::boxes_meet;
-use compare::pieces::pieces;
+use compare::list::listing::boxes_meet;
+use compare::making::generate;
+use compare::making::kept;
 use compare::scene::all_pairs;
+use compare::scene::pieces::pieces;
 use compare::text;
-use compare::verdict::touches;
+use compare::verdicts::verdict::touches;
 
 const SEEDS: u64 = 120;
 
@@ -20,7 +20,7 @@ fn trials() -> impl Iterator<Item = Trial> {
 /// Document 01: 'Case 1, piece 1: weights 2, 2 against 2, 0, 1, 1.'
 #[test]
 fn the_documents_weights_are_answered_yes() {
-    let scene = text::write(&compare::cases::shown()[0].scene);
+    let scene = text::write(&compare::making::cases::shown()[0].scene);
     let of = |weights: &str| printed(scene.as_bytes(), format!("pt\t3\t0\t1\t{weights}\n").as_bytes());
     assert_eq!(of("2\t2\t2\t0\t1\t1"), "yes\n");
     assert_eq!(of("0\t0\t0\t0\t0\t0"), "no\n");
@@ -127,7 +127,7 @@ fn the_example_claims_have_their_answers() {
 fn the_page_tells_of_claims() {
     let page = std::fs::read_to_string(concat!(env!("CARGO_MANIFEST_DIR"), "/../docs/FORMAT.md")).unwrap();
     let part = page.split("## A partner's claims").nth(1).unwrap().split("\n## ").next().unwrap();
-    let scene = compare::cases::PRINTED_SCENE.as_bytes();
+    let scene = compare::making::cases::PRINTED_SCENE.as_bytes();
     let answer = |line: &str| printed(scene, format!("{line}\n").as_bytes());
     let mut held = 0;
     for row in part.lines().filter(|row| row.starts_with("| `") && row.contains('>')) {

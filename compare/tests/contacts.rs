@@ -1,17 +1,20 @@
 //! Contacts by document 02, §5: what the document says of them by multiplying out, held by other ways to the same numbers; the demands on
 //! scenes from seeds; and that each mistake is noticed.
 
-use compare::affine::Affine;
 use compare::contacts::making::{self, fixed, seeded, within, Trial};
 use compare::contacts::mistakes::{self, ALL};
 use compare::contacts::{chosen, hits, of_pair, printed, Contact, Fraction, Solved, UNIT};
-use compare::generate::{self, rewritten};
-use compare::pieces::pieces;
-use compare::random::Random;
+use compare::making::cases;
+use compare::making::generate::{self, rewritten};
+use compare::making::kept;
+use compare::numbers::random::Random;
+use compare::numbers::whole::Whole;
+use compare::scene::affine::Affine;
+use compare::scene::pieces::pieces;
 use compare::scene::*;
-use compare::settled::{self, Settled};
-use compare::whole::Whole;
-use compare::{cases, kept, signs, verdict};
+use compare::verdicts::settled::{self, Settled};
+use compare::verdicts::verdict;
+use compare::ways::signs;
 use std::cmp::Ordering;
 
 const SEEDS: u64 = 60;
@@ -194,7 +197,7 @@ fn the_trials_have_what_is_hard() {
         counts[4] += (first.k == UNIT) as u32;
         let time = hits.iter().find(|solved| solved.piece == first.piece).unwrap().time();
         let just = Fraction { above: Whole::from(first.k as i128), below: Whole::from(UNIT as i128) };
-        counts[5] += (first.k % 4 != 0 && time.compare(&just) == Ordering::Equal) as u32;
+        counts[5] += (!first.k.is_multiple_of(4) && time.compare(&just) == Ordering::Equal) as u32;
         counts[6] += first.shares.contains(&0) as u32;
         counts[7] += first.shares.contains(&UNIT) as u32;
         counts[8] += (first.shares.len() == 3 && first.shares.iter().sum::<u32>() < UNIT) as u32;

@@ -1,18 +1,18 @@
 //! What document 01 says with numbers, as document 02 leaves it: the printed scene, the twelve shown cases, the facts that are only run, and
 //! each refusal with each tie in the order of the checks.
 
-use compare::cases::{shown, text_cases, PRINTED_REPORT, PRINTED_SCENE};
-use compare::equations::Solutions;
-use compare::listing::is_listed;
-use compare::pieces::pieces;
-use compare::refusal::*;
+use compare::calls::slices::{flat, list, pair_settled, pair_verdict, piece_settled, piece_verdict, Slices};
+use compare::list::listing::is_listed;
+use compare::making::cases::{shown, text_cases, PRINTED_REPORT, PRINTED_SCENE};
+use compare::numbers::equations::Solutions;
+use compare::numbers::whole::Whole;
 use compare::report::report;
+use compare::scene::pieces::pieces;
+use compare::scene::refusal::*;
 use compare::scene::*;
-use compare::settled::{self, joined, Settled};
-use compare::slices::{flat, list, pair_settled, pair_verdict, piece_settled, piece_verdict, Slices};
 use compare::text::{read, read_lent, write};
-use compare::verdict::{of_pieces, Verdict};
-use compare::whole::Whole;
+use compare::verdicts::settled::{self, joined, Settled};
+use compare::verdicts::verdict::{of_pieces, Verdict};
 
 #[test]
 fn the_printed_scene() {
@@ -127,7 +127,7 @@ fn written_and_read_again() {
 }
 
 fn refused(positions: &[i64], edges: &[u64], triangles: &[u64]) -> u64 {
-    compare::slices::scene(Slices { positions, edges, triangles, seams: &[] }).unwrap_err().number
+    compare::calls::slices::scene(Slices { positions, edges, triangles, seams: &[] }).unwrap_err().number
 }
 
 #[test]
@@ -149,7 +149,7 @@ fn slices_are_checked_whole_before_the_next_check() {
     assert_eq!(refused(&three, &[0, u64::MAX], &[]), NO_SUCH_VERTEX);
     assert_eq!(refused(&three, &[1, 1], &[0, 1, 2]), VERTEX_TWICE);
     assert_eq!(refused(&three, &[0, 1], &[2, 1, 2]), VERTEX_TWICE);
-    let full = compare::slices::scene(Slices {
+    let full = compare::calls::slices::scene(Slices {
         positions: &[524_287; 3_072],
         edges: &[0, 511].repeat(1_024),
         triangles: &[0, 1, 511].repeat(512),

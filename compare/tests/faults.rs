@@ -1,12 +1,12 @@
 //! The table of faults: a second way to the refusal of a text, and a text for each cell.
 
-use compare::cases::text_cases;
-use compare::crossed;
-use compare::damage::damaged;
-use compare::faults::{cells, of_lines, reached, LINE_CHECKS};
-use compare::generate;
-use compare::random::Random;
-use compare::refusal::Refusal;
+use compare::making::cases::text_cases;
+use compare::making::generate;
+use compare::numbers::random::Random;
+use compare::scene::refusal::Refusal;
+use compare::text::crossed;
+use compare::text::damage::damaged;
+use compare::text::faults::{cells, of_lines, reached, LINE_CHECKS};
 use compare::text::{read, write};
 
 /// The first line that has a fault, and the first of its faults, is what the text is refused for.

@@ -1,7 +1,7 @@
 //! What docs/FORMAT.md says of lines that are written wrong, and of limits, is what the reader does.
 
-use compare::kept;
-use compare::refusal::Refusal;
+use compare::making::kept;
+use compare::scene::refusal::Refusal;
 use compare::scene::*;
 use compare::text::{read, take, write};
 

@@ -1,20 +1,20 @@
 //! The independent program held against other ways of saying the same thing, and against the demands, on scenes
 //! from seeds.
 
-use compare::affine::{determinant, Affine};
-use compare::backwards;
-use compare::equations::{meet, Point, Solutions};
-use compare::generate::{self, rewritten, KINDS};
-use compare::listing::{self, is_culled, list};
-use compare::pieces::{pieces, Piece};
-use compare::random::Random;
+use compare::list::listing::{self, is_culled, list};
+use compare::making::generate::{self, rewritten, KINDS};
+use compare::numbers::equations::{meet, Point, Solutions};
+use compare::numbers::random::Random;
+use compare::numbers::whole::Whole;
 use compare::report::{judged_scene, written};
+use compare::scene::affine::{determinant, Affine};
+use compare::scene::backwards;
+use compare::scene::pieces::{pieces, Piece};
 use compare::scene::*;
-use compare::search::{searched, Way};
-use compare::settled::{self, Settled};
 use compare::text::{read, write};
-use compare::verdict::{of_pair, of_piece, of_pieces, touches, Verdict};
-use compare::whole::Whole;
+use compare::verdicts::settled::{self, Settled};
+use compare::verdicts::verdict::{of_pair, of_piece, of_pieces, touches, Verdict};
+use compare::ways::search::{searched, Way};
 
 /// The crowded kind is left out where every pair is looked at.
 fn small_scenes(rounds: u64) -> impl Iterator<Item = (u64, Scene)> {

@@ -1,6 +1,6 @@
 //! OBJ files by document 02, §3: what the document says with numbers, the cases of the proved reader, and that each mistake is noticed.
 
-use compare::kept;
+use compare::making::kept;
 use compare::obj::faults::{cells, reached, Cell};
 use compare::obj::making::{cases, fixed, kept_pairs, seeded, Trial};
 use compare::obj::*;

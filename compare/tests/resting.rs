@@ -1,14 +1,14 @@
 //! Cloth at rest: each wrong way to decide a degenerate piece differs from the right answer, on a scene that is kept and
 //! on scenes from seeds; and the generated scenes are what they are said to be.
 
-use compare::generate::{self, KINDS};
-use compare::kept;
-use compare::mistakes::{self, Right};
-use compare::pieces::pieces;
+use compare::making::generate::{self, KINDS};
+use compare::making::kept;
+use compare::report::mistakes::{self, Right};
+use compare::scene::pieces::pieces;
 use compare::scene::{all_pairs, Scene, REPORT_ROOM};
-use compare::search::{touches, Way};
-use compare::settled::{of_pair, of_piece, Settled};
-use compare::verdict::Verdict;
+use compare::verdicts::settled::{of_pair, of_piece, Settled};
+use compare::verdicts::verdict::Verdict;
+use compare::ways::search::{touches, Way};
 
 fn kept_report(key: &str, name: &str) -> (String, String) {
     let text = std::fs::read(kept::folder().join(format!("{name}.scene"))).unwrap();
@@ -57,7 +57,7 @@ fn words_of(name: &'static str, rounds: u64) -> [u32; 4] {
     for scene in scenes_of(name, rounds) {
         for pair in all_pairs(&scene).into_iter().filter(|pair| !pair.shares_a_vertex(&scene)) {
             let word = of_pair(&scene, pair);
-            out[compare::settled::WORDS.iter().position(|other| *other == word).unwrap()] += 1;
+            out[compare::verdicts::settled::WORDS.iter().position(|other| *other == word).unwrap()] += 1;
         }
     }
     out

@@ -1,6 +1,8 @@
 //! A program under test may hang, fail, or print without end: the comparison must not.
 
 use compare::running::{Failed, Program};
+use std::path::{Path, PathBuf};
+use std::process::Command;
 use std::time::{Duration, Instant};
 
 fn program(words: &[&str]) -> Program {
@@ -37,4 +39,38 @@ fn one_that_fails_or_prints_without_end_is_noticed() {
 #[test]
 fn one_that_does_not_read_is_fine() {
     assert_eq!(program(&["echo", "total"]).run(&vec![0; 500_000], 1), Ok(b"total\n".to_vec()));
+}
+
+fn files_in(folder: &Path) -> Vec<PathBuf> {
+    let mut files: Vec<PathBuf> = std::fs::read_dir(folder).unwrap().map(|entry| entry.unwrap().path()).collect();
+    files.sort();
+    files
+}
+
+/// Of a program that prints nothing three texts are kept, each told with its place, in a folder that has nothing else in it.
+#[test]
+fn what_a_comparison_keeps_is_in_a_folder_of_its_own() {
+    for (comparison, programs, name, kept) in [
+        (env!("CARGO_BIN_EXE_compare-with"), 1, "run", [".scene"; 1].as_slice()),
+        (env!("CARGO_BIN_EXE_compare-contacts"), 1, "contacts", &[".scene"]),
+        (env!("CARGO_BIN_EXE_compare-series"), 1, "series", &[".series"]),
+        (env!("CARGO_BIN_EXE_compare-claims"), 1, "claims", &["/claims", "/scene"]),
+        (env!("CARGO_BIN_EXE_compare-obj"), 2, "obj", &["/end.obj", "/start.obj"]),
+    ] {
+        let temporary = std::env::temp_dir().join(format!("tests-running-{name}-{}", std::process::id()));
+        std::fs::create_dir(&temporary).unwrap();
+        let run = Command::new(comparison).args(vec!["true"; programs]).arg("0").env("TMPDIR", &temporary).output().unwrap();
+        let told = String::from_utf8(run.stdout).unwrap();
+        assert_eq!(run.status.code(), Some(1), "{name}: {told}");
+        let [folder] = &files_in(&temporary)[..] else { panic!("{name}: {:?}", files_in(&temporary)) };
+        assert!(folder.file_name().unwrap().to_string_lossy().starts_with(&format!("compare-{name}-")), "{folder:?}");
+        let wanted = (1..=3).flat_map(|number| kept.iter().map(move |ending| format!("difference-{number}{ending}")));
+        let wanted: Vec<PathBuf> = wanted.map(|file| folder.join(file)).collect();
+        let there = files_in(folder).into_iter().flat_map(|path| if path.is_dir() { files_in(&path) } else { vec![path] });
+        assert_eq!(there.collect::<Vec<_>>(), wanted, "{name}");
+        let place =
+            |file: &PathBuf| if file.parent() == Some(folder) { file.clone() } else { file.parent().unwrap().to_path_buf() };
+        assert!(wanted.iter().all(|file| told.contains(&place(file).display().to_string())), "{name}: {told}");
+        std::fs::remove_dir_all(&temporary).unwrap();
+    }
 }

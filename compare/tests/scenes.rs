@@ -1,6 +1,6 @@
 //! The example scenes: each has its report beside it and a line in the table that tells what it shows.
 
-use compare::kept;
+use compare::making::kept;
 use compare::report::report;
 use compare::scene::REPORT_ROOM;
 

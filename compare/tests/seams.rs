@@ -1,18 +1,18 @@
 //! Seams by document 02, §6: each rule with its number and its line, in a text and in slices; what sewing leaves as it was; and that generated scenes
 //! have the seams that they are said to have.
 
-use compare::affine::Affine;
-use compare::generate::{self, KINDS};
-use compare::listing::listed;
-use compare::pieces::corners;
-use compare::random::Random;
-use compare::refusal::*;
+use compare::calls::slices::{self, flat, Slices};
+use compare::list::listing::listed;
+use compare::making::generate::{self, KINDS};
+use compare::making::sewing::split;
+use compare::numbers::random::Random;
 use compare::report::report;
+use compare::scene::affine::Affine;
+use compare::scene::pieces::corners;
+use compare::scene::refusal::*;
 use compare::scene::*;
-use compare::settled;
-use compare::sewing::split;
-use compare::slices::{self, flat, Slices};
 use compare::text::{read, write};
+use compare::verdicts::settled;
 
 /// Vertices at x 0, 1, 2, .. at both times; the two of a pair of letters stand in one place.
 fn vertices(places: &str) -> String {

@@ -1,11 +1,11 @@
 //! A series by document 02, §2: what the document says, other ways to the same answer, and whether the comparison can fail.
 
-use compare::faults::Cell;
-use compare::generate;
-use compare::kept;
-use compare::random::Random;
-use compare::refusal::*;
+use compare::calls::slices::entry;
+use compare::making::generate;
+use compare::making::kept;
+use compare::numbers::random::Random;
 use compare::report;
+use compare::scene::refusal::*;
 use compare::scene::*;
 use compare::series::faults::{cells, of_lines, reaches, LINE_CHECKS};
 use compare::series::making::{
@@ -13,9 +13,9 @@ use compare::series::making::{
 };
 use compare::series::mistakes::{self, Outcome, Right};
 use compare::series::*;
-use compare::settled::Settled;
-use compare::slices::entry;
 use compare::text;
+use compare::text::faults::Cell;
+use compare::verdicts::settled::Settled;
 use std::collections::BTreeMap;
 
 const SEEDS: u64 = 130;
@@ -187,7 +187,7 @@ fn the_series_have_what_is_wanted() {
         let series = series(seed);
         let ended = ended(write(&series).as_bytes(), REPORT_ROOM);
         let Ok(Ended { told, list, .. }) = ended else { continue };
-        let lists: Vec<usize> = series.steps().iter().map(|step| compare::listing::listed(step).len()).collect();
+        let lists: Vec<usize> = series.steps().iter().map(|step| compare::list::listing::listed(step).len()).collect();
         count("some steps", series.blocks.len() > 1);
         count("dozens of steps", series.blocks.len() > 24);
         count("seams in blocks", !series.blocks.is_empty() && !series.scene.seams.is_empty());
@@ -297,7 +297,7 @@ fn the_buffers_hold_the_last_step() {
             assert_eq!((lent, count >> 32), (before, NO_ROOM), "seed {seed}");
             continue;
         }
-        let list = compare::listing::listed(&last);
+        let list = compare::list::listing::listed(&last);
         assert_eq!(count, list.len() as u64);
         let front = list.len();
         assert_eq!(lent.list[..front], list.iter().map(|&pair| entry(pair)).collect::<Vec<u32>>()[..]);
@@ -318,7 +318,7 @@ fn the_buffers_hold_the_last_step() {
         let told = told_of(&series);
         let rows: Vec<[u32; 2]> = told.log.iter().map(|hit| [hit.step as u32, entry(hit.pair)]).collect();
         assert_eq!(lent.log[..held], rows.concat()[..]);
-        longer_before += series.steps().iter().any(|step| compare::listing::listed(step).len() > front) as u32;
+        longer_before += series.steps().iter().any(|step| compare::list::listing::listed(step).len() > front) as u32;
     }
     assert!(longer_before > 10, "{longer_before}");
 }

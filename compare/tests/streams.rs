@@ -1,6 +1,6 @@
 //! Whoever has seen enough of what a program here prints may close it, and a text that cannot be read is told in words.
 
-use compare::kept;
+use compare::making::kept;
 use std::fs::File;
 use std::io::{Read, Write};
 use std::process::{Command, Stdio};

@@ -1,10 +1,10 @@
 //! Whether the comparison can fail: each report program that is wrong in one respect is told from document 01 by some
 //! text, named by what it prints, and told from every other wrong one.
 
-use compare::looks::like;
-use compare::mistakes::{self, Mistake, Right};
+use compare::report::mistakes::{self, Mistake, Right};
+use compare::report::trials::{self, Trial};
+use compare::running::looks::like;
 use compare::scene::REPORT_ROOM;
-use compare::trials::{self, Trial};
 
 const SEEDS: u64 = 130;
 /// Longer reports from seeds take their time; those of a full list are among the fixed texts.

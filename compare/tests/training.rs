@@ -1,19 +1,19 @@
 //! What docs/TRAINING.md shows is what the programs print, and what it says of its scenes is so.
 
+use compare::calls::stored;
 use compare::contacts;
-use compare::equations::{meet, Point};
-use compare::explain::explained;
-use compare::kept;
-use compare::listing;
-use compare::mistakes::{self, Right};
+use compare::list::listing;
+use compare::making::kept;
+use compare::numbers::equations::{meet, Point};
 use compare::obj;
+use compare::report::mistakes::{self, Right};
 use compare::report::report;
 use compare::scene::{Pair, Scene, REPORT_ROOM};
 use compare::series;
-use compare::settled::{of_pair, Settled};
-use compare::stored;
+use compare::showing::explain::explained;
 use compare::text::read;
-use compare::verdict::{of_pieces, Verdict};
+use compare::verdicts::settled::{of_pair, Settled};
+use compare::verdicts::verdict::{of_pieces, Verdict};
 
 fn page() -> String {
     std::fs::read_to_string(kept::folder().join("../docs/TRAINING.md")).unwrap()

@@ -7,7 +7,7 @@
 use crate::fault::Fault;
 use crate::mesh::Mesh;
 use crate::packing::Part;
-use crate::pairs::{Kind, Pair};
+use crate::pairs::{kind_of, Pair};
 use crate::report::About;
 use std::fmt::Write;
 
@@ -57,8 +57,8 @@ impl Index {
         for part in &self.parts {
             line(format_args!("part\t{}\t{}\n", part.name, part.listed));
             for (pair, within) in &part.pairs {
-                let letters = pair.kind.letters();
-                line(format_args!("{letters}\t{}\t{}\t{}\t{}\n", pair.first, pair.second, within.first, within.second));
+                let Pair { kind, first, second } = pair;
+                line(format_args!("{kind}\t{first}\t{second}\t{}\t{}\n", within.first, within.second));
             }
         }
         line(format_args!("{}\n", self.end()));
@@ -101,7 +101,7 @@ impl Index {
             let listed = fields.next()?.parse().ok().filter(|_| !name.is_empty() && !name.contains('/'))?;
             self.parts.push(Entry { name, listed, pairs: Vec::new() });
         } else {
-            let kind = Kind::of_letters(first.as_bytes())?;
+            let kind = kind_of(first.as_bytes())?;
             let mut place = || fields.next()?.parse().ok();
             let pair = Pair { kind, first: place()?, second: place()? };
             let within = Pair { kind, first: place()?, second: place()? };

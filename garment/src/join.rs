@@ -2,8 +2,8 @@
 
 use crate::fault::Fault;
 use crate::index::{Entry, Index};
-use crate::pairs::{Kind, Pair};
-use crate::report::{of_letters, row_length, Form, Row, Tally, Writer};
+use crate::pairs::{kind_of, Pair};
+use crate::report::{row_length, word_of, Form, Row, Tally, Writer};
 use crate::split::INDEX;
 use crate::whole::unwritten;
 use makhnodri::Settled;
@@ -49,7 +49,7 @@ fn of_parts<T>(
         }
     }
     if let Some(Pair { kind, first, second }) = twice(index) {
-        faults.push(Fault::new(format!("{} has {} {first} {second} twice", folder.join(INDEX).display(), kind.letters())));
+        faults.push(Fault::new(format!("{} has {kind} {first} {second} twice", folder.join(INDEX).display())));
     }
     all.sort_unstable_by_key(|&(pair, _)| pair);
     if faults.is_empty() {
@@ -127,7 +127,7 @@ fn given(part: &Entry, report: &[u8]) -> Result<Words, Fault> {
             Some(&(found, word)) if found == within => words.push((pair, word)),
             _ => {
                 let Pair { kind, first, second } = within;
-                return Err(fault(format!("its report has no line {} {first} {second}: it is of another scene", kind.letters())));
+                return Err(fault(format!("its report has no line {kind} {first} {second}: it is of another scene")));
             }
         }
     }
@@ -185,13 +185,13 @@ fn whole_report(report: &[u8]) -> Result<Words, String> {
 fn pair_of(line: &[u8]) -> Option<(Pair, Settled)> {
     let fields: Vec<&[u8]> = line.split(|&byte| byte == b'\t').collect();
     let [kind, first, second, word] = fields[..] else { return None };
-    Some((Pair { kind: Kind::of_letters(kind)?, first: number_of(first)?, second: number_of(second)? }, of_letters(word)?))
+    Some((Pair { kind: kind_of(kind)?, first: number_of(first)?, second: number_of(second)? }, word_of(word)?))
 }
 
 fn contact_of(line: &[u8]) -> Option<(Pair, Row)> {
     let fields: Vec<&[u8]> = line.split(|&byte| byte == b'\t').collect();
     let [kind, first, second, numbers @ ..] = &fields[..] else { return None };
-    let pair = Pair { kind: Kind::of_letters(kind)?, first: number_of(first)?, second: number_of(second)? };
+    let pair = Pair { kind: kind_of(kind)?, first: number_of(first)?, second: number_of(second)? };
     let numbers: Vec<u32> = numbers.iter().map(|field| number_of(field)).collect::<Option<_>>()?;
     let mut row = Row::default();
     row.get_mut(..row_length(pair.kind)).filter(|row| row.len() == numbers.len())?.copy_from_slice(&numbers);

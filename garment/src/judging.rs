@@ -3,11 +3,11 @@
 //! A pair is judged by its own four vertices, so a scene of these is enough, as long as it keeps what the pieces of a pair go by: the order
 //! of its vertices, by the vertex that each stands for, and which of two edges is the lower. A pair that is listed shares no vertex, so its
 //! four stand for four, and the scene needs no seam. Words and contacts are asked of the same scene, `Alone::asked`. That it speaks for the
-//! mesh is proved: crates/parts_of_meshes/specs/Alone.antt, `settled-alone` and `contact-alone`.
+//! mesh is proved: crates/mesh_demands/specs/Alone.antt, `settled-alone` and `contact-alone`.
 //!
 //! A call for each pair costs more than the pair. So as many pairs as a scene has room for stand in it side by side, each with four vertices
 //! of its own, and one call is asked for all: `Packed`. That scene and its entries are `together` and `entriesOf` of
-//! crates/parts_of_meshes/specs/Together.antt, and it is proved that the call gives what the pairs have in the mesh: `settled-together` in Given.antt
+//! crates/mesh_demands/specs/Together.antt, and it is proved that the call gives what the pairs have in the mesh: `settled-together` in Given.antt
 //! beside it, and `contacts-together`.
 
 use crate::mesh::Mesh;
@@ -81,13 +81,13 @@ impl Packed {
                 Kind::PointTriangle => {
                     self.triangles[of_points] = corners;
                     of_points += 1;
-                    entry_of(makhnodri::Kind::PointTriangle, first as usize, of_points - 1)
+                    entry_of(pair.kind, first as usize, of_points - 1)
                 }
                 Kind::EdgeEdge => {
                     let [second, third, fourth] = corners;
                     self.edges[of_edges] = [first, second, third, fourth];
                     of_edges += 1;
-                    entry_of(makhnodri::Kind::EdgeEdge, 2 * of_edges - 2, 2 * of_edges - 1)
+                    entry_of(pair.kind, 2 * of_edges - 2, 2 * of_edges - 1)
                 }
             };
         }
@@ -100,20 +100,13 @@ fn scene_of<'a>(positions: &'a [[[i32; 6]; 4]], edges: &'a [[u16; 4]], triangles
 }
 
 #[inline(always)]
-fn entry_of(kind: makhnodri::Kind, first: usize, second: usize) -> u32 {
+fn entry_of(kind: Kind, first: usize, second: usize) -> u32 {
     makhnodri::Pair { kind, first, second }.entry()
 }
 
-/// 2 is degenerate's, and no word of these.
 #[inline(always)]
 fn word_of(byte: u8) -> Settled {
-    match byte {
-        0 => Settled::Hit,
-        1 => Settled::Miss,
-        3 => Settled::Touch,
-        4 => Settled::Apart,
-        other => unreachable!("{other} stands for no word"),
-    }
+    Settled::of_byte(byte).expect("the library writes words alone")
 }
 
 /// The word of a pair, asked for alone.
@@ -153,27 +146,27 @@ impl Alone {
     /// A hit and a miss are the same in three words and in four, and three are sooner asked for; what is degenerate is then decided.
     #[inline(always)]
     pub fn settle(&self) -> Result<Settled, Refusal> {
-        let (kind, scene, [first, second]) = self.asked();
-        match scene.judge_pair(kind, first, second)? {
+        let (scene, [first, second]) = self.asked();
+        match scene.judge_pair(self.kind, first, second)? {
             Verdict::Hit => Ok(Settled::Hit),
             Verdict::Miss => Ok(Settled::Miss),
-            Verdict::Degenerate => scene.settle_pair(kind, first, second),
+            Verdict::Degenerate => scene.settle_pair(self.kind, first, second),
         }
     }
 
     pub fn contact(&self) -> Result<Contact, Refusal> {
-        let (kind, scene, [first, second]) = self.asked();
-        scene.contact_pair(kind, first, second)
+        let (scene, [first, second]) = self.asked();
+        scene.contact_pair(self.kind, first, second)
     }
 
     /// The scene as the library takes it, and the pair in its numbers.
     #[inline(always)]
-    fn asked(&self) -> (makhnodri::Kind, Scene<'_>, [usize; 2]) {
+    fn asked(&self) -> (Scene<'_>, [usize; 2]) {
         let positions = &self.positions;
         let [first, corners @ ..] = &self.places;
         match self.kind {
-            Kind::PointTriangle => (makhnodri::Kind::PointTriangle, Scene::new(positions, &[], corners), [*first as usize, 0]),
-            Kind::EdgeEdge => (makhnodri::Kind::EdgeEdge, Scene::new(positions, &self.places, &[]), [0, 1]),
+            Kind::PointTriangle => (Scene::new(positions, &[], corners), [*first as usize, 0]),
+            Kind::EdgeEdge => (Scene::new(positions, &self.places, &[]), [0, 1]),
         }
     }
 }

@@ -6,7 +6,7 @@
 //! down in order. For a farm `curve` and `packing` fill scenes, `split` writes them and `join` puts their reports together by the `index`.
 //! `words` understands the command line, and `command` does what it says.
 //!
-//! What is proved is the library, and that a pair alone speaks for the mesh: crates/parts_of_meshes. The reading, the rounding and the search for
+//! What is proved is the library, and that a pair alone speaks for the mesh: crates/mesh_demands. The reading, the rounding and the search for
 //! pairs are this program's own, and are compared: garment/check.
 
 pub mod boxes;

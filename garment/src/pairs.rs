@@ -1,11 +1,6 @@
 //! A pair in the mesh's own numbers.
 
-/// In the order of the list: a point and a triangle first.
-#[derive(Clone, Copy, Debug, PartialEq, Eq, PartialOrd, Ord, Hash)]
-pub enum Kind {
-    PointTriangle,
-    EdgeEdge,
-}
+pub use makhnodri::Kind;
 
 /// A vertex and a triangle, or two edges, the lower first. Pairs rise as the list has them.
 #[derive(Clone, Copy, Debug, PartialEq, Eq, PartialOrd, Ord, Hash)]
@@ -15,27 +10,14 @@ pub struct Pair {
     pub second: u32,
 }
 
-impl Kind {
-    /// As a report writes it.
-    pub fn letters(self) -> &'static str {
-        match self {
-            Kind::PointTriangle => "pt",
-            Kind::EdgeEdge => "ee",
-        }
-    }
-
-    pub fn of_letters(letters: &[u8]) -> Option<Kind> {
-        [Kind::PointTriangle, Kind::EdgeEdge].into_iter().find(|kind| kind.letters().as_bytes() == letters)
-    }
+/// The kind that a report writes so.
+pub fn kind_of(letters: &[u8]) -> Option<Kind> {
+    [Kind::PointTriangle, Kind::EdgeEdge].into_iter().find(|kind| kind.letters().as_bytes() == letters)
 }
 
 impl Pair {
     /// A pair of a scene, as the library names it.
     pub fn of_library(pair: makhnodri::Pair) -> Pair {
-        let kind = match pair.kind {
-            makhnodri::Kind::PointTriangle => Kind::PointTriangle,
-            makhnodri::Kind::EdgeEdge => Kind::EdgeEdge,
-        };
-        Pair { kind, first: pair.first as u32, second: pair.second as u32 }
+        Pair { kind: pair.kind, first: pair.first as u32, second: pair.second as u32 }
     }
 }

@@ -7,17 +7,9 @@ use std::io::Write;
 /// The four words, in the order in which the totals name them.
 pub const WORDS: [Settled; 4] = [Settled::Hit, Settled::Miss, Settled::Touch, Settled::Apart];
 
-pub fn letters(word: Settled) -> &'static str {
-    match word {
-        Settled::Hit => "hit",
-        Settled::Miss => "miss",
-        Settled::Touch => "touch",
-        Settled::Apart => "apart",
-    }
-}
-
-pub fn of_letters(word: &[u8]) -> Option<Settled> {
-    WORDS.into_iter().find(|&other| letters(other).as_bytes() == word)
+/// The word that a report writes so.
+pub fn word_of(letters: &[u8]) -> Option<Settled> {
+    WORDS.into_iter().find(|word| word.word().as_bytes() == letters)
 }
 
 fn place(word: Settled) -> usize {
@@ -114,7 +106,7 @@ impl Form {
         if !self.shown.contains(&word) {
             return;
         }
-        let (kind, word) = (pair.kind.letters(), letters(word));
+        let (kind, word) = (pair.kind.letters(), word.word());
         if self.json {
             let Pair { first, second, .. } = pair;
             let line = format!(",\n{{\"kind\":\"{kind}\",\"first\":{first},\"second\":{second},\"word\":\"{word}\"}}");

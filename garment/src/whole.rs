@@ -102,10 +102,7 @@ fn refused(pairs: &[Pair], refusal: OwnRefusal) -> Fault {
         _ => (0, "this pair and those behind it"),
     };
     let Pair { kind, first, second } = pairs[at];
-    Fault::new(format!(
-        "{} {first} {second}: the library refused {what} ({refusal}): this is a fault of the program",
-        kind.letters()
-    ))
+    Fault::new(format!("{kind} {first} {second}: the library refused {what} ({refusal}): this is a fault of the program"))
 }
 
 pub fn unwritten(error: io::Error) -> Fault {

@@ -1,6 +1,6 @@
 //! The words of the command line, understood.
 
-use crate::report::{of_letters, Form};
+use crate::report::{word_of, Form};
 use crate::work;
 use makhnodri::Settled;
 use std::ffi::OsString;
@@ -138,7 +138,7 @@ impl Options {
             "--step" => self.step = Some(value.parse().ok().filter(|step: &f64| step.is_normal() && *step > 0.0)?),
             "--threads" => self.threads = value.parse().ok().filter(|threads| (1..=MOST_THREADS).contains(threads))?,
             "--only" => {
-                self.form.shown = value.split(',').map(|word| of_letters(word.as_bytes())).collect::<Option<Vec<Settled>>>()?
+                self.form.shown = value.split(',').map(|word| word_of(word.as_bytes())).collect::<Option<Vec<Settled>>>()?
             }
             "--seams" => self.seams = true,
             "--contacts" => self.form.contacts = true,

@@ -10,7 +10,7 @@ SCENES = sorted((TOP / "scenes").rglob("*.scene"))
 
 def independent(program, *words, text=b""):
     """What a program of compare/, which knows nothing of the library, prints."""
-    answer = subprocess.run([TOP / "compare/target/release" / program, *words], input=text, stdout=subprocess.PIPE, timeout=60, check=True)
+    answer = subprocess.run([TOP / "build/release" / program, *words], input=text, stdout=subprocess.PIPE, timeout=60, check=True)
     return answer.stdout
 
 

@@ -78,4 +78,6 @@ class Header(unittest.TestCase):
         self.assertEqual(makhnodri.entry(makhnodri.EE, 1, 1023), (1 << 20) + (1 << 10) + 1023)
         pair = makhnodri.Pair.of_entry((1 << 20) + (5 << 10) + 7)
         self.assertEqual((pair, str(pair), pair.entry), ((makhnodri.EE, 5, 7), "ee 5 7", (1 << 20) + (5 << 10) + 7))
+        kinds = [makhnodri.entry_kind(number) for number in ((1 << 20) - 1, 1 << 20, 1 << 21, (1 << 32) - 1)]
+        self.assertEqual(kinds, [makhnodri.PT, makhnodri.EE, makhnodri.EE, makhnodri.EE])
         self.assertEqual((makhnodri.part(524288), makhnodri.contact_time([0, 1, 2, 3, 4]), makhnodri.contact_share([0, 1, 2, 3, 4], 1)), (0.5, 2**-20, 3 * 2**-20))

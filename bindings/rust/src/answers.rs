@@ -4,14 +4,25 @@
 use std::error::Error;
 use std::fmt::{self, Display, Formatter};
 
-/// A pair is asked for by kind: a point and a triangle, or two edges.
-#[derive(Clone, Copy, Debug, PartialEq, Eq, Hash)]
+/// A pair is asked for by kind: a point and a triangle, or two edges. They rise as the list has them; each is displayed as a report writes it.
+#[derive(Clone, Copy, Debug, PartialEq, Eq, PartialOrd, Ord, Hash)]
 pub enum Kind {
     PointTriangle,
     EdgeEdge,
 }
 
-/// In three words: what is singular stays open.
+impl Kind {
+    /// As a report writes it.
+    #[inline]
+    pub fn letters(self) -> &'static str {
+        match self {
+            Kind::PointTriangle => "pt",
+            Kind::EdgeEdge => "ee",
+        }
+    }
+}
+
+/// In three words: what is singular stays open. Each is displayed as its word.
 #[derive(Clone, Copy, Debug, PartialEq, Eq, Hash)]
 pub enum Verdict {
     Hit = 0,
@@ -19,7 +30,19 @@ pub enum Verdict {
     Degenerate = 2,
 }
 
-/// In four words: a degenerate piece is decided too. It touches if weights exist, none negative; else it is apart.
+impl Verdict {
+    #[inline]
+    pub fn word(self) -> &'static str {
+        match self {
+            Verdict::Hit => "hit",
+            Verdict::Miss => "miss",
+            Verdict::Degenerate => "degenerate",
+        }
+    }
+}
+
+/// In four words: a degenerate piece is decided too. It touches if weights exist, none negative; else it is apart. Each is displayed as a
+/// report writes it.
 #[derive(Clone, Copy, Debug, PartialEq, Eq, Hash)]
 pub enum Settled {
     Hit = 0,
@@ -29,6 +52,37 @@ pub enum Settled {
 }
 
 impl Settled {
+    /// The word of a byte that a call left in `words`; 2 is degenerate's, and no word of these.
+    ///
+    /// ```
+    /// use makhnodri::Settled;
+    ///
+    /// assert_eq!(Settled::of_byte(3), Some(Settled::Touch));
+    /// assert_eq!(Settled::of_byte(2), None);
+    /// assert_eq!(Settled::Touch.to_string(), "touch");
+    /// ```
+    #[inline]
+    pub fn of_byte(byte: u8) -> Option<Settled> {
+        match byte {
+            0 => Some(Settled::Hit),
+            1 => Some(Settled::Miss),
+            3 => Some(Settled::Touch),
+            4 => Some(Settled::Apart),
+            _ => None,
+        }
+    }
+
+    /// As a report writes it.
+    #[inline]
+    pub fn word(self) -> &'static str {
+        match self {
+            Settled::Hit => "hit",
+            Settled::Miss => "miss",
+            Settled::Touch => "touch",
+            Settled::Apart => "apart",
+        }
+    }
+
     /// The verdict that it decides further.
     pub fn verdict(self) -> Verdict {
         match self {
@@ -39,8 +93,8 @@ impl Settled {
     }
 }
 
-/// A vertex and a triangle, or two edges, by their places: each counted from 0 in its own kind.
-#[derive(Clone, Copy, Debug, PartialEq, Eq, Hash)]
+/// A vertex and a triangle, or two edges, by their places: each counted from 0 in its own kind. Pairs rise as the list has them.
+#[derive(Clone, Copy, Debug, PartialEq, Eq, PartialOrd, Ord, Hash)]
 pub struct Pair {
     pub kind: Kind,
     pub first: usize,
@@ -58,6 +112,7 @@ impl Pair {
         ((self.kind as u32) << 20) + ((self.first as u32) << 10) + self.second as u32
     }
 
+    /// The pair of a number: a point and a triangle below 2^20 and two edges from there on, also of a number from 2^21 on, which no pair has.
     pub fn of_entry(entry: u32) -> Pair {
         let kind = if entry < 1 << 20 { Kind::PointTriangle } else { Kind::EdgeEdge };
         Pair { kind, first: (entry >> 10 & 1_023) as usize, second: (entry & 1_023) as usize }
@@ -140,7 +195,7 @@ pub enum ClaimsRefusal {
 }
 
 /// Why a scene was not written as text, in the order of the checks.
-#[derive(Clone, Copy, Debug, PartialEq, Eq)]
+#[derive(Clone, Copy, Debug, PartialEq, Eq, Hash)]
 pub enum SaveRefusal {
     /// 1, 2, 3, 15 or 4, of the scene.
     Scene(Refusal),
@@ -242,6 +297,24 @@ impl TextRefusal {
     }
 }
 
+impl Display for Kind {
+    fn fmt(&self, f: &mut Formatter) -> fmt::Result {
+        f.pad(self.letters())
+    }
+}
+
+impl Display for Verdict {
+    fn fmt(&self, f: &mut Formatter) -> fmt::Result {
+        f.pad(self.word())
+    }
+}
+
+impl Display for Settled {
+    fn fmt(&self, f: &mut Formatter) -> fmt::Result {
+        f.pad(self.word())
+    }
+}
+
 impl Display for Refusal {
     fn fmt(&self, f: &mut Formatter) -> fmt::Result {
         write!(f, "refused {}: {}", self.number(), self.words())
@@ -296,6 +369,7 @@ impl Display for TurnRefusal {
 
 impl Error for TurnRefusal {}
 impl Error for ClaimsRefusal {}
+impl Error for SaveRefusal {}
 impl Error for Refusal {}
 impl Error for ListRefusal {}
 impl Error for TextRefusal {}
@@ -314,13 +388,7 @@ pub(crate) fn verdict(number: usize) -> Verdict {
     [Verdict::Hit, Verdict::Miss, Verdict::Degenerate][number]
 }
 
-/// 2 is degenerate's, and no word of these.
 pub(crate) fn settled(number: usize) -> Settled {
-    match number {
-        0 => Settled::Hit,
-        1 => Settled::Miss,
-        3 => Settled::Touch,
-        4 => Settled::Apart,
-        other => unreachable!("{other} is no word's number"),
-    }
+    let own = u8::try_from(number).ok().and_then(Settled::of_byte);
+    own.expect("the library gives no other number")
 }

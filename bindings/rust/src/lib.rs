@@ -51,7 +51,8 @@ mod boxed;
 mod contacts;
 mod importing;
 mod own;
-mod raw;
+#[doc(hidden)]
+pub mod raw;
 mod scenes;
 mod series;
 mod texts;

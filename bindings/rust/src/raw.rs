@@ -1,4 +1,5 @@
-//! The functions as the static library has them; include/makhnodri.h says what each answers and leaves.
+//! The functions as the static library has them; include/makhnodri.h says what each answers and leaves. The one place in Rust that declares them.
+//! It is public for the benchmark, which times the plain call; a program goes by the names of [`Scene`](crate::Scene) and its like.
 
 #[rustfmt::skip]
 extern "C" {

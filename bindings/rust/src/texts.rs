@@ -103,6 +103,13 @@ impl Scene<'_> {
     /// let text = scene.saved().unwrap();
     /// assert_eq!(text, "v\t0\t0\t0\t1\t-2\t3\nv\t4\t5\t6\t4\t5\t6\ne\t1\t0\n");
     /// assert_eq!(Scene::read(text.as_bytes()), Ok(scene));
+    ///
+    /// // a refusal is an error, so that a program hands it on by `?`
+    /// fn to_file(scene: &Scene, path: &str) -> Result<(), Box<dyn std::error::Error>> {
+    ///     Ok(std::fs::write(path, scene.saved()?)?)
+    /// }
+    /// let far = Scene::new(&[600_000, 0, 0, 0, 0, 0], &[], &[]);
+    /// assert_eq!(to_file(&far, "far.scene").unwrap_err().to_string(), "refused 2: a coordinate outside its range");
     /// ```
     pub fn saved(&self) -> Result<String, SaveRefusal> {
         let mut text = vec![0; self.saved_length()?];

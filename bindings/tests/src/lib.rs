@@ -1,8 +1,9 @@
 //! Scenes as the numbers that are lent, asked of the library and of the independent program, answers in document 01's numbers.
 
+use compare::calls::slices::{self, Slices};
 use compare::scene::{self, all_pairs};
-use compare::slices::{self, Slices};
-use compare::{settled, verdict};
+use compare::verdicts::settled;
+use compare::verdicts::verdict;
 use makhnodri::{turn_scene, BoxedScene, Kind, ListRefusal, Refusal, Scene, Settled, TextRefusal, Verdict};
 
 /// A value, or a refusal's number with the line, the needed count, or 0.
@@ -31,7 +32,7 @@ impl Flat {
     }
 
     /// The same for the independent program.
-    pub fn independent<T>(&self, ask: impl FnOnce(Slices) -> Result<T, compare::refusal::Refusal>) -> Answer<T> {
+    pub fn independent<T>(&self, ask: impl FnOnce(Slices) -> Result<T, compare::scene::refusal::Refusal>) -> Answer<T> {
         let positions: Vec<i64> = self.positions.iter().map(|&n| n.into()).collect();
         let wide = |numbers: &[u16]| numbers.iter().map(|&n| n.into()).collect::<Vec<u64>>();
         let (edges, triangles, seams) = (wide(&self.edges), wide(&self.triangles), wide(&self.seams));

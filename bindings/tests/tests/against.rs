@@ -1,12 +1,16 @@
 //! The library held against the independent program of compare/ on scenes from seeds: every pair and every piece, listed or not, in
 //! three words and in four, and the lists; the same under demand 3's maps and played backwards; damaged scenes; and full-size scenes.
 
-use compare::affine::Affine;
-use compare::generate::{self, rewritten, KINDS as SCENES};
-use compare::random::Random;
-use compare::refusal::{NOT_THERE, SHARES_A_VERTEX};
+use compare::calls::slices;
+use compare::list::box_tests;
+use compare::making::generate::{self, rewritten, KINDS as SCENES};
+use compare::numbers::random::Random;
+use compare::scene::affine::Affine;
+use compare::scene::backwards;
+use compare::scene::refusal::{NOT_THERE, SHARES_A_VERTEX};
 use compare::scene::{in_range, Kind, Pair, Scene};
-use compare::{backwards, box_tests, settled, slices, verdict};
+use compare::verdicts::settled;
+use compare::verdicts::verdict;
 use makhnodri::{Refusal, Settled, Verdict};
 use makhnodri_tests::*;
 
@@ -111,7 +115,7 @@ fn every_list_is_the_independent_one() {
 
 #[test]
 fn the_twelve_shown_cases() {
-    for case in compare::cases::shown() {
+    for case in compare::making::cases::shown() {
         let flat = Flat::of(&case.scene);
         let kind = library_kind(case.pair.kind);
         for (piece, &wanted) in case.pieces.iter().enumerate() {

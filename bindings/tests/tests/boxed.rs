@@ -1,8 +1,10 @@
 //! A scene that keeps its boxes, through the wrapper: after any moves its boxes, its list and its words are those of the scene as it stands.
 
-use compare::random::Random;
-use compare::stored::{self, Wrong};
-use compare::{generate, scene, text};
+use compare::calls::stored::{self, Wrong};
+use compare::making::generate;
+use compare::numbers::random::Random;
+use compare::scene;
+use compare::text;
 use makhnodri::{BoxedScene, ListRefusal, Refusal, Scene, TextRefusal};
 use makhnodri_tests::*;
 
@@ -71,7 +73,7 @@ fn after_any_moves_all_is_that_of_the_scene() {
 
 #[test]
 fn a_refused_move_changes_nothing() {
-    let mut boxed = BoxedScene::read(compare::cases::PRINTED_SCENE.as_bytes()).unwrap();
+    let mut boxed = BoxedScene::read(compare::making::cases::PRINTED_SCENE.as_bytes()).unwrap();
     let before = boxed.clone();
     let vertices = before.scene().positions.len() / 6;
     for (vertex, to, refusal) in [
@@ -104,12 +106,12 @@ fn what_is_no_scene_keeps_no_boxes() {
 /// A text is read with its boxes; a scene that was lent is copied.
 #[test]
 fn it_owns_what_it_keeps() {
-    let own = text::read(compare::cases::PRINTED_SCENE.as_bytes()).unwrap();
+    let own = text::read(compare::making::cases::PRINTED_SCENE.as_bytes()).unwrap();
     let mut flat = Flat::of(&own);
     let boxed = BoxedScene::new(flat.scene()).unwrap();
     flat.positions[0] += 1;
     hold(&boxed, &own);
-    assert_eq!(Ok(&boxed), BoxedScene::read(compare::cases::PRINTED_SCENE.as_bytes()).as_ref());
+    assert_eq!(Ok(&boxed), BoxedScene::read(compare::making::cases::PRINTED_SCENE.as_bytes()).as_ref());
     assert_eq!(boxed.into_scene(), Flat::of(&own).scene());
 }
 

@@ -1,13 +1,14 @@
 //! Contacts held against the independent program: every pair, in either order, and whole scenes with every number of the lent buffers; the
 //! floats; the place in the mesh's units, held to the exact one; and 16 in its place in the order.
 
-use compare::affine::Affine;
 use compare::contacts::{self, in_old_range, making, Solved};
-use compare::generate::{self, rewritten};
-use compare::random::Random;
+use compare::list::listing;
+use compare::making::generate::{self, rewritten};
+use compare::numbers::random::Random;
+use compare::numbers::whole::Whole;
+use compare::scene::affine::Affine;
 use compare::scene::{all_pairs, Kind, Pair, Scene};
-use compare::whole::Whole;
-use compare::{listing, settled as words};
+use compare::verdicts::settled as words;
 use makhnodri::{Contact, ListRefusal, Refusal, Settled, CONTACT_LENGTH, CONTACT_UNIT};
 use makhnodri_tests::*;
 
@@ -147,7 +148,7 @@ fn whole_scenes_with_every_lent_number() {
             } else {
                 assert_eq!(answer, Ok(count));
                 for (place, &pair) in pairs.iter().enumerate() {
-                    entries_wanted[place] = compare::slices::entry(pair);
+                    entries_wanted[place] = compare::calls::slices::entry(pair);
                     words_wanted[place] = words::of_pair(&scene, pair).byte();
                     if let Some(contact) = contacts::of_pair(&scene, pair) {
                         rows_wanted[CONTACT_LENGTH * place..][..CONTACT_LENGTH].copy_from_slice(&contact.row());
@@ -156,8 +157,10 @@ fn whole_scenes_with_every_lent_number() {
             }
             assert_eq!((entries, given, contacts), (entries_wanted, words_wanted, rows_wanted));
         }
-        let wanted: Vec<(makhnodri::Pair, Contact)> =
-            pairs.iter().map(|&pair| (makhnodri::Pair::of_entry(compare::slices::entry(pair)), wanted(&scene, pair))).collect();
+        let wanted: Vec<(makhnodri::Pair, Contact)> = pairs
+            .iter()
+            .map(|&pair| (makhnodri::Pair::of_entry(compare::calls::slices::entry(pair)), wanted(&scene, pair)))
+            .collect();
         match in_old_range(&scene) {
             true => assert_eq!(flat.scene().contacts(), Ok(wanted)),
             false => assert_eq!(flat.scene().contacts(), Err(Refusal::BeyondOldRange)),
@@ -169,7 +172,7 @@ fn whole_scenes_with_every_lent_number() {
 #[test]
 fn sixteen_comes_after_six() {
     let flat = |far: i32| {
-        let mut flat = Flat::of(&compare::text::read(compare::cases::PRINTED_SCENE.as_bytes()).unwrap());
+        let mut flat = Flat::of(&compare::text::read(compare::making::cases::PRINTED_SCENE.as_bytes()).unwrap());
         flat.positions[25] = far; // of the last vertex, which is no part of the pair that is asked for
         flat
     };
@@ -244,7 +247,7 @@ fn the_place_is_as_near_as_is_said() {
 /// Nothing where there is nothing to place.
 #[test]
 fn no_place_of_parts_that_are_not_there() {
-    let flat = Flat::of(&compare::cases::shown()[0].scene);
+    let flat = Flat::of(&compare::making::cases::shown()[0].scene);
     let contact = flat.scene().contact_pt(3, 0).unwrap();
     let pair = |kind, first| makhnodri::Pair { kind, first, second: 0 };
     assert!(flat.scene().contact_point(pair(makhnodri::Kind::PointTriangle, 3), contact).is_some());

@@ -106,12 +106,12 @@ fn the_independent_program_has_the_same_sizes() {
     assert_eq!(sizes[..4], wanted);
     assert_eq!(sizes[4..], [independent::TEXT_LIMIT, independent::REPORT_ROOM]);
     assert_eq!([POSITIONS_LENGTH, EDGES_LENGTH, TRIANGLES_LENGTH, SEAMS_LENGTH], compare::text::LENT_LENGTHS);
-    assert_eq!((BOXES_LENGTH, LOG_LIMIT), (compare::stored::BOX_NUMBERS, compare::series::LOG_LIMIT));
+    assert_eq!((BOXES_LENGTH, LOG_LIMIT), (compare::calls::stored::BOX_NUMBERS, compare::series::LOG_LIMIT));
     assert_eq!(WEIGHT_LIMIT, compare::claims::WEIGHT_LIMIT);
-    assert_eq!(BOXES_LENGTH, compare::stored::BOX_NUMBERS);
-    assert_eq!(Refusal::FilesDiffer.number() as u64, compare::refusal::FILES_DIFFER);
-    assert_eq!(Refusal::BrokenSeam.number() as u64, compare::refusal::BROKEN_SEAM);
-    assert_eq!(Refusal::StaleBox.number() as u64, compare::refusal::STALE_BOX);
+    assert_eq!(BOXES_LENGTH, compare::calls::stored::BOX_NUMBERS);
+    assert_eq!(Refusal::FilesDiffer.number() as u64, compare::scene::refusal::FILES_DIFFER);
+    assert_eq!(Refusal::BrokenSeam.number() as u64, compare::scene::refusal::BROKEN_SEAM);
+    assert_eq!(Refusal::StaleBox.number() as u64, compare::scene::refusal::STALE_BOX);
 }
 
 #[test]
@@ -120,7 +120,12 @@ fn the_header_has_the_same_words() {
         assert_eq!(returned(name), refusal.words());
     }
     for word in [Settled::Hit, Settled::Miss, Settled::Touch, Settled::Apart] {
-        assert_eq!(returned(&format!("{word:?}").to_uppercase()), format!("{word:?}").to_lowercase());
+        assert_eq!(returned(&format!("{word:?}").to_uppercase()), word.to_string());
+        assert_eq!(Settled::of_byte(word as u8), Some(word));
     }
-    assert_eq!(returned("DEGENERATE"), "degenerate");
+    for word in [Verdict::Hit, Verdict::Miss, Verdict::Degenerate] {
+        assert_eq!(returned(&format!("{word:?}").to_uppercase()), word.to_string());
+    }
+    let bytes = (0..=u8::MAX).filter(|&byte| Settled::of_byte(byte).is_some());
+    assert_eq!(bytes.collect::<Vec<_>>(), [0, 1, 3, 4]);
 }

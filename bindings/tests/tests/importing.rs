@@ -1,8 +1,8 @@
 //! Two OBJ files through the wrapper: against the independent reader, into buffers whose rest stays, and refused with file and line.
 
+use compare::calls::stored;
 use compare::obj::making::{fixed, seeded};
 use compare::obj::{self, File};
-use compare::stored;
 use makhnodri::*;
 use makhnodri_tests::*;
 

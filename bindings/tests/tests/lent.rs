@@ -1,6 +1,6 @@
 //! What is only lent to be read is never written, calls at the same time do not disturb each other, and a small stack is enough.
 
-use compare::generate;
+use compare::making::generate;
 use makhnodri::{report, BoxedScene, STACK};
 use makhnodri_tests::*;
 

@@ -1,7 +1,7 @@
 //! The refusals that the report program never prints: 1, 5, 6 and 12, each with all its causes, and in their place in the order.
 //! Each is asked of every function that can give it, and leaves every buffer as it was.
 
-use compare::cases::PRINTED_SCENE;
+use compare::making::cases::PRINTED_SCENE;
 use compare::text::read;
 use makhnodri::{ClaimsRefusal, Kind, Refusal, Scene, TextRefusal, TEXT_LIMIT};
 use makhnodri_tests::*;
@@ -294,7 +294,7 @@ fn buffers_that_are_long_enough_hold_the_scene_in_front() {
 #[test]
 fn texts_at_the_edges_of_the_rules() {
     let mut numbers = std::collections::BTreeSet::new();
-    for case in compare::cases::text_cases() {
+    for case in compare::making::cases::text_cases() {
         let wanted = compare::text::read_lent(&case.text, LENT);
         let wanted = wanted.map(|scene| Flat::of(&scene)).map_err(|refusal| (refusal.number, refusal.third));
         assert_eq!(read_into(&case.text, LENT), wanted, "{}", case.name);
@@ -314,7 +314,7 @@ fn refusals_tell_what_they_are() {
 /// Claims: each refusal with what it carries, the answers, and what is left of the buffer.
 #[test]
 fn claims_are_answered_or_refused() {
-    let flat = Flat::of(&compare::cases::shown()[0].scene);
+    let flat = Flat::of(&compare::making::cases::shown()[0].scene);
     let scene = flat.scene();
     let (one, other) = ("pt\t3\t0\t1\t2\t2\t2\t0\t1\t1\n", "pt\t3\t0\t1\t2\t2\t2\t0\t1\t2\n");
     let two = format!("{one}{other}").into_bytes();
@@ -419,7 +419,7 @@ fn a_scene_borrows_or_owns() {
     let owned = borrowed.clone().into_owned();
     assert!(matches!(borrowed.positions, std::borrow::Cow::Borrowed(_)) && matches!(owned.seams, std::borrow::Cow::Owned(_)));
     assert_eq!((&borrowed, borrowed.settled()), (&owned.borrowed(), owned.settled()));
-    let text = compare::text::write(&flat.independent(compare::slices::scene).unwrap());
+    let text = compare::text::write(&flat.independent(compare::calls::slices::scene).unwrap());
     let read = Scene::read(text.as_bytes()).unwrap();
     assert_eq!(read, owned);
     assert_eq!(read.turned(), Err(makhnodri::TurnRefusal::Seams));

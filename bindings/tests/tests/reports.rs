@@ -1,8 +1,8 @@
 //! Reports, and texts read and judged, held against the independent program; every byte behind a report is unchanged.
 
 use compare::report::report;
+use compare::report::trials::{fixed, seeded, Trial};
 use compare::scene::REPORT_ROOM;
-use compare::trials::{fixed, seeded, Trial};
 use makhnodri::{Scene, REPORT_LENGTH};
 use makhnodri_tests::*;
 

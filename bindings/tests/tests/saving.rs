@@ -1,8 +1,11 @@
 //! A scene saved through the wrapper: against the independent writer, read again, in buffers of every length near its own, and refused.
 
-use compare::{generate, text, trials};
+use compare::making::generate;
+use compare::report::trials;
+use compare::text;
 use makhnodri::{Refusal, SaveRefusal, Scene, TEXT_LIMIT};
 use makhnodri_tests::*;
+use std::error::Error;
 
 /// Round trips both ways: the scene's text is the independent program's, and what is read from it is the scene.
 #[test]
@@ -76,4 +79,25 @@ fn refusals_in_their_order() {
     }
     use std::fmt::Write;
     assert!(write!(String::new(), "{far}").is_err());
+}
+
+/// Handed on by `?`, each says what it is.
+#[test]
+fn a_refusal_is_an_error() {
+    fn length_in(scene: &Scene, room: usize) -> Result<usize, Box<dyn Error>> {
+        Ok(scene.save_scene(&mut vec![0; room])?)
+    }
+    let far = Scene::new(&[600_000, 0, 0, 0, 0, 0], &[], &[]);
+    let near = Scene::new(&[0; 6], &[], &[]);
+    let long = Flat::of(&text::as_long_as(TEXT_LIMIT + 1));
+    assert_eq!(length_in(&near, 14).unwrap(), 14);
+    for (scene, wanted) in [
+        (far, SaveRefusal::Scene(Refusal::Coordinate)),
+        (long.scene(), SaveRefusal::LongText),
+        (near, SaveRefusal::NoRoom { needed: 14 }),
+    ] {
+        let error = length_in(&scene, 3).unwrap_err();
+        assert_eq!(error.to_string(), wanted.to_string());
+        assert_eq!(error.downcast_ref(), Some(&wanted));
+    }
 }

@@ -1,6 +1,6 @@
 //! Series through the wrapper: against the independent program, in every lent number, and refused.
 
-use compare::random::Random;
+use compare::numbers::random::Random;
 use compare::series::making::{everywhere, own, seeded, up_and_down};
 use compare::series::{self as independent, least_lengths, LOG_LIMIT};
 use makhnodri::*;
@@ -20,8 +20,7 @@ fn printed(answer: &Result<Series, SeriesRefusal>) -> String {
         Err(SeriesRefusal::NoRoom { needed }) => format!("refused\t7\t{needed}\n"),
         Err(other) => format!("refused\t{}\t0\n", other.refusal().number()),
         Ok(Series { told, .. }) => {
-            let kind = |kind: Kind| if kind == Kind::PointTriangle { "pt" } else { "ee" };
-            let line = |Hit { step, pair }: Hit| format!("hit\t{step}\t{}\t{}\t{}\n", kind(pair.kind), pair.first, pair.second);
+            let line = |Hit { step, pair }: Hit| format!("hit\t{step}\t{}\t{}\t{}\n", pair.kind, pair.first, pair.second);
             let log: String = told.into_iter().map(line).collect();
             let Told { later, listed, hits, misses, touches, aparts, first, .. } = told;
             format!(
@@ -102,7 +101,10 @@ fn the_log_is_gone_through() {
 #[test]
 fn refusals_say_what_they_carry() {
     let say = |text: &str| Series::run_with_room(text.as_bytes(), 1).unwrap_err().to_string();
-    assert_eq!(say("v\t0\t0\t0\t0\t0\t0\nn\n"), "line 2: refused 13: a block of a series has more or fewer v lines than there are vertices");
+    assert_eq!(
+        say("v\t0\t0\t0\t0\t0\t0\nn\n"),
+        "line 2: refused 13: a block of a series has more or fewer v lines than there are vertices"
+    );
     assert_eq!(say(&"n\n".repeat(16_385)), "refused 8: text over 32,768 bytes");
     let text = independent::write(&up_and_down(&[1, 2]));
     assert_eq!(Series::run_with_room(text.as_bytes(), 1), Err(SeriesRefusal::NoRoom { needed: 2 }));

@@ -7,37 +7,36 @@
 use compare::claims::making::{fixed, seeded, Trial};
 use compare::claims::mistakes::{self, ALL};
 use compare::claims::printed;
+use compare::running::comparing::{give_up, OfFiles, MOST_SHOWN};
 use std::collections::BTreeMap;
-use std::path::Path;
-use std::process::{exit, Command, Stdio};
+use std::process::exit;
 
 const SEEDS: u64 = 300;
-const MOST_SHOWN: usize = 3;
+
+/// What must have been wanted.
+const WORDS: [&str; 11] = [
+    "yes", "no", "refused 2", "refused 3", "refused 4", "refused 5", "refused 6", "refused 8", "refused 9", "refused 10",
+    "refused 15",
+];
 
 fn main() {
     let words: Vec<String> = std::env::args().skip(1).collect();
     match &words[..] {
         [flag, scene, claims] if flag == "--answers" => {
-            let read = |name: &String| std::fs::read(name).unwrap_or_else(|error| give_up(&format!("{name}: {error}")));
+            let read = |name: &String| std::fs::read(name).unwrap_or_else(|error| give_up("claims", &format!("{name}: {error}")));
             print!("{}", printed(&read(scene), &read(claims)));
         }
         [program] => compare(program, SEEDS, &[]),
         [program, seeds, launcher @ ..] => {
-            compare(program, seeds.parse().unwrap_or_else(|_| give_up(&format!("{seeds} is no number"))), launcher)
+            compare(program, seeds.parse().unwrap_or_else(|_| give_up("claims", &format!("{seeds} is no number"))), launcher)
         }
-        [] => give_up("usage: compare-claims CLAIMS_PROGRAM [SEEDS [LAUNCHER WORDS...]]"),
+        [] => give_up("claims", "usage: compare-claims CLAIMS_PROGRAM [SEEDS [LAUNCHER WORDS...]]"),
     }
 }
 
-fn give_up(why: &str) -> ! {
-    eprintln!("compare-claims: {why}");
-    exit(2);
-}
-
 fn compare(program: &str, seeds: u64, launcher: &[String]) {
-    let folder = std::env::temp_dir().join(format!("compare-claims-{}", std::process::id()));
-    std::fs::create_dir_all(&folder).unwrap_or_else(|error| give_up(&error.to_string()));
-    let (mut texts, mut differences) = (0usize, 0);
+    let mut comparison = OfFiles::new("claims", launcher);
+    let mut texts = 0usize;
     let mut wanted_words: BTreeMap<String, usize> = BTreeMap::new();
     for trial in fixed().into_iter().chain((0..seeds).flat_map(seeded)) {
         let wanted = printed(&trial.scene, &trial.claims);
@@ -46,57 +45,29 @@ fn compare(program: &str, seeds: u64, launcher: &[String]) {
             *wanted_words.entry(word.join(" ")).or_default() += 1;
         }
         texts += 1;
-        let given = run(program, launcher, &folder, &trial);
-        if given == wanted {
-            continue;
+        let files: [(&str, &[u8]); 2] = [("scene", &trial.scene), ("claims", &trial.claims)];
+        if let Some((given, kept)) = comparison.differing(program, &files, &wanted) {
+            println!("claims: the answers differ, and the two texts are in {}", kept.display());
+            tell(&trial, &given, &wanted);
         }
-        differences += 1;
-        println!("claims: the answers differ, and the two texts are in {}", folder.display());
-        let parts = given.lines().zip(wanted.lines()).position(|(a, b)| a != b);
-        println!(
-            "    at line {:?}: {:?} and should be {:?}",
-            parts.map(|at| at + 1),
-            first(&given, parts),
-            first(&wanted, parts)
-        );
-        let like: Vec<_> =
-            ALL.iter().filter(|&&mistake| mistakes::printed(mistake, &trial.scene, &trial.claims) == given).collect();
-        println!("    it looks like {like:?}");
-        if differences == MOST_SHOWN {
+        if comparison.differences == MOST_SHOWN {
             exit(1);
         }
     }
-    for word in [
-        "yes", "no", "refused 2", "refused 3", "refused 4", "refused 5", "refused 6", "refused 8", "refused 9", "refused 10",
-        "refused 15",
-    ] {
-        if !wanted_words.contains_key(word) {
-            println!("claims: never wanted: {word}");
-            differences += 1;
-        }
-    }
-    if differences == 0 {
-        std::fs::remove_dir_all(&folder).unwrap_or_else(|error| give_up(&error.to_string()));
-    }
+    comparison.clear();
+    let never: Vec<&&str> = WORDS.iter().filter(|word| !wanted_words.contains_key(**word)).collect();
+    never.iter().for_each(|word| println!("claims: never wanted: {word}"));
+    let differences = comparison.differences + never.len();
     let count = |word: &str| wanted_words.get(word).copied().unwrap_or(0);
     println!("claims: {texts} texts, {} yes and {} no, each byte compared: {differences} differences", count("yes"), count("no"));
     exit((differences > 0) as i32);
 }
 
-fn first(text: &str, at: Option<usize>) -> String {
-    text.lines().nth(at.unwrap_or(0)).unwrap_or("").to_string()
-}
-
-fn run(program: &str, launcher: &[String], folder: &Path, trial: &Trial) -> String {
-    let files = ["scene", "claims"].map(|name| folder.join(name));
-    for (file, text) in files.iter().zip([&trial.scene, &trial.claims]) {
-        std::fs::write(file, text).unwrap_or_else(|error| give_up(&error.to_string()));
-    }
-    let words: Vec<&str> = launcher.iter().map(String::as_str).chain([program]).collect();
-    let run = Command::new(words[0]).args(&words[1..]).args(&files).stdin(Stdio::null()).output();
-    let run = run.unwrap_or_else(|error| give_up(&format!("{program}: {error}")));
-    if !run.status.success() || !run.stderr.is_empty() {
-        return format!("{} {}", run.status, String::from_utf8_lossy(&run.stderr));
-    }
-    String::from_utf8_lossy(&run.stdout).into_owned()
+/// The line at which the answers part, and which mistakes part there.
+fn tell(trial: &Trial, given: &str, wanted: &str) {
+    let at = given.lines().zip(wanted.lines()).position(|(a, b)| a != b);
+    let line = |text: &str| text.lines().nth(at.unwrap_or(0)).unwrap_or("").to_string();
+    println!("    at line {:?}: {:?} and should be {:?}", at.map(|at| at + 1), line(given), line(wanted));
+    let prints = |mistake: &&mistakes::Mistake| mistakes::printed(**mistake, &trial.scene, &trial.claims) == given;
+    println!("    it looks like {:?}", ALL.iter().filter(prints).collect::<Vec<_>>());
 }

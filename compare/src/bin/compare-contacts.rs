@@ -8,17 +8,14 @@
 use compare::contacts::making::{fixed, seeded};
 use compare::contacts::mistakes::{self, ALL};
 use compare::contacts::printed;
-use compare::looks::parting;
+use compare::running::comparing::{give_up, Comparison};
+use compare::running::streams::{input, print};
 use compare::running::Program;
 use compare::scene::REPORT_ROOM;
-use compare::streams::{input, print};
-use std::collections::BTreeMap;
-use std::process::exit;
 use std::time::Duration;
 
 const SEEDS: u64 = 400;
 const LIMIT: Duration = Duration::from_secs(20);
-const MOST_SHOWN: usize = 3;
 
 fn main() {
     let words: Vec<String> = std::env::args().skip(1).collect();
@@ -26,20 +23,15 @@ fn main() {
         [flag] if flag == "--exact" => print(&printed(&input(), REPORT_ROOM)),
         [flag] if flag == "--wrong" => ALL.iter().for_each(|mistake| compare::say!("{}", mistake.key())),
         [flag, key] if flag == "--wrong" => {
-            let mistake = mistakes::find(key).unwrap_or_else(|| give_up(&format!("no mistake is called {key}")));
+            let mistake = mistakes::find(key).unwrap_or_else(|| give_up("contacts", &format!("no mistake is called {key}")));
             print(&mistakes::printed(mistake, &input(), REPORT_ROOM));
         }
         [program] => compare(program, SEEDS, &[]),
         [program, seeds, launcher @ ..] => {
-            compare(program, seeds.parse().unwrap_or_else(|_| give_up(&format!("{seeds} is no number"))), launcher)
+            compare(program, seeds.parse().unwrap_or_else(|_| give_up("contacts", &format!("{seeds} is no number"))), launcher)
         }
-        [] => give_up("usage: compare-contacts CONTACTS_PROGRAM [SEEDS [LAUNCHER WORDS...]]"),
+        [] => give_up("contacts", "usage: compare-contacts CONTACTS_PROGRAM [SEEDS [LAUNCHER WORDS...]]"),
     }
-}
-
-fn give_up(why: &str) -> ! {
-    eprintln!("compare-contacts: {why}");
-    exit(2);
 }
 
 /// What must have been wanted: each refusal of a text, and a contact of each piece.
@@ -59,34 +51,17 @@ fn sort(line: &str) -> String {
 
 fn compare(program: &str, seeds: u64, launcher: &[String]) {
     let command = [launcher, &[program.to_string()]].concat();
-    let program = Program { command, limit: LIMIT };
-    let (mut texts, mut differences, mut contacts) = (0usize, 0, 0);
-    let mut wanted_sorts: BTreeMap<String, usize> = BTreeMap::new();
+    let mut comparison = Comparison::new("contacts", Program { command, limit: LIMIT });
+    let mut contacts = 0;
     for trial in fixed().into_iter().chain((0..seeds).flat_map(seeded)) {
         let wanted = printed(&trial.text, REPORT_ROOM);
-        wanted.lines().for_each(|line| *wanted_sorts.entry(sort(line)).or_default() += 1);
+        comparison.count(&wanted, sort);
         contacts += wanted.lines().count() - 1;
-        texts += 1;
-        let given = match program.run(&trial.text, 1 + texts % 3) {
-            Ok(bytes) => String::from_utf8_lossy(&bytes).into_owned(),
-            Err(failed) => format!("{failed:?}\n"),
-        };
-        let Some(parting) = parting(&wanted, &given) else { continue };
-        differences += 1;
-        let kept = std::env::temp_dir().join(format!("contacts-difference-{differences}.scene"));
-        std::fs::write(&kept, &trial.text).unwrap_or_else(|error| give_up(&error.to_string()));
-        println!("contacts: {} (kept as {})", trial.name, kept.display());
-        println!("    at line {}: {:?} and should be {:?}", parting.line, parting.got, parting.wanted);
-        let like = |mistake: &&mistakes::Mistake| mistakes::printed(**mistake, &trial.text, REPORT_ROOM) == given;
-        println!("    it looks like {:?}", ALL.iter().filter(like).collect::<Vec<_>>());
-        if differences == MOST_SHOWN {
-            exit(1);
-        }
+        comparison.hold(&trial.name, &trial.text, "scene", &wanted, |given| {
+            let like = |mistake: &&mistakes::Mistake| mistakes::printed(**mistake, &trial.text, REPORT_ROOM) == given;
+            ALL.iter().filter(like).collect::<Vec<_>>()
+        });
     }
-    for sort in sorts().iter().filter(|sort| !wanted_sorts.contains_key(*sort)) {
-        println!("contacts: never wanted: {sort}");
-        differences += 1;
-    }
-    println!("contacts: {texts} texts, {contacts} contacts, each byte compared: {differences} differences");
-    exit((differences > 0) as i32);
+    comparison.must_have(&sorts());
+    comparison.close(&format!("{contacts} contacts"));
 }

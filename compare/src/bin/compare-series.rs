@@ -6,20 +6,17 @@
 //! and where some refusal or some sort of line was never wanted. LAUNCHER is a command to put before the program, as a loader. With `--exact`, what
 //! the independent program prints; with `--wrong`, what a program prints that makes this mistake, or the mistakes; with `--sleeve`, scenes/series/sleeve.series.
 
-use compare::looks::parting;
+use compare::running::comparing::{give_up, Comparison};
+use compare::running::streams::{input, print};
 use compare::running::Program;
 use compare::scene::REPORT_ROOM;
 use compare::series::making::{everywhere, fixed, seeded, Trial};
 use compare::series::mistakes::{self, Right};
 use compare::series::{printed, sleeve, write};
-use compare::streams::{input, print};
-use std::collections::BTreeMap;
-use std::process::exit;
 use std::time::Duration;
 
 const SEEDS: u64 = 300;
 const LIMIT: Duration = Duration::from_secs(20);
-const MOST_SHOWN: usize = 3;
 
 fn main() {
     let words: Vec<String> = std::env::args().skip(1).collect();
@@ -30,23 +27,18 @@ fn main() {
             mistakes::all().iter().for_each(|mistake| compare::say!("{}: {}", mistake.key, mistake.says))
         }
         [flag, key] if flag == "--wrong" => {
-            let mistake = mistakes::find(key).unwrap_or_else(|| give_up(&format!("no mistake is called {key}")));
+            let mistake = mistakes::find(key).unwrap_or_else(|| give_up("series", &format!("no mistake is called {key}")));
             print(&mistake.outcome(&Right::of(&input())).printed);
         }
         [flag] if flag == "--sleeve" => print(&write(&sleeve::drawn())),
         [program] => compare(program, SEEDS, &[]),
         [program, seeds, launcher @ ..] => compare(program, number(seeds), launcher),
-        [] => give_up("usage: compare-series SERIES_PROGRAM [SEEDS [LAUNCHER WORDS...]]"),
+        [] => give_up("series", "usage: compare-series SERIES_PROGRAM [SEEDS [LAUNCHER WORDS...]]"),
     }
 }
 
 fn number<T: std::str::FromStr>(word: &str) -> T {
-    word.parse().unwrap_or_else(|_| give_up(&format!("{word} is no number")))
-}
-
-fn give_up(why: &str) -> ! {
-    eprintln!("compare-series: {why}");
-    exit(2);
+    word.parse().unwrap_or_else(|_| give_up("series", &format!("{word} is no number")))
 }
 
 /// What must have been wanted: each refusal of a text, an entry of each kind, and more hits than the log holds.
@@ -67,37 +59,18 @@ fn sort(line: &str) -> String {
 
 fn compare(program: &str, seeds: u64, launcher: &[String]) {
     let command = [launcher, &[program.to_string()]].concat();
-    let program = Program { command, limit: LIMIT };
-    let (mut texts, mut differences) = (0usize, 0);
-    let mut wanted_sorts: BTreeMap<String, usize> = BTreeMap::new();
+    let mut comparison = Comparison::new("series", Program { command, limit: LIMIT });
     let changed = everywhere().into_iter().map(|text| Trial { name: "a small series, changed".into(), text });
     for trial in fixed().into_iter().chain(changed).chain((0..seeds).flat_map(seeded)) {
         let wanted = printed(&trial.text, REPORT_ROOM);
-        wanted.lines().for_each(|line| *wanted_sorts.entry(sort(line)).or_default() += 1);
-        texts += 1;
-        let given = match program.run(&trial.text, 1 + texts % 3) {
-            Ok(bytes) => String::from_utf8_lossy(&bytes).into_owned(),
-            Err(failed) => format!("{failed:?}\n"),
-        };
-        let Some(parting) = parting(&wanted, &given) else { continue };
-        differences += 1;
-        let kept = std::env::temp_dir().join(format!("series-difference-{differences}.series"));
-        std::fs::write(&kept, &trial.text).unwrap_or_else(|error| give_up(&error.to_string()));
-        println!("series: {} (kept as {})", trial.name, kept.display());
-        println!("    at line {}: {:?} and should be {:?}", parting.line, parting.got, parting.wanted);
-        let right = Right::of(&trial.text);
-        let like = mistakes::all().into_iter().filter(|mistake| mistake.outcome(&right).printed == given);
-        println!("    it looks like {:?}", like.map(|mistake| mistake.key).collect::<Vec<String>>());
-        if differences == MOST_SHOWN {
-            exit(1);
-        }
+        comparison.count(&wanted, sort);
+        comparison.hold(&trial.name, &trial.text, "series", &wanted, |given| {
+            let right = Right::of(&trial.text);
+            let like = mistakes::all().into_iter().filter(|mistake| mistake.outcome(&right).printed == given);
+            like.map(|mistake| mistake.key).collect::<Vec<String>>()
+        });
     }
-    for sort in SORTS.iter().filter(|sort| !wanted_sorts.contains_key(**sort)) {
-        println!("series: never wanted: {sort}");
-        differences += 1;
-    }
-    let count = |sort: &str| wanted_sorts.get(sort).copied().unwrap_or(0);
-    let hits = count("hit pt") + count("hit ee");
-    println!("series: {texts} texts, {hits} entries of logs, each byte compared: {differences} differences");
-    exit((differences > 0) as i32);
+    comparison.must_have(&SORTS.map(String::from));
+    let hits = comparison.counted("hit pt") + comparison.counted("hit ee");
+    comparison.close(&format!("{hits} entries of logs"));
 }

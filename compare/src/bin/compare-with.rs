@@ -5,23 +5,23 @@
 //! some two faults at once, untried; `--table` shows how often each was tried. LAUNCHER is a command to put before
 //! the program, as a loader.
 
-use compare::faults::{self, Cell, LINE_CHECKS};
-use compare::looks::{in_words, like, parting};
-use compare::mistakes::{self, Mistake, Right};
-use compare::refusal::{NO_ROOM, TEXT_TOO_LONG};
+use compare::report::mistakes::{self, Mistake, Right};
+use compare::report::trials::{self, Trial};
 use compare::report::{judged, written, Judged};
+use compare::running::comparing::{Folder, MOST_SHOWN};
+use compare::running::looks::{in_words, like, parting};
 use compare::running::{Failed, Program};
+use compare::scene::refusal::{NO_ROOM, TEXT_TOO_LONG};
 use compare::scene::REPORT_ROOM;
-use compare::settled::WORDS;
-use compare::trials::{self, Trial};
+use compare::text::faults::{self, Cell, LINE_CHECKS};
+use compare::verdicts::settled::WORDS;
 use std::collections::BTreeMap;
 use std::process::exit;
 use std::time::Duration;
 
 const SEEDS: u64 = 1_000;
 const LIMIT: Duration = Duration::from_secs(20);
-/// Differences that are shown, that are looked for, and mistakes that are named for one.
-const MOST_SHOWN: usize = 3;
+/// Differences that are looked for, and mistakes that are named for one.
 const MOST_FOUND: usize = 40;
 const MOST_NAMED: usize = 4;
 
@@ -66,6 +66,7 @@ fn number(word: &str) -> u64 {
 
 struct Comparison<'a> {
     program: Program,
+    folder: Folder,
     /// The mistakes that could explain everything that the program has printed since the first difference.
     suspects: Vec<&'a Mistake>,
     texts: usize,
@@ -80,7 +81,17 @@ struct Comparison<'a> {
 impl<'a> Comparison<'a> {
     fn new(program: Program, mistakes: &'a [Mistake]) -> Comparison<'a> {
         let cells = faults::cells().into_iter().map(|cell| (cell, 0)).collect();
-        Comparison { program, suspects: mistakes.iter().collect(), texts: 0, differences: 0, failures: 0, pairs: [0; 4], cells }
+        let folder = Folder::new("run");
+        Comparison {
+            program,
+            folder,
+            suspects: mistakes.iter().collect(),
+            texts: 0,
+            differences: 0,
+            failures: 0,
+            pairs: [0; 4],
+            cells,
+        }
     }
 
     fn hold(&mut self, trial: &Trial) {
@@ -148,9 +159,8 @@ impl<'a> Comparison<'a> {
         if self.differences > MOST_SHOWN {
             return;
         }
-        let kept = std::env::temp_dir().join(format!("difference-{}.scene", self.differences));
-        let kept_as = match std::fs::write(&kept, &trial.text) {
-            Ok(()) => kept.display().to_string(),
+        let kept_as = match self.folder.keep(&format!("difference-{}.scene", self.differences), &trial.text) {
+            Ok(kept) => kept.display().to_string(),
             Err(error) => error.to_string(),
         };
         compare::say!("DIFFERENT: {} (kept as {kept_as})\n  {what}", trial.name);

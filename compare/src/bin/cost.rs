@@ -2,10 +2,10 @@
 //! What deciding singular pieces takes, by the sketch of the library's search: on scenes from seeds by kind (1,900
 //! seeds), on every pair of vertices on a line, on every piece in a plane with differences up to REACH (1), and at most.
 
-use compare::cost::{at_most, at_most_of_a_pair, in_a_plane, of_scene, on_a_line, shapes, Tally, KINDS};
-use compare::generate;
+use compare::making::generate;
 use compare::scene::Kind;
-use compare::search::Cost;
+use compare::showing::cost::{at_most, at_most_of_a_pair, in_a_plane, of_scene, on_a_line, shapes, Tally, KINDS};
+use compare::ways::search::Cost;
 
 fn main() {
     let words: Vec<String> = std::env::args().skip(1).collect();

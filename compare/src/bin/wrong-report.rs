@@ -2,10 +2,10 @@
 //! The report of a program that is wrong in one respect. Without a word it tells which mistakes it knows. ROOM is
 //! 3,072 where it is not given.
 
-use compare::mistakes::{self, Right};
+use compare::report::mistakes::{self, Right};
+use compare::running::streams::{input, print};
 use compare::say;
 use compare::scene::REPORT_ROOM;
-use compare::streams::{input, print};
 use std::process::exit;
 
 fn main() {

@@ -1,9 +1,11 @@
 //! Texts of claims from seeds: true ones, each damaged by one, weights at their limit and past it, and lines at fault.
 
 use super::*;
-use crate::random::Random;
-use crate::signs;
-use crate::{cases, generate, kept};
+use crate::making::cases;
+use crate::making::generate;
+use crate::making::kept;
+use crate::numbers::random::Random;
+use crate::ways::signs;
 
 /// A scene and claims beside it, each as text.
 pub struct Trial {
@@ -69,7 +71,7 @@ pub fn claims(random: &mut Random, scene: &Scene) -> Vec<Claim> {
             pair = Pair { first: pair.second, second: pair.first, ..pair };
         }
         let Some(weights) = true_weights(&made[piece]) else {
-            out.extend(random.chance(8).then(|| Claim { pair, piece, weights: [1; 6] }));
+            out.extend(random.chance(8).then_some(Claim { pair, piece, weights: [1; 6] }));
             continue;
         };
         out.push(Claim { pair, piece, weights });
@@ -172,7 +174,7 @@ pub fn seeded(seed: u64) -> Vec<Trial> {
     for _ in 0..3 {
         out.push(Trial { scene: plain.scene.clone(), claims: damaged(&mut random, &text) });
     }
-    let wrong_scene = crate::damage::damaged(&mut random, std::str::from_utf8(&plain.scene).unwrap());
+    let wrong_scene = crate::text::damage::damaged(&mut random, std::str::from_utf8(&plain.scene).unwrap());
     out.push(Trial { scene: wrong_scene, claims: damaged(&mut random, &text) });
     // parts that share no number, and a vertex by a seam
     let unsewn = scene.unsewn();

@@ -1,7 +1,7 @@
 //! Programs of claims that are wrong in one respect each, as trainees would write them.
 
 use super::*;
-use crate::verdict::{of_piece, Verdict};
+use crate::verdicts::verdict::{of_piece, Verdict};
 
 #[derive(Clone, Copy, Debug, PartialEq, Eq)]
 pub enum Mistake {

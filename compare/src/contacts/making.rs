@@ -1,14 +1,16 @@
 //! Scenes whose contacts a wrong program gets wrong: two pieces met within one 2^20th of the time, times and shares at exact 2^20ths, at 0
 //! and at 1, a touch before the hit, numbers at the old limit.
 
-use crate::affine::Affine;
-use crate::damage::damaged;
-use crate::generate::{self, rewritten};
-use crate::random::Random;
+use crate::making::cases;
+use crate::making::generate::{self, rewritten};
+use crate::making::parts::with_parts;
+use crate::making::sewing::perhaps;
+use crate::numbers::random::Random;
+use crate::report::trials;
+use crate::scene::affine::Affine;
 use crate::scene::*;
-use crate::sewing::perhaps;
+use crate::text::damage::damaged;
 use crate::text::write;
-use crate::{cases, trials};
 
 const FAR: i64 = FIRST_COORDINATE_LIMIT;
 
@@ -192,7 +194,7 @@ fn old_limit(random: &mut Random) -> Scene {
         _ => random.pick(&[FAR, -FAR, FAR, -FAR, FAR - 1, 1 - FAR]),
     };
     let vertices = (0..random.between(5, 9)).map(|_| [0; 6].map(|_| coordinate(random))).collect();
-    generate::with_parts(random, vertices, 6, 5)
+    with_parts(random, vertices, 6, 5)
 }
 
 pub struct Trial {

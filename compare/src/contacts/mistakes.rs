@@ -1,9 +1,9 @@
 //! Programs of contacts that are wrong in one respect each, as trainees would write them.
 
 use super::*;
-use crate::equations::Point;
-use crate::pieces::Piece;
-use crate::signs::{self, Number};
+use crate::numbers::equations::Point;
+use crate::scene::pieces::Piece;
+use crate::ways::signs::{self, Number};
 
 #[derive(Clone, Copy, Debug, PartialEq, Eq)]
 pub enum Mistake {
@@ -34,16 +34,18 @@ pub enum Mistake {
     SixteenAfterSeven,
     SixteenInPlaceOfTwo,
     SixteenWithALine,
+    AThirdShareOfTwoEdges,
+    LinesBeforeSeven,
 }
 
 use Mistake::*;
 
-pub const ALL: [Mistake; 27] = [
+pub const ALL: [Mistake; 29] = [
     NearestInPlaceOfCut, SmallestExactTime, TieToTheLaterPiece, LowestPieceWhateverItsTime, StartWeightsOnly, EndWeightsOnly,
     ShareOfTheLowerEnd, EndsAsWritten, CornersAsWritten, SharesByOwnNumber, HigherEdgeFirst, TouchingPiecesTakePart, TouchIsAHit,
     FloatsThroughout, WeightWrapsAt64Bits, LastShareIsTheRest, OneIsOneLess, TimeFromTheEnd, PiecesFromOne,
     LineForEveryListedPair, TotalWithoutMisses, NoSixteen, SixteenAtTheOldLimit, SixteenForPositiveOnly, SixteenAfterSeven,
-    SixteenInPlaceOfTwo, SixteenWithALine,
+    SixteenInPlaceOfTwo, SixteenWithALine, AThirdShareOfTwoEdges, LinesBeforeSeven,
 ];
 
 impl Mistake {
@@ -136,6 +138,7 @@ fn wrong_shares(mistake: Mistake, scene: &Scene, pair: Pair, solved: &Solved) ->
                 false => second.iter().map(|&corner| half(1, corner)).collect(),
             }
         }
+        AThirdShareOfTwoEdges if edges => [solved.shares(), vec![solved.share(1, second[0])]].concat(),
         _ => solved.shares(),
     }
 }
@@ -251,6 +254,14 @@ pub fn printed(mistake: Mistake, text: &[u8], room: usize) -> String {
         Err(refusal) if mistake == SixteenInPlaceOfTwo && refusal.number == OUT_OF_RANGE => {
             written(&Err(Refusal::bare(BEYOND_OLD_RANGE)))
         }
+        Err(refusal) if mistake == LinesBeforeSeven && refusal.number == NO_ROOM => first_line(text) + &written(&Err(refusal)),
         found => written(&found),
     }
+}
+
+/// The line of the first listed pair that is hit.
+fn first_line(text: &[u8]) -> String {
+    let Ok(scene) = text::read(text) else { return String::new() };
+    let hit = |pair: Pair| super::of_pair(&scene, pair).map(|contact| line(pair, &contact));
+    listing::listed(&scene).into_iter().find_map(hit).unwrap_or_default()
 }

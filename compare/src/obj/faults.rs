@@ -1,7 +1,7 @@
 //! Everything that is wrong with two files, so that it is seen which faults, and which two at once, were tried; and a text for each of them.
 
 use super::*;
-use crate::listing;
+use crate::list::listing;
 use std::collections::BTreeSet;
 
 /// What was tried. The first fault of two is the one that is given.

@@ -3,8 +3,9 @@
 
 use super::faults::{alone, fine, in_one_line, in_two_lines, with_two};
 use super::*;
-use crate::random::Random;
-use crate::{generate, kept};
+use crate::making::generate;
+use crate::making::kept;
+use crate::numbers::random::Random;
 
 #[derive(Clone, Debug)]
 pub struct Trial {

@@ -1,28 +1,31 @@
 //! Questions from seeds.
 
+use super::bounds::{beyond, LONGEST_JUDGED, NO_TESTS};
 use super::harm::{harm, SCENE_CHECKS};
 use super::question::*;
 use super::series;
 use super::stored;
-use crate::affine::Affine;
+use crate::calls::stored::BOX_NUMBERS;
 use crate::claims::{self, making};
 use crate::contacts::making as contact_scenes;
-use crate::damage::damaged;
-use crate::faults::cells;
+use crate::list::box_tests;
+use crate::list::listing;
+use crate::making::cases;
+use crate::making::generate;
+use crate::numbers::random::Random;
 use crate::obj::making as obj_files;
-use crate::random::Random;
+use crate::report::trials;
+use crate::scene::affine::Affine;
+use crate::scene::backwards;
 use crate::scene::*;
-use crate::stored::BOX_NUMBERS;
+use crate::text::crossed;
+use crate::text::damage::damaged;
+use crate::text::faults::cells;
 use crate::text::{self, write};
-use crate::{backwards, box_tests, cases, crossed, generate, listing, trials};
 
 /// Pairs that are asked about in one scene, and cells of the table of faults in texts that a seed takes.
 const MOST_PAIRS: usize = 24;
 const CELLS: usize = 4;
-/// Longer lists are made, and their pairs not judged in one call.
-pub const LONGEST_JUDGED: usize = 2_500;
-/// What stands in the number of box tests before a call: no scene has so many.
-pub const NO_TESTS: u64 = u64::MAX - 5;
 /// A scene of full size comes with one seed in so many.
 const SELDOM: u64 = 40;
 
@@ -307,12 +310,6 @@ fn pairs(random: &mut Random, scene: &Scene) -> Vec<Question> {
         all.extend((listed..MOST_PAIRS).map(|_| random.pick(&rest)));
     }
     all.into_iter().flat_map(|pair| about(scene, pair)).collect()
-}
-
-/// A number that is not below the count, also where a program would look at some of its bits only.
-pub fn beyond(random: &mut Random, count: usize) -> u64 {
-    let count = count as u64;
-    random.pick(&[count + 1, 1 << 16, 1 << 32, 1 << 63, u64::MAX, (1 << 32) + count.saturating_sub(1)]).max(count)
 }
 
 /// Places and pieces beyond each bound, and pairs that share each vertex.

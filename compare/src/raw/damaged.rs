@@ -1,29 +1,18 @@
 //! Answers that are wrong in one respect each, so that the comparison can be seen to fail.
 
+use super::change::{damage, Damage};
 use super::expected::{self, Expecting};
 use super::harm::{of_asked, of_range, of_scene, SCENE_CHECKS, SCENE_FAULTS};
 use super::question::*;
 use super::sorts::row;
 use super::stored_damaged;
-use crate::backwards;
-use crate::box_tests;
 use crate::contacts::mistakes::{self, Mistake};
-use crate::listing;
+use crate::list::box_tests;
+use crate::list::listing;
 use crate::obj;
-use crate::refusal::*;
+use crate::scene::backwards;
+use crate::scene::refusal::*;
 use crate::scene::{Kind, Pair, Scene, COORDINATE_LIMIT, FIRST_COORDINATE_LIMIT};
-
-/// Changes a right answer, or leaves it.
-type Change = Box<dyn Fn(&Question, &mut Answer)>;
-
-pub struct Damage {
-    pub name: String,
-    pub change: Change,
-}
-
-pub fn damage(name: impl Into<String>, change: impl Fn(&Question, &mut Answer) + 'static) -> Damage {
-    Damage { name: name.into(), change: Box::new(change) }
-}
 
 pub fn all() -> Vec<Damage> {
     let mut out = numbers();
@@ -43,6 +32,7 @@ pub fn all() -> Vec<Damage> {
     out.extend(wrong_contacts());
     out.extend(own_lists());
     out.extend(saving());
+    out.extend(just_long_enough());
     out.extend(stored_damaged::all());
     out.extend(importing());
     out.extend(series());
@@ -132,6 +122,46 @@ fn saving() -> Vec<Damage> {
                 let from = MARGIN + answer.number as usize;
                 let to = MARGIN + question.lent.text.len();
                 answer.buffers[TEXT][from..to].fill(0);
+            }
+        }),
+    ]
+}
+
+/// A refusal that leaves everything as it was lent.
+fn refused_with(question: &Question, number: u64, carries: u64) -> Answer {
+    Answer { number: (number << 32) + carries, buffers: question.lent.bytes() }
+}
+
+/// Buffers that are just long enough, and refused.
+fn just_long_enough() -> Vec<Damage> {
+    vec![
+        damage("a text that just fits is refused", |question, answer| {
+            let length = question.lent.text.len() as u64;
+            if question.call == Call::SaveScene && answer.number == length && length > 0 {
+                *answer = refused_with(question, NO_ROOM, length);
+            }
+        }),
+        damage("words of one's own list that just fit are refused", |question, answer| {
+            let count = question.lent.list.len();
+            if question.call.takes_a_list() && answer.refusal() == 0 && count > 0 && question.lent.words.len() == count {
+                *answer = refused_with(question, NO_ROOM, count as u64);
+            }
+        }),
+        damage("a series whose last list just fits is refused", |question, answer| {
+            let count = question.lent.list.len() as u64;
+            if question.call == Call::TellSeries && answer.number == count && count > 0 {
+                *answer = refused_with(question, NO_ROOM, count);
+            }
+        }),
+        damage("a series without room is told by the room of its boxes", |question, answer| {
+            let needed = answer.number as u32 as u64;
+            if question.call == Call::TellSeries && answer.refusal() == NO_ROOM && needed <= question.lent.boxes.len() as u64 {
+                answer.number = needed;
+            }
+        }),
+        damage("a seam buffer that is just long enough is refused", |question, answer| {
+            if question.call.reads() && answer.number == 0 && question.lent.seams.len() == 2 * crate::scene::SEAM_LIMIT {
+                *answer = refused_with(question, LENT_TOO_SHORT, 0);
             }
         }),
     ]
@@ -235,6 +265,17 @@ fn own_lists() -> Vec<Damage> {
     vec![
         damage("entries of one's own list counted from 0", move |question, answer| {
             answer.number -= at_fault(question, answer) as u64;
+        }),
+        damage("6 of an entry told as 5", move |question, answer| {
+            if at_fault(question, answer) && answer.refusal() == SHARES_A_VERTEX {
+                answer.number -= (SHARES_A_VERTEX - NOT_THERE) << 32;
+            }
+        }),
+        damage("two edges of an entry are said to share a vertex", |question, answer| {
+            let edges = question.lent.list.iter().position(|&entry| entry >> 20 == 1);
+            if let (true, 0, Some(place)) = (question.call.takes_a_list(), answer.refusal(), edges) {
+                *answer = refused_with(question, SHARES_A_VERTEX, place as u64 + 1);
+            }
         }),
         damage("an entry at fault told without its number", move |question, answer| {
             if at_fault(question, answer) {
@@ -734,6 +775,11 @@ fn rooms() -> Vec<Damage> {
         damage("words filled up to their room, and refused after", |question, answer| {
             if question.call.lists() && answer.refusal() == NO_ROOM && !question.lent.words.is_empty() {
                 answer.buffers[WORDS][MARGIN] = 0;
+            }
+        }),
+        damage("a list is counted and not written", |question, answer| {
+            if lists(question, answer) {
+                answer.buffers[LIST].clone_from(&question.lent.bytes()[LIST]);
             }
         }),
         damage("a number behind the list is 0", |question, answer| {

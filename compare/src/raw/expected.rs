@@ -2,14 +2,20 @@
 //! docs/DECISIONS.md, D13, D15, D25 and D68.
 
 use super::question::*;
+use crate::calls::slices::{self, Slices};
+use crate::calls::stored::{self, Moved, Wrong};
+use crate::claims;
 use crate::contacts::{self, Contact};
-use crate::refusal::{Refusal, LENT_TOO_SHORT, NOT_THERE, NO_ROOM, SHARES_A_VERTEX, TEXT_TOO_LONG};
+use crate::list::box_tests;
+use crate::list::listing;
+use crate::obj;
+use crate::report;
+use crate::scene::backwards;
+use crate::scene::refusal::{Refusal, LENT_TOO_SHORT, NOT_THERE, NO_ROOM, SHARES_A_VERTEX, TEXT_TOO_LONG};
 use crate::scene::*;
-use crate::settled::{self, Settled};
-use crate::slices::{self, Slices};
-use crate::stored::{self, Moved, Wrong};
-use crate::verdict::{self, Verdict};
-use crate::{backwards, box_tests, claims, listing, obj, report, text};
+use crate::text;
+use crate::verdicts::settled::{self, Settled};
+use crate::verdicts::verdict::{self, Verdict};
 use std::collections::HashMap;
 
 /// Remembers the words of the last scene's pieces, which take their time.

@@ -1,8 +1,8 @@
 //! Faults of scenes that are lent as slices: made on purpose, and all that there are, each looked at on its own.
 
 use super::question::{Asked, Lent, Question};
-use crate::random::Random;
-use crate::refusal::*;
+use crate::numbers::random::Random;
+use crate::scene::refusal::*;
 use crate::scene::*;
 
 /// The numbers that a scene may be refused with, in the order of the checks.
@@ -291,7 +291,7 @@ fn misshape(random: &mut Random, lent: &mut Lent) {
 mod tests {
     use super::super::expected::scene;
     use super::*;
-    use crate::generate;
+    use crate::making::generate;
 
     /// The first of the faults is what the scene is refused for.
     #[test]

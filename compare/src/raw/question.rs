@@ -1,7 +1,7 @@
 //! A call of the library with everything that it is lent, and its answer; in the form in which driver.c takes and gives them.
 
+use crate::calls::slices;
 use crate::scene::{Kind, Scene};
-use crate::slices;
 
 /// The calls in the order of driver.c.
 #[derive(Clone, Copy, Debug, PartialEq, Eq, PartialOrd, Ord)]

@@ -1,12 +1,13 @@
 //! The call that tells of a series: what it is asked, what it must answer and leave, and the sorts of question.
 
 use super::question::*;
-use crate::refusal::*;
+use crate::list::listing;
+use crate::numbers::random::Random;
+use crate::scene::refusal::*;
 use crate::scene::{REPORT_ROOM, TEXT_LIMIT};
 use crate::series::making;
 use crate::series::mistakes::{Mistake, Right};
 use crate::series::{self, ended_lent, least_lengths, LOG_LIMIT};
-use crate::{listing, random::Random};
 
 /// Mistakes that are made on purpose in answers: of each stage some.
 pub const DAMAGES: [&str; 21] = [

@@ -5,13 +5,13 @@ use super::harm::*;
 use super::question::*;
 use super::series;
 use super::stored_sorts;
-use crate::box_tests;
-use crate::faults::{self, Cell};
-use crate::listing;
+use crate::calls::stored::BOX_NUMBERS;
+use crate::list::box_tests;
+use crate::list::listing;
 use crate::obj;
-use crate::refusal::*;
+use crate::scene::refusal::*;
 use crate::scene::*;
-use crate::stored::BOX_NUMBERS;
+use crate::text::faults::{self, Cell};
 use std::collections::BTreeMap;
 
 pub type Sorts = BTreeMap<String, usize>;
@@ -255,8 +255,8 @@ fn of_importing(question: &Question, answer: &Answer) -> Vec<String> {
     let mut out = Vec::new();
     let mut add = |holds: bool, sort: &str| out.extend(holds.then(|| format!("import_scene: {sort}")));
     if answer.refusal() != LENT_TOO_SHORT {
-        add(answer.number == 0 && lent.boxes.len() > crate::stored::BOX_NUMBERS, "room left over behind the boxes");
-        add(answer.number == 0 && lent.boxes.len() == crate::stored::BOX_NUMBERS, "no room left over");
+        add(answer.number == 0 && lent.boxes.len() > crate::calls::stored::BOX_NUMBERS, "room left over behind the boxes");
+        add(answer.number == 0 && lent.boxes.len() == crate::calls::stored::BOX_NUMBERS, "no room left over");
         let cells = obj::faults::reached(&lent.text, &lent.ending);
         out.extend(cells.into_iter().map(|cell| format!("import_scene: {cell:?}")));
         return out;
@@ -522,7 +522,7 @@ fn of_room(question: &Question, count: usize) -> Vec<String> {
         add(short == [false, true, false], "the words too short");
         add(short == [false, false, true], "the contacts too short");
         add(short == [true, true, true], "all too short");
-        add(rows >= count && question.lent.contacts.len() % ROW > 0, "a part of a row left over");
+        add(rows >= count && !question.lent.contacts.len().is_multiple_of(ROW), "a part of a row left over");
     }
     out
 }

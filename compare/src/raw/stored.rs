@@ -1,13 +1,13 @@
 //! Questions about a scene that keeps its boxes: chains of moves, boxes that are stale, buffers that are too short, scenes that are refused.
 
-use super::asking::{beyond, LONGEST_JUDGED, NO_TESTS};
+use super::bounds::{beyond, LONGEST_JUDGED, NO_TESTS};
 use super::question::*;
-use crate::cases;
-use crate::listing;
-use crate::random::Random;
+use crate::calls::slices;
+use crate::calls::stored::{self, parts, Moved, Wrong, BOX_NUMBERS};
+use crate::list::listing;
+use crate::making::cases;
+use crate::numbers::random::Random;
 use crate::scene::*;
-use crate::slices;
-use crate::stored::{self, parts, Moved, Wrong, BOX_NUMBERS};
 use crate::text;
 
 /// Moves of a chain, and scenes of more vertices are asked less about.

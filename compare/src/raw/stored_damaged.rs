@@ -1,11 +1,11 @@
 //! Answers of calls with stored boxes that are wrong in one respect each.
 
-use super::damaged::{damage, Damage};
+use super::change::{damage, Damage};
 use super::expected::{self, Expecting};
 use super::question::*;
-use crate::refusal::*;
+use crate::calls::stored::{self, BOX_NUMBERS, WRONG};
+use crate::scene::refusal::*;
 use crate::scene::COORDINATE_LIMIT;
-use crate::stored::{self, BOX_NUMBERS, WRONG};
 
 pub fn all() -> Vec<Damage> {
     let mut out = wrong_ways();

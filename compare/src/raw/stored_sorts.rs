@@ -3,10 +3,10 @@
 use super::expected;
 use super::harm::{of_scene, stands_for, SCENE_CHECKS};
 use super::question::*;
-use crate::listing;
-use crate::refusal::*;
+use crate::calls::stored::{self, Wrong, BOX_NUMBERS};
+use crate::list::listing;
+use crate::scene::refusal::*;
 use crate::scene::*;
-use crate::stored::{self, Wrong, BOX_NUMBERS};
 
 const KINDS: [&str; 3] = ["vertex", "edge", "triangle"];
 

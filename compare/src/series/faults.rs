@@ -1,7 +1,7 @@
 //! Everything that is wrong with the text of a series, each check looked at on its own in every line, and the table of what was tried.
 
 use super::*;
-use crate::faults::{self, Cell, LIMITS};
+use crate::text::faults::{self, Cell, LIMITS};
 
 /// The numbers that a line may be refused for, in the order of the checks.
 pub const LINE_CHECKS: [u64; 8] =

@@ -2,14 +2,14 @@
 
 use super::faults::cells;
 use super::*;
-use crate::affine::Affine;
-use crate::cases;
-use crate::crossed;
-use crate::damage::damaged;
-use crate::faults::{self as scene_faults, Cell};
-use crate::generate;
-use crate::kept;
-use crate::random::Random;
+use crate::making::cases;
+use crate::making::generate;
+use crate::making::kept;
+use crate::numbers::random::Random;
+use crate::scene::affine::Affine;
+use crate::text::crossed;
+use crate::text::damage::damaged;
+use crate::text::faults::{self as scene_faults, Cell};
 
 pub struct Trial {
     pub name: String,

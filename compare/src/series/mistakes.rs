@@ -3,7 +3,7 @@
 
 use super::faults::{add, cells, of_line, of_lines, LINE_CHECKS};
 use super::*;
-use crate::faults::Cell;
+use crate::text::faults::Cell;
 
 type Read = Box<dyn Fn(&[u8]) -> Result<Series, Refusal>>;
 type Steps = Box<dyn Fn(&Series) -> Vec<Scene>>;

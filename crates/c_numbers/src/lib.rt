@@ -43,7 +43,7 @@ pub fn scene_number(answer: SceneAnswer) -> u64
     }
 }
 
-// The three-case verdict has numbers of its own; scene_words::byte_of numbers the four words.
+// The three-case verdict has numbers of its own; list_words::byte_of numbers the four words.
 fn verdict_number(verdict: Verdict) -> u64
     ensures { λ r. ⌜ r ≡ verdictNumber verdict ⌝ }
 {

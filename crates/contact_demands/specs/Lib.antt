@@ -5,3 +5,5 @@ pub mod Numbers
 pub mod Demand1
 pub mod OnePrinted
 pub mod AnyWriting
+-- a contact by computing
+pub mod Shown

@@ -6,27 +6,27 @@ use native.Mathlib.Omega.{arith}
 use lib.ListN.{length, drop, set, length-append}
 use Rattle.sequences.specs.Writing.{WritingDown, down-starts, down-step, down-ends, down-as}
 use Rattle.sequences.specs.Wrote.{Wrote}
-use Rattle.decimals.specs.Digits.{byteOf, digits, digits-small, digits-large, by-tens}
+use Rattle.decimals.specs.Digits.{digitByte, digits, digits-small, digits-large, by-tens}
 
 -- the last k digits of a number
 unfoldable pub lastDigits : ℕ → ℕ → List ℕ
 lastDigits zero n = []
-lastDigits (suc k) n = lastDigits k (n / 10) ++ (byteOf (n % 10) ∷ [])
+lastDigits (suc k) n = lastDigits k (n / 10) ++ (digitByte (n % 10) ∷ [])
 
 last-length : (k n : ℕ) → length (lastDigits k n) ≡ k
 unfolding lastDigits
 last-length zero n = refl
-last-length (suc k) n = omega (arith, length-append (lastDigits k (n / 10)) (byteOf (n % 10) ∷ []), last-length k (n / 10))
+last-length (suc k) n = omega (arith, length-append (lastDigits k (n / 10)) (digitByte (n % 10) ∷ []), last-length k (n / 10))
 
 -- as many as the number has are all of them
 last-all : (n : ℕ) → lastDigits (length (digits n)) n ≡ digits n
 unfolding lastDigits
 last-all =
     by-tens (λ n. lastDigits (length (digits n)) n ≡ digits n)
-    (λ n h. let one : n % 10 ≡ n = omega arith in rw (digits-small n h) (ap (λ (d : ℕ). byteOf d ∷ []) one))
+    (λ n h. let one : n % 10 ≡ n = omega arith in rw (digits-small n h) (ap (λ (d : ℕ). digitByte d ∷ []) one))
     (λ n h next.
     let more : length (digits n) ≡ suc (length (digits (n / 10))) =
-    omega (arith, ap length (digits-large n h), length-append (digits (n / 10)) (byteOf (n % 10) ∷ [])) in
+    omega (arith, ap length (digits-large n h), length-append (digits (n / 10)) (digitByte (n % 10) ∷ [])) in
     cc (digits-large n h, next))
 
 -- ---- counting
@@ -35,7 +35,7 @@ pub length-small : (n : ℕ) → n < 10 → length (digits n) ≡ 1
 length-small n h = ap length (digits-small n h)
 
 pub length-large : (n : ℕ) → 10 ≤ n → length (digits n) ≡ length (digits (n / 10)) + 1
-length-large n h = ap length (digits-large n h) ∙ length-append (digits (n / 10)) (byteOf (n % 10) ∷ [])
+length-large n h = ap length (digits-large n h) ∙ length-append (digits (n / 10)) (digitByte (n % 10) ∷ [])
 
 pub two-digits : (n : ℕ) → 10 ≤ n → n < 100 → length (digits n) ≡ 2
 two-digits n h k = omega (arith, length-large n h, length-small (n / 10) (omega arith))
@@ -73,13 +73,13 @@ module _ {o₀ o : List ℕ} {at n next rest : ℕ} (c : Putting o₀ at n o nex
   pub put-room : at < next → next - 1 < length o
   put-room h = omega (arith, c .down .room)
 
-  pub put-step : at < next → Putting o₀ at n (set o (next - 1) (byteOf (rest % 10))) (next - 1) (rest / 10)
+  pub put-step : at < next → Putting o₀ at n (set o (next - 1) (digitByte (rest % 10))) (next - 1) (rest / 10)
   unfolding lastDigits
   put-step h =
       let one : next - at ≡ suc (next - 1 - at) = omega arith in
       record {
         started = omega arith;
-        down = down-step (lastDigits (next - 1 - at) (rest / 10)) (byteOf (rest % 10)) (down-as (ap (λ (k : ℕ). lastDigits k rest) one) (c .down));
+        down = down-step (lastDigits (next - 1 - at) (rest / 10)) (digitByte (rest % 10)) (down-as (ap (λ (k : ℕ). lastDigits k rest) one) (c .down));
       }
 
   pub put-ends : {count : ℕ} → count ≡ length (digits n) → next ≤ at → Wrote o₀ at (digits n) o (at + count)

@@ -11,25 +11,25 @@ use borrow.Author.Tests.{lt-ltb, le-ltb}
 use Rattle.sequences.specs.Range.{le-or-lt}
 
 -- the byte of a digit
-abbrev pub byteOf : ℕ → ℕ
-byteOf d = 48 + d
+abbrev pub digitByte : ℕ → ℕ
+digitByte d = 48 + d
 
 -- at most so many: a number below ten is one digit, and any other has the digits of its tenth part before its last one
 unfoldable pub digitsWithin : ℕ → ℕ → List ℕ
 digitsWithin zero n = []
 digitsWithin (suc most) n =
-    elim (ltb n 10) [ true ↦ byteOf n ∷ [] | false ↦ digitsWithin most (n / 10) ++ (byteOf (n % 10) ∷ []) ]
+    elim (ltb n 10) [ true ↦ digitByte n ∷ [] | false ↦ digitsWithin most (n / 10) ++ (digitByte (n % 10) ∷ []) ]
 
 -- a number n never has more than n + 1
 unfoldable pub digits : ℕ → List ℕ
 unfolding digitsWithin
 digits n = digitsWithin (suc n) n
 
-within-small : (most n : ℕ) → n < 10 → digitsWithin (suc most) n ≡ byteOf n ∷ []
+within-small : (most n : ℕ) → n < 10 → digitsWithin (suc most) n ≡ digitByte n ∷ []
 unfolding digitsWithin
 within-small most n h = rw (lt-ltb n 10 h, digitsWithin)
 
-within-large : (most n : ℕ) → 10 ≤ n → digitsWithin (suc most) n ≡ digitsWithin most (n / 10) ++ (byteOf (n % 10) ∷ [])
+within-large : (most n : ℕ) → 10 ≤ n → digitsWithin (suc most) n ≡ digitsWithin most (n / 10) ++ (digitByte (n % 10) ∷ [])
 unfolding digitsWithin
 within-large most n h = rw (le-ltb n 10 h, digitsWithin)
 
@@ -45,15 +45,15 @@ within-same (suc most) (suc more) n h k =
     (le-or-lt 10 n)
 
 -- the two equations that define it
-pub digits-small : (n : ℕ) → n < 10 → digits n ≡ byteOf n ∷ []
+pub digits-small : (n : ℕ) → n < 10 → digits n ≡ digitByte n ∷ []
 unfolding digits
 digits-small n h = within-small n n h
 
-pub digits-large : (n : ℕ) → 10 ≤ n → digits n ≡ digits (n / 10) ++ (byteOf (n % 10) ∷ [])
+pub digits-large : (n : ℕ) → 10 ≤ n → digits n ≡ digits (n / 10) ++ (digitByte (n % 10) ∷ [])
 unfolding digits
 digits-large n h =
     within-large n n h
-    ∙ ap (λ (l : List ℕ). l ++ (byteOf (n % 10) ∷ [])) (within-same n (suc (n / 10)) (n / 10) (omega arith) (omega arith))
+    ∙ ap (λ (l : List ℕ). l ++ (digitByte (n % 10) ∷ [])) (within-same n (suc (n / 10)) (n / 10) (omega arith) (omega arith))
 
 -- what holds below ten, and of each number if it holds of its tenth part, holds of every number
 pub by-tens {κ} : (P : ℕ → Type κ) → ((n : ℕ) → n < 10 → P n) → ((n : ℕ) → 10 ≤ n → P (n / 10) → P n) → (n : ℕ) → P n

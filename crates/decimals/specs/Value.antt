@@ -8,7 +8,7 @@ use native.Mathlib.Omega.{arith}
 use lib.ListN.{length, getD, length-append, List·getD-append}
 use Rattle.sequences.specs.Range.{le-or-lt}
 use Rattle.decimals.specs.Byte.{IsDigit}
-use Rattle.decimals.specs.Digits.{byteOf, digits, digits-small, digits-large, by-tens}
+use Rattle.decimals.specs.Digits.{digitByte, digits, digits-small, digits-large, by-tens}
 
 -- ten times what stands before, and the digit: from the left, with v before the list
 unfoldable pub valueOn : ℕ → List ℕ → ℕ
@@ -37,7 +37,7 @@ value-digits =
     by-tens (λ n. value (digits n) ≡ n)
     (λ n h. rw (digits-small n h) (omega arith))
     (λ n h next.
-    rw (digits-large n h, value-append 0 (digits (n / 10)) (byteOf (n % 10) ∷ []), next) (omega arith))
+    rw (digits-large n h, value-append 0 (digits (n / 10)) (digitByte (n % 10) ∷ []), next) (omega arith))
 
 pub digits-unique : (n m : ℕ) → digits n ≡ digits m → n ≡ m
 digits-unique n m e = sym (value-digits n) ∙ ap value e ∙ value-digits m
@@ -51,8 +51,8 @@ each-digit n b =
     (λ n h next m. ⊎-elim next (one (n % 10) (omega arith)) (List·Memᴰ·append-cases (digits (n / 10)) (rw (digits-large n h) at m)))
     n
   where
-    one : (d : ℕ) → d < 10 → List·Memᴰ b (byteOf d ∷ []) → IsDigit b
-    one d h m = let e : b ≡ byteOf d = List·Memᴰ·eq-of-singleton m in record { low = omega arith; high = omega arith }
+    one : (d : ℕ) → d < 10 → List·Memᴰ b (digitByte d ∷ []) → IsDigit b
+    one d h m = let e : b ≡ digitByte d = List·Memᴰ·eq-of-singleton m in record { low = omega arith; high = omega arith }
 
 pub digits-some : (n : ℕ) → 0 < length (digits n)
 digits-some =
@@ -65,7 +65,7 @@ digits-first =
     by-tens (λ n. 0 < n → 48 < getD (digits n) 0 0)
     (λ n h p. rw (digits-small n h) (omega arith))
     (λ n h next p.
-    rw (digits-large n h, List·getD-append (digits (n / 10)) (byteOf (n % 10) ∷ []) 0 0 (digits-some (n / 10)))
+    rw (digits-large n h, List·getD-append (digits (n / 10)) (digitByte (n % 10) ∷ []) 0 0 (digits-some (n / 10)))
     (next (omega arith)))
 
 pub digits-canonical : (n : ℕ) → Canonical (digits n)
@@ -84,7 +84,7 @@ digits-canonical n =
 next-digit : (v b : ℕ) → 0 < v → IsDigit b → digits (v * 10 + (b - 48)) ≡ digits v ++ (b ∷ [])
 next-digit v b some d =
     let tens : (v * 10 + (b - 48)) / 10 ≡ v = omega (arith, d .low, d .high) in
-    let last : byteOf ((v * 10 + (b - 48)) % 10) ≡ b = omega (arith, d .low, d .high) in
+    let last : digitByte ((v * 10 + (b - 48)) % 10) ≡ b = omega (arith, d .low, d .high) in
     cc (digits-large (v * 10 + (b - 48)) (omega arith))
 
 digits-on : (v : ℕ) (l : List ℕ) → 0 < v → ((b : ℕ) → List·Memᴰ b l → IsDigit b) → digits (valueOn v l) ≡ digits v ++ l
@@ -96,7 +96,7 @@ digits-on v (b ∷ l) some each =
 
 first-digit : (b : ℕ) → IsDigit b → digits (0 + (b - 48)) ≡ b ∷ []
 first-digit b d =
-    let same : byteOf (0 + (b - 48)) ≡ b = omega (arith, d .low) in
+    let same : digitByte (0 + (b - 48)) ≡ b = omega (arith, d .low) in
     digits-small (0 + (b - 48)) (omega (arith, d .high)) ∙ ap (λ (c : ℕ). c ∷ []) same
 
 pub digits-value : (l : List ℕ) → Canonical l → digits (value l) ≡ l

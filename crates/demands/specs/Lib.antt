@@ -39,6 +39,10 @@ pub mod PlayedBackwards
 pub mod Sewn
 -- 'They cut two faces that share an edge along different diagonals, and a corner slips through the crack'
 pub mod NoCracks
+-- the two vertices of a seam stand for one
+pub mod StandForOne
+-- two faces either side of a seam share an edge, which is what no cracks are said of
+pub mod EitherSide
 -- a point as a column of five numbers, the determinant of five of them, and both with letters for the numbers, so that an identity is settled by computing
 pub mod Columns
 -- 'By Cramer's rule each weight is, up to one common factor, a signed determinant of the other five points with rows x, y, z, at-start, at-end'
@@ -55,6 +59,8 @@ pub mod BarredLists
 pub mod BoxTests
 -- document 02, §11
 pub mod Claims
+-- document 02, §11, printed: one result, and whose fault a line tells
+pub mod ClaimsPrinted
 -- a scene without seams means what it meant before there were any
 pub mod NoSeams
 -- 'Sharing and corner order now go by the vertex stood for', of document 02

@@ -1,6 +1,6 @@
 -- The verdict of a piece by signs alone, from the determinant of its equations and its weights, all up to one common factor.
 -- Every sum in here is exact: how code finds its sign is the code's own affair.
-use mathlib.Core.Bool.{Bool, true, false, not, cond, _&&_}
+use mathlib.Core.Bool.{Bool, true, false, not, cond, _&&_, _||_}
 use mathlib.Core.List.{List, [], _∷_}
 use lib.IntN.{ℤ, pos, negℤ, _+ℤ_}
 use Rattle.whole.specs.Signs.{sgn, isNought, agree}
@@ -20,6 +20,16 @@ bySigns d es = cond (isNought (sgn d)) Degenerate (cond (allAgree d es) Hit Miss
 -- the verdict that is told by 'one is hit' and 'one is singular'
 abbrev pub told : Signs → Verdict
 told s = cond (s .hit) Hit (cond (s .flat) Degenerate Miss)
+
+-- the two of one piece with this verdict: no piece is both
+unfoldable pub signsOf : Verdict → Signs
+signsOf Hit = record { hit = true; flat = false }
+signsOf Miss = record { hit = false; flat = false }
+signsOf Degenerate = record { hit = false; flat = true }
+
+-- the two of several pieces taken together
+abbrev pub eitherOf : Signs → Signs → Signs
+eitherOf a b = record { hit = a .hit || b .hit; flat = a .flat || b .flat }
 
 abbrev pub sum : Four ℤ → ℤ
 sum e = e .v0 +ℤ e .v1 +ℤ e .v2 +ℤ e .v3

@@ -1,5 +1,5 @@
 -- What the verdict by signs says, in each of its three cases, and what its sums are.
-use mathlib.Core.Path.{_≡_, refl, sym}
+use mathlib.Core.Path.{_≡_, refl, sym, ap, _∙_}
 use mathlib.Core.Logic.{_≢_, _↔_}
 use mathlib.Core.Bool.{Bool, true, false, not, cond}
 use mathlib.Core.List.{List, [], _∷_}
@@ -11,7 +11,8 @@ use Rattle.whole.specs.Cramer.{Four, each, dot4}
 use Rattle.whole.specs.Signs.{sgn, isNought, isNought-is, nought-is, Agrees, agree, agree-is}
 use Rattle.meaning.specs.declared.Verdict.{Verdict}
 use Rattle.meaning.specs.declared.Verdict.the-variants.{Hit, Miss, Degenerate}
-use Rattle.exact_signs.specs.BySigns.{allAgree, bySigns, sum, keep, kept}
+use Rattle.exact_signs.specs.declared.Signs.{Signs}
+use Rattle.exact_signs.specs.BySigns.{allAgree, bySigns, told, signsOf, sum, keep, kept}
 
 unfoldable pub EachAgrees : ℤ → List ℤ → Type 0
 EachAgrees d [] = Unit {0}
@@ -61,3 +62,14 @@ sum-ends t e = simp keep-clock
 
 pub sum-starts : (t : Four Bool) (e : Four ℤ) → sum (kept (each not t) e) ≡ dot4 e (each (λ b. pos 1 -ℤ clock b) t)
 sum-starts t e = simp keep-not
+
+-- ---- the verdict that the two of a piece tell
+
+told-signs : (v : Verdict) → told (signsOf v) ≡ v
+unfolding signsOf
+told-signs Hit = refl
+told-signs Miss = refl
+told-signs Degenerate = refl
+
+pub tells : {s : Signs} {v : Verdict} → s ≡ signsOf v → told s ≡ v
+tells {v = v} e = ap (λ (s : Signs). told s) e ∙ told-signs v

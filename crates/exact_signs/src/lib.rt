@@ -1,4 +1,4 @@
-// What the signs of exact volumes, and of their sums, say of a piece. But for share_sums this is the one place that adds determinants, never more
+// What the signs of exact volumes, and of their sums, say of a piece. But for exact_shares this is the one place that adds determinants, never more
 // than two, and no sum leaves it as a number.
 
 pub mod ways; // ways.rt: numbers of one sign, for cloth at rest
@@ -10,7 +10,7 @@ ghost use lib.Signed.{leZ};
 ghost use Rattle.meaning.specs.Limits.{coordinateLimit};
 ghost use Rattle.exact.specs.Places.{Bounded};
 ghost use Rattle.exact.specs.Volumes.{four, Rooms, volumesAt, fourOf, Holds, Small, SmallFour};
-ghost use Rattle.exact_signs.specs.BySigns.{told, pointVerdict, edgeVerdict, sum, keep, kept};
+ghost use Rattle.exact_signs.specs.BySigns.{told, signsOf, pointVerdict, edgeVerdict, sum, keep, kept};
 ghost use Rattle.exact_signs.specs.OneSign.{oneSign, alike};
 ghost use Rattle.exact_signs.specs.Sums.{worth};
 ghost use Rattle.sequences.specs.Lent.{atEntry};
@@ -62,7 +62,7 @@ pub fn verdict_of(s: Signs) -> Verdict
 // is 0 is asked. That a number is not positive is asked of minus it, so that four questions become one.
 fn by_signs(d: Sum, a: i64, b: i64, c: i64, e: i64, f: Sum) -> Signs
     requires { ⌜ SmallFour (four a b c e) ⌝ }
-    ensures { λ r. ⌜ told r ≡ oneSign (worth d) (a ∷ b ∷ c ∷ e ∷ worth f ∷ []) ⌝ }
+    ensures { λ r. ⌜ r ≡ signsOf (oneSign (worth d) (a ∷ b ∷ c ∷ e ∷ worth f ∷ [])) ⌝ }
 {
     let less_a = 0 - a;
     let less_b = 0 - b;
@@ -114,7 +114,7 @@ pub(crate) fn sum_where(v: Volumes, t0: bool, t1: bool, t2: bool, t3: bool) -> S
 // The signs of a moving point's segment against a tetrahedron: the volumes are of the tetrahedron's four points.
 pub fn point_signs(v: Volumes) -> Signs
     requires { ⌜ Small v ⌝ }
-    ensures { λ r. ⌜ told r ≡ pointVerdict (fourOf v) ⌝ }
+    ensures { λ r. ⌜ r ≡ signsOf (pointVerdict (fourOf v)) ⌝ }
 {
     by_signs(sum_of(v), v.e0, v.e1, v.e2, v.e3, NOTHING)
 }
@@ -131,7 +131,7 @@ fn alike(t: bool, u: bool) -> bool
 // that time; that of the other base is a sum of the last three alone, and has their sign.
 pub fn edge_signs(v: Volumes, t0: bool, t1: bool, t2: bool, t3: bool) -> Signs
     requires { ⌜ Small v ⌝ }
-    ensures { λ r. ⌜ told r ≡ edgeVerdict (four t0 t1 t2 t3) (fourOf v) ⌝ }
+    ensures { λ r. ⌜ r ≡ signsOf (edgeVerdict (four t0 t1 t2 t3) (fourOf v)) ⌝ }
 {
     let d = sum_where(v, false, true, true, true);
     let own = sum_where(v, true, alike(t0, t1), alike(t0, t2), alike(t0, t3));

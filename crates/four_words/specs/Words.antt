@@ -15,12 +15,7 @@ use Rattle.meaning.specs.declared.Settled.{Settled}
 use Rattle.meaning.specs.declared.Settled.the-variants.{Hit, Miss, Touch, Apart}
 use Rattle.corner_search.specs.Decided.{some-hit}
 
--- whether the pieces of a pair with this verdict are looked at again, and the word of one whose are not
-unfoldable pub isSingular : Verdict → Bool
-isSingular Verdict.Hit = false
-isSingular Verdict.Miss = false
-isSingular Verdict.Degenerate = true
-
+-- the word of a pair that is not degenerate
 unfoldable pub plainWord : Verdict → Settled
 plainWord Verdict.Hit = Hit
 plainWord Verdict.Miss = Miss
@@ -83,16 +78,3 @@ module _ (s : Scene) (kind : Kind) (i j : ℕ) where
       where
         of : TouchSaid s kind i j false → ¬ SomeSettled s kind i j Touch
         of (none t) = t
-
-  -- a pair is degenerate, or has the plain word of its verdict
-  pub goes-on : (v : Verdict) → isSingular v ≡ true → PairIs s kind i j v → PairIs s kind i j Verdict.Degenerate
-  unfolding isSingular
-  goes-on Verdict.Hit e h = absurd (true≢false (sym e))
-  goes-on Verdict.Miss e h = absurd (true≢false (sym e))
-  goes-on Verdict.Degenerate e h = h
-
-  pub stays : (v : Verdict) → isSingular v ≡ false → PairIs s kind i j v → PairSettled s kind i j (plainWord v)
-  unfolding isSingular plainWord
-  stays Verdict.Hit e h = hit-stays refl h
-  stays Verdict.Miss e h = miss-stays refl h
-  stays Verdict.Degenerate e h = absurd (true≢false e)

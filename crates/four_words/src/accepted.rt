@@ -9,7 +9,7 @@ ghost use Rattle.meaning.specs.Verdicts.{PieceIs, PairIs};
 ghost use Rattle.meaning.specs.Resting.{PieceSettled, PairSettled};
 ghost use Rattle.scene_seams.specs.Alone.{tabledIn, tabledAtEntry};
 ghost use Rattle.meaning.specs.declared.Verdict.the-variants.{Degenerate};
-ghost use Rattle.four_words.specs.Words.{TouchSaid, isSingular, plainWord};
+ghost use Rattle.four_words.specs.Words.{TouchSaid, plainWord};
 use super::six::six_of;
 use corner_rest::pair_rests;
 use meaning::Kind;
@@ -88,7 +88,7 @@ fn touches(
 }
 
 // The word of a degenerate pair.
-pub(crate) fn singular_word(
+fn singular_word(
     positions: &[i32],
     edges: &[u16],
     triangles: &[u16],
@@ -109,17 +109,6 @@ pub(crate) fn singular_word(
     }
 }
 
-// Only where the verdict of a pair is degenerate are its pieces looked at again.
-fn is_singular(verdict: Verdict) -> bool
-    ensures { λ r. ⌜ r ≡ isSingular verdict ⌝ }
-{
-    match verdict {
-        Verdict::Hit => false,
-        Verdict::Miss => false,
-        Verdict::Degenerate => true,
-    }
-}
-
 // The word of a pair that is not degenerate.
 fn plain_word(verdict: Verdict) -> Settled
     ensures { λ r. ⌜ r ≡ plainWord verdict ⌝ }
@@ -131,7 +120,30 @@ fn plain_word(verdict: Verdict) -> Settled
     }
 }
 
-// A pair. Hit and miss are one way: which of them it is cannot be foretold, and a branch on it costs more than the choice of the word.
+// The word of a pair, from its verdict: only a degenerate one goes on. Hit and miss are one way: which of them it is cannot be foretold, and a
+// branch on it costs more than the choice of the word.
+pub(crate) fn pair_word(
+    positions: &[i32],
+    edges: &[u16],
+    triangles: &[u16],
+    stands: &[u16],
+    kind: Kind,
+    i: usize,
+    j: usize,
+    verdict: Verdict,
+) -> Settled
+    requires { ⌜ Accepted (tabledIn positions edges triangles stands)
+        × (notThere (tabledIn positions edges triangles stands) kind i j ≡ false)
+        × PairIs (tabledIn positions edges triangles stands) kind i j verdict ⌝ }
+    ensures { λ r. ⌜ PairSettled (tabledAtEntry positions edges triangles stands) kind i j r ⌝ }
+{
+    let Verdict::Degenerate = verdict else {
+        return plain_word(verdict);
+    };
+    singular_word(positions, edges, triangles, stands, kind, i, j)
+}
+
+// A pair.
 pub fn pair(
     positions: &[i32],
     edges: &[u16],
@@ -146,9 +158,5 @@ pub fn pair(
     ensures { λ r. ⌜ PairSettled (tabledAtEntry positions edges triangles stands) kind i j r ⌝ }
 {
     let verdict = three_words::accepted::pair(positions, edges, triangles, stands, kind, i, j);
-    if is_singular(verdict) {
-        singular_word(positions, edges, triangles, stands, kind, i, j)
-    } else {
-        plain_word(verdict)
-    }
+    pair_word(positions, edges, triangles, stands, kind, i, j, verdict)
 }

@@ -10,10 +10,8 @@ ghost use Rattle.scene_checks.specs.Checking.{Stitched};
 ghost use Rattle.sequences.specs.Lent.{atEntry, atExit};
 use meaning::Kind;
 use meaning::PairAnswer;
-use meaning::Settled;
 use meaning::SettledAnswer;
 use meaning::VERTEX_LIMIT;
-use meaning::Verdict;
 
 // The word of a pair, for a scene that may be anything; and the table of its seams. The refusals are those of its verdict.
 pub fn settle_into(
@@ -30,7 +28,7 @@ pub fn settle_into(
     ensures { λ r. ⌜ PairDecided (sceneAtEntry positions edges triangles seams) kind first second r
         × Stitched (sceneAtEntry positions edges triangles seams) (atEntry stands) (atExit stands) ⌝ }
 {
-    match three_words::pair_into(
+    let judged = three_words::pair_into(
         positions,
         edges,
         triangles,
@@ -39,11 +37,10 @@ pub fn settle_into(
         kind,
         first,
         second,
-    ) {
-        PairAnswer::Judged(verdict) => match verdict {
-            Verdict::Hit => SettledAnswer::Decided(Settled::Hit),
-            Verdict::Miss => SettledAnswer::Decided(Settled::Miss),
-            Verdict::Degenerate => SettledAnswer::Decided(accepted::singular_word(
+    );
+    match judged {
+        PairAnswer::Judged(verdict) => {
+            let word = accepted::pair_word(
                 positions,
                 edges,
                 triangles,
@@ -51,8 +48,10 @@ pub fn settle_into(
                 kind,
                 first,
                 second,
-            )),
-        },
+                verdict,
+            );
+            SettledAnswer::Decided(word)
+        }
         PairAnswer::Refused(refusal) => SettledAnswer::Refused(refusal),
     }
 }

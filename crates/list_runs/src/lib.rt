@@ -13,7 +13,7 @@ use list_boxes::kept::store_joint_box;
 
 // How many runs so many parts make: the last may have fewer than 16.
 pub fn runs_of(parts: usize) -> usize
-    requires { ⌜ parts ≤ 1024 ⌝ }
+    requires { ⌜ parts ≤ 1152921504606846976 ⌝ }
     ensures { λ r. ⌜ r ≡ runsOf parts ⌝ }
 {
     (parts + 15) / 16
@@ -21,7 +21,7 @@ pub fn runs_of(parts: usize) -> usize
 
 // The place behind a run's last part.
 pub fn run_to(parts: usize, run: usize) -> usize
-    requires { ⌜ run < 1024 ⌝ }
+    requires { ⌜ run < 576460752303423488 ⌝ }
     ensures { λ r. ⌜ r ≡ runTo parts run ⌝ }
 {
     let full = 16 * run + 16;
@@ -43,7 +43,7 @@ fn store_run(boxes: &mut [i32], at: usize, more: usize, to: usize)
 
 // The runs of so many boxes from `first` on, their joint boxes from the number `to` on.
 pub fn fill_runs(boxes: &mut [i32], first: usize, parts: usize, to: usize)
-    requires { ⌜ (first + parts ≤ to) × (parts ≤ 1024) × (6 * (to + runsOf parts) ≤ length (now boxes)) ⌝ }
+    requires { ⌜ (first + parts ≤ to) × (parts ≤ 1152921504606846976) × (6 * (to + runsOf parts) ≤ length (now boxes)) ⌝ }
     ensures { λ _. ⌜ RunsFilled (atEntry boxes) first parts to (atExit boxes) ⌝ }
 {
     let runs = runs_of(parts);

@@ -316,11 +316,11 @@ pub extern "C" fn makhnodri_settle_ee_piece_slices(
 
 // ---- when and where a pair is hit: its word as the answer, and the numbers of a hit in a lent array that nothing else changes
 
-fn put_contact(contact: &mut [u32; ROW_NUMBERS], contact: WholeContact)
-    requires { ⌜ SmallContact contact ⌝ }
-    ensures { λ _. ⌜ atExit contact ≡ rowLeft contact (atEntry contact) ⌝ }
+fn put_contact(contact: &mut [u32; ROW_NUMBERS], found: WholeContact)
+    requires { ⌜ SmallContact found ⌝ }
+    ensures { λ _. ⌜ atExit contact ≡ rowLeft found (atEntry contact) ⌝ }
 {
-    if let WholeContact::Hit(m) = contact {
+    if let WholeContact::Hit(m) = found {
         *contact = [m.piece as u32, m.k, m.first, m.second, m.third];
     }
 }
@@ -340,9 +340,9 @@ fn contact_told(
         (atExit contact)) r ⌝ }
 {
     match contact_pair::contact_pair(positions, edges, triangles, seams, kind, first, second) {
-        WholeContactAnswer::Found(contact) => {
-            put_contact(contact, contact);
-            word_number(contact)
+        WholeContactAnswer::Found(found) => {
+            put_contact(contact, found);
+            word_number(found)
         }
         WholeContactAnswer::Refused(why) => refused(why, 0),
     }

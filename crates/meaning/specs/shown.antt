@@ -5,3 +5,5 @@ pub mod FirstFault
 pub mod ObjShown
 pub mod SeriesShown
 pub mod NumbersShown
+pub mod ContactsShown
+pub mod ClaimsShown

@@ -31,5 +31,7 @@ pub mod Together
 pub mod Answered
 -- so the one call gives all of their words
 pub mod Given
+-- what is asked of pairs is so of those that a mesh lists
+pub mod ListedPairs
 -- why the orders are kept
 pub mod Needed

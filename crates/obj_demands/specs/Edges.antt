@@ -45,7 +45,7 @@ paired-append [] k p q = q
 paired-append (x ∷ []) k p q = absurd p
 paired-append (x ∷ y ∷ l) k p q = paired-append l k p q
 
-joined-append : (a b : ℕ) (l k : List ℕ) → Paired l → joined a b (l ++ k) ≡ joined a b l || joined a b k
+pub joined-append : (a b : ℕ) (l k : List ℕ) → Paired l → joined a b (l ++ k) ≡ joined a b l || joined a b k
 unfolding joined Paired
 joined-append a b [] k p = refl
 joined-append a b (x ∷ []) k p = absurd p
@@ -63,7 +63,7 @@ eqb-turned a b = go (eqb a b) refl
     go false e = sym (ne-eqb b a (λ q. eqb-false a b e (sym q)))
 
 -- an edge is itself, and asked for from either side
-same-edge : (a b : ℕ) → joined a b (a ∷ b ∷ []) ≡ true
+pub same-edge : (a b : ℕ) → joined a b (a ∷ b ∷ []) ≡ true
 unfolding joined
 same-edge a b = rw (eq-eqb a a refl, eq-eqb b b refl)
 

@@ -5,6 +5,10 @@ pub mod OneTold
 pub mod Demand2
 -- demand 3 of a series
 pub mod Demand3
+-- a series sent through one matrix with a shift for each boundary: there is one, and demand 3 is of it
+pub mod SentSeries
+-- no step before the first with a hit has a listed hit
+pub mod NoneBefore
 -- two outcomes of a text are one
 pub mod OneSeries
 -- demand 1 of the outcome
@@ -17,6 +21,8 @@ pub mod Printed
 pub mod OneCall
 -- demand 1 of the call
 pub mod Demand1Call
+-- demand 1 of the call as rows
+pub mod CallRows
 -- what is heard in numbers: nothing is cut
 pub mod Few
 -- the log and the refusal are read again

@@ -21,3 +21,5 @@ pub mod Shown
 pub mod SewnMoves
 -- all vertices that stand for one vertex
 pub mod SewnTogether
+-- moves one behind the other, shown: of two vertices, and of both vertices of a seam
+pub mod MovedTwice

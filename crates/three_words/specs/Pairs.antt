@@ -13,8 +13,25 @@ use Rattle.meaning.specs.declared.Kind.the-variants.{PointTriangle, EdgeEdge}
 use Rattle.meaning.specs.declared.Verdict.{Verdict}
 use Rattle.meaning.specs.declared.Verdict.the-variants.{Hit, Miss, Degenerate}
 use Rattle.scene_parts.specs.There.{pt-there, ee-there}
+use Rattle.exact_signs.specs.BySigns.{told, eitherOf}
+use Rattle.exact_signs.specs.declared.Signs.{Signs}
 use Rattle.theory.specs.Computed.{joined, joinedBelow, pieceVerdict, pairVerdict}
 use Rattle.theory.specs.OneVerdict.{piece-is, pair-is}
+
+abbrev signs : Bool → Bool → Signs
+signs h f = record { hit = h; flat = f }
+
+-- pieces taken together tell what they tell one by one
+together : (h f k g : Bool) → told (eitherOf (signs h f) (signs k g)) ≡ joined (told (signs h f)) (told (signs k g))
+unfolding joined
+together true f k g = refl
+together false true true g = refl
+together false true false true = refl
+together false true false false = refl
+together false false k g = refl
+
+pub tells-either : {r : Signs} (a b : Signs) → r ≡ eitherOf a b → told r ≡ joined (told a) (told b)
+tells-either a b e = ap (λ (s : Signs). told s) e ∙ together (a .hit) (a .flat) (b .hit) (b .flat)
 
 -- a miss adds nothing
 joined-miss : (v : Verdict) → joined v Miss ≡ v

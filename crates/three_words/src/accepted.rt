@@ -10,8 +10,7 @@ ghost use Rattle.meaning.specs.Refusals.{notThere, shares};
 ghost use Rattle.meaning.specs.Verdicts.{PieceIs, PairIs};
 ghost use Rattle.meaning.specs.declared.Kind.the-variants.{PointTriangle, EdgeEdge};
 ghost use Rattle.scene_seams.specs.Alone.{tabledIn, tabledAtEntry};
-ghost use Rattle.theory.specs.Computed.{joined};
-ghost use Rattle.exact_signs.specs.BySigns.{told};
+ghost use Rattle.exact_signs.specs.BySigns.{eitherOf};
 ghost use Rattle.three_words.specs.Ready.{PointReady, EdgesReady};
 ghost use Rattle.sequences.specs.Lent.{atEntry};
 use exact::shared::edge_volumes;
@@ -59,7 +58,7 @@ pub fn piece(
 
 // Two pieces, or more, taken together: a hit comes before a degenerate, and that before a miss.
 pub fn either(a: Signs, b: Signs) -> Signs
-    ensures { λ r. ⌜ told r ≡ joined (told a) (told b) ⌝ }
+    ensures { λ r. ⌜ r ≡ eitherOf a b ⌝ }
 {
     let hit = a.hit | b.hit;
     let flat = a.flat | b.flat;

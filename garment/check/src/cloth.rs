@@ -1,6 +1,6 @@
 //! Garments that are made: a sheet of squares in folds, creased, that moves a little; and OBJ files of it.
 
-use compare::random::Random;
+use compare::numbers::random::Random;
 use std::fmt::Write;
 
 pub type Place = [f64; 3];

@@ -1,9 +1,9 @@
 //! The independent program's answers for a mesh of any size.
 
 use compare::contacts::{self, Contact};
-use compare::listing::{boxes_meet, is_listed};
+use compare::list::listing::{boxes_meet, is_listed};
 use compare::scene::{Pair as ExactPair, Scene as ExactScene};
-use compare::settled::of_pair;
+use compare::verdicts::settled::of_pair;
 use garment::mesh::Mesh;
 use garment::pairs::{Kind, Pair};
 use makhnodri::Settled;
@@ -46,10 +46,10 @@ pub fn listed(mesh: &Mesh) -> Vec<Pair> {
 
 pub fn settled(scene: &ExactScene, pair: Pair) -> Settled {
     match of_pair(scene, exactly(pair)) {
-        compare::settled::Settled::Hit => Settled::Hit,
-        compare::settled::Settled::Miss => Settled::Miss,
-        compare::settled::Settled::Touch => Settled::Touch,
-        compare::settled::Settled::Apart => Settled::Apart,
+        compare::verdicts::settled::Settled::Hit => Settled::Hit,
+        compare::verdicts::settled::Settled::Miss => Settled::Miss,
+        compare::verdicts::settled::Settled::Touch => Settled::Touch,
+        compare::verdicts::settled::Settled::Apart => Settled::Apart,
     }
 }
 
@@ -68,7 +68,7 @@ pub fn report(mesh: &Mesh) -> String {
     for pair in listed(mesh) {
         let word = settled(&scene, pair);
         tally.add(word);
-        text += &format!("{}\t{}\t{}\t{}\n", pair.kind.letters(), pair.first, pair.second, garment::report::letters(word));
+        text += &format!("{}\t{}\t{}\t{word}\n", pair.kind, pair.first, pair.second);
     }
     let [hit, miss, touch, apart] = garment::report::WORDS.map(|word| tally.of(word));
     text + &format!("total\t{}\t{hit}\t{miss}\t{touch}\t{apart}\n", tally.listed())

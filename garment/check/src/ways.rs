@@ -1,7 +1,7 @@
 //! The program's own way as the command goes it, without files: from the texts of two OBJ files to the text of a report.
 
 use crate::cloth::Cloth;
-use compare::random::Random;
+use compare::numbers::random::Random;
 use compare::scene::Scene as ExactScene;
 use garment::fault::Fault;
 use garment::mesh::{self, Mesh};
@@ -10,7 +10,7 @@ use garment::progress::Bar;
 use garment::report::{About, Form, Tally};
 use garment::rounding::onto_grid;
 use garment::whole;
-use makhnodri::{Contact, Kind, Scene, COORDINATE_LIMIT};
+use makhnodri::{Contact, Scene, COORDINATE_LIMIT};
 
 pub const NAMES: [&str; 2] = ["start.obj", "end.obj"];
 
@@ -57,14 +57,13 @@ pub fn contact_lines(scene: &Scene) -> Option<String> {
     let listed = scene.contacts().ok()?;
     let (mut text, mut hits) = (String::new(), 0);
     for (pair, contact) in &listed {
-        let kind = if pair.kind == Kind::PointTriangle { "pt" } else { "ee" };
         let (piece, k, shares) = match contact {
             Contact::PointHit { piece, k, shares, .. } => (piece, k, shares.to_vec()),
             Contact::EdgeHit { piece, k, shares, .. } => (piece, k, shares.to_vec()),
             _ => continue,
         };
         let shares: String = shares.iter().map(|share| format!("\t{share}")).collect();
-        text += &format!("{kind}\t{}\t{}\t{piece}\t{k}{shares}\n", pair.first, pair.second);
+        text += &format!("{}\t{}\t{}\t{piece}\t{k}{shares}\n", pair.kind, pair.first, pair.second);
         hits += 1;
     }
     Some(text + &format!("total\t{}\t{hits}\n", listed.len()))

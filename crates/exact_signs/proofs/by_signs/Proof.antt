@@ -10,8 +10,9 @@ use mir.Facts.{toZ-ofZ}
 use Rattle.whole.specs.Signs.{Sgn, negative, nought, positive, sgn, isNought, isNegative, isPositive, opposite, sgn-neg, le-nought, nought-le, zero-test}
 use Rattle.whole.specs.Sizes.{held, fits, back}
 use Rattle.exact.specs.Volumes.{turned}
-use Rattle.meaning.specs.declared.Verdict.{Verdict}
 use Rattle.meaning.specs.declared.Verdict.the-variants.{Hit, Miss, Degenerate}
+use Rattle.exact_signs.specs.declared.Signs.{Signs}
+use Rattle.exact_signs.specs.BySigns.{signsOf}
 use Rattle.exact_signs.specs.OneSign.{oneSign}
 use Rattle.exact_signs.specs.Sums.{worth}
 use Rattle.exact_signs.proofs.by_signs.Statement.{statement}
@@ -27,20 +28,25 @@ neg-test : (z : ℤ) → leZ (pos 0) (negℤ z) ≡ leZ z (pos 0)
 neg-test z =
     nought-le (negℤ z) ∙ ap (λ (s : Sgn). not (isNegative s)) (sgn-neg z) ∙ opposite-signs (sgn z) ∙ sym (le-nought z)
 
--- a hit is told before a singular piece, and none is both
-hit-first : (flat hit : Bool) → cond (not flat && hit) Hit (cond flat Degenerate Miss) ≡ cond flat Degenerate (cond hit Hit Miss)
+abbrev signs : Bool → Bool → Signs
+signs h f = record { hit = h; flat = f }
+
+-- no piece is hit and singular
+hit-first : (flat hit : Bool) → signs (not flat && hit) flat ≡ signsOf (cond flat Degenerate (cond hit Hit Miss))
+unfolding signsOf
 hit-first true hit = refl
-hit-first false hit = refl
+hit-first false true = refl
+hit-first false false = refl
 
 -- the code's choice, of the exact numbers
-abbrev chosen : ℤ → ℤ → ℤ → ℤ → ℤ → ℤ → Verdict
+abbrev chosen : ℤ → ℤ → ℤ → ℤ → ℤ → ℤ → Signs
 chosen d a b c e f =
     let flat = leZ d (pos 0) && leZ (pos 0) d in
     let up = leZ (pos 0) a && leZ (pos 0) b && leZ (pos 0) c && leZ (pos 0) e && leZ (pos 0) f in
     let down = leZ (pos 0) (negℤ a) && leZ (pos 0) (negℤ b) && leZ (pos 0) (negℤ c) && leZ (pos 0) (negℤ e) && leZ f (pos 0) in
-    cond (not flat && (up || down)) Hit (cond flat Degenerate Miss)
+    signs (not flat && (up || down)) flat
 
-chosen-right : (d a b c e f : ℤ) → chosen d a b c e f ≡ oneSign d (a ∷ b ∷ c ∷ e ∷ f ∷ [])
+chosen-right : (d a b c e f : ℤ) → chosen d a b c e f ≡ signsOf (oneSign d (a ∷ b ∷ c ∷ e ∷ f ∷ []))
 unfolding oneSign
 chosen-right d a b c e f =
     simp (neg-test, zero-test, and-assoc, and-true)

@@ -6,7 +6,7 @@ use lib.IntN.{ℤ, _+ℤ_, +ℤ-idl}
 use mir.Syntax.{w64}
 use Rattle.whole.specs.Cramer.{Four}
 use Rattle.whole.specs.Sizes.{fits}
-use Rattle.exact_signs.specs.BySigns.{sum, keep, kept}
+use Rattle.exact_signs.specs.BySigns.{signsOf, sum, keep, kept}
 use Rattle.exact_signs.specs.OneSign.{edge-one-sign}
 use Rattle.exact.specs.Volumes.{four, fourOf, turned, held-small}
 use Rattle.exact_signs.proofs.Held.{same-signs}
@@ -42,4 +42,4 @@ edge-signs-spec =
     (p .is3)
     (rw (s .before .alike3 .ensures, s .before .before .alike2 .ensures, s .before .before .before .alike .ensures) at (s .sum-where2 .ensures))
     (c .by-signs .ensures)
-    ∙ sym (edge-one-sign (fourOf (x .v)) (x .t0) (x .t1) (x .t2) (x .t3))))
+    ∙ ap signsOf (sym (edge-one-sign (fourOf (x .v)) (x .t0) (x .t1) (x .t2) (x .t3)))))

@@ -1,7 +1,8 @@
 -- A point's verdict: the signs are those of the exact numbers.
 use borrow.Author.Needs.{needs}
-use mathlib.Core.Path.{refl, sym, _∙_}
+use mathlib.Core.Path.{refl, sym, _∙_, ap}
 use Rattle.exact.specs.Volumes.{held-small}
+use Rattle.exact_signs.specs.BySigns.{signsOf}
 use Rattle.exact_signs.specs.OneSign.{oneSign, with-nought, point-one-sign}
 use Rattle.exact_signs.proofs.Held.{same-signs}
 use Rattle.exact_signs.proofs.point_signs.Statement.{statement}
@@ -17,5 +18,4 @@ point-signs-spec =
     let p = c .before .before .before .before .before .before .pre in
     same-signs (c .before .before .before .before .before .sum-of .ensures) (p .is0) (p .is1) (p .is2) (p .is3) refl
     (c .by-signs .ensures)
-    ∙ with-nought _ _ _ _ _
-    ∙ sym (point-one-sign _)))
+    ∙ ap signsOf (with-nought _ _ _ _ _ ∙ sym (point-one-sign _))))

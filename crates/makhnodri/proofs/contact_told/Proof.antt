@@ -9,12 +9,12 @@ use Rattle.makhnodri.proofs.contact_told.Tie as tie
 put-contact-requires : tie.Need-put-contact-requires
 put-contact-requires c κs =
     let a = c .before .before .before .before .before .before .before .before .args in
-    found-small (sceneOf (a .positions .now) (a .edges .now) (a .triangles .now) (a .seams .now)) (a .kind) (a .first) (a .second) _ (c .before .before .before .before .contact-pair .ensures) (c .before .before .contact .given .0 .0) (search)
+    found-small (sceneOf (a .positions .now) (a .edges .now) (a .triangles .now) (a .seams .now)) (a .kind) (a .first) (a .second) _ (c .before .before .before .before .contact-pair .ensures) (c .before .before .found .given .0 .0) (search)
 
 returns : tie.Need-returns
 returns c =
     let a = c .before .before .before .before .before .before .before .before .before .before .args in
-    contact-told (sceneOf (a .positions .now) (a .edges .now) (a .triangles .now) (a .seams .now)) (a .kind) (a .first) (a .second) _ (c .before .before .before .before .before .before .contact-pair .ensures) (c .before .before .before .before .contact .given .0 .0) _ _ _ (search) (c .before .put-contact .ensures) (c .word-number .ensures)
+    contact-told (sceneOf (a .positions .now) (a .edges .now) (a .triangles .now) (a .seams .now)) (a .kind) (a .first) (a .second) _ (c .before .before .before .before .before .before .contact-pair .ensures) (c .before .before .before .before .found .given .0 .0) _ _ _ (search) (c .before .put-contact .ensures) (c .word-number .ensures)
 
 returns-2 : tie.Need-returns-2
 returns-2 c =

@@ -43,6 +43,6 @@ put-contact-spec =
     tie.close
     (tie.spec
     (λ c. search needs)
-    (λ c. let s = c .before .before .before .before in small-fits (s .args .contact) (c .before .before .contact .given .0 .0) (search) (s .pre))
-    (λ c. let s = c .before .before .before .before .before in its-row (s .args .contact) (c .before .before .before .contact .given .0 .0) (s .args .contact .now) (search))
-    (λ c. as-it-was (c .before .args .contact) (c .before .args .contact .now) (c .match .keys2)))
+    (λ c. let s = c .before .before .before .before in small-fits (s .args .found) (c .before .before .found .given .0 .0) (search) (s .pre))
+    (λ c. let s = c .before .before .before .before .before in its-row (s .args .found) (c .before .before .before .found .given .0 .0) (s .args .contact .now) (search))
+    (λ c. as-it-was (c .before .args .found) (c .before .args .contact .now) (c .match .keys2)))

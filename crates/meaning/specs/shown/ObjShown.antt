@@ -6,7 +6,8 @@ use Prim.Native.Nat.{ℕ}
 use lib.IntN.{pos}
 use Rattle.decimals.specs.Value.{value, valueOn}
 use Rattle.meaning.specs.ObjLine.{placeOf, digitsAlone, withPart, onWhole, signedAs, decimalOf, says, vertexWith, faceWith}
-use Rattle.meaning.specs.ObjFile.{joined, edgesFrom, edgesOf, signed}
+use Rattle.meaning.specs.ObjFile.{joined, edgesFrom, edgesOf, signed, faceAdded}
+use Rattle.meaning.specs.Text.{none, coordinatesIn, endsIn, cornersIn, seamIn}
 use Rattle.meaning.specs.ObjPair.{sameNumbers, differing}
 use Rattle.meaning.specs.Scene.{Scene, sceneOf}
 use Rattle.meaning.specs.declared.Hundredths.{Hundredths}
@@ -75,6 +76,14 @@ lines-shown = (refl, refl, refl, refl, refl, refl, refl, refl, refl, refl, refl,
 pub edges-shown : edgesOf (0 ∷ 1 ∷ 2 ∷ 2 ∷ 1 ∷ 3 ∷ []) ≡ 0 ∷ 1 ∷ 1 ∷ 2 ∷ 2 ∷ 0 ∷ 1 ∷ 3 ∷ 3 ∷ 2 ∷ []
 unfolding edgesFrom joined
 edges-shown = refl
+
+-- the same two faces, line by line: the edges are those of the triangles
+abbrev twoFaces : Scene
+twoFaces = faceAdded (faceAdded none 1 2 3) 3 2 4
+
+pub faces-added-shown : twoFaces .edges ≡ edgesOf (twoFaces .triangles)
+unfolding edgesFrom joined coordinatesIn endsIn cornersIn seamIn
+faces-added-shown = refl
 
 abbrev withFaces : List ℕ → Scene
 withFaces t = sceneOf [] [] t []

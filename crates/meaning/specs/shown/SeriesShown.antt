@@ -1,12 +1,14 @@
 -- Small series, shown: the steps, the log, and each way in which a block can be wrong. Nothing here is to be believed; it holds the definitions to
 -- what they are for.
 use Prim.Native.Nat.{ℕ}
+use native.Mathlib.Omega.{arith}
 use mathlib.Core.Bool.{true≢false}
 use mathlib.Core.List.{List, [], _∷_, _++_, map}
 use mathlib.Core.Path.{_≡_, refl, sym}
 use lib.IntN.{ℤ, pos}
 use lib.ListN.{replicate}
 use Rattle.whole.specs.Vector.{Vector}
+use Rattle.decimals.specs.Digits.{digits, digitsWithin}
 use Rattle.sequences.specs.Gather.{gather}
 use Rattle.sequences.specs.Range.{over, times}
 use Rattle.meaning.specs.Scene.{sceneOf, stoodFor, someBelow}
@@ -15,7 +17,7 @@ use Rattle.meaning.specs.Refusals.{Outcome, given, refused, shares}
 use Rattle.meaning.specs.List.{pair, pairs, kindPart, number}
 use Rattle.meaning.specs.SceneWords.{byteOf}
 use Rattle.meaning.specs.Report.{isOne, howMany}
-use Rattle.meaning.specs.Text.{vertex, edge, triangle, seam, coordinates, coordinatesIn, endsIn, cornersIn, seamIn, late}
+use Rattle.meaning.specs.Text.{vertex, edge, triangle, seam, coordinates, numbersOf, Short, coordinatesIn, endsIn, cornersIn, seamIn, late}
 use Rattle.meaning.specs.declared.Kind.the-variants.{PointTriangle}
 use Rattle.meaning.specs.declared.Settled.{Settled}
 use Rattle.meaning.specs.declared.Settled.the-variants.{Hit, Touch}
@@ -39,6 +41,15 @@ o = pos 0
 -- past the range of a coordinate
 abbrev pub far : ℤ
 far = pos 524_288
+
+-- a line of each kind has its form: a vertex of six numbers, the `n` below it, and a vertex of three numbers below that
+pub items-formed : ItemFormed nothingYet (v o o) × ItemFormed nothingYet next × ItemFormed (withItem nothingYet next) (on o)
+unfolding ItemFormed sixNumbers withItem Short numbersOf digits digitsWithin
+items-formed = (
+  (refl, (omega arith, (omega arith, (omega arith, (omega arith, (omega arith, (omega arith, tt))))))),
+  tt,
+  (refl, (omega arith, (omega arith, (omega arith, tt)))),
+)
 
 abbrev pub faultOf : List Item → Outcome (Unit {0})
 faultOf is = firstFault seriesLines nothingYet 1 is

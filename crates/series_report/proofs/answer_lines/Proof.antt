@@ -12,7 +12,7 @@ use Rattle.series_report.proofs.answer_lines.Reads as reads
 use Rattle.series_report.proofs.answer_lines.Lts as lts
 use Rattle.series_report.proofs.told_lines.Reads as told-lines-reads
 use Rattle.report_words.proofs.lines.refused_line.Reads as refused-line-reads
-use Rattle.report_words.proofs.number_of.Reads as number-of-reads
+use Rattle.answers.proofs.number_of.Reads as number-of-reads
 
 returns : tie.Need-returns
 returns c = wrote-as (told-answer (toldSays (c .before .before .before .before .before .before .before .args .told)) (c .before .before .before .before .enum-told .given .1)) (c .before .before .told-lines .ensures)

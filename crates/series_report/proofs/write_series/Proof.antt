@@ -10,7 +10,7 @@ use Rattle.series_report.proofs.answer_lines.Reads as answer-lines-read
 use Rattle.series_call.proofs.tell_series.Reads as tell-series-reads
 
 returns : tie.Need-returns
-returns c = called-reported refl refl (c .before .before .before .before .before .before .before .before .before .before .before .tell-series .ensures .called) (c .answer-lines .ensures)
+returns c = called-reported refl refl (c .before .before .before .before .before .before .before .before .before .before .tell-series .ensures .called) (c .answer-lines .ensures)
 
 pub write-series-spec : {M : Type 1} → statement M
 write-series-spec =

@@ -2,7 +2,7 @@
 //! What the program takes on garments that are made, as it is called and by its parts; and its judging over a cubic's. FOLDER takes the files.
 //! Times by parts are the processor's, so that what else runs on the machine is not in them.
 
-use compare::cubic::{self, Moving};
+use compare::ways::cubic::{self, Moving};
 use garment::candidates::Finder;
 use garment::judging::{settle, Packed, TOGETHER};
 use garment::mesh::{self, Mesh};

@@ -1,6 +1,6 @@
 //! Contacts: those of the library over the whole scene, and of the independent program; and the range that they hold the whole mesh to.
 
-use compare::generate;
+use compare::making::generate;
 use garment::mesh::Mesh;
 use garment::report::Form;
 use garment::rounding::least_step_for;

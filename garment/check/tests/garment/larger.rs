@@ -1,6 +1,6 @@
 //! Meshes that fit no scene: the independent program finds and decides the same pairs.
 
-use compare::random::Random;
+use compare::numbers::random::Random;
 use garment::candidates::Finder;
 use garment::judging::settle;
 use garment::mesh::Mesh;

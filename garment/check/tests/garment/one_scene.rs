@@ -1,7 +1,7 @@
 //! Meshes that fit one scene: the program's report is the library's, byte for byte.
 
-use compare::generate;
-use compare::random::Random;
+use compare::making::generate;
+use compare::numbers::random::Random;
 use compare::scene::{EDGE_LIMIT, REPORT_ROOM, TEXT_LIMIT, TRIANGLE_LIMIT, VERTEX_LIMIT};
 use garment::mesh::Mesh;
 use garment::report::Form;

@@ -1,6 +1,6 @@
 //! OBJ files as exporters write them, and each thing that cannot be read, by its line.
 
-use compare::random::Random;
+use compare::numbers::random::Random;
 use garment::obj::{read, Noted, Obj};
 use garment::report::Form;
 use garment_check::ways::{mesh_of, objs_of, report};
@@ -152,7 +152,7 @@ fn damaged_files() {
     let (mut read_all, mut told) = (0, 0);
     for seed in 0..4_000 {
         let mut random = Random::new(seed);
-        let [start, _] = objs_of(&compare::generate::scene(seed % 19), &mut random);
+        let [start, _] = objs_of(&compare::making::generate::scene(seed % 19), &mut random);
         let mut bytes = start.clone().into_bytes();
         bytes.truncate(2_000);
         for _ in 0..1 + random.below(3) {

@@ -111,7 +111,7 @@ fn a_sewn_garment() {
 #[test]
 fn scenes_from_seeds() {
     for seed in 0..60 {
-        let mesh = as_it_is(&compare::generate::scene(seed));
+        let mesh = as_it_is(&compare::making::generate::scene(seed));
         let folder = Folder::new(&format!("seed-{seed}"));
         let index = split_into(&mesh, &folder);
         reported(&folder.0, &index);
@@ -137,7 +137,7 @@ fn contacts_of_one_process() {
         }
         lines += joined(&folder, &contacts).lines().count() - 1;
     }
-    for (seed, scene) in (0..60).map(|seed| (seed, compare::generate::scene(seed))) {
+    for (seed, scene) in (0..60).map(|seed| (seed, compare::making::generate::scene(seed))) {
         if !compare::contacts::in_old_range(&scene) {
             continue;
         }

@@ -1,6 +1,6 @@
 //! Ways that are wrong in one respect each: the comparisons of the other tests notice every one of them.
 
-use compare::generate;
+use compare::making::generate;
 use compare::scene::{Scene as ExactScene, REPORT_ROOM};
 use garment::boxes::{of_parts, of_vertices, Swept};
 use garment::cells::{cell_of, cells_of, Cells};

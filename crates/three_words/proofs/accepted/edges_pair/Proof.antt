@@ -3,8 +3,9 @@ use Rattle.meaning.specs.Scene.{Scene, sceneOf}
 use Rattle.meaning.specs.Pieces.{pieceOf}
 use Rattle.exact.specs.Volumes.{holds-small}
 use Rattle.exact_signs.specs.BySigns.{told}
+use Rattle.exact_signs.specs.BySignsLaws.{tells}
 use Rattle.theory.specs.Computed.{edgeDifferences}
-use Rattle.three_words.specs.Pairs.{of-four}
+use Rattle.three_words.specs.Pairs.{of-four, tells-either}
 use Rattle.three_words.specs.Ready.{moving}
 use Rattle.three_words.specs.Right.{flags, edges-held}
 use Rattle.three_words.proofs.accepted.edges_pair.Statement.{statement}
@@ -22,12 +23,14 @@ returns c =
     let ab = d .before .before .edge-signs2 in
     let ba = d .before .edge-signs3 in
     let bb = d .edge-signs4 in
-    rw (c .verdict-of .ensures, c .before .either3 .ensures, c .before .before .either2 .ensures, c .before .before .before .either .ensures)
+    let last = c .before .before .before .either in
+    let behind = c .before .before .either2 in
+    rw (c .verdict-of .ensures, tells-either (aa .result) (behind .result) (c .before .either3 .ensures), tells-either (ab .result) (last .result) (behind .ensures), tells-either (ba .result) (bb .result) (last .ensures))
     (of-four s i j (told (aa .result)) (told (ab .result)) (told (ba .result)) (told (bb .result))
-    (rw (one, two) (edges-held s (a .first) 0 (a .second) 0 (told (aa .result)) (v .holds0) (aa .ensures)))
-    (rw (one, two) (edges-held s (a .first) 0 (a .second) 1 (told (ab .result)) (v .holds1) (ab .ensures)))
-    (rw (one, two) (edges-held s (a .first) 1 (a .second) 0 (told (ba .result)) (v .holds2) (ba .ensures)))
-    (rw (one, two) (edges-held s (a .first) 1 (a .second) 1 (told (bb .result)) (v .holds3) (bb .ensures))))
+    (rw (one, two) (edges-held s (a .first) 0 (a .second) 0 (told (aa .result)) (v .holds0) (tells (aa .ensures))))
+    (rw (one, two) (edges-held s (a .first) 0 (a .second) 1 (told (ab .result)) (v .holds1) (tells (ab .ensures))))
+    (rw (one, two) (edges-held s (a .first) 1 (a .second) 0 (told (ba .result)) (v .holds2) (tells (ba .ensures))))
+    (rw (one, two) (edges-held s (a .first) 1 (a .second) 1 (told (bb .result)) (v .holds3) (tells (bb .ensures)))))
 
 pub edges-pair-spec : {M : Type 1} → statement M
 edges-pair-spec =

@@ -3,8 +3,9 @@ use Rattle.meaning.specs.Scene.{Scene, sceneOf}
 use Rattle.meaning.specs.Pieces.{pieceOf}
 use Rattle.exact.specs.Volumes.{holds-small}
 use Rattle.exact_signs.specs.BySigns.{told}
+use Rattle.exact_signs.specs.BySignsLaws.{tells}
 use Rattle.theory.specs.Computed.{pointDifferences}
-use Rattle.three_words.specs.Pairs.{of-three}
+use Rattle.three_words.specs.Pairs.{of-three, tells-either}
 use Rattle.three_words.specs.Ready.{moving}
 use Rattle.three_words.specs.Right.{point-held}
 use Rattle.three_words.proofs.accepted.point_pair.Statement.{statement}
@@ -18,11 +19,14 @@ returns c =
     let v = d .before .before .before .before .before .before .point-volumes .ensures in
     λ e t w j same.
     let s : Scene = sceneOf (a .positions .now) e t w in
-    rw (c .verdict-of .ensures, c .before .either2 .ensures, c .before .before .either .ensures)
+    let one = d .before .before .point-signs .result in
+    let two = d .before .point-signs2 .result in
+    let three = d .point-signs3 .result in
+    rw (c .verdict-of .ensures, tells-either one (c .before .before .either .result) (c .before .either2 .ensures), tells-either two three (c .before .before .either .ensures))
     (of-three s (a .p) j (told (d .before .before .point-signs .result)) (told (d .before .point-signs2 .result)) (told (d .point-signs3 .result))
-    (rw same (point-held s (a .p) (a .c) 0 (told (d .before .before .point-signs .result)) (v .holds0) (d .before .before .point-signs .ensures)))
-    (rw same (point-held s (a .p) (a .c) 1 (told (d .before .point-signs2 .result)) (v .holds1) (d .before .point-signs2 .ensures)))
-    (rw same (point-held s (a .p) (a .c) 2 (told (d .point-signs3 .result)) (v .holds2) (d .point-signs3 .ensures))))
+    (rw same (point-held s (a .p) (a .c) 0 (told (d .before .before .point-signs .result)) (v .holds0) (tells (d .before .before .point-signs .ensures))))
+    (rw same (point-held s (a .p) (a .c) 1 (told (d .before .point-signs2 .result)) (v .holds1) (tells (d .before .point-signs2 .ensures))))
+    (rw same (point-held s (a .p) (a .c) 2 (told (d .point-signs3 .result)) (v .holds2) (tells (d .point-signs3 .ensures)))))
 
 pub point-pair-spec : {M : Type 1} → statement M
 point-pair-spec =

@@ -1,0 +1,43 @@
+//! Which pairs are listed.
+
+use crate::scene::refusal::{Refusal, NO_ROOM};
+use crate::scene::{all_pairs, Pair, Scene};
+
+/// On one axis, the smallest and the largest value of the joint box of some vertices.
+fn extent(scene: &Scene, vertices: &[usize], axis: usize) -> (i64, i64) {
+    let (mut low, mut high) = (i64::MAX, i64::MIN);
+    for &v in vertices {
+        let (start, end) = (scene.vertices[v][axis], scene.vertices[v][axis + 3]);
+        (low, high) = (low.min(start).min(end), high.max(start).max(end));
+    }
+    (low, high)
+}
+
+pub fn boxes_meet(scene: &Scene, pair: Pair) -> bool {
+    let (first, second) = pair.parts(scene);
+    (0..3).all(|axis| {
+        let (a, b) = (extent(scene, first, axis), extent(scene, second, axis));
+        a.0 <= b.1 && b.0 <= a.1
+    })
+}
+
+pub fn is_listed(scene: &Scene, pair: Pair) -> bool {
+    boxes_meet(scene, pair) && !pair.shares_a_vertex(scene)
+}
+
+pub fn is_culled(scene: &Scene, pair: Pair) -> bool {
+    !boxes_meet(scene, pair) && !pair.shares_a_vertex(scene)
+}
+
+/// Every listed pair, in order.
+pub fn listed(scene: &Scene) -> Vec<Pair> {
+    all_pairs(scene).into_iter().filter(|&pair| is_listed(scene, pair)).collect()
+}
+
+pub fn list(scene: &Scene, room: usize) -> Result<Vec<Pair>, Refusal> {
+    let listed = listed(scene);
+    if listed.len() > room {
+        return Err(Refusal::new(NO_ROOM, listed.len() as u64));
+    }
+    Ok(listed)
+}
