@@ -1,11 +1,10 @@
 -- The word of a piece and of a pair, computed: the corners left answer, and where they leave it open some corner is left out. Each piece and each
 -- pair has exactly one of the four words, and it is this one.
 use Prim.Native.Nat.{ℕ, zero, suc, _+_, _≤_, _<_}
-use native.Mathlib.Nat.{eq-or-lt-of-le}
 use native.Mathlib.Omega.{arith}
 use mathlib.Core.Path.{_≡_, refl, sym, _∙_, ap, subst}
-use mathlib.Core.Logic.{_↔_, _⊎_, inl, inr}
-use mathlib.Core.Bool.{Bool, true, false, _&&_, _||_}
+use mathlib.Core.Logic.{_↔_}
+use mathlib.Core.Bool.{Bool, true, false, _&&_}
 use mathlib.Core.List.{List}
 use lib.Dec.{T}
 use lib.IntN.{ℤ}
@@ -31,6 +30,8 @@ use Rattle.corner_laws.specs.Leave.{Leaves}
 use Rattle.corner_leaf.specs.Points.{isLeft, pieceAt, TouchLeft, Timed, six-long}
 use Rattle.corner_leaf.specs.Answer.{leafOf}
 use Rattle.corner_leaf.specs.Right.{LeafIs, leaf-is}
+use Rattle.sequences.specs.Pick.{both}
+use Rattle.answers.specs.Below.{found-below, none-passes}
 use Rattle.corner_search.specs.Says.{isYes, Tells}
 use Rattle.corner_search.specs.Step.{count, less, set-out, put-back}
 use Rattle.corner_search.specs.Settles.{everyLeft, every-left-is}
@@ -38,36 +39,6 @@ use Rattle.corner_search.specs.Sixes.{sixOf, six-piece, six-timed}
 
 never : true ≡ false → ⊥
 never e = subst T e tt
-
--- ---- some number below n passes, or none does
-
-record Below (n : ℕ) (f : ℕ → Bool) : Type 0 where
-  which : ℕ
-  there : which < n
-  passes : f which ≡ true
-
-some-passes : (n : ℕ) (f : ℕ → Bool) → someBelow n f ≡ true → Below n f
-unfolding someBelow
-some-passes zero f e = absurd (never (sym e))
-some-passes (suc n) f e = go (someBelow n f) refl e (some-passes n f)
-  where
-    go : (c : Bool) → someBelow n f ≡ c → c || f n ≡ true → (someBelow n f ≡ true → Below n f) → Below (suc n) f
-    go true p h below = let r = below p in record { which = r .which; there = omega (arith, r .there); passes = r .passes }
-    go false p h below = record { which = n; there = omega arith; passes = h }
-
-none-passes : (n : ℕ) (f : ℕ → Bool) → someBelow n f ≡ false → (k : ℕ) → k < n → f k ≡ false
-unfolding someBelow
-none-passes zero f e k h = absurd (omega arith)
-none-passes (suc n) f e k h = go (someBelow n f) refl e (eq-or-lt-of-le (omega arith)) (none-passes n f)
-  where
-    go : (c : Bool) → someBelow n f ≡ c → c || f n ≡ false → (k ≡ n) ⊎ (k < n) → (someBelow n f ≡ false → (k : ℕ) → k < n → f k ≡ false) → f k ≡ false
-    go true p e o below = absurd (never e)
-    go false p e (inl q) below = ap f q ∙ e
-    go false p e (inr l) below = below p k l
-
-both : (a b : Bool) → a && b ≡ true → (a ≡ true) × (b ≡ true)
-both true b h = (refl, h)
-both false b h = absurd (never (sym h))
 
 one-not : (a b : Bool) → a && b ≡ false → a ≡ true → b ≡ false
 one-not true b h e = h
@@ -120,13 +91,13 @@ module _ (ps : List ℤ) {six : SixPoints} (h : Timed six) where
 
       go : (r : Bool) → someBelow 6 try ≡ r → leafOf ps six left ≡ Open → ((l : List Bool) → count l ≤ n → Tells ps six l (touching n ps six l)) → Tells ps six left r
       go true p e below =
-          let b = some-passes 6 try p in
+          let b = found-below try 6 p in
           let (was, rest) = both (isLeft left (b .which)) _ (b .passes) in
           put-back left (b .which) (subst (Tells ps six (set left (b .which) false)) rest (below (set left (b .which) false) (fewer-left (b .which) was)))
       go false p e below = λ t.
           let v = opened left e t in
           let (there, less) = left-out left v in
-          let no = one-not (isLeft left (v .place)) _ (none-passes 6 try p (v .place) there) (v .was) in
+          let no = one-not (isLeft left (v .place)) _ (none-passes try 6 p (v .place) there) (v .was) in
           subst (Tells ps six (set left (v .place) false)) no (below (set left (v .place) false) (fewer-left (v .place) (v .was))) less
 
 -- ---- the word of a piece
@@ -247,12 +218,12 @@ module _ (s : Scene) (kind : Kind) (i j : ℕ) where
   touch-tells : (r : Bool) → someBelow (pieceCount kind) (λ k. isTouch (pieceWord s kind i j k)) ≡ r → TouchTells r
   unfolding TouchTells isTouch
   touch-tells true e =
-      let b = some-passes (pieceCount kind) (λ k. isTouch (pieceWord s kind i j k)) e in
+      let b = found-below (λ k. isTouch (pieceWord s kind i j k)) (pieceCount kind) e in
       record { which = b .which; there = b .there; has = piece-word-is s kind i j (b .which) Touch .1 (is-touch (pieceWord s kind i j (b .which)) (b .passes)) }
   touch-tells false e = λ h.
       never
       (ap isTouch (piece-word-is s kind i j (h .which) Touch .0 (h .has))
-      ∙ none-passes (pieceCount kind) (λ k. isTouch (pieceWord s kind i j k)) e (h .which) (h .there))
+      ∙ none-passes (λ k. isTouch (pieceWord s kind i j k)) (pieceCount kind) e (h .which) (h .there))
 
   pub settled-pair : PairSettled s kind i j (pairWord s kind i j)
   unfolding pairWord settledBy PairSettled PairIs TouchTells
