@@ -13,6 +13,7 @@ use Rattle.meaning.specs.declared.Corners.{Corners}
 use Rattle.meaning.specs.declared.Kind.the-variants.{PointTriangle, EdgeEdge}
 use Rattle.theory.specs.Written.{Lower, lower-or-higher, rising-lower, rising-higher, corners, six-orders, endsWritten, cornersWritten}
 use Rattle.theory.specs.AnyOrder.{any, shares-corners, shares-ends}
+use Rattle.sequences.specs.Pick.{or-true}
 use Rattle.demands.specs.StillAccepted.{different-ends, different-corners}
 
 -- ---- sharing
@@ -38,10 +39,6 @@ module _ (s : Scene) where
       go : (b : Bool) → same s v c ≡ b → b || any (same s v) l ≡ true → (any (same s v) l ≡ true → OneAsGood s v l) → OneAsGood s v (c ∷ l)
       go true e h rest = record { which = c; there = List·Memᴰ·head refl; one = eqb-true (countsAs s v) (countsAs s c) e }
       go false e h rest = let r = rest h in record { which = r .which; there = List·Memᴰ·tail (r .there); one = r .one }
-
-  or-true : (a b : Bool) → b ≡ true → a || b ≡ true
-  or-true true b h = refl
-  or-true false b h = h
 
   found : (test : ℕ → Bool) (c : ℕ) (l : List ℕ) → List·Memᴰ c l → test c ≡ true → any test l ≡ true
   unfolding any

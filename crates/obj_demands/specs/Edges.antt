@@ -7,7 +7,7 @@ use mathlib.Core.Path.{_≡_, refl, sym, ap, _∙_, subst}
 use Prim.Native.Nat.{ℕ}
 use lib.Dec.{eqb}
 use borrow.Author.Tests.{eqb-true, eqb-false, eq-eqb, ne-eqb}
-use Rattle.sequences.specs.Pick.{pick, pick-has, neither}
+use Rattle.sequences.specs.Pick.{pick-has, neither, or-true}
 use Rattle.meaning.specs.ObjFile.{joined, withSide, withSides, edgesFrom, edgesOf}
 
 -- two numbers an edge
@@ -34,10 +34,6 @@ abbrev pub SidesIn : ℕ → ℕ → ℕ → List ℕ → Type 0
 SidesIn a b c l = (joined a b l ≡ true) × (joined b c l ≡ true) × (joined c a l ≡ true)
 
 -- ---- a list with another behind it
-
-or-true : (s t : Bool) → t ≡ true → s || t ≡ true
-or-true true t e = refl
-or-true false t e = e
 
 paired-append : (l k : List ℕ) → Paired l → Paired k → Paired (l ++ k)
 unfolding Paired
