@@ -4,7 +4,7 @@ use mathlib.Core.Bool.{Bool, true, false, true≢false, not, cond, _||_}
 use mathlib.Core.List.{List, [], _∷_, _++_}
 use mathlib.Core.Logic.{⊎-elim}
 use mathlib.Core.Path.{_≡_, refl, sym, ap, _∙_, subst}
-use Prim.Native.Nat.{ℕ, zero, suc, _+_, _*_, _-_, _/_, _%_, _≤_, _<_}
+use Prim.Native.Nat.{ℕ, suc, _+_, _*_, _-_, _/_, _<_}
 use native.Mathlib.Omega.{arith}
 use lib.Dec.{leb, ltb, eqb}
 use lib.IntN.{ℤ, pos}
@@ -19,7 +19,7 @@ use Rattle.meaning.specs.declared.SceneCounts.{SceneCounts}
 use Rattle.answers.specs.Below.{or-left, or-rest, none-passes, none-below}
 use Rattle.scene_seams.specs.OneMore.{broken, stays-broken, broken-alike}
 use Rattle.text_line.specs.Reading.{sortOf}
-use Rattle.text_line.specs.Above.{Lengths, Bounded, bounded-by, lengths-more, countedBy}
+use Rattle.text_line.specs.Above.{Lengths, Bounded, shapely, bounded-by, lengths-more, countedBy}
 use Rattle.text_line.specs.Adding.{one, twiceInTwo, twiceInThree}
 use Rattle.text_line.specs.Checks.{with-vertex, with-edge, with-triangle, with-seam}
 use Rattle.saved_demands.specs.Records.{empty}
@@ -28,23 +28,13 @@ use Rattle.saved_demands.specs.Records.{empty}
 
 shapely-by : {s : Scene} {c : SceneCounts} → Lengths s c → Bounded c → wrongShape s ≡ false
 shapely-by {s} {c} l b =
-    let six : length (s .positions) % 6 ≡ 0 = omega (arith, l .positions) in
-    let two : length (s .edges) % 2 ≡ 0 = omega (arith, l .edges) in
-    let three : length (s .triangles) % 3 ≡ 0 = omega (arith, l .triangles) in
-    let pair : length (s .seams) % 2 ≡ 0 = omega (arith, l .seams) in
-    let even : uneven s ≡ false = rw (
-      eq-eqb (length (s .positions) % 6) 0 six,
-      eq-eqb (length (s .edges) % 2) 0 two,
-      eq-eqb (length (s .triangles) % 3) 0 three,
-      eq-eqb (length (s .seams) % 2) 0 pair,
-    ) in
     let few : overSize s ≡ false = rw (
       le-ltb vertexLimit (vertexCount s) (omega (arith, l .positions, b .vertices)),
       le-ltb edgeLimit (edgeCount s) (omega (arith, l .edges, b .edges)),
       le-ltb triangleLimit (triangleCount s) (omega (arith, l .triangles, b .triangles)),
       le-ltb seamLimit (seamCount s) (omega (arith, l .seams, b .seams)),
     ) in
-    ap (λ (x : Bool). x || overSize s) even ∙ few
+    shapely l few
 
 pub few-of : {s : Scene} → Accepted s → overSize s ≡ false
 few-of {s} a = or-rest (uneven s) (overSize s) (a .shapely)

@@ -120,7 +120,7 @@ lengths-more {s} {c} (seam i j) l =
     }
 
 -- lists of such lengths are even, and not over their sizes where no check found them so
-shapely : {s : Scene} {c : SceneCounts} → Lengths s c → overSize s ≡ false → wrongShape s ≡ false
+pub shapely : {s : Scene} {c : SceneCounts} → Lengths s c → overSize s ≡ false → wrongShape s ≡ false
 shapely {s} {c} l few =
     let six : length (s .positions) % 6 ≡ 0 = omega (arith, l .positions) in
     let two : length (s .edges) % 2 ≡ 0 = omega (arith, l .edges) in
