@@ -1,7 +1,7 @@
 -- A series of a text that is not too long has few steps, its steps few pairs, and its text few lines: each is below 2^32, and a place is below 2^10.
 use Prim.Native.Nat.{ℕ, _+_, _≤_, _<_}
-use mathlib.Core.Bool.{Bool, true, false, cond, _||_}
-use mathlib.Core.List.{List, [], _∷_, _++_, map, List·Memᴰ, List·Memᴰ·head, List·Memᴰ·tail, Memᴰ·append-right}
+use mathlib.Core.Bool.{_||_}
+use mathlib.Core.List.{List, [], _∷_, map, List·Memᴰ, List·Memᴰ·head, List·Memᴰ·tail, Memᴰ·append-right}
 use mathlib.Core.Path.{_≡_, refl, sym, ap, _∙_, subst}
 use native.Mathlib.Omega.{arith}
 use lib.IntN.{ℤ}
@@ -10,18 +10,18 @@ use borrow.Author.Tests.{ltb-false}
 use Rattle.meaning.specs.Limits.{textLimit}
 use Rattle.meaning.specs.Scene.{Scene}
 use Rattle.meaning.specs.Refusals.{Outcome, given, refused, Check, Answers}
-use Rattle.meaning.specs.Lines.{linesOf, afterAll}
+use Rattle.meaning.specs.Lines.{linesOf}
 use Rattle.meaning.specs.List.{pairs}
 use Rattle.meaning.specs.Text.{shortBuffer, longText}
 use Rattle.meaning.specs.StoredBoxes.{shortBoxes}
-use Rattle.meaning.specs.Series.{Series, stepAfter, stepsFrom, lastFrom, stepsOf, lastStep, HitAt, Told, ToldRight}
-use Rattle.meaning.specs.SeriesText.{Item, of, ends, next, threeOf, SoFar, nothingYet, blocksSoFar, withItem, seriesLines, HoldsSeries, SeriesFaultyAt, stepRoom, Ended, SeriesIs, faulty, read}
+use Rattle.meaning.specs.Series.{Series, stepsOf, lastStep, HitAt, Told, ToldRight}
+use Rattle.meaning.specs.SeriesText.{nothingYet, seriesLines, HoldsSeries, SeriesFaultyAt, stepRoom, Ended, SeriesIs, faulty, read}
 use Rattle.answers.specs.Answering.{is-refused, is-past, is-given}
 use Rattle.list_entries.specs.Entries.{Narrow}
 use Rattle.list_pairs.specs.Sizes.{few-pairs, pairs-narrow}
 use Rattle.text_laws.specs.Unique.{records-few}
 use Rattle.answers.specs.Deciding.{holds-or-not}
-use Rattle.series_laws.specs.Longer.{steps-count}
+use Rattle.series_laws.specs.Longer.{steps-count, last-among, blocks-few}
 use Rattle.series_line.specs.Rendered.{series-readable}
 use Rattle.series_laws.specs.AllAccepted.{EachAccepted, steps-accepted}
 use Rattle.series_laws.specs.TrueHits.{HitThere, logged-hits}
@@ -31,32 +31,12 @@ use Rattle.c_numbers.specs.Small.{lineIn}
 
 -- ---- no more steps than bytes, and one
 
-blocks-more : (x : SoFar) (i : Item) → length (blocksSoFar (withItem x i)) ≤ length (blocksSoFar x) + 1
-unfolding withItem
-blocks-more x (of e) = omega arith
-blocks-more x (ends p) = by-begun (x .begun)
-  where
-    by-begun : (b : Bool) → length (cond b (x .blocks ++ ((x .block ++ threeOf p) ∷ [])) []) ≤ length (cond b (x .blocks ++ (x .block ∷ [])) []) + 1
-    by-begun true = omega (arith, length-append (x .blocks) ((x .block ++ threeOf p) ∷ []), length-append (x .blocks) (x .block ∷ []))
-    by-begun false = omega arith
-blocks-more x next = omega (arith, length-append (blocksSoFar x) ([] ∷ []))
-
-blocks-few : (x : SoFar) (is : List Item) → length (blocksSoFar (afterAll seriesLines x is)) ≤ length (blocksSoFar x) + length is
-unfolding afterAll
-blocks-few x [] = omega arith
-blocks-few x (i ∷ is) = omega (arith, blocks-few (withItem x i) is, blocks-more x i)
-
 module _ {text : List ℕ} {x : Series} (h : HoldsSeries text x) where
   pub steps-few : length (stepsOf x) ≤ length text + 1
   steps-few =
       let few : length (x .blocks) ≤ 0 + length (h .items) =
       subst (λ (y : Series). length (y .blocks) ≤ 0 + length (h .items)) (sym (h .series)) (blocks-few nothingYet (h .items)) in
       omega (arith, few, steps-count (x .scene) (x .blocks), records-few series-readable (h .items), ap length (h .records .lines))
-
-  last-among : (s : Scene) (bs : List (List ℤ)) → List·Memᴰ (lastFrom s bs) (stepsFrom s bs)
-  unfolding lastFrom stepsFrom
-  last-among s [] = List·Memᴰ·head refl
-  last-among s (b ∷ bs) = List·Memᴰ·tail (last-among (stepAfter s b) bs)
 
   pub last-few : length (pairs (lastStep x)) < upper
   last-few = omega (arith, few-pairs (lastStep x) (steps-accepted h (lastStep x) (last-among (x .scene) (x .blocks))))
