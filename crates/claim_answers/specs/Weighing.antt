@@ -23,6 +23,7 @@ use Rattle.four_words.specs.Six.{six-in}
 use Rattle.claim_line.specs.Rendered.{numbersIn, nine-numbers}
 use Rattle.claim_line.specs.Reading.{ClaimGot}
 use Rattle.claim_line.specs.Stepping.{Took, Named, named}
+use Rattle.sequences.specs.Parts.{none-of}
 
 abbrev pub weightsFrom : List ℕ → List ℕ
 weightsFrom l = getD l 3 0 ∷ getD l 4 0 ∷ getD l 5 0 ∷ getD l 6 0 ∷ getD l 7 0 ∷ getD l 8 0 ∷ []
@@ -30,10 +31,6 @@ weightsFrom l = getD l 3 0 ∷ getD l 4 0 ∷ getD l 5 0 ∷ getD l 6 0 ∷ getD
 first-of : (l : List ℕ) (n : ℕ) → length l ≡ suc n → (a : ℕ) × (k : List ℕ) × (l ≡ a ∷ k) × (length k ≡ n)
 first-of [] n e = absurd (omega arith)
 first-of (a ∷ l) n e = (a, l, refl, suc-inj e)
-
-none-of : (l : List ℕ) → length l ≡ 0 → l ≡ []
-none-of [] e = refl
-none-of (a ∷ l) e = absurd (omega arith)
 
 six-weights : (l : List ℕ) → length l ≡ 6 → l ≡ getD l 0 0 ∷ getD l 1 0 ∷ getD l 2 0 ∷ getD l 3 0 ∷ getD l 4 0 ∷ getD l 5 0 ∷ []
 six-weights l n =

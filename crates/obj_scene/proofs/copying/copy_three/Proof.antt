@@ -1,19 +1,13 @@
 -- `copying::copy_three`: three stores side by side, each of a number that was read.
 use native.Mathlib.Omega.{arith}
-use lib.IntN.{ℤ, pos}
-use lib.ListN.{length, getD, set, length-set}
-use mathlib.Core.List.{List, [], _∷_}
-use mathlib.Core.Path.{_≡_}
-use Prim.Native.Nat.{ℕ, _+_, _<_}
+use lib.IntN.{pos}
+use lib.ListN.{getD, length-set}
+use Prim.Native.Nat.{_+_}
 use mir.Facts.{toZ-ofZ}
 use borrow.Author.Needs.{needs, sfits-of}
-use Rattle.sequences.specs.Wrote.{Wrote, wrote-three}
+use Rattle.sequences.specs.Wrote.{wrote-three-as}
 use Rattle.obj_scene.proofs.copying.copy_three.Statement.{statement}
 use Rattle.obj_scene.proofs.copying.copy_three.Tie as tie
-
-wrote-point : (o : List ℤ) (at : ℕ) (x y z : ℤ) {a b d : ℤ} → a ≡ x → b ≡ y → d ≡ z → at + 2 < length o
-    → Wrote o at (x ∷ y ∷ z ∷ []) (set (set (set o at a) (at + 1) b) (at + 2) d) (at + 3)
-wrote-point o at x y z p q r h = rw (p, q, r) (wrote-three o at x y z h)
 
 slice-set-from-lent-2 : tie.Need-slice-set-from-lent-2
 slice-set-from-lent-2 c = simp length-set (omega arith)
@@ -25,7 +19,7 @@ returns : tie.Need-returns
 returns c =
     let own = c .before .before .before .args .own .now in
     let at = c .before .before .before .args .at in
-    wrote-point _ _ _ _ _ (toZ-ofZ {z = getD own at (pos 0)} (sfits-of (c .before .before .lent .given)))
+    wrote-three-as _ _ _ _ _ (toZ-ofZ {z = getD own at (pos 0)} (sfits-of (c .before .before .lent .given)))
     (toZ-ofZ {z = getD own (at + 1) (pos 0)} (sfits-of (c .before .lent2 .given)))
     (toZ-ofZ {z = getD own (at + 2) (pos 0)} (sfits-of (c .lent3 .given)))
     (omega arith)
