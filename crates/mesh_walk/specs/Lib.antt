@@ -1,0 +1,3 @@
+-- The walk of one row over a tree: what a tree in a list is, what one step passes, and the places that are found.
+pub mod Places
+pub mod Steps
