@@ -25,3 +25,4 @@ pub mod Heard
 pub mod OfText
 -- two results in numbers are one
 pub mod OneInto
+pub mod Totals
