@@ -3,5 +3,6 @@ pub mod Carried
 pub mod Demand3
 pub mod Numbers
 pub mod Demand1
+pub mod SameAnswer
 pub mod OnePrinted
 pub mod AnyWriting
