@@ -3,6 +3,7 @@ pub mod Carried
 pub mod Demand3
 pub mod Numbers
 pub mod Demand1
+pub mod SameAnswer
 pub mod OnePrinted
 pub mod AnyWriting
 -- a contact by computing

@@ -60,12 +60,12 @@ module _ {W : Type 0} {s t : Scene} {missing shared other : Bool} {Is Be : W →
 -- ---- demand 3, in answers
 
 module _ {m : Matrix} {d e : Vector} {s t : Scene} (h : Moves m d e s t) where
-  there-alike : (kind : Kind) (i j : ℕ) → notThere t kind i j ≡ notThere s kind i j
+  pub there-alike : (kind : Kind) (i j : ℕ) → notThere t kind i j ≡ notThere s kind i j
   unfolding notThere
   there-alike PointTriangle i j = rw (h .size, h .triangles)
   there-alike EdgeEdge i j = rw (h .edges)
 
-  shares-alike : (kind : Kind) (i j : ℕ) → shares t kind i j ≡ shares s kind i j
+  pub shares-alike : (kind : Kind) (i j : ℕ) → shares t kind i j ≡ shares s kind i j
   unfolding shares
   shares-alike PointTriangle i j = ap₂ (λ (l w : List ℕ). shares (sceneOf [] [] l w) PointTriangle i j) (h .triangles) (h .seams)
   shares-alike EdgeEdge i j = ap₂ (λ (l w : List ℕ). shares (sceneOf [] l [] w) EdgeEdge i j) (h .edges) (h .seams)

@@ -47,7 +47,7 @@ own-number e h = by-kind (ltb e 1_048_576) refl
 -- ---- where the call gives a count
 
 -- the scene is accepted, and what comes after its checks decides
-scene-given : (R : ℕ → Type 0) (s : Scene) (more : List Check) (n : ℕ) → Answers (sceneChecks s ++ more) R (given n) → Accepted s × Answers more R (given n)
+pub scene-given : (R : ℕ → Type 0) (s : Scene) (more : List Check) (n : ℕ) → Answers (sceneChecks s ++ more) R (given n) → Accepted s × Answers more R (given n)
 scene-given R s more n p =
     let (h1, p1) = is-given R _ _ n p in
     let (h2, p2) = is-given R _ _ n p1 in
@@ -57,7 +57,7 @@ scene-given R s more n p =
     (record { shapely = h1; inRange = h2; known = h3; sewnWell = h4; distinct = h5 }, p5)
 
 -- the faults give a value where what comes after them does
-front-given : (R S : ℕ → Type 0) (ks more : List Check) (n m : ℕ) → S m → Answers (ks ++ more) R (given n) → Answers ks S (given m)
+pub front-given : (R S : ℕ → Type 0) (ks more : List Check) (n m : ℕ) → S m → Answers (ks ++ more) R (given n) → Answers ks S (given m)
 unfolding Answers
 front-given R S [] more n m right p = right
 front-given R S (k ∷ ks) more n m right p =

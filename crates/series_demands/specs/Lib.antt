@@ -31,3 +31,4 @@ pub mod Heard
 pub mod OfText
 -- two results in numbers are one
 pub mod OneInto
+pub mod Totals
