@@ -31,4 +31,5 @@ pub mod Heard
 pub mod OfText
 -- two results in numbers are one
 pub mod OneInto
+-- 'Report exact totals per verdict over the series'
 pub mod Totals
