@@ -1,0 +1,2 @@
+-- A table of seams with room for any number of vertices.
+pub mod Sewing
