@@ -12,15 +12,16 @@ static uint8_t scene_text[MAKHNODRI_TEXT_LIMIT + 1], claims[MAKHNODRI_TEXT_LIMIT
 static makhnodri_buffers buffers;
 static uint8_t answers[MAKHNODRI_TEXT_LIMIT]; /* a claim has one byte at least */
 
-static size_t read_file(const char *name, uint8_t *text, size_t most) {
+static int read_file(const char *name, uint8_t *text, size_t *length) {
     FILE *file = fopen(name, "rb");
     if (!file) {
         perror(name);
         return 0;
     }
-    size_t length = fread(text, 1, most, file);
+    *length = fread(text, 1, MAKHNODRI_TEXT_LIMIT + 1, file);
+    int whole = !ferror(file);
     fclose(file);
-    return length;
+    return whole;
 }
 
 static int refused(makhnodri_answer answer) {
@@ -30,12 +31,12 @@ static int refused(makhnodri_answer answer) {
 }
 
 int main(int argc, char **argv) {
-    if (argc != 3) return 2;
+    if (argc != 3) return fprintf(stderr, "usage: claims SCENE CLAIMS\n"), 2;
     makhnodri_scene scene = {0};
-    size_t length = read_file(argv[1], scene_text, sizeof scene_text);
-    if (refused(makhnodri_read_scene(scene_text, length, &buffers, &scene))) return 1;
-    length = read_file(argv[2], claims, sizeof claims);
-    makhnodri_answer count = makhnodri_check_claims(&scene, claims, length, answers, sizeof answers);
+    size_t scene_length, claims_length;
+    if (!read_file(argv[1], scene_text, &scene_length) || !read_file(argv[2], claims, &claims_length)) return 1;
+    if (refused(makhnodri_read_scene(scene_text, scene_length, &buffers, &scene))) return 1;
+    makhnodri_answer count = makhnodri_check_claims(&scene, claims, claims_length, answers, sizeof answers);
     if (refused(count)) return 1;
     for (uint32_t i = 0; i < makhnodri_value(count); i++) puts(answers[i] == MAKHNODRI_YES ? "yes" : "no");
     return 0;

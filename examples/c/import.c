@@ -30,7 +30,8 @@ static int read_file(const char *name, uint8_t *text, size_t *length) {
 
 int main(int argc, char **argv) {
     size_t start_length, end_length;
-    if (argc != 3 || !read_file(argv[1], start, &start_length) || !read_file(argv[2], end, &end_length)) return 2;
+    if (argc != 3) return fprintf(stderr, "usage: import START.obj END.obj\n"), 2;
+    if (!read_file(argv[1], start, &start_length) || !read_file(argv[2], end, &end_length)) return 1;
     makhnodri_scene scene = {0};
     makhnodri_answer answer = makhnodri_import_scene(start, start_length, end, end_length, &buffers, boxes, &scene);
     if (makhnodri_refusal(answer)) {

@@ -21,6 +21,7 @@ static int refused(const char *asked, makhnodri_answer answer) {
 }
 
 int main(int count, char **arguments) {
+    if (count > 2) return fprintf(stderr, "usage: save [STEPS] < SCENE\n"), 2;
     makhnodri_scene scene = {0};
     if (refused("read", makhnodri_read_scene(text, fread(text, 1, sizeof text, stdin), &buffers, &scene))) return 1;
     long lift = count > 1 ? strtol(arguments[1], NULL, 10) : 0;

@@ -18,6 +18,7 @@ static makhnodri_scene last;
 static makhnodri_told told;
 
 int main(int count, char **arguments) {
+    if (count > 2) return fprintf(stderr, "usage: series [ROOM] < SERIES\n"), 2;
     size_t length = fread(text, 1, sizeof text, stdin);
     size_t room = count > 1 ? strtoul(arguments[1], NULL, 10) : MAKHNODRI_REPORT_ROOM;
     if (room > MAKHNODRI_REPORT_ROOM) return 2;

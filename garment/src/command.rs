@@ -1,6 +1,8 @@
 //! What each command does, and the status that it ends with.
 
+use crate::before;
 use crate::fault::Fault;
+use crate::index::Index;
 use crate::mesh::{self, Mesh};
 use crate::obj::{self, Obj};
 use crate::progress::Bar;
@@ -42,15 +44,15 @@ fn done(command: &Command, options: &Options) -> Result<Option<Tally>, Vec<Fault
     match command {
         Command::Help => print(USAGE.as_bytes()).map(|()| None).map_err(alone),
         Command::Version => print(format!("{}\n", makhnodri::VERSION).as_bytes()).map(|()| None).map_err(alone),
-        Command::Report { files } => report(files, options).map(Some),
-        Command::Scene { files } => scene(files, options).map(|()| None),
-        Command::Split { folder, files } => split_into(folder, files, options).map(|()| None),
+        Command::Report { files } => report(command, files, options).map(Some),
+        Command::Scene { files } => scene(command, files, options).map(|()| None),
+        Command::Split { folder, files } => split_into(command, folder, files, options).map(|()| None),
         Command::Join { folder } => joined(folder, options).map(Some),
     }
 }
 
-fn report(files: &[String; 2], options: &Options) -> Result<Tally, Vec<Fault>> {
-    let (mesh, about) = read(files, options)?;
+fn report(command: &Command, files: &[String; 2], options: &Options) -> Result<Tally, Vec<Fault>> {
+    let (mesh, about) = read(command, files, options)?;
     let mut bar = Bar::new("judging", !options.quiet);
     let tally = whole::report(&mesh, &about, &options.form, options.threads, &mut bar, buffered()).map_err(alone)?;
     drop(bar);
@@ -58,13 +60,13 @@ fn report(files: &[String; 2], options: &Options) -> Result<Tally, Vec<Fault>> {
     Ok(tally)
 }
 
-fn scene(files: &[String; 2], options: &Options) -> Result<(), Vec<Fault>> {
-    let (mesh, _) = read(files, options)?;
+fn scene(command: &Command, files: &[String; 2], options: &Options) -> Result<(), Vec<Fault>> {
+    let (mesh, _) = read(command, files, options)?;
     print(scene_text::of_mesh(&mesh).as_bytes()).map_err(alone)
 }
 
-fn split_into(folder: &str, files: &[String; 2], options: &Options) -> Result<(), Vec<Fault>> {
-    let (mesh, about) = read(files, options)?;
+fn split_into(command: &Command, folder: &str, files: &[String; 2], options: &Options) -> Result<(), Vec<Fault>> {
+    let (mesh, about) = read(command, files, options)?;
     let mut bar = Bar::new("finding", !options.quiet);
     let index = split::split(&mesh, about, options.form.contacts, Path::new(folder), options.threads, &mut bar).map_err(alone)?;
     drop(bar);
@@ -77,40 +79,50 @@ fn joined(folder: &str, options: &Options) -> Result<Tally, Vec<Fault>> {
         faults.push(Fault::new("nothing is joined"));
         faults
     };
+    let of_split = |index: &Index| options.note(|| format!("a step is {}, that of the split", index.about.step));
     let (tally, parts) = if options.form.contacts {
         let (index, hits) = join::gather_contacts(Path::new(folder)).map_err(nothing)?;
+        of_split(&index);
         (join::write_contacts(&index, &hits, &options.form, buffered()).map_err(alone)?, index.parts.len())
     } else {
         let (index, words) = join::gather(Path::new(folder)).map_err(nothing)?;
+        of_split(&index);
         (join::write(&index, &words, &options.form, buffered()).map_err(alone)?, index.parts.len())
     };
     options.note(|| format!("{} pairs of {parts} parts", tally.listed()));
     Ok(tally)
 }
 
-/// The mesh of two files, start first; what is wrong with either is told.
-fn read(files: &[String; 2], options: &Options) -> Result<(Mesh, About), Vec<Fault>> {
+/// The mesh of two files, start first; what is wrong with either is told, and what is to be known before its report is read.
+fn read(command: &Command, files: &[String; 2], options: &Options) -> Result<(Mesh, About), Vec<Fault>> {
     let [start, end] = both_read(files)?;
-    let [from, to] = files;
+    let [from, to] = files.each_ref().map(|name| obj::shown_name(name));
     mesh::same_faces([from, to], &start, &end).map_err(alone)?;
     let rounded =
         onto_grid(&start.places, &end.places, options.step, options.limit()).map_err(|fault| alone(options.of_range(fault)))?;
-    let notes = (note_of_file(from, &start), note_of_steps(&rounded, options.step.is_none()), rounded.step);
-    let mesh = mesh::join(from, start, rounded, options.seams).map_err(alone)?;
+    let (step, of_file, of_steps) = (rounded.step, note_of_file(from, &start), note_of_steps(&rounded, options.step.is_none()));
+    let mesh = mesh::join(from, start, &end, rounded, options.seams).map_err(alone)?;
+    let about = about(&mesh, step);
+    options.note(|| format!("{of_steps}; the same grid again: {}", before::again(command, options, step)));
+    options.note(|| format!("{} vertices, {} edges, {} triangles{of_file}", about.vertices, about.edges, about.triangles));
+    if options.seams {
+        options.note(|| format!("{} vertices stand for another in their place", about.seams));
+    }
+    if !options.quiet {
+        before::of_mesh(&mesh, options.seams).iter().for_each(|words| tell(words));
+    }
+    Ok((mesh, about))
+}
+
+fn about(mesh: &Mesh, step: f64) -> About {
     let count = |length: usize| length as u64;
-    let about = About {
+    About {
         vertices: count(mesh.positions.len()),
         edges: count(mesh.edges.len()),
         triangles: count(mesh.triangles.len()),
         seams: mesh.seams(),
-        step: notes.2,
-    };
-    options.note(|| format!("{} vertices, {} edges, {} triangles{}", about.vertices, about.edges, about.triangles, notes.0));
-    options.note(|| notes.1);
-    if options.seams {
-        options.note(|| format!("{} vertices stand for another in their place", about.seams));
+        step,
     }
-    Ok((mesh, about))
 }
 
 fn both_read(files: &[String; 2]) -> Result<[Obj; 2], Vec<Fault>> {
@@ -138,7 +150,7 @@ fn note_of_file(name: &str, obj: &Obj) -> String {
 }
 
 fn note_of_steps(rounded: &Rounded, chosen: bool) -> String {
-    let Rounded { positions, step, moved, farthest, fallen } = rounded;
+    let Rounded { positions, step, moved, farthest, fallen, least: _ } = rounded;
     let how = if chosen { "chosen" } else { "given" };
     let all = 6 * positions.len();
     let mut note =

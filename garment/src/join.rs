@@ -48,6 +48,10 @@ fn of_parts<T>(
             Err(fault) => faults.push(fault),
         }
     }
+    if !faults.is_empty() {
+        let words = "parts are missing, refused, cut off or of another scene";
+        faults.push(Fault::new(format!("{} of {} {words}", faults.len(), index.parts.len())));
+    }
     if let Some(Pair { kind, first, second }) = twice(index) {
         faults.push(Fault::new(format!("{} has {kind} {first} {second} twice", folder.join(INDEX).display())));
     }

@@ -4,11 +4,12 @@
 //! the grid, `seams` finds vertices in one place, `mesh` holds what comes of it; `boxes`, `cells` and `candidates` find every pair whose
 //! swept boxes meet, each once; `judging` asks the library, and nothing else does; `work` does it on all cores, and `report` writes it
 //! down in order. For a farm `curve` and `packing` fill scenes, `split` writes them and `join` puts their reports together by the `index`.
-//! `words` understands the command line, and `command` does what it says.
+//! `words` understands the command line, and `command` does what it says; what a report's lines cannot show is said `before` it.
 //!
 //! What is proved is the library, and that a pair alone speaks for the mesh: crates/mesh_demands. The reading, the rounding and the search for
 //! pairs are this program's own, and are compared: garment/check.
 
+pub mod before;
 pub mod boxes;
 pub mod candidates;
 pub mod cells;

@@ -2,7 +2,7 @@
 
 use crate::fault::Fault;
 use crate::obj::Obj;
-use crate::rounding::Rounded;
+use crate::rounding::{parting_step, Place, Rounded};
 use crate::seams;
 
 #[derive(Clone, Debug, Default, PartialEq)]
@@ -88,7 +88,10 @@ pub fn same_faces(names: [&str; 2], start: &Obj, end: &Obj) -> Result<(), Fault>
     let differs = start.triangles.iter().zip(&end.triangles).position(|(a, b)| a != b);
     if let Some(at) = differs {
         let (a, b) = (start.lines[at], end.lines[at]);
-        return Err(Fault::new(format!("{from}:{a} and {to}:{b}: the faces differ: they must be one mesh at two times")));
+        return Err(Fault::new(format!(
+            "{from}:{a} and {to}:{b}: the faces differ: they must be one mesh at two times; an exporter that \
+             triangulates cuts the quads of each frame its own way, so export quads, which are cut alike here"
+        )));
     }
     if start.triangles.len() != end.triangles.len() {
         let (a, b) = (start.triangles.len(), end.triangles.len());
@@ -98,14 +101,46 @@ pub fn same_faces(names: [&str; 2], start: &Obj, end: &Obj) -> Result<(), Fault>
 }
 
 /// The mesh of two files that were found to have the same faces.
-pub fn join(name: &str, start: Obj, rounded: Rounded, sewn: bool) -> Result<Mesh, Fault> {
-    let mut mesh = Mesh::new(rounded.positions, start.triangles);
+pub fn join(name: &str, start: Obj, end: &Obj, rounded: Rounded, sewn: bool) -> Result<Mesh, Fault> {
+    let Rounded { positions, least, .. } = rounded;
+    let mut mesh = Mesh::new(positions, start.triangles);
     if sewn {
         mesh.sew().map_err(|triangle| {
-            let words = "two corners of this face are in one place of the grid, at the start and at the end, and would be sewn together; \
-                         take a smaller --step";
+            let [a, b] = twins(&mesh, triangle);
+            let words = unsewable([a, b], distance([&start.places, &end.places], [a, b]), least);
             Fault::in_line(name, start.lines[triangle], words)
         })?;
     }
     Ok(mesh)
+}
+
+/// Two corners of a triangle that stand for one vertex.
+fn twins(mesh: &Mesh, triangle: usize) -> [u32; 2] {
+    let [a, b, c] = mesh.triangles[triangle];
+    let one = |[a, b]: &[u32; 2]| mesh.stood(*a) == mesh.stood(*b);
+    [[a, b], [b, c], [c, a]].into_iter().find(one).expect("the triangle has two such corners")
+}
+
+/// The most by which two vertices differ along an axis, at the start or at the end.
+fn distance(times: [&[Place]; 2], [a, b]: [u32; 2]) -> f64 {
+    let along = |places: &[Place]| {
+        let (a, b) = (places[a as usize], places[b as usize]);
+        a.into_iter().zip(b).map(|(a, b)| (a - b).abs()).fold(0.0, f64::max)
+    };
+    times.into_iter().map(along).fold(0.0, f64::max)
+}
+
+/// A smaller step is named only where it parts the two and the mesh fits with it: nobody is sent to a step that is refused.
+fn unsewable(corners: [u32; 2], apart: f64, least: Option<f64>) -> String {
+    let [a, b] = corners.map(|vertex| u64::from(vertex) + 1);
+    let leave = format!("merge vertices {a} and {b} where the mesh was made, or leave out --seams");
+    let sewn = format!("two corners of this face, vertices {a} and {b} of the file,");
+    if apart == 0.0 {
+        return format!("{sewn} are in one place in both files, and would be sewn together with any step; {leave}");
+    }
+    let on_grid = format!("{sewn} are in one place of the grid, at the start and at the end, and would be sewn together");
+    match parting_step(apart).filter(|&step| least.is_some_and(|least| step >= least)) {
+        Some(step) => format!("{on_grid}; take a smaller --step; {step} is enough"),
+        None => format!("{on_grid}, and with a step that parts them the mesh does not fit; {leave}"),
+    }
 }

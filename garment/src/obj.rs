@@ -33,7 +33,22 @@ const PASSED: [&[u8]; 19] = [
 /// Statements of numbers, which alone may go on in a further line: a name that ends in a backslash is a name.
 const OF_NUMBERS: [&[u8]; 6] = [b"v", b"f", b"l", b"p", b"vt", b"vn"];
 
+/// This name is that of standard input.
+pub const STANDARD_INPUT: &str = "-";
+
+/// What a file is called where something is told of it.
+pub fn shown_name(name: &str) -> &str {
+    if name == STANDARD_INPUT {
+        "standard input"
+    } else {
+        name
+    }
+}
+
 pub fn read_file(name: &str) -> Result<Obj, Fault> {
+    if name == STANDARD_INPUT {
+        return read(shown_name(name), io::stdin().lock());
+    }
     let file = File::open(name).map_err(|error| Fault::of_file(name, &error))?;
     read(name, BufReader::with_capacity(1 << 16, file))
 }

@@ -15,6 +15,8 @@ pub struct Rounded {
     pub farthest: f64,
     /// How many vertices came to stand in one place with another from which they were apart.
     pub fallen: u64,
+    /// The least step that would be chosen for this mesh; nothing where there is none.
+    pub least: Option<f64>,
 }
 
 /// What is off the grid by less stood on it: its decimals are no sum of halves, and so it comes out of a division a little aside.
@@ -32,7 +34,8 @@ pub fn onto_grid(start: &[Place], end: &[Place], wanted: Option<f64>, limit: i32
         None => least_step(&bounds, limit)?,
     };
     let middle = middle(&bounds, step)?;
-    let mut out = Rounded { positions: Vec::with_capacity(start.len()), step, moved: 0, farthest: 0.0, fallen: 0 };
+    let least = least_step_for(widest(&bounds), limit);
+    let mut out = Rounded { positions: Vec::with_capacity(start.len()), step, moved: 0, farthest: 0.0, fallen: 0, least };
     let too_fine = |()| too_fine(step, &bounds, limit);
     for (from, to) in start.iter().zip(end) {
         let mut position = [0; 6];
@@ -97,6 +100,16 @@ pub fn least_step_for(width: f64, limit: i32) -> Option<f64> {
     let power = least.log10().floor() as i32;
     let steps = (power - 1..=power + 1).flat_map(|power| [1, 2, 5].map(|digit| format!("{digit}e{power}")));
     steps.filter_map(|text| text.parse().ok()).find(|&step: &f64| step >= least && step.is_normal())
+}
+
+/// The largest of 1, 2, 5 times a power of ten that is no larger than this length: on a grid of such steps what is so far apart stays apart.
+pub fn parting_step(length: f64) -> Option<f64> {
+    if !length.is_normal() {
+        return None;
+    }
+    let power = length.log10().floor() as i32;
+    let steps = (power - 1..=power + 1).rev().flat_map(|power| [5, 2, 1].map(|digit| format!("{digit}e{power}")));
+    steps.filter_map(|text| text.parse().ok()).find(|&step: &f64| step <= length && step.is_normal())
 }
 
 fn least_step(bounds: &Bounds, limit: i32) -> Result<f64, Fault> {

@@ -1,5 +1,6 @@
 //! The words of the command line, understood.
 
+use crate::obj;
 use crate::report::{word_of, Form};
 use crate::work;
 use makhnodri::Settled;
@@ -11,6 +12,7 @@ usage: garment [OPTIONS] START.obj END.obj             the report of the mesh: e
        garment join DIR [OPTIONS]                      the same report, from DIR/part-00001.report and so on; with --contacts from .contacts
        garment scene [OPTIONS] START.obj END.obj       the mesh as one scene text, of whatever length: what the numbers stand for, and seams
        garment --help | --version
+       - in place of one file is standard input
 options:
   --step LENGTH    the length of a grid step, in the files' unit; without it the smallest of 1, 2, 5 times a power of ten that fits
   --seams          vertices in one place at the start and at the end are one vertex
@@ -32,6 +34,8 @@ pub struct Options {
     pub no_hits: bool,
     pub threads: usize,
     pub quiet: bool,
+    /// The options that say what the report is, as they were given; not how it is made, nor the step.
+    pub kept: Vec<String>,
 }
 
 #[derive(Debug, PartialEq)]
@@ -46,8 +50,7 @@ pub enum Command {
 
 /// The command and its options, which may stand anywhere; behind `--` all are files.
 pub fn understood(words: impl Iterator<Item = OsString>) -> Result<(Command, Options), String> {
-    let mut options =
-        Options { step: None, seams: false, form: Form::default(), no_hits: false, threads: work::all_cores(), quiet: false };
+    let mut options = Options::none();
     let (mut plain, mut given, mut asked, mut only_files) = (Vec::new(), Vec::new(), None, false);
     let mut words = words.map(|word| word.into_string().map_err(|word| format!("{word:?} is no UTF-8")));
     while let Some(word) = words.next().transpose()? {
@@ -66,6 +69,9 @@ pub fn understood(words: impl Iterator<Item = OsString>) -> Result<(Command, Opt
     if let Some(name) = given.iter().find(|name| !command.takes(name)) {
         return Err(format!("{name} says nothing to this command"));
     }
+    if command.places().iter().filter(|&&name| name == obj::STANDARD_INPUT).count() > 1 {
+        return Err("standard input is one file, and - stands here twice".to_string());
+    }
     if options.form.contacts && given.iter().any(|name| name == "--only") {
         return Err("--only says nothing beside --contacts, which has lines of hits alone".to_string());
     }
@@ -73,6 +79,26 @@ pub fn understood(words: impl Iterator<Item = OsString>) -> Result<(Command, Opt
 }
 
 impl Command {
+    /// The word that it is called by; the report has none.
+    pub fn name(&self) -> Option<&'static str> {
+        match self {
+            Command::Split { .. } => Some("split"),
+            Command::Join { .. } => Some("join"),
+            Command::Scene { .. } => Some("scene"),
+            Command::Report { .. } | Command::Help | Command::Version => None,
+        }
+    }
+
+    /// The folder and the files that it is given.
+    pub fn places(&self) -> Vec<&str> {
+        match self {
+            Command::Report { files } | Command::Scene { files } => files.iter().map(String::as_str).collect(),
+            Command::Split { folder, files: [start, end] } => vec![folder, start, end],
+            Command::Join { folder } => vec![folder],
+            Command::Help | Command::Version => Vec::new(),
+        }
+    }
+
     /// Whether an option does anything here; one that does not is refused, since whoever gave it waits for something.
     fn takes(&self, option: &str) -> bool {
         let taken: &[&str] = match self {
@@ -115,7 +141,22 @@ fn command_of(mut plain: Vec<String>) -> Result<Command, String> {
 /// The options that a value follows.
 const WITH_VALUE: [&str; 3] = ["--step", "--threads", "--only"];
 
+/// The options that change nothing of what is reported, or that are told apart from the others.
+const NOT_KEPT: [&str; 3] = ["--step", "--threads", "--quiet"];
+
 impl Options {
+    fn none() -> Options {
+        Options {
+            step: None,
+            seams: false,
+            form: Form::default(),
+            no_hits: false,
+            threads: work::all_cores(),
+            quiet: false,
+            kept: Vec::new(),
+        }
+    }
+
     /// Takes an option, with the value that stands behind it, and hands back its name.
     fn take(&mut self, word: &str, rest: &mut impl Iterator<Item = Result<String, String>>) -> Result<String, String> {
         let (name, within) = match word.split_once('=') {
@@ -127,9 +168,18 @@ impl Options {
             within => within.unwrap_or_default(),
         };
         match self.set(name, &value) {
-            Some(()) => Ok(name.to_string()),
+            Some(()) => {
+                self.keep(name, &value);
+                Ok(name.to_string())
+            }
             None if WITH_VALUE.contains(&name) => Err(format!("{name} does not take {value:?}")),
             None => Err(format!("{word} is not known")),
+        }
+    }
+
+    fn keep(&mut self, name: &str, value: &str) {
+        if !NOT_KEPT.contains(&name) {
+            self.kept.push(if WITH_VALUE.contains(&name) { format!("{name}={value}") } else { name.to_string() });
         }
     }
 

@@ -24,7 +24,7 @@ pub fn mesh_within(limit: i32, texts: &[String; 2], step: Option<f64>, sewn: boo
     let (start, end) = (obj::read(from, texts[0].as_bytes())?, obj::read(to, texts[1].as_bytes())?);
     mesh::same_faces(NAMES, &start, &end)?;
     let rounded = onto_grid(&start.places, &end.places, step, limit)?;
-    mesh::join(from, start, rounded, sewn)
+    mesh::join(from, start, &end, rounded, sewn)
 }
 
 pub fn made(cloth: &Cloth) -> Mesh {

@@ -1,5 +1,6 @@
 //! The program for garments against the library and the independent program. One test program, so that it is linked once.
 
+mod before;
 mod contacts;
 mod in_order;
 mod larger;

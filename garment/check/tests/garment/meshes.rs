@@ -1,7 +1,7 @@
 //! From two files to a mesh: edges, the grid, seams, and files that do not belong together.
 
 use garment::mesh::Mesh;
-use garment::rounding::{least_step_for, onto_grid};
+use garment::rounding::{least_step_for, onto_grid, parting_step};
 use garment_check::ways::mesh_of;
 use makhnodri::COORDINATE_LIMIT;
 
@@ -89,7 +89,43 @@ fn vertices_in_one_place_are_sewn_to_the_lowest() {
     let face = "f 1 2 6\nf 1 3 6\n";
     let fault =
         mesh_of(&texts(&format!("{flat}{face}"), &format!("{moved}{face}")), Some(1.0), true).expect_err("two corners are one");
-    assert!(fault.words.starts_with("start.obj:9: two corners of this face are in one place"), "{fault}");
+    assert!(
+        fault.words.starts_with("start.obj:9: two corners of this face, vertices 1 and 3 of the file, are in one place"),
+        "{fault}"
+    );
+}
+
+/// Two corners of one face, so far apart, in a mesh so wide, on a grid of such steps: what is told.
+fn of_near_corners(apart: f64, wide: f64, step: Option<f64>) -> String {
+    let text = format!("v 0 0 0\nv {apart} 0 0\nv 0 1 0\nv {wide} 0 0\nf 1 2 3\n");
+    mesh_of(&texts(&text, &text), step, true).expect_err("two corners are one").words
+}
+
+/// In the file itself no step parts them; else the step that is named is taken, and where there is none nobody is sent for one.
+#[test]
+fn who_sews_a_face_to_itself_is_sent_to_a_step_that_is_taken() {
+    let told = of_near_corners(0.0, 10.0, Some(0.1));
+    assert!(told.starts_with("start.obj:5: ") && told.contains("vertices 1 and 2") && told.contains("with any step"), "{told}");
+    assert!(!told.contains("--step"), "{told}");
+    for (apart, wide, given) in [(0.03, 10.0, Some(0.1)), (0.0499, 1_000.0, Some(1.0)), (0.001, 900.0, Some(0.01))] {
+        let told = of_near_corners(apart, wide, given);
+        let named = told.split("take a smaller --step; ").nth(1).and_then(|rest| rest.strip_suffix(" is enough"));
+        let step: f64 = named.unwrap_or_else(|| panic!("no step: {told}")).parse().expect("a number");
+        let text = format!("v 0 0 0\nv {apart} 0 0\nv 0 1 0\nv {wide} 0 0\nf 1 2 3\n");
+        assert!(mesh_of(&texts(&text, &text), Some(step), true).is_ok(), "{step}");
+    }
+    for given in [None, Some(1.0)] {
+        let told = of_near_corners(1e-7, 1_000.0, given);
+        assert!(told.contains("the mesh does not fit") && !told.contains("--step"), "{told}");
+    }
+}
+
+#[test]
+fn a_step_that_parts_is_the_largest_that_does() {
+    for (length, step) in [(1.0, 1.0), (1.9, 1.0), (2.0, 2.0), (4.99, 2.0), (5.0, 5.0), (9.99, 5.0), (0.03, 0.02), (1e-6, 1e-6)] {
+        assert_eq!(parting_step(length), Some(step), "{length}");
+    }
+    assert_eq!(parting_step(0.0), None);
 }
 
 #[test]
@@ -101,6 +137,7 @@ fn files_of_two_meshes_are_told() {
     assert!(
         told(&one("f 1 2 3\nf 1 2 4\n"), &one("f 1 2 3\n\nf 1 4 2\n")).starts_with("start.obj:6 and end.obj:7: the faces differ")
     );
+    assert!(told(&one("f 1 2 3\n"), &one("f 1 3 2\n")).ends_with("export quads, which are cut alike here"));
     assert!(told(&one("f 1 2 3\n"), &one("f 1 2 3\nf 1 2 4\n")).starts_with("start.obj has 1 triangles and end.obj has 2"));
     // the same faces, counted otherwise
     assert!(mesh_of(&[one("f 1 2 3\n"), one("f -4/1 -3/1 -2/1\n")], None, false).is_ok());

@@ -180,7 +180,8 @@ fn contacts_that_are_not_there_are_told_by_name() {
             None => fs::remove_file(&path).expect("removed"),
         }
         let faults = join::gather_contacts(&folder.0).expect_err(words);
-        assert!(faults.len() == 1 && faults[0].words.contains(words), "{words}: {faults:?}");
+        assert!(faults.len() == 2 && faults[0].words.contains(words), "{words}: {faults:?}");
+        assert!(faults[1].words.starts_with(&format!("1 of {} parts are missing", index.parts.len())), "{faults:?}");
     }
     // a part may be in a range that the mesh is not
     let folder = Folder::new("for-words");
@@ -241,7 +242,11 @@ fn a_part_that_is_not_there_is_told_by_name() {
         assert!(join::gather(&folder.0).is_ok());
         spoil(&folder, &index);
         let faults = join::gather(&folder.0).expect_err(words);
-        assert!(faults.len() == 1 && faults[0].words.contains(words), "{words}: {faults:?}");
+        assert!(faults[0].words.contains(words), "{words}: {faults:?}");
+        // without an index nobody knows how many there should be
+        let counted =
+            faults.get(1).map(|fault| fault.words.starts_with(&format!("1 of {} parts are missing", index.parts.len())));
+        assert_eq!((counted, faults.len()), if words == INDEX { (None, 1) } else { (Some(true), 2) }, "{faults:?}");
     }
 }
 
@@ -251,7 +256,9 @@ fn all_that_is_missing_is_told() {
     let mesh = made(&cloth(KINDS[1], 1_500, 13));
     let folder = Folder::new("missing");
     let index = split_into(&mesh, &folder);
-    assert_eq!(join::gather(&folder.0).expect_err("no report is there").len(), index.parts.len());
+    let (faults, all) = (join::gather(&folder.0).expect_err("no report is there"), index.parts.len());
+    assert_eq!(faults.len(), all + 1);
+    assert!(faults[all].words.starts_with(&format!("{all} of {all} parts are missing")), "{faults:?}");
     let again = split(&mesh, about(&mesh), false, &folder.0, 1, &mut no_bar()).expect_err("it is not empty");
     assert!(again.words.ends_with("is not empty: take a new folder"), "{again}");
 }
