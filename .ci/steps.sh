@@ -23,3 +23,24 @@ tell() { echo "$step: $*"; }
 
 # How many tests passed, by what cargo printed into the log.
 tests_passed() { sed -n 's/^test result: ok\. \([0-9]*\) passed.*/\1/p' "$log" | awk '{ sum += $1 } END { print sum + 0 }'; }
+
+# A function of tools/common, in a shell of its own: its give_up is another.
+in_common() { # FUNCTION WORDS..
+    # shellcheck disable=SC2016  # that shell reads them
+    top=$top bash -c '. "$top/tools/common" && "$@"' bash "$@"
+}
+
+# The C program of README.md into a folder as my.c; and the line that builds it there, as the page has it.
+c_of_readme() { # FOLDER
+    # shellcheck disable=SC2016  # as it stands on the page
+    sed -n '/^```c$/,/^```$/{/^```/!p}' README.md >"$1/my.c" && [ -s "$1/my.c" ] || give_up "README.md has no C program"
+}
+line_of_readme() {
+    # shellcheck disable=SC2016  # as it stands on the page
+    grep -o '`cc -std=c99 my\.c [^`]*`' README.md | tr -d '`' | grep .
+}
+
+# Whether README.md says that its C program prints this.
+readme_prints() { # WORDS
+    grep -qF "It prints \`$1\`" README.md
+}

@@ -2,7 +2,7 @@
  * makhnodri.h: exact contact verdicts for a mesh that moves from a start to an end. C99, or C++11.
  *
  * Link libmakhnodri.so or libmakhnodri.a, which `./makhnodri install PREFIX` proves, builds for this processor, x86-64 or aarch64,
- * and puts into PREFIX/lib, beside this header and a file for pkg-config.
+ * and puts into PREFIX/lib, beside this header and files for pkg-config and CMake; or which a package has, without a proof.
  *
  * What each function answers and leaves behind is proved; the promises stand beside the functions in crates/makhnodri/src/lib.rt.
  * The proof speaks of the code in Rattle. Its compiler makes one LLVM module of it, and LLVM's back end the library, on every

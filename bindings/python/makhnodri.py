@@ -477,7 +477,9 @@ _FUNCTIONS = (
 
 
 def _open_library():
-    name, processor = f"libmakhnodri.so.{VERSION_MAJOR}.{VERSION_MINOR}", platform.machine()
+    # below 1.0.0 the middle number moves where something that a caller relies on changed, from then on the first
+    numbers = VERSION_MAJOR if VERSION_MAJOR > 0 else f"{VERSION_MAJOR}.{VERSION_MINOR}"
+    name, processor = f"libmakhnodri.so.{numbers}", platform.machine()
     here = pathlib.Path(__file__).resolve().parent
     named = os.environ.get("MAKHNODRI_LIBRARY")
     folders = [pathlib.Path(named)] if named else [here, here.parent.parent / "target" / "library" / processor]

@@ -6,25 +6,8 @@ use crate::work;
 use makhnodri::Settled;
 use std::ffi::OsString;
 
-pub const USAGE: &str = "\
-usage: garment [OPTIONS] START.obj END.obj             the report of the mesh: each listed pair with its word, then the totals
-       garment split DIR [OPTIONS] START.obj END.obj   the mesh as scenes DIR/part-00001.scene and so on, and an index
-       garment join DIR [OPTIONS]                      the same report, from DIR/part-00001.report and so on; with --contacts from .contacts
-       garment scene [OPTIONS] START.obj END.obj       the mesh as one scene text, of whatever length: what the numbers stand for, and seams
-       garment --help | --version
-       - in place of one file is standard input
-options:
-  --step LENGTH    the length of a grid step, in the files' unit; without it the smallest of 1, 2, 5 times a power of ten that fits
-  --seams          vertices in one place at the start and at the end are one vertex
-  --contacts       when and where each hit pair touched, in place of the words; a step that is chosen then fits the range of contacts.
-                   Before `join` can have them, `split` holds the mesh to that range
-  --json           JSON in place of fields parted by tabs
-  --only WORDS     lines with these words only, as hit,touch; the totals are of all
-  --no-hits        status 3 where a pair is hit
-  --threads N      as many threads; without it all cores
-  --quiet          no notes and no bar on standard error
-status: 0 done; 1 no whole report (a file that is not read or written, a mesh that does not fit); 2 not understood; 3 see --no-hits
-";
+/// What `--help` prints; the manual page and the completion are made from the same file.
+pub const USAGE: &str = include_str!("usage.txt");
 
 #[derive(Clone, Debug, PartialEq)]
 pub struct Options {
