@@ -150,7 +150,8 @@ impl Alone {
         match scene.judge_pair(self.kind, first, second)? {
             Verdict::Hit => Ok(Settled::Hit),
             Verdict::Miss => Ok(Settled::Miss),
-            Verdict::Degenerate => scene.settle_pair(self.kind, first, second),
+            // degenerate; and so for any word that the library may yet learn
+            _ => scene.settle_pair(self.kind, first, second),
         }
     }
 

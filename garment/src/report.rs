@@ -18,6 +18,7 @@ fn place(word: Settled) -> usize {
         Settled::Miss => 1,
         Settled::Touch => 2,
         Settled::Apart => 3,
+        _ => unreachable!("a report has four words"),
     }
 }
 

@@ -7,7 +7,9 @@ use std::fmt::{self, Display, Formatter};
 /// A pair is asked for by kind: a point and a triangle, or two edges. They rise as the list has them; each is displayed as a report writes it.
 #[derive(Clone, Copy, Debug, PartialEq, Eq, PartialOrd, Ord, Hash)]
 pub enum Kind {
+    /// A point and a triangle.
     PointTriangle,
+    /// Two edges.
     EdgeEdge,
 }
 
@@ -24,13 +26,18 @@ impl Kind {
 
 /// In three words: what is singular stays open. Each is displayed as its word.
 #[derive(Clone, Copy, Debug, PartialEq, Eq, Hash)]
+#[non_exhaustive]
 pub enum Verdict {
+    /// They meet, in a piece that is not singular.
     Hit = 0,
+    /// They meet in no piece, and none is singular.
     Miss = 1,
+    /// No piece is hit, and a singular one leaves it open.
     Degenerate = 2,
 }
 
 impl Verdict {
+    /// As C's `makhnodri_word` has it.
     #[inline]
     pub fn word(self) -> &'static str {
         match self {
@@ -44,10 +51,15 @@ impl Verdict {
 /// In four words: a degenerate piece is decided too. It touches if weights exist, none negative; else it is apart. Each is displayed as a
 /// report writes it.
 #[derive(Clone, Copy, Debug, PartialEq, Eq, Hash)]
+#[non_exhaustive]
 pub enum Settled {
+    /// They meet, in a piece that is not singular.
     Hit = 0,
+    /// They meet in no piece, and none is singular.
     Miss = 1,
+    /// No piece is hit, and they meet in a singular one.
     Touch = 3,
+    /// A piece is singular, and they meet in none.
     Apart = 4,
 }
 
@@ -96,14 +108,19 @@ impl Settled {
 /// A vertex and a triangle, or two edges, by their places: each counted from 0 in its own kind. Pairs rise as the list has them.
 #[derive(Clone, Copy, Debug, PartialEq, Eq, PartialOrd, Ord, Hash)]
 pub struct Pair {
+    /// What its two places are.
     pub kind: Kind,
+    /// The vertex, or the first edge.
     pub first: usize,
+    /// The triangle, or the second edge.
     pub second: usize,
 }
 
 /// An entry of the list is one number: 2^20 for two edges or 0 for a point and a triangle, plus 2^10 times the first place, plus the
 /// second. Nothing else makes one or takes one apart.
 impl Pair {
+    /// The pair's number.
+    ///
     /// # Panics
     ///
     /// Where a place is 1,024 or more: no scene has it, and it would run into the other place.
@@ -132,48 +149,77 @@ pub struct Listed {
 /// Why a call was refused, in the order of the numbers, 1 to 17. [`Refusal::StaleBox`] is given to no call of this wrapper: a
 /// [`BoxedScene`](crate::BoxedScene) keeps its boxes right.
 #[derive(Clone, Copy, Debug, PartialEq, Eq, Hash)]
+#[non_exhaustive]
 pub enum Refusal {
+    /// Positions not a multiple of 6 long, edges of 2, triangles of 3, seams of 2, or a count over its size.
     Shape = 1,
+    /// A coordinate outside its range.
     Coordinate,
+    /// A vertex number not below the vertex count.
     UnknownVertex,
+    /// A vertex twice in one edge or triangle, or two that stand for one.
     RepeatedVertex,
+    /// A vertex, edge, triangle or piece asked for that isn't there.
     NotThere,
+    /// The pair asked for shares a vertex.
     SharedVertex,
+    /// More listed pairs than room.
     NoRoom,
+    /// Text over 32,768 bytes.
     LongText,
+    /// A line not of the form, or a last line without LF.
     BadLine,
+    /// A record after one of a later kind.
     LateRecord,
+    /// One record more than its size.
     TooMany,
+    /// A lent scene buffer that is too short.
     ShortBuffer,
+    /// A block of a series has more or fewer v lines than there are vertices.
     BlockLength,
+    /// Two OBJ files differ in vertex count, or in the faces and their order.
     FilesDiffer,
+    /// A seam that breaks the rules of seams, or whose two positions differ.
     BrokenSeam,
+    /// A contact asked for in a scene with a coordinate beyond 262,143.
     BeyondOldRange,
+    /// A stored box that isn't the one worked out.
     StaleBox,
 }
 
 /// Why no list was made.
 #[derive(Clone, Copy, Debug, PartialEq, Eq, Hash)]
+#[non_exhaustive]
 pub enum ListRefusal {
     /// 1, 2, 3, 15 or 4; for contacts 16 too.
     Scene(Refusal),
     /// 7, with the count of pairs that need room.
-    NoRoom { needed: usize },
+    NoRoom {
+        /// That count.
+        needed: usize,
+    },
 }
 
 /// Why no scene was read from a text.
 #[derive(Clone, Copy, Debug, PartialEq, Eq, Hash)]
+#[non_exhaustive]
 pub enum TextRefusal {
     /// 12: a lent buffer is too short.
     ShortBuffer,
     /// 8: the text is too long.
     LongText,
     /// 9, 10, 11, 2, 3, 15 or 4 in a line, counted from 1.
-    Line { refusal: Refusal, line: usize },
+    Line {
+        /// Why.
+        refusal: Refusal,
+        /// Where.
+        line: usize,
+    },
 }
 
 /// Why a scene was not turned round.
 #[derive(Clone, Copy, Debug, PartialEq, Eq, Hash)]
+#[non_exhaustive]
 pub enum TurnRefusal {
     /// 1, 2, 3 or 4.
     Scene(Refusal),
@@ -183,26 +229,39 @@ pub enum TurnRefusal {
 
 /// Why no claim was answered.
 #[derive(Clone, Copy, Debug, PartialEq, Eq, Hash)]
+#[non_exhaustive]
 pub enum ClaimsRefusal {
     /// 1, 2, 3, 15 or 4, of the scene.
     Scene(Refusal),
     /// 8: the text of claims is too long.
     LongText,
     /// 9, 5 or 6 in a line of claims, counted from 1.
-    Line { refusal: Refusal, line: usize },
+    Line {
+        /// Why.
+        refusal: Refusal,
+        /// Where.
+        line: usize,
+    },
     /// 7, with the count of claims that need room.
-    NoRoom { needed: usize },
+    NoRoom {
+        /// That count.
+        needed: usize,
+    },
 }
 
 /// Why a scene was not written as text, in the order of the checks.
 #[derive(Clone, Copy, Debug, PartialEq, Eq, Hash)]
+#[non_exhaustive]
 pub enum SaveRefusal {
     /// 1, 2, 3, 15 or 4, of the scene.
     Scene(Refusal),
     /// 8: the text would be too long to be read again.
     LongText,
     /// 7, with the length of the text.
-    NoRoom { needed: usize },
+    NoRoom {
+        /// That length.
+        needed: usize,
+    },
 }
 
 const REFUSALS: [(Refusal, &str); 17] = [
@@ -226,10 +285,12 @@ const REFUSALS: [(Refusal, &str); 17] = [
 ];
 
 impl Refusal {
+    /// Its number in C's table.
     pub fn number(self) -> u32 {
         self as u32
     }
 
+    /// What it says.
     pub fn words(self) -> &'static str {
         let own = REFUSALS.iter().find(|(refusal, _)| *refusal == self);
         own.expect("every refusal has its words").1
@@ -242,6 +303,7 @@ impl Refusal {
 }
 
 impl ListRefusal {
+    /// The refusal alone.
     pub fn refusal(self) -> Refusal {
         match self {
             ListRefusal::Scene(refusal) => refusal,
@@ -251,6 +313,7 @@ impl ListRefusal {
 }
 
 impl ClaimsRefusal {
+    /// The refusal alone.
     pub fn refusal(self) -> Refusal {
         match self {
             ClaimsRefusal::Scene(refusal) | ClaimsRefusal::Line { refusal, .. } => refusal,
@@ -270,6 +333,7 @@ impl ClaimsRefusal {
 }
 
 impl SaveRefusal {
+    /// The refusal alone.
     pub fn refusal(self) -> Refusal {
         match self {
             SaveRefusal::Scene(refusal) => refusal,
@@ -288,6 +352,7 @@ impl SaveRefusal {
 }
 
 impl TextRefusal {
+    /// The refusal alone.
     pub fn refusal(self) -> Refusal {
         match self {
             TextRefusal::ShortBuffer => Refusal::ShortBuffer,

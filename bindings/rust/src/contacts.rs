@@ -10,28 +10,45 @@ use crate::{raw, Kind, ListRefusal, Pair, Refusal, Scene, Settled, CONTACT_LENGT
 /// nothing. Each is cut and not rounded: at most the exact value, and short of it by less than one 2^20th. The piece is the hit piece with the
 /// smallest `k`, on a tie the lowest.
 #[derive(Clone, Copy, Debug, PartialEq)]
+#[non_exhaustive]
 pub enum Contact {
     /// Of a point and a triangle: the shares of the corners with the lowest, middle and highest vertex number.
     PointHit {
+        /// The hit piece, 0, 1 or 2.
         piece: usize,
+        /// The time, in 2^20ths.
         k: u32,
+        /// The three shares, in 2^20ths.
         shares: [u32; 3],
+        /// `k` as a part of 1: 0 is the start, 1 the end.
         time: f64,
+        /// The share of the lowest corner.
         low: f64,
+        /// The share of the middle corner.
         middle: f64,
+        /// The share of the highest corner.
         high: f64,
     },
     /// Of two edges: the share of each at its higher-numbered end, that of the edge with the lower place first.
     EdgeHit {
+        /// The hit piece, 0 to 3.
         piece: usize,
+        /// The time, in 2^20ths.
         k: u32,
+        /// The two shares, in 2^20ths.
         shares: [u32; 2],
+        /// `k` as a part of 1: 0 is the start, 1 the end.
         time: f64,
+        /// The share of the edge with the lower place.
         first: f64,
+        /// The share of the edge with the higher place.
         second: f64,
     },
+    /// As [`Settled::Miss`].
     Miss,
+    /// As [`Settled::Touch`].
     Touch,
+    /// As [`Settled::Apart`].
     Apart,
 }
 
@@ -60,6 +77,7 @@ impl Contact {
         }
     }
 
+    /// The word alone.
     pub fn word(self) -> Settled {
         match self {
             Contact::PointHit { .. } | Contact::EdgeHit { .. } => Settled::Hit,
@@ -81,13 +99,14 @@ impl Contact {
 /// Contacts, of pairs that are listed or not. Beside what a verdict is refused for, [`Refusal::BeyondOldRange`], after all others but
 /// [`Refusal::NoRoom`], for a scene of which any coordinate is beyond [`CONTACT_LIMIT`](crate::CONTACT_LIMIT) in size.
 impl Scene<'_> {
+    /// Of a vertex and a triangle.
     pub fn contact_pt(&self, vertex: usize, triangle: usize) -> Result<Contact, Refusal> {
         let mut row = [0; CONTACT_LENGTH];
         let word = heard(ask!(self, makhnodri_contact_pt_slices, vertex, triangle, row.as_mut_ptr())).map_err(bare)?;
         Ok(Contact::heard(Kind::PointTriangle, settled(word), row))
     }
 
-    /// Two edges may be asked for in either order.
+    /// Of two edges, which may be asked for in either order.
     pub fn contact_ee(&self, first: usize, second: usize) -> Result<Contact, Refusal> {
         let mut row = [0; CONTACT_LENGTH];
         let word = heard(ask!(self, makhnodri_contact_ee_slices, first, second, row.as_mut_ptr())).map_err(bare)?;

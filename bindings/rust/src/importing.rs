@@ -8,19 +8,32 @@ use std::fmt::{self, Display, Formatter};
 /// One of the two files.
 #[derive(Clone, Copy, Debug, PartialEq, Eq, Hash)]
 pub enum ObjFile {
+    /// The one for the start.
     Start = 1,
+    /// The one for the end.
     End = 2,
 }
 
 /// Why two OBJ files gave no scene, in the order of the checks.
 #[derive(Clone, Copy, Debug, PartialEq, Eq, Hash)]
+#[non_exhaustive]
 pub enum ImportRefusal {
     /// 12: a lent buffer is too short.
     ShortBuffer,
     /// 8: this file is too long.
-    LongText { file: ObjFile },
+    LongText {
+        /// Which.
+        file: ObjFile,
+    },
     /// 9, 10, 11, 2, 3 or 4 in a line of this file, counted from 1; lines that are skipped count too.
-    Line { file: ObjFile, refusal: Refusal, line: usize },
+    Line {
+        /// Which file.
+        file: ObjFile,
+        /// Why.
+        refusal: Refusal,
+        /// Where.
+        line: usize,
+    },
     /// 14: the files differ in vertex count or in the faces and their order.
     FilesDiffer,
 }
@@ -73,6 +86,7 @@ impl Scene<'static> {
 }
 
 impl ImportRefusal {
+    /// The refusal alone.
     pub fn refusal(self) -> Refusal {
         match self {
             ImportRefusal::ShortBuffer => Refusal::ShortBuffer,

@@ -45,6 +45,21 @@
 //!
 //! Nothing is kept between calls, so any number of threads may call at the same time. A call takes at most
 //! [`STACK`] bytes of stack.
+//!
+//! # Growing
+//!
+//! A later library may refuse for a further cause, or know a further word. So [`Refusal`] and the refusals that carry it, [`Verdict`],
+//! [`Settled`] and [`Contact`] are `#[non_exhaustive]`: a `match` outside of this crate has an arm for what it does not name. [`Kind`] is
+//! not: a pair is a point and a triangle, or two edges.
+//!
+//! # Linking
+//!
+//! The library is looked for in the folder that `MAKHNODRI_LIBRARY` names, else in `target/library` of the repository. The feature `static`, which
+//! is on where nothing is said, puts libmakhnodri.a into the program. With `default-features = false` the program is linked with libmakhnodri.so,
+//! and finds it at run time where the system looks for libraries: installed there, by `LD_LIBRARY_PATH`, or by an rpath. A build script of a
+//! package that depends on this one is told the folder by `DEP_MAKHNODRI_FOLDER`, so that it can set one.
+
+#![warn(missing_docs)]
 
 mod answers;
 mod boxed;
@@ -73,9 +88,13 @@ pub const VERSION: &str = env!("CARGO_PKG_VERSION");
 
 /// Coordinates run from minus this to this.
 pub const COORDINATE_LIMIT: i32 = 524_287;
+/// Vertices of a scene, at most.
 pub const VERTEX_LIMIT: usize = 512;
+/// Edges of a scene, at most.
 pub const EDGE_LIMIT: usize = 1_024;
+/// Triangles of a scene, at most.
 pub const TRIANGLE_LIMIT: usize = 512;
+/// Seams of a scene, at most.
 pub const SEAM_LIMIT: usize = 512;
 /// Bytes of a scene text, and of an OBJ file.
 pub const TEXT_LIMIT: usize = 32_768;
@@ -92,10 +111,13 @@ pub const WEIGHT_LIMIT: u64 = 1 << 40;
 /// No scene lists more.
 pub const PAIR_LIMIT: usize = 785_920;
 
-/// How long the buffers are that a text is read into, in numbers.
+/// How long the buffer of positions is that a text is read into, in numbers.
 pub const POSITIONS_LENGTH: usize = 6 * VERTEX_LIMIT;
+/// The same of edges.
 pub const EDGES_LENGTH: usize = 2 * EDGE_LIMIT;
+/// The same of triangles.
 pub const TRIANGLES_LENGTH: usize = 3 * TRIANGLE_LIMIT;
+/// The same of seams.
 pub const SEAMS_LENGTH: usize = 2 * SEAM_LIMIT;
 /// How long a buffer of boxes is, in numbers: six for each vertex, edge and triangle that a scene can have.
 pub const BOXES_LENGTH: usize = 6 * (VERTEX_LIMIT + EDGE_LIMIT + TRIANGLE_LIMIT);

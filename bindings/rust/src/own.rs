@@ -8,16 +8,26 @@ use std::fmt::{self, Display, Formatter};
 
 /// Why no pair of a list was answered.
 #[derive(Clone, Copy, Debug, PartialEq, Eq, Hash)]
+#[non_exhaustive]
 pub enum OwnRefusal {
     /// 1, 2, 3, 15 or 4; for contacts 16 too.
     Scene(Refusal),
     /// 5 or 6 of the first pair at fault: its number in the list, counted from 1.
-    Entry { refusal: Refusal, number: usize },
+    Entry {
+        /// Why.
+        refusal: Refusal,
+        /// Which.
+        number: usize,
+    },
     /// 7, with the count of pairs that need room.
-    NoRoom { needed: usize },
+    NoRoom {
+        /// That count.
+        needed: usize,
+    },
 }
 
 impl OwnRefusal {
+    /// The refusal alone.
     pub fn refusal(self) -> Refusal {
         match self {
             OwnRefusal::Scene(refusal) | OwnRefusal::Entry { refusal, .. } => refusal,

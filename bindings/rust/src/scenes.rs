@@ -26,9 +26,13 @@ use std::borrow::Cow;
 /// ```
 #[derive(Clone, Debug, Default, PartialEq, Eq)]
 pub struct Scene<'a> {
+    /// Six numbers a vertex: start x, y, z, end x, y, z.
     pub positions: Cow<'a, [i32]>,
+    /// Two vertex numbers an edge.
     pub edges: Cow<'a, [u16]>,
+    /// Three vertex numbers a triangle.
     pub triangles: Cow<'a, [u16]>,
+    /// Two vertex numbers a seam: the vertex that is replaced, and the one that it stands for.
     pub seams: Cow<'a, [u16]>,
 }
 
@@ -146,10 +150,12 @@ impl Scene<'_> {
 /// scene first; many pairs are better asked for at once, by `settle_scene`
 /// or `settle_list`.
 impl Scene<'_> {
+    /// A vertex and a triangle.
     pub fn judge_pt(&self, vertex: usize, triangle: usize) -> Result<Verdict, Refusal> {
         heard(ask!(self, makhnodri_judge_pt_slices, vertex, triangle)).map(verdict).map_err(bare)
     }
 
+    /// Two edges.
     pub fn judge_ee(&self, first: usize, second: usize) -> Result<Verdict, Refusal> {
         heard(ask!(self, makhnodri_judge_ee_slices, first, second)).map(verdict).map_err(bare)
     }
@@ -183,10 +189,12 @@ impl Scene<'_> {
 
 /// The same in four words: what is degenerate is decided too.
 impl Scene<'_> {
+    /// A vertex and a triangle.
     pub fn settle_pt(&self, vertex: usize, triangle: usize) -> Result<Settled, Refusal> {
         heard(ask!(self, makhnodri_settle_pt_slices, vertex, triangle)).map(settled).map_err(bare)
     }
 
+    /// Two edges.
     pub fn settle_ee(&self, first: usize, second: usize) -> Result<Settled, Refusal> {
         heard(ask!(self, makhnodri_settle_ee_slices, first, second)).map(settled).map_err(bare)
     }

@@ -9,7 +9,9 @@ use std::slice;
 /// A hit of a series: its step, counted from 1, and its pair.
 #[derive(Clone, Copy, Debug, PartialEq, Eq, Hash)]
 pub struct Hit {
+    /// Counted from 1.
     pub step: usize,
+    /// The pair that is hit.
     pub pair: Pair,
 }
 
@@ -20,11 +22,15 @@ pub struct Told {
     rows: Vec<[u32; 2]>,
     /// Hits behind those of the log; none of them replaced an entry.
     pub later: u64,
-    /// Totals over all steps.
+    /// Listed pairs, over all steps.
     pub listed: u64,
+    /// Hits, over all steps.
     pub hits: u64,
+    /// Misses, over all steps.
     pub misses: u64,
+    /// Touches, over all steps.
     pub touches: u64,
+    /// Pairs that are apart, over all steps.
     pub aparts: u64,
     /// The first step with a hit, counted from 1.
     pub first: Option<u64>,
@@ -76,18 +82,28 @@ impl ExactSizeIterator for Log<'_> {}
 
 /// Why nothing was told of a series, in the order of the checks.
 #[derive(Clone, Copy, Debug, PartialEq, Eq, Hash)]
+#[non_exhaustive]
 pub enum SeriesRefusal {
     /// 12: a lent buffer is too short.
     ShortBuffer,
     /// 8: the text is too long.
     LongText,
     /// 9, 10, 11, 13, 2, 3, 15 or 4 in a line, counted from 1.
-    Line { refusal: Refusal, line: usize },
+    Line {
+        /// Why.
+        refusal: Refusal,
+        /// Where.
+        line: usize,
+    },
     /// 7, with the count of pairs that the first step without room lists.
-    NoRoom { needed: usize },
+    NoRoom {
+        /// That count.
+        needed: usize,
+    },
 }
 
 impl SeriesRefusal {
+    /// The refusal alone.
     pub fn refusal(self) -> Refusal {
         match self {
             SeriesRefusal::ShortBuffer => Refusal::ShortBuffer,
@@ -172,6 +188,7 @@ pub struct Series {
     pub last: Scene<'static>,
     /// Its listed pairs, in order.
     pub listed: Vec<Pair>,
+    /// The log and the totals.
     pub told: Told,
 }
 

@@ -8,9 +8,13 @@ use std::fmt::{self, Display, Formatter};
 /// How many vertices, edges, triangles and seams a scene has.
 #[derive(Clone, Copy, Debug, Default, PartialEq, Eq)]
 pub struct Counts {
+    /// Vertices.
     pub vertices: usize,
+    /// Edges.
     pub edges: usize,
+    /// Triangles.
     pub triangles: usize,
+    /// Seams.
     pub seams: usize,
 }
 

@@ -127,7 +127,7 @@ fn row_of(contact: Contact) -> Option<Row> {
     match contact {
         Contact::PointHit { piece, k, shares: [low, middle, high], .. } => Some([piece as u32, k, low, middle, high]),
         Contact::EdgeHit { piece, k, shares: [first, second], .. } => Some([piece as u32, k, first, second, 0]),
-        Contact::Miss | Contact::Touch | Contact::Apart => None,
+        _ => None,
     }
 }
 
