@@ -174,5 +174,5 @@ class Refusals(unittest.TestCase):
 
     @classmethod
     def tearDownClass(cls):
-        missing = {number for _, number, _ in makhnodri._REFUSALS} - MET
+        missing = set(makhnodri._REFUSALS) - MET
         assert not missing, f"refusals that were never met: {missing}"

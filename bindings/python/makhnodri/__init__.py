@@ -11,24 +11,33 @@ the right type one behind the other, and, where the call writes, may be written 
 arrays, of any number of dimensions). It is lent as it is and never copied. What is no such buffer is a TypeError, one that C would need longer a
 ValueError; a refusal of the library is `Refused`, and no lent number has changed then.
 
-The library is libmakhnodri.so, which `./makhnodri library` makes: in the folder that MAKHNODRI_LIBRARY names, else beside this file, else in this
-file's repository, else where the system looks for libraries. What is proved of it, and what is trusted, include/makhnodri.h tells; this module is
-not proved, and is tested. While the library works, other Python threads go on; none may write what is lent meanwhile.
+The library is libmakhnodri.so, which `./makhnodri library` makes: in the folder that MAKHNODRI_LIBRARY names, else in this module's folder, where an
+installed one has it, else in this module's repository, else where the system looks for libraries. What is proved of it, and what is trusted,
+include/makhnodri.h tells; this module is not proved, and is tested. While the library works, other Python threads go on; none may write what is lent
+meanwhile.
 """
+
+from __future__ import annotations
 
 import array
 import collections
 import ctypes
 import enum
-import inspect
+import functools
 import operator
 import os
 import pathlib
 import platform
 import sys
+import typing
 
-VERSION_MAJOR, VERSION_MINOR, VERSION_PATCH = 0, 6, 1
-VERSION = f"{VERSION_MAJOR}.{VERSION_MINOR}.{VERSION_PATCH}"
+if typing.TYPE_CHECKING:
+    from _typeshed import ReadableBuffer, WriteableBuffer
+else:
+    ReadableBuffer = WriteableBuffer = object  # Python's own names for them are seen by type checkers alone
+
+VERSION = "0.6.1"
+VERSION_MAJOR, VERSION_MINOR, VERSION_PATCH = map(int, VERSION.split("."))
 
 # ---- Sizes, as the header has them
 
@@ -59,7 +68,7 @@ REPORT_LENGTH = 65536
 
 
 class Word(enum.IntEnum):
-    """The word of a pair or a piece."""
+    """The word of a pair or a piece. Three words are HIT, MISS and DEGENERATE; four are HIT, MISS, TOUCH and APART."""
 
     HIT = 0
     MISS = 1
@@ -67,7 +76,7 @@ class Word(enum.IntEnum):
     TOUCH = 3
     APART = 4
 
-    def __str__(self):
+    def __str__(self) -> str:
         return self.name.lower()
 
 
@@ -80,7 +89,7 @@ class Kind(enum.IntEnum):
     PT = 0
     EE = 1
 
-    def __str__(self):
+    def __str__(self) -> str:
         return self.name.lower()
 
 
@@ -91,28 +100,28 @@ NO, YES = 0, 1
 # the file that a refusal of an import is about
 NO_FILE, START_FILE, END_FILE = 0, 1, 2
 
-# the table of refusals: the header's name, the number, and the words
-_REFUSALS = (
-    ("SHAPE", 1, "positions not a multiple of 6 long, edges of 2, triangles of 3, seams of 2, or a count over its size"),
-    ("COORDINATE", 2, "a coordinate outside its range"),
-    ("UNKNOWN_VERTEX", 3, "a vertex number not below the vertex count"),
-    ("REPEATED_VERTEX", 4, "a vertex twice in one edge or triangle, or two that stand for one"),
-    ("NOT_THERE", 5, "a vertex, edge, triangle or piece asked for that isn't there"),
-    ("SHARED_VERTEX", 6, "the pair asked for shares a vertex"),
-    ("NO_ROOM", 7, "more listed pairs than room"),
-    ("LONG_TEXT", 8, "text over 32,768 bytes"),
-    ("BAD_LINE", 9, "a line not of the form, or a last line without LF"),
-    ("LATE_RECORD", 10, "a record after one of a later kind"),
-    ("TOO_MANY", 11, "one record more than its size"),
-    ("SHORT_BUFFER", 12, "a lent scene buffer that is too short"),
-    ("BLOCK_LENGTH", 13, "a block of a series has more or fewer v lines than there are vertices"),
-    ("FILES_DIFFER", 14, "two OBJ files differ in vertex count, or in the faces and their order"),
-    ("BROKEN_SEAM", 15, "a seam that breaks the rules of seams, or whose two positions differ"),
-    ("BEYOND_OLD_RANGE", 16, "a contact asked for in a scene with a coordinate beyond 262,143"),
-    ("STALE_BOX", 17, "a stored box that isn't the one worked out"),
-)
-globals().update({name: number for name, number, _ in _REFUSALS})
-_WORDS_OF = {number: words for _, number, words in _REFUSALS}
+# refusals by the header's names, and what each says
+SHAPE, COORDINATE, UNKNOWN_VERTEX, REPEATED_VERTEX, NOT_THERE, SHARED_VERTEX, NO_ROOM, LONG_TEXT = range(1, 9)
+BAD_LINE, LATE_RECORD, TOO_MANY, SHORT_BUFFER, BLOCK_LENGTH, FILES_DIFFER, BROKEN_SEAM, BEYOND_OLD_RANGE, STALE_BOX = range(9, 18)
+_REFUSALS = {
+    SHAPE: "positions not a multiple of 6 long, edges of 2, triangles of 3, seams of 2, or a count over its size",
+    COORDINATE: "a coordinate outside its range",
+    UNKNOWN_VERTEX: "a vertex number not below the vertex count",
+    REPEATED_VERTEX: "a vertex twice in one edge or triangle, or two that stand for one",
+    NOT_THERE: "a vertex, edge, triangle or piece asked for that isn't there",
+    SHARED_VERTEX: "the pair asked for shares a vertex",
+    NO_ROOM: "more listed pairs than room",
+    LONG_TEXT: "text over 32,768 bytes",
+    BAD_LINE: "a line not of the form, or a last line without LF",
+    LATE_RECORD: "a record after one of a later kind",
+    TOO_MANY: "one record more than its size",
+    SHORT_BUFFER: "a lent scene buffer that is too short",
+    BLOCK_LENGTH: "a block of a series has more or fewer v lines than there are vertices",
+    FILES_DIFFER: "two OBJ files differ in vertex count, or in the faces and their order",
+    BROKEN_SEAM: "a seam that breaks the rules of seams, or whose two positions differ",
+    BEYOND_OLD_RANGE: "a contact asked for in a scene with a coordinate beyond 262,143",
+    STALE_BOX: "a stored box that isn't the one worked out",
+}
 
 
 class Refused(ValueError):
@@ -120,7 +129,14 @@ class Refused(ValueError):
     the room that was needed, each None where the refusal carries no such number; `carried` is the number itself, or 0. `file` is "start" or "end"
     where one of two OBJ files is refused, else None."""
 
-    def __init__(self, number, carried=0, file=None):
+    number: int
+    carried: int
+    file: typing.Optional[str]
+    count: typing.Optional[int]
+    line: typing.Optional[int]
+    words: str
+
+    def __init__(self, number: int, carried: int = 0, file: typing.Optional[str] = None) -> None:
         self.number, self.carried, self.file = number, carried, file
         self.count = carried if number == 7 else None
         self.line = carried if number != 7 and carried else None
@@ -132,109 +148,119 @@ class Refused(ValueError):
         return Refused, (self.number, self.carried, self.file)
 
 
-def refusal(answer):
+def refusal(answer: int) -> int:
     """The number of a refusal in a 64-bit answer of the library, or 0."""
     return answer >> 32
 
 
-def value(answer):
+def value(answer: int) -> int:
     """The value of an answer; of a refusal, the line or count."""
     return answer & 0xFFFFFFFF
 
 
-def import_file(answer):
+def import_file(answer: int) -> int:
     """The file that a refusal of an import is about: START_FILE, END_FILE or NO_FILE."""
     return value(answer) >> 30
 
 
-def import_line(answer):
+def import_line(answer: int) -> int:
     """The line of that file, counted from 1, or 0."""
     return value(answer) & 0x3FFFFFFF
 
 
-def refusal_words(number):
+def refusal_words(number: int) -> str:
     """What a refusal says; "not refused" for 0, "no refusal" for a number that is none."""
-    return _WORDS_OF.get(number, "no refusal" if number else "not refused")
+    return _REFUSALS.get(number, "no refusal" if number else "not refused")
 
 
-def word(number):
-    """"hit" to "apart"; "no word" for a number that stands for none."""
+def word(number: int) -> str:
+    """The word of a number, "hit" to "apart"; "no word" for a number that stands for none."""
     return str(Word(number)) if HIT <= number <= APART else "no word"
 
 
 # ---- Entries of a list
 
 
-def entry(kind, first, second):
+def entry(kind: int, first: int, second: int) -> int:
     """The number of a pair in a list."""
     return (kind << 20) + (first << 10) + second
 
 
-def entry_kind(number):
+def entry_kind(number: int) -> Kind:
     """PT below 2^20 and EE from there on, also of a number from 2^21 on, which no pair has."""
     return Kind.PT if number < 1 << 20 else Kind.EE
 
 
-def entry_first(number):
+def entry_first(number: int) -> int:
+    """Its first place: the vertex, or the first edge."""
     return number >> 10 & 1023
 
 
-def entry_second(number):
+def entry_second(number: int) -> int:
+    """Its second place: the triangle, or the second edge."""
     return number & 1023
 
 
-class Pair(collections.namedtuple("Pair", "kind first second")):
-    """A pair: its kind and its two places."""
+class Pair(typing.NamedTuple):
+    """A pair: its kind and its two places, a vertex and a triangle or two edges, each counted from 0 in its own kind."""
 
-    __slots__ = ()
+    kind: Kind
+    first: int
+    second: int
 
     @classmethod
-    def of_entry(cls, number):
+    def of_entry(cls, number: int) -> Pair:
+        """The pair that has this number in a list."""
         return cls(entry_kind(number), entry_first(number), entry_second(number))
 
     @property
-    def entry(self):
+    def entry(self) -> int:
+        """The number of the pair in a list."""
         return entry(*self)
 
-    def __str__(self):
+    def __str__(self) -> str:
         return f"{self.kind} {self.first} {self.second}"
 
 
 # ---- Contacts
 
 
-def part(number):
+def part(number: int) -> float:
     """A number of 2^20ths as a float, which loses nothing."""
     return number / CONTACT_UNIT
 
 
-def contact_time(contact):
+def contact_time(contact: typing.Sequence[int]) -> float:
     """When it touched: 0.0 is the start, 1.0 the end."""
     return part(contact[1])
 
 
-def contact_share(contact, place):
+def contact_share(contact: typing.Sequence[int], place: int) -> float:
     """Where: the share at this place, 0, 1 or 2 of a point and a triangle, 0 or 1 of two edges."""
     return part(contact[2 + place])
 
 
-class Contact(collections.namedtuple("Contact", "piece k shares")):
+class Contact(typing.NamedTuple):
     """The contact of a hit pair in whole 2^20ths: the piece, k, which is the time, and three shares of a point and a triangle or two of two
-    edges. `time` and `parts` are the same as floats, which lose nothing."""
+    edges. `time` and `parts` are the same as floats, which lose nothing. Each is cut and not rounded. `Scene.contact_point` tells the place."""
 
-    __slots__ = ()
+    piece: int
+    k: int
+    shares: typing.Tuple[int, ...]
 
     @classmethod
-    def of_numbers(cls, kind, numbers):
+    def of_numbers(cls, kind: int, numbers: typing.Sequence[int]) -> Contact:
         """From the five numbers that the library writes."""
         return cls(numbers[0], numbers[1], tuple(numbers[2 : 5 if kind == PT else 4]))
 
     @property
-    def time(self):
+    def time(self) -> float:
+        """When it touched: 0.0 is the start, 1.0 the end."""
         return part(self.k)
 
     @property
-    def parts(self):
+    def parts(self) -> typing.Tuple[float, ...]:
+        """The shares as parts of 1."""
         return tuple(part(share) for share in self.shares)
 
 
@@ -425,64 +451,14 @@ _POINT, _EDGES, _PIECE = (_Place("vertex"), _Place("triangle")), (_Place("first"
 _BOXES, _STORED = _Write("boxes", _INT32), _Read("boxes", _INT32)
 _THREE = (_Write("positions", _INT32), _Write("edges", _UINT16), _Write("triangles", _UINT16))
 
-# A row a function of the library: its name there without `makhnodri_`, what it gives, its arguments in the header's order. Here it is called without
-# `_slices`. A further function is a further row; a test holds the rows to the header.
-_FUNCTIONS = (
-    ("check_scene_slices", _NOTHING, _SCENE),
-    ("count_pairs_slices", _COUNT, _SCENE, _TESTS),
-    ("list_pairs_slices", _COUNT, _SCENE, _LIST, _TESTS),
-    ("settle_scene_slices", _COUNT, _SCENE, _LIST, _WORDS),
-    ("settle_list_slices", _COUNT, _SCENE, _OWN_LIST, _WORDS),
-    ("contact_list_slices", _COUNT, _SCENE, _OWN_LIST, _WORDS, _CONTACTS),
-    ("judge_pt_slices", _WORD, _SCENE, *_POINT),
-    ("judge_ee_slices", _WORD, _SCENE, *_EDGES),
-    ("judge_pt_piece_slices", _WORD, _SCENE, *_POINT, _PIECE),
-    ("judge_ee_piece_slices", _WORD, _SCENE, *_EDGES, _PIECE),
-    ("settle_pt_slices", _WORD, _SCENE, *_POINT),
-    ("settle_ee_slices", _WORD, _SCENE, *_EDGES),
-    ("settle_pt_piece_slices", _WORD, _SCENE, *_POINT, _PIECE),
-    ("settle_ee_piece_slices", _WORD, _SCENE, *_EDGES, _PIECE),
-    ("contact_pt_slices", _WORD, _SCENE, *_POINT, _CONTACT),
-    ("contact_ee_slices", _WORD, _SCENE, *_EDGES, _CONTACT),
-    ("contact_scene_slices", _COUNT, _SCENE, _LIST, _WORDS, _CONTACTS),
-    ("saved_length_slices", _COUNT, _SCENE),
-    ("save_scene_slices", _COUNT, _SCENE, _Write("text", _UINT8)),
-    ("check_claims_slices", _COUNT, _SCENE, _Read("claims", _UINT8), _Write("answers", _UINT8)),
-    ("read_scene_slices", _NOTHING, _Read("text", _UINT8), *_THREE, _Write("seams", _UINT16), _Fixed("counts", _SIZE, 4)),
-    (
-        "import_scene_slices", _IMPORTED, _Read("start", _UINT8), _Read("end", _UINT8), *_THREE, _Write("seams", _UINT16), _Write("boxes", _INT32),
-        _Fixed("counts", _SIZE, 4),
-    ),
-    (
-        "tell_series_slices",
-        _COUNT,
-        _Read("text", _UINT8),
-        *_THREE,
-        _Write("seams", _UINT16),
-        _Write("boxes", _INT32),
-        _LIST,
-        _Fixed("counts", _SIZE, 4),
-        _Fixed("log", _UINT32, LOG_LENGTH),
-        _Fixed("told", _UINT64, TOLD_LENGTH),
-    ),
-    ("write_report", _COUNT, _Read("text", _UINT8), _Fixed("out", _UINT8, REPORT_LENGTH)),
-    ("turn_scene", _NOTHING, *_THREE),
-    ("fill_boxes_slices", _NOTHING, _SCENE, _BOXES),
-    ("move_vertex_slices", _NOTHING, _MovedLists(), _BOXES, _Place("vertex"), _FixedRead("coordinates", _INT32, 6)),
-    ("count_stored_slices", _COUNT, _SCENE, _STORED, _TESTS),
-    ("list_stored_slices", _COUNT, _SCENE, _STORED, _LIST, _TESTS),
-    ("settle_stored_slices", _COUNT, _SCENE, _STORED, _LIST, _WORDS),
-    ("read_boxed_slices", _NOTHING, _Read("text", _UINT8), *_THREE, _Write("seams", _UINT16), _BOXES, _Fixed("counts", _SIZE, 4)),
-)
-
-
 def _open_library():
     # below 1.0.0 the middle number moves where something that a caller relies on changed, from then on the first
     numbers = VERSION_MAJOR if VERSION_MAJOR > 0 else f"{VERSION_MAJOR}.{VERSION_MINOR}"
     name, processor = f"libmakhnodri.so.{numbers}", platform.machine()
     here = pathlib.Path(__file__).resolve().parent
+    repository = here.parents[2] if len(here.parents) > 2 else here
     named = os.environ.get("MAKHNODRI_LIBRARY")
-    folders = [pathlib.Path(named)] if named else [here, here.parent.parent / "target" / "library" / processor]
+    folders = [pathlib.Path(named)] if named else [here, repository / "target" / "library" / processor]
     for folder in folders:
         if (folder / name).exists():
             return ctypes.CDLL(str((folder / name).resolve()))
@@ -498,38 +474,269 @@ def _open_library():
 _library = _open_library()
 
 
-def _made(symbol, given, arguments):
-    """The function of one row of the table."""
-    function = getattr(_library, f"makhnodri_{symbol}")
+# A row a function of the library: its name there without `makhnodri_`, what it gives, its arguments in the header's order. Each is stated below, by its
+# name without `_slices`, with the types of what is lent; a test holds the rows to the header, and what is stated to the rows.
+_FUNCTIONS = []
+_functions = {}
+_Stated = typing.TypeVar("_Stated", bound=typing.Callable[..., object])
+
+
+def _calls(symbol: str, given: typing.Any, *arguments: typing.Any) -> typing.Callable[[_Stated], _Stated]:
+    """Makes a row, and the function that is stated call it."""
+    _FUNCTIONS.append((symbol, given, *arguments))
+    function = _functions[symbol] = getattr(_library, f"makhnodri_{symbol}")
     function.argtypes, function.restype = [c for argument in arguments for c in argument.c], ctypes.c_uint64
-    name = symbol.removesuffix("_slices")
     wanted = len(arguments) - sum(argument.optional for argument in arguments)
 
-    def call(*lent):
-        if not wanted <= len(lent) <= len(arguments):
-            raise TypeError(f"{name} takes {', '.join(argument.name for argument in arguments)}; {len(lent)} were given")
-        lent += (None,) * (len(arguments) - len(lent))
+    def called(lent):
         with _Lent() as held:
             words = [word for argument, one in zip(arguments, lent) for word in argument.words(one, held)]
-            answer = _functions[symbol](*words)
-        if answer >> 32 and given is _IMPORTED:
-            raise Refused(refusal(answer), import_line(answer), (None, "start", "end")[import_file(answer)])
-        if answer >> 32:
-            raise Refused(refusal(answer), value(answer))
-        return given(answer)
+            return _functions[symbol](*words)
 
-    _functions[symbol] = function
-    call.__name__ = call.__qualname__ = name
-    call.__doc__ = f"As makhnodri_{name} of include/makhnodri.h."
-    defaults = (None if argument.optional else inspect.Parameter.empty for argument in arguments)
-    parameters = (inspect.Parameter(a.name, inspect.Parameter.POSITIONAL_ONLY, default=default) for a, default in zip(arguments, defaults))
-    call.__signature__ = inspect.Signature(list(parameters))
-    return call
+    def made(stated):
+        @functools.wraps(stated)
+        def call(*lent):
+            if not wanted <= len(lent) <= len(arguments):
+                raise TypeError(f"{stated.__name__} takes {', '.join(argument.name for argument in arguments)}; {len(lent)} were given")
+            answer = called(lent + (None,) * (len(arguments) - len(lent)))
+            if answer >> 32:
+                raise _refused(answer, given)
+            return given(answer)
+
+        return call
+
+    return made
 
 
-_functions = {}
-for _symbol, _given, *_arguments in _FUNCTIONS:
-    globals()[_symbol.removesuffix("_slices")] = _made(_symbol, _given, _arguments)
+def _refused(answer, given):
+    if given is _IMPORTED:
+        return Refused(refusal(answer), import_line(answer), (None, "start", "end")[import_file(answer)])
+    return Refused(refusal(answer), value(answer))
+
+
+# ---- Functions of a scene
+
+
+@_calls("check_scene_slices", _NOTHING, _SCENE)
+def check_scene(scene: Scene, /) -> None:
+    """Whether this scene may be used: Refused with 1, 2, 3, 15 or 4 where it may not. Every call with a scene looks first."""
+
+
+@_calls("count_pairs_slices", _COUNT, _SCENE, _TESTS)
+def count_pairs(scene: Scene, tests: typing.Optional[WriteableBuffer] = None, /) -> int:
+    """How many pairs are listed: those whose swept boxes meet, equal ends included, and that share no vertex. Into tests[0] goes how many boxes the
+    pt part tests."""
+
+
+@_calls("list_pairs_slices", _COUNT, _SCENE, _LIST, _TESTS)
+def list_pairs(scene: Scene, list: WriteableBuffer, tests: typing.Optional[WriteableBuffer] = None, /) -> int:
+    """Makes the list in front of `list`, one number an entry (`Pair.of_entry` takes it apart), and gives the count: pt by vertex then triangle, then
+    ee by first then second edge. Refused with 7 and the count needed where there is no room."""
+
+
+@_calls("settle_scene_slices", _COUNT, _SCENE, _LIST, _WORDS)
+def settle_scene(scene: Scene, list: WriteableBuffer, words: WriteableBuffer, /) -> int:
+    """Makes the list and settles each pair of it in four words: words[i] is the word of entry i. Gives the count, or is Refused with 7."""
+
+
+@_calls("settle_list_slices", _COUNT, _SCENE, _OWN_LIST, _WORDS)
+def settle_list(scene: Scene, list: ReadableBuffer, words: WriteableBuffer, /) -> int:
+    """Settles the pairs of a list of one's own, listed or not, and checks the scene once. Refused with 5 or 6 of the first entry at fault, with its
+    number, counted from 1."""
+
+
+@_calls("contact_list_slices", _COUNT, _SCENE, _OWN_LIST, _WORDS, _CONTACTS)
+def contact_list(scene: Scene, list: ReadableBuffer, words: WriteableBuffer, contacts: WriteableBuffer, /) -> int:
+    """As `settle_list`, and beside the words the contact of each hit pair: that of entry i begins at contacts[5 * i]."""
+
+
+@_calls("contact_scene_slices", _COUNT, _SCENE, _LIST, _WORDS, _CONTACTS)
+def contact_scene(scene: Scene, list: WriteableBuffer, words: WriteableBuffer, contacts: WriteableBuffer, /) -> int:
+    """As `settle_scene`, and beside list and words the contact of each hit pair: that of entry i begins at contacts[5 * i]. Refused with 16 where a
+    coordinate is beyond CONTACT_LIMIT."""
+
+
+@_calls("saved_length_slices", _COUNT, _SCENE)
+def saved_length(scene: Scene, /) -> int:
+    """How many bytes the scene has as text."""
+
+
+@_calls("save_scene_slices", _COUNT, _SCENE, _Write("text", _UINT8))
+def save_scene(scene: Scene, text: WriteableBuffer, /) -> int:
+    """Writes the scene as text (docs/FORMAT.md) in front of `text`, and gives its length."""
+
+
+@_calls("check_claims_slices", _COUNT, _SCENE, _Read("claims", _UINT8), _Write("answers", _UINT8))
+def check_claims(scene: Scene, claims: ReadableBuffer, answers: WriteableBuffer, /) -> int:
+    """Answers each claim of a text (docs/FORMAT.md) by its weights alone, YES or NO in front of `answers`, and gives their count."""
+
+
+# ---- Functions of a pair or a piece, listed or not: Refused with 5 or 6 too
+
+
+@_calls("judge_pt_slices", _WORD, _SCENE, *_POINT)
+def judge_pt(scene: Scene, vertex: int, triangle: int, /) -> Word:
+    """A point and a triangle, in three words: what is singular stays open."""
+
+
+@_calls("judge_ee_slices", _WORD, _SCENE, *_EDGES)
+def judge_ee(scene: Scene, first: int, second: int, /) -> Word:
+    """Two edges, in three words; they may be asked for in either order."""
+
+
+@_calls("judge_pt_piece_slices", _WORD, _SCENE, *_POINT, _PIECE)
+def judge_pt_piece(scene: Scene, vertex: int, triangle: int, piece: int, /) -> Word:
+    """Piece 0, 1 or 2 of a point and a triangle, in three words."""
+
+
+@_calls("judge_ee_piece_slices", _WORD, _SCENE, *_EDGES, _PIECE)
+def judge_ee_piece(scene: Scene, first: int, second: int, piece: int, /) -> Word:
+    """Piece 0, 1, 2 or 3 of two edges, in three words."""
+
+
+@_calls("settle_pt_slices", _WORD, _SCENE, *_POINT)
+def settle_pt(scene: Scene, vertex: int, triangle: int, /) -> Word:
+    """A point and a triangle, in four words: what is singular is decided too."""
+
+
+@_calls("settle_ee_slices", _WORD, _SCENE, *_EDGES)
+def settle_ee(scene: Scene, first: int, second: int, /) -> Word:
+    """Two edges, in four words."""
+
+
+@_calls("settle_pt_piece_slices", _WORD, _SCENE, *_POINT, _PIECE)
+def settle_pt_piece(scene: Scene, vertex: int, triangle: int, piece: int, /) -> Word:
+    """Piece 0, 1 or 2 of a point and a triangle, in four words."""
+
+
+@_calls("settle_ee_piece_slices", _WORD, _SCENE, *_EDGES, _PIECE)
+def settle_ee_piece(scene: Scene, first: int, second: int, piece: int, /) -> Word:
+    """Piece 0, 1, 2 or 3 of two edges, in four words."""
+
+
+@_calls("contact_pt_slices", _WORD, _SCENE, *_POINT, _CONTACT)
+def contact_pt(scene: Scene, vertex: int, triangle: int, contact: WriteableBuffer, /) -> Word:
+    """As `settle_pt`; on a hit piece, k and three shares are written into `contact`. Refused with 16 where a coordinate is beyond CONTACT_LIMIT."""
+
+
+@_calls("contact_ee_slices", _WORD, _SCENE, *_EDGES, _CONTACT)
+def contact_ee(scene: Scene, first: int, second: int, contact: WriteableBuffer, /) -> Word:
+    """As `settle_ee`; on a hit piece, k, two shares and 0 are written into `contact`."""
+
+
+# ---- Functions of texts
+
+
+@_calls("read_scene_slices", _NOTHING, _Read("text", _UINT8), *_THREE, _Write("seams", _UINT16), _Fixed("counts", _SIZE, 4))
+def read_scene(
+    text: ReadableBuffer,
+    positions: WriteableBuffer,
+    edges: WriteableBuffer,
+    triangles: WriteableBuffer,
+    seams: WriteableBuffer,
+    counts: WriteableBuffer,
+    /,
+) -> None:
+    """Reads a scene text (docs/FORMAT.md) into buffers of POSITIONS_LENGTH, EDGES_LENGTH, TRIANGLES_LENGTH and SEAMS_LENGTH numbers at least. The
+    scene then stands in front of them, and its counts in `counts`; `scene_in` takes it out. `Scene.read` does all of it."""
+
+
+@_calls(
+    "import_scene_slices", _IMPORTED, _Read("start", _UINT8), _Read("end", _UINT8), *_THREE, _Write("seams", _UINT16), _BOXES, _Fixed("counts", _SIZE, 4)
+)
+def import_scene(
+    start: ReadableBuffer,
+    end: ReadableBuffer,
+    positions: WriteableBuffer,
+    edges: WriteableBuffer,
+    triangles: WriteableBuffer,
+    seams: WriteableBuffer,
+    boxes: WriteableBuffer,
+    counts: WriteableBuffer,
+    /,
+) -> None:
+    """Brings two OBJ files into buffers as `read_scene` does, with the boxes of its parts. `Scene.import_obj` does all of it."""
+
+
+@_calls(
+    "tell_series_slices",
+    _COUNT,
+    _Read("text", _UINT8),
+    *_THREE,
+    _Write("seams", _UINT16),
+    _BOXES,
+    _LIST,
+    _Fixed("counts", _SIZE, 4),
+    _Fixed("log", _UINT32, LOG_LENGTH),
+    _Fixed("told", _UINT64, TOLD_LENGTH),
+)
+def tell_series(
+    text: ReadableBuffer,
+    positions: WriteableBuffer,
+    edges: WriteableBuffer,
+    triangles: WriteableBuffer,
+    seams: WriteableBuffer,
+    boxes: WriteableBuffer,
+    list: WriteableBuffer,
+    counts: WriteableBuffer,
+    log: WriteableBuffer,
+    told: WriteableBuffer,
+    /,
+) -> int:
+    """Runs a series (docs/FORMAT.md) in buffers that are lent, and gives the count of the last step's list. `series` does all of it."""
+
+
+@_calls("write_report", _COUNT, _Read("text", _UINT8), _Fixed("out", _UINT8, REPORT_LENGTH))
+def write_report(text: ReadableBuffer, out: WriteableBuffer, /) -> int:
+    """Writes the report of a scene text in front of `out`, which has REPORT_LENGTH bytes, and gives its length. `report` does all of it."""
+
+
+@_calls("turn_scene", _NOTHING, *_THREE)
+def turn_scene(positions: WriteableBuffer, edges: WriteableBuffer, triangles: WriteableBuffer, /) -> None:
+    """Turns a scene without seams round where it stands, so that it is played backwards: start and end are swapped, and the vertices numbered from
+    last to first."""
+
+
+# ---- Functions of a scene that keeps its boxes: Refused with 12 where there are fewer than BOXES_LENGTH numbers for them
+
+
+@_calls("fill_boxes_slices", _NOTHING, _SCENE, _BOXES)
+def fill_boxes(scene: Scene, boxes: WriteableBuffer, /) -> None:
+    """Works out the boxes of all vertices, edges and triangles, six numbers each, the three lows first."""
+
+
+@_calls("move_vertex_slices", _NOTHING, _MovedLists(), _BOXES, _Place("vertex"), _FixedRead("coordinates", _INT32, 6))
+def move_vertex(scene: Scene, boxes: WriteableBuffer, vertex: int, coordinates: ReadableBuffer, /) -> None:
+    """Sets one vertex's six coordinates, and works out the boxes of the parts that have it. Refused with 5, 2 or 15."""
+
+
+@_calls("count_stored_slices", _COUNT, _SCENE, _STORED, _TESTS)
+def count_stored(scene: Scene, boxes: ReadableBuffer, tests: typing.Optional[WriteableBuffer] = None, /) -> int:
+    """As `count_pairs`, by the stored boxes; Refused with 17 where one is not the one worked out."""
+
+
+@_calls("list_stored_slices", _COUNT, _SCENE, _STORED, _LIST, _TESTS)
+def list_stored(scene: Scene, boxes: ReadableBuffer, list: WriteableBuffer, tests: typing.Optional[WriteableBuffer] = None, /) -> int:
+    """As `list_pairs`, by the stored boxes; Refused with 17 where one is not the one worked out."""
+
+
+@_calls("settle_stored_slices", _COUNT, _SCENE, _STORED, _LIST, _WORDS)
+def settle_stored(scene: Scene, boxes: ReadableBuffer, list: WriteableBuffer, words: WriteableBuffer, /) -> int:
+    """As `settle_scene`, by the stored boxes; Refused with 17 where one is not the one worked out."""
+
+
+@_calls("read_boxed_slices", _NOTHING, _Read("text", _UINT8), *_THREE, _Write("seams", _UINT16), _BOXES, _Fixed("counts", _SIZE, 4))
+def read_boxed(
+    text: ReadableBuffer,
+    positions: WriteableBuffer,
+    edges: WriteableBuffer,
+    triangles: WriteableBuffer,
+    seams: WriteableBuffer,
+    boxes: WriteableBuffer,
+    counts: WriteableBuffer,
+    /,
+) -> None:
+    """As `read_scene`, and the boxes of the scene's parts into `boxes`. `BoxedScene.read` does all of it."""
 
 
 # ---- A scene
@@ -551,46 +758,62 @@ def _copied(given, numbers):
         return array.array(numbers.code, ctypes.string_at(address, length * numbers.bytes) if length else b"")
 
 
+def _looked_at(held, part, scene):
+    """The numbers of one of a scene's lists where they stand, as long as it is held."""
+    address, length = held.lend(part.name, getattr(scene, part.name), part.numbers, False)
+    return (_SEEN_AS[part.numbers.code] * length).from_address(address) if length else ()
+
+
+_SEEN_AS = {_INT32.code: ctypes.c_int32, _UINT16.code: ctypes.c_uint16}
+
+
+_Numbers = typing.Union[ReadableBuffer, typing.Sequence[int], None]
+
+
 class Scene:
     """The four lists of a scene, each a buffer that is lent as it is, or None where there is none of its kind: positions, six 32-bit signed numbers
     a vertex ('i'); edges, two 16-bit unsigned numbers each ('H'); triangles, three; seams, two. A list or a tuple of Python's is copied into an
     array of that type. Nothing is checked before a call, and every call checks all of it."""
 
     __slots__ = ("positions", "edges", "triangles", "seams")
+    positions: typing.Optional[ReadableBuffer]
+    edges: typing.Optional[ReadableBuffer]
+    triangles: typing.Optional[ReadableBuffer]
+    seams: typing.Optional[ReadableBuffer]
 
-    def __init__(self, positions=None, edges=None, triangles=None, seams=None):
+    def __init__(self, positions: _Numbers = None, edges: _Numbers = None, triangles: _Numbers = None, seams: _Numbers = None) -> None:
         for part, given in zip(_Lists.parts, (positions, edges, triangles, seams)):
             setattr(self, part.name, _in_a_row(given, part.numbers))
 
     @staticmethod
-    def read(text):
+    def read(text: ReadableBuffer) -> Scene:
         """The scene of a text (docs/FORMAT.md), a buffer of bytes."""
         buffers, counts = _rooms()
         read_scene(text, *buffers, counts)
         return scene_in(buffers, counts)
 
     @staticmethod
-    def import_obj(start, end):
+    def import_obj(start: ReadableBuffer, end: ReadableBuffer) -> Scene:
         """The scene of two OBJ files (docs/FORMAT.md), one for the start and one for the end, buffers of bytes; in hundredths of their unit. A Refused
         tells the file and its line."""
         buffers, counts = _rooms()
         import_scene(start, end, *buffers, _room(_INT32, BOXES_LENGTH), counts)
         return scene_in(buffers, counts)
 
-    def listed(self):
+    def listed(self) -> typing.List[Pair]:
         """The listed pairs, in order."""
         entries = _room(_UINT32, count_pairs(self))
         list_pairs(self, entries)
         return [Pair.of_entry(number) for number in entries]
 
-    def settled(self):
+    def settled(self) -> typing.List[typing.Tuple[Pair, Word]]:
         """The listed pairs, in order, each with its word of four."""
         count = count_pairs(self)
         entries, words = _room(_UINT32, count), _room(_UINT8, count)
         settle_scene(self, entries, words)
         return [(Pair.of_entry(number), Word(word)) for number, word in zip(entries, words)]
 
-    def contacts(self):
+    def contacts(self) -> typing.List[typing.Tuple[Pair, Word, typing.Optional[Contact]]]:
         """The listed pairs, in order, each with its word and, where that is a hit, its contact, else None."""
         count = count_pairs(self)
         entries, words, numbers = _room(_UINT32, count), _room(_UINT8, count), _room(_UINT32, CONTACT_LENGTH * count)
@@ -599,7 +822,7 @@ class Scene:
         pairs = (Pair.of_entry(number) for number in entries)
         return [(pair, Word(word), Contact.of_numbers(pair.kind, row) if word == HIT else None) for pair, word, row in zip(pairs, words, rows)]
 
-    def settle_pairs(self, pairs):
+    def settle_pairs(self, pairs: typing.Iterable[Pair]) -> typing.List[Word]:
         """The words of pairs that one found oneself, in their order: the scene is checked once. A Refused with number 5 or 6 carries the number of the
         first pair at fault, counted from 1."""
         entries = array.array(_UINT32.code, (pair.entry for pair in pairs))
@@ -607,26 +830,57 @@ class Scene:
         settle_list(self, entries, words)
         return [Word(word) for word in words]
 
-    def contact(self, kind, first, second):
+    def contact(self, kind: int, first: int, second: int) -> typing.Tuple[Word, typing.Optional[Contact]]:
         """The word of a pair, and its contact where that is a hit, else None."""
         numbers = _room(_UINT32, CONTACT_LENGTH)
         word = (contact_pt if kind == PT else contact_ee)(self, first, second, numbers)
         return word, Contact.of_numbers(kind, numbers) if word == HIT else None
 
-    def claims(self, text):
+    def contact_point(self, pair: Pair, contact: typing.Optional[Contact]) -> typing.Optional[typing.Tuple[float, float, float]]:
+        """Where the pair touched, in the mesh's units, from the numbers of its contact; None where there is no contact, or it is about parts that are
+        not there.
+
+        Of a point and a triangle it is where the point stands at the time k; of two edges the place of the first edge, the one with the lower place,
+        that its share and k have in the piece. It is worked out without any rounding, and yet not the exact place, since time and share were cut: on
+        each axis it is off by less than a 2^20th of the way that the point makes on that axis, which is under half a unit; of two edges by less than a
+        2^20th of a way and a length together, which is under one unit."""
+        with _Lent() as held:
+            positions, edges = (_looked_at(held, part, self) for part in _Lists.parts[:2])
+            weights = _weights(self, edges, pair, contact) if contact else ()
+            if not weights or any(not 0 <= 6 * vertex <= len(positions) - 6 for vertex, *_ in weights):
+                return None
+            x, y, z = (sum(start * positions[6 * v + axis] + end * positions[6 * v + 3 + axis] for v, start, end in weights) for axis in range(3))
+            return part(x), part(y), part(z)
+
+    def claims(self, text: ReadableBuffer) -> typing.List[bool]:
         """Whether the weights of each claim of a text (docs/FORMAT.md) bear it out, in order."""
         answers = bytearray(memoryview(text).nbytes)
         return [answer == YES for answer in answers[: check_claims(self, text, answers)]]
 
-    def saved(self):
+    def saved(self) -> bytes:
         """The scene as text (docs/FORMAT.md), in bytes; read back it is the same scene."""
         text = bytearray(saved_length(self))
         save_scene(self, text)
         return bytes(text)
 
-    def __repr__(self):
+    def __repr__(self) -> str:
         sizes = ((part.name, getattr(self, part.name)) for part in _Lists.parts)
         return f"<Scene {', '.join(f'{name}: {0 if given is None else memoryview(given).nbytes} bytes' for name, given in sizes)}>"
+
+
+def _weights(scene, edges, pair, contact):
+    """The vertices whose positions make up the place of a contact, each with the weights of its start and its end in 2^20ths."""
+    k, share, unit = contact.k, contact.shares[0], CONTACT_UNIT
+    if len(contact.shares) == 3:
+        return ((pair.first, unit - k, k),)
+    ends = edges[2 * min(pair.first, pair.second) :][:2] if min(pair.first, pair.second) >= 0 else ()
+    if len(ends) < 2:
+        return ()
+    low, high = sorted(ends, key=functools.partial(stands_for, scene))
+    # pieces 0 and 1 have the first edge as low high high', pieces 2 and 3 as low low' high'
+    if contact.piece < 2:
+        return (low, unit - share, 0), (high, share - k, k)
+    return (low, unit - k, k - share), (high, 0, share)
 
 
 def _rooms():
@@ -635,7 +889,7 @@ def _rooms():
     return [_room(part.numbers, length) for part, length in zip(_Lists.parts, lengths)], _room(_SIZE, 4)
 
 
-def scene_in(buffers, counts):
+def scene_in(buffers: typing.Sequence[array.array], counts: typing.Sequence[int]) -> Scene:
     """The scene that stands in front of four arrays, with these counts; its lists are copies."""
     return Scene(*(buffer[: size * count] for buffer, size, count in zip(buffers, (6, 2, 3, 2), counts)))
 
@@ -648,13 +902,13 @@ class BoxedScene:
 
     __slots__ = ("_scene", "_boxes")
 
-    def __init__(self, scene):
+    def __init__(self, scene: Scene) -> None:
         self._scene = Scene(*(_copied(getattr(scene, part.name), part.numbers) for part in _Lists.parts))
         self._boxes = _room(_INT32, BOXES_LENGTH)
         fill_boxes(self._scene, self._boxes)
 
     @classmethod
-    def read(cls, text):
+    def read(cls, text: ReadableBuffer) -> BoxedScene:
         """Of a text (docs/FORMAT.md), a buffer of bytes, which is read with its boxes."""
         self, (buffers, counts) = cls.__new__(cls), _rooms()
         self._boxes = _room(_INT32, BOXES_LENGTH)
@@ -663,21 +917,22 @@ class BoxedScene:
         return self
 
     @property
-    def scene(self):
+    def scene(self) -> Scene:
+        """The scene as it stands, for every other question."""
         return self._scene
 
     @property
-    def boxes(self):
+    def boxes(self) -> memoryview:
         """The boxes of all vertices, then edges, then triangles, six numbers each, the three lows first: a view that may not be written."""
         scene = self._scene
         parts = len(scene.positions) // 6 + len(scene.edges) // 2 + len(scene.triangles) // 3
         return memoryview(self._boxes).toreadonly()[: 6 * parts]
 
-    def move_vertex(self, vertex, coordinates):
+    def move_vertex(self, vertex: int, coordinates: _Numbers) -> None:
         """Sets one vertex's six coordinates, start x, y, z, end x, y, z. Refused with 5, 2 or 15, and nothing has changed then."""
         move_vertex(self._scene, self._boxes, vertex, _in_a_row(coordinates, _INT32))
 
-    def move_sewn(self, vertex, coordinates):
+    def move_sewn(self, vertex: int, coordinates: _Numbers) -> None:
         """Moves a vertex with all that are sewn to it, to the same coordinates, so that no seam comes apart: refused with 5 or 2."""
         together = [other for other in range(len(self._scene.positions) // 6) if stands_for(self._scene, other) == stands_for(self._scene, vertex)]
         seams, self._scene.seams = self._scene.seams, None  # boxes do not go by seams
@@ -687,13 +942,13 @@ class BoxedScene:
         finally:
             self._scene.seams = seams
 
-    def listed(self):
+    def listed(self) -> typing.List[Pair]:
         """The listed pairs, in order."""
         entries = _room(_UINT32, count_stored(self._scene, self._boxes))
         list_stored(self._scene, self._boxes, entries)
         return [Pair.of_entry(number) for number in entries]
 
-    def settled(self):
+    def settled(self) -> typing.List[typing.Tuple[Pair, Word]]:
         """The listed pairs, in order, each with its word of four."""
         count = count_stored(self._scene, self._boxes)
         entries, words = _room(_UINT32, count), _room(_UINT8, count)
@@ -701,20 +956,19 @@ class BoxedScene:
         return [(Pair.of_entry(number), Word(word)) for number, word in zip(entries, words)]
 
 
-def scene_of(boxed):
+def scene_of(boxed: BoxedScene) -> Scene:
     """The scene of one that keeps its boxes, for every other call."""
     return boxed.scene
 
 
-def stands_for(scene, vertex):
-    """The vertex that a vertex stands for, by the seams of an accepted scene: another, or itself."""
+def stands_for(scene: Scene, vertex: int) -> int:
+    """The vertex that a vertex stands for, by the seams of an accepted scene: another, or itself. Lower and higher go by this number."""
     with _Lent() as held:
-        address, length = held.lend("seams", scene.seams, _UINT16, False)
-        seams = (ctypes.c_uint16 * length).from_address(address) if length else ()
-        return next((seams[at + 1] for at in range(0, length - 1, 2) if seams[at] == vertex), vertex)
+        seams = _looked_at(held, _Lists.parts[3], scene)
+        return next((seams[at + 1] for at in range(0, len(seams) - 1, 2) if seams[at] == vertex), vertex)
 
 
-def report(text):
+def report(text: ReadableBuffer) -> bytes:
     """The report of a scene text as the program prints it, in bytes: the lines of the listed pairs and the totals, or the one line of a refusal."""
     out = bytearray(REPORT_LENGTH)
     return bytes(out[: write_report(text, out)])
@@ -722,15 +976,31 @@ def report(text):
 
 # ---- Series
 
-Hit = collections.namedtuple("Hit", "step pair")
-Hit.__doc__ = "A hit of a series: its step, counted from 1, and its pair."
 
-Told = collections.namedtuple("Told", "log later listed hits misses touches aparts first last pairs")
-Told.__doc__ = """What is told of a series: its first 64 hits in step and list order; the count of later ones, none of which replaced an entry; totals over all
-steps; the first step with a hit, or 0; the last step, a `Scene`; and its listed pairs."""
+class Hit(typing.NamedTuple):
+    """A hit of a series: its step, counted from 1, and its pair."""
+
+    step: int
+    pair: Pair
 
 
-def series(text, room=REPORT_ROOM):
+class Told(typing.NamedTuple):
+    """What is told of a series: its first 64 hits in step and list order; the count of later ones, none of which replaced an entry; totals over all
+    steps; the first step with a hit, or 0; the last step, a `Scene`; and its listed pairs."""
+
+    log: typing.List[Hit]
+    later: int
+    listed: int
+    hits: int
+    misses: int
+    touches: int
+    aparts: int
+    first: int
+    last: Scene
+    pairs: typing.List[Pair]
+
+
+def series(text: ReadableBuffer, room: int = REPORT_ROOM) -> Told:
     """What is told of the series of a text (docs/FORMAT.md), a buffer of bytes, where each step's list has so much room."""
     buffers, counts = _rooms()
     entries, log, told = _room(_UINT32, room), _room(_UINT32, LOG_LENGTH), _room(_UINT64, TOLD_LENGTH)
