@@ -100,10 +100,12 @@ fn judge(
     if asked::not_there(positions, edges, triangles, kind, i, j) {
         return Judged::Fault(Refusal::NotThere);
     }
-    if asked::piece_count(kind) <= k {
+    let past = asked::piece_count(kind) <= k;
+    let shared = asked::shares_vertex(positions, edges, triangles, stands, kind, i, j);
+    if past {
         return Judged::Fault(Refusal::NotThere);
     }
-    if asked::shares_vertex(positions, edges, triangles, stands, kind, i, j) {
+    if shared {
         return Judged::Fault(Refusal::SharedVertex);
     }
     Judged::Good

@@ -7,3 +7,4 @@ pub mod SeriesShown
 pub mod NumbersShown
 pub mod ContactsShown
 pub mod ClaimsShown
+pub mod OrderShown

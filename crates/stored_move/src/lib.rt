@@ -90,13 +90,16 @@ pub fn move_vertex(
     if let SceneAnswer::Refused(why) = check_scene(positions, edges, triangles, seams) {
         return SceneAnswer::Refused(why);
     }
-    if vertex_count(positions) <= v {
+    let absent = vertex_count(positions) <= v;
+    let far = new_outside(coordinates);
+    if absent {
         return SceneAnswer::Refused(Refusal::NotThere);
     }
-    if new_outside(coordinates) {
+    let torn = tears_seam(positions, seams, v, coordinates);
+    if far {
         return SceneAnswer::Refused(Refusal::Coordinate);
     }
-    if tears_seam(positions, seams, v, coordinates) {
+    if torn {
         return SceneAnswer::Refused(Refusal::BrokenSeam);
     }
     place(positions, v, coordinates);

@@ -2,7 +2,7 @@
 use borrow.Author.Needs.{needs}
 use native.Mathlib.Omega.{arith}
 use mathlib.Core.Path.{sym, _∙_}
-use borrow.Author.Tests.{lt-ltb, le-ltb, le-leb, lt-leb}
+use borrow.Author.Tests.{lt-ltb, le-ltb, leb-false}
 use Rattle.meaning.specs.Scene.{sceneIn}
 use Rattle.scene_checks.specs.Accepting.{accepted-by}
 use Rattle.meaning.specs.Dragging.{movedScene}
@@ -29,49 +29,50 @@ returns-2 c =
 
 returns-3 : tie.Need-returns-3
 returns-3 c =
-    let a = c .before .before .before .before .before .before .before .before .before .before .before .args in
+    let a = c .before .before .before .before .before .before .before .before .before .before .before .before .before .args in
     let s = sceneIn (a .positions) (a .edges) (a .triangles) (a .seams) in
-    let accepted = accepted-by s (c .before .before .before .enum-told .given .1) (c .before .before .before .before .before .check-scene .ensures) in
-    moved-not-there s (a .v) (a .coordinates .now) (a .boxes .now) (le-ltb _ _ (c .before .before .before .before .before .before .before .if1 .left)) accepted (rw (c .before .vertex-count .ensures) at (le-leb _ _ (c .if2 .taken)))
-
-returns-4 : tie.Need-returns-4
-returns-4 c =
-    let a = c .before .before .before .before .before .before .before .before .before .before .before .before .before .before .args in
-    let s = sceneIn (a .positions) (a .edges) (a .triangles) (a .seams) in
-    let accepted = accepted-by s (c .before .before .before .before .before .before .enum-told .given .1) (c .before .before .before .before .before .before .before .before .check-scene .ensures) in
-    moved-outside s (a .v) (a .coordinates .now) (a .boxes .now) (le-ltb _ _ (c .before .before .before .before .before .before .before .before .before .before .if1 .left)) accepted (rw (c .before .before .before .before .vertex-count .ensures) at (lt-leb _ _ (c .before .before .before .if2 .left))) (sym (c .before .new-outside .ensures) ∙ c .if3 .taken)
+    let accepted = accepted-by s (c .before .before .before .before .before .enum-told .given .1) (c .before .before .before .before .before .before .before .check-scene .ensures) in
+    moved-not-there s (a .v) (a .coordinates .now) (a .boxes .now) (le-ltb _ _ (c .before .before .before .before .before .before .before .before .before .if1 .left)) accepted (rw (c .before .before .before .vertex-count .ensures) at (c .if2 .taken))
 
 tears-seam-requires : tie.Need-tears-seam-requires
 tears-seam-requires c κs =
-    let a = c .before .before .before .before .before .before .before .before .before .before .before .before .before .before .before .before .args in
+    let a = c .before .before .before .before .before .before .before .before .before .before .before .before .before .before .before .args in
     let s = sceneIn (a .positions) (a .edges) (a .triangles) (a .seams) in
-    let accepted = accepted-by s (c .before .before .before .before .before .before .before .before .enum-told .given .1) (c .before .before .before .before .before .before .before .before .before .before .check-scene .ensures) in
-    (together accepted, omega (arith, c .before .before .before .before .before .if2 .left, c .before .before .before .before .before .before .vertex-count .ensures), search needs)
+    let accepted = accepted-by s (c .before .before .before .before .before .before .before .enum-told .given .1) (c .before .before .before .before .before .before .before .before .before .check-scene .ensures) in
+    (together accepted, omega (arith, leb-false (c .before .before .before .before .before .vertex-count .result) (a .v) (c .before .before .if2 .left), c .before .before .before .before .before .vertex-count .ensures), search needs)
+
+returns-4 : tie.Need-returns-4
+returns-4 c =
+    let a = c .before .before .before .before .before .before .before .before .before .before .before .before .before .before .before .before .before .args in
+    let s = sceneIn (a .positions) (a .edges) (a .triangles) (a .seams) in
+    let accepted = accepted-by s (c .before .before .before .before .before .before .before .before .before .enum-told .given .1) (c .before .before .before .before .before .before .before .before .before .before .before .check-scene .ensures) in
+    moved-outside s (a .v) (a .coordinates .now) (a .boxes .now) (le-ltb _ _ (c .before .before .before .before .before .before .before .before .before .before .before .before .before .if1 .left)) accepted (rw (c .before .before .before .before .before .before .before .vertex-count .ensures) at (c .before .before .before .before .if2 .left)) (sym (c .before .before .before .before .before .new-outside .ensures) ∙ c .if3 .taken)
 
 returns-5 : tie.Need-returns-5
 returns-5 c =
     let a = c .before .before .before .before .before .before .before .before .before .before .before .before .before .before .before .before .before .before .args in
     let s = sceneIn (a .positions) (a .edges) (a .triangles) (a .seams) in
     let accepted = accepted-by s (c .before .before .before .before .before .before .before .before .before .before .enum-told .given .1) (c .before .before .before .before .before .before .before .before .before .before .before .before .check-scene .ensures) in
-    moved-torn s (a .v) (a .coordinates .now) (a .boxes .now) (le-ltb _ _ (c .before .before .before .before .before .before .before .before .before .before .before .before .before .before .if1 .left)) accepted (rw (c .before .before .before .before .before .before .before .before .vertex-count .ensures) at (lt-leb _ _ (c .before .before .before .before .before .before .before .if2 .left))) (sym (c .before .before .before .before .before .new-outside .ensures) ∙ c .before .before .before .before .if3 .left) (sym (c .before .tears-seam .ensures) ∙ c .if4 .taken)
+    moved-torn s (a .v) (a .coordinates .now) (a .boxes .now) (le-ltb _ _ (c .before .before .before .before .before .before .before .before .before .before .before .before .before .before .if1 .left)) accepted (rw (c .before .before .before .before .before .before .before .before .vertex-count .ensures) at (c .before .before .before .before .before .if2 .left)) (sym (c .before .before .before .before .before .before .new-outside .ensures) ∙ c .before .if3 .left) (sym (c .before .before .tears-seam .ensures) ∙ c .if4 .taken)
 
 place-requires : tie.Need-place-requires
-place-requires c κs = (omega (arith, c .before .before .before .before .before .before .before .before .before .if2 .left, c .before .before .before .before .before .before .before .before .before .before .vertex-count .ensures), search needs)
+place-requires c κs = (omega (arith, leb-false (c .before .before .before .before .before .before .before .before .before .before .vertex-count .result) (c .before .before .before .before .before .before .before .before .before .before .before .before .before .before .before .before .before .before .before .before .args .v) (c .before .before .before .before .before .before .before .if2 .left), c .before .before .before .before .before .before .before .before .before .before .vertex-count .ensures), search needs)
 
 mend-requires : tie.Need-mend-requires
 mend-requires c κs =
     let a = c .before .before .before .before .before .before .before .before .before .before .before .before .before .before .before .before .before .before .before .before .before .before .before .before .args in
     let s = sceneIn (a .positions) (a .edges) (a .triangles) (a .seams) in
     let accepted = accepted-by s (c .before .before .before .before .before .before .before .before .before .before .before .before .before .before .before .before .enum-told .given .1) (c .before .before .before .before .before .before .before .before .before .before .before .before .before .before .before .before .before .before .check-scene .ensures) in
-    let moved = moved-accepted s (a .v) (a .coordinates .now) accepted (omega (arith, c .before .before .before .before .before .before .before .before .before .before .before .before .before .if2 .left, c .before .before .before .before .before .before .before .before .before .before .before .before .before .before .vertex-count .ensures)) (sym (c .before .before .before .before .before .before .before .before .before .before .before .new-outside .ensures) ∙ c .before .before .before .before .before .before .before .before .before .before .if3 .left) (sym (c .before .before .before .before .before .before .before .tears-seam .ensures) ∙ c .before .before .before .before .before .before .if4 .left) in
-    rw (c .before .before .before .place .ensures) (accepted-drawn moved, accepted-sized moved .fewVertices, omega (arith, placed-length (s .positions) (a .v) (a .coordinates .now), c .before .before .before .before .before .before .before .before .before .before .before .before .before .if2 .left, c .before .before .before .before .before .before .before .before .before .before .before .before .before .before .vertex-count .ensures), c .before .before .before .before .before .before .before .before .before .before .before .before .before .before .before .before .before .before .before .before .if1 .left)
+    let there = leb-false (c .before .before .before .before .before .before .before .before .before .before .before .before .before .before .vertex-count .result) (a .v) (c .before .before .before .before .before .before .before .before .before .before .before .if2 .left) in
+    let moved = moved-accepted s (a .v) (a .coordinates .now) accepted (omega (arith, there, c .before .before .before .before .before .before .before .before .before .before .before .before .before .before .vertex-count .ensures)) (sym (c .before .before .before .before .before .before .before .before .before .before .before .before .new-outside .ensures) ∙ c .before .before .before .before .before .before .before .if3 .left) (sym (c .before .before .before .before .before .before .before .before .tears-seam .ensures) ∙ c .before .before .before .before .before .before .if4 .left) in
+    rw (c .before .before .before .place .ensures) (accepted-drawn moved, accepted-sized moved .fewVertices, omega (arith, placed-length (s .positions) (a .v) (a .coordinates .now), there, c .before .before .before .before .before .before .before .before .before .before .before .before .before .before .vertex-count .ensures), c .before .before .before .before .before .before .before .before .before .before .before .before .before .before .before .before .before .before .before .before .if1 .left)
 
 returns-6 : tie.Need-returns-6
 returns-6 c =
     let a = c .before .before .before .before .before .before .before .before .before .before .before .before .before .before .before .before .before .before .before .before .before .before .before .before .before .before .args in
     let s = sceneIn (a .positions) (a .edges) (a .triangles) (a .seams) in
     let accepted = accepted-by s (c .before .before .before .before .before .before .before .before .before .before .before .before .before .before .before .before .before .before .enum-told .given .1) (c .before .before .before .before .before .before .before .before .before .before .before .before .before .before .before .before .before .before .before .before .check-scene .ensures) in
-    moved-done s (a .v) (a .coordinates .now) (a .boxes .now) (le-ltb _ _ (c .before .before .before .before .before .before .before .before .before .before .before .before .before .before .before .before .before .before .before .before .before .before .if1 .left)) accepted (rw (c .before .before .before .before .before .before .before .before .before .before .before .before .before .before .before .before .vertex-count .ensures) at (lt-leb _ _ (c .before .before .before .before .before .before .before .before .before .before .before .before .before .before .before .if2 .left))) (sym (c .before .before .before .before .before .before .before .before .before .before .before .before .before .new-outside .ensures) ∙ c .before .before .before .before .before .before .before .before .before .before .before .before .if3 .left) (sym (c .before .before .before .before .before .before .before .before .before .tears-seam .ensures) ∙ c .before .before .before .before .before .before .before .before .if4 .left) (c .before .before .before .before .before .place .ensures) (rw (c .before .before .before .before .before .place .ensures) at (c .before .mend .ensures (a .seams .now)))
+    moved-done s (a .v) (a .coordinates .now) (a .boxes .now) (le-ltb _ _ (c .before .before .before .before .before .before .before .before .before .before .before .before .before .before .before .before .before .before .before .before .before .before .if1 .left)) accepted (rw (c .before .before .before .before .before .before .before .before .before .before .before .before .before .before .before .before .vertex-count .ensures) at (c .before .before .before .before .before .before .before .before .before .before .before .before .before .if2 .left)) (sym (c .before .before .before .before .before .before .before .before .before .before .before .before .before .before .new-outside .ensures) ∙ c .before .before .before .before .before .before .before .before .before .if3 .left) (sym (c .before .before .before .before .before .before .before .before .before .before .tears-seam .ensures) ∙ c .before .before .before .before .before .before .before .before .if4 .left) (c .before .before .before .before .before .place .ensures) (rw (c .before .before .before .before .before .place .ensures) at (c .before .mend .ensures (a .seams .now)))
 
 pub move-vertex-spec : {M : Type 1} → statement M
 move-vertex-spec =
@@ -84,12 +85,12 @@ move-vertex-spec =
     returns-2
     (λ c. search needs)
     (λ c κs. search needs)
-    (λ c. search needs)
-    returns-3
     (λ c κs. search needs)
     (λ c. search needs)
-    returns-4
+    returns-3
     tears-seam-requires
+    (λ c. search needs)
+    returns-4
     (λ c. search needs)
     returns-5
     place-requires
