@@ -43,6 +43,21 @@ impl Told {
     }
 }
 
+/// In words: where trouble began, the hits of the log and those behind it, and the totals.
+impl Display for Told {
+    fn fmt(&self, f: &mut Formatter) -> fmt::Result {
+        let Told { rows, later, listed, hits, misses, touches, aparts, .. } = self;
+        match self.log().next() {
+            Some(Hit { step, pair: Pair { kind, first, second } }) => {
+                write!(f, "first hit in step {step}, {kind} {first} {second}")?
+            }
+            None => f.write_str("no hit")?,
+        }
+        write!(f, "; {} hits in the log, {later} later; of {listed} listed pairs", rows.len())?;
+        write!(f, " {hits} hit, {misses} miss, {touches} touch, {aparts} apart")
+    }
+}
+
 impl<'a> IntoIterator for &'a Told {
     type Item = Hit;
     type IntoIter = Log<'a>;

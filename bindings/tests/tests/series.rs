@@ -47,6 +47,18 @@ fn what_is_told_is_what_the_independent_program_tells() {
     }
 }
 
+/// What is told prints as words.
+#[test]
+fn what_is_told_prints_as_words() {
+    let told = |text: &[u8]| Series::run(text).expect("a series").told.to_string();
+    let falling = include_bytes!("../../../scenes/series/falling.series");
+    assert_eq!(
+        told(falling),
+        "first hit in step 2, pt 3 0; 2 hits in the log, 0 later; of 3 listed pairs 2 hit, 0 miss, 1 touch, 0 apart"
+    );
+    assert_eq!(told(b""), "no hit; 0 hits in the log, 0 later; of 0 listed pairs 0 hit, 0 miss, 0 touch, 0 apart");
+}
+
 /// The last step in front of every buffer, the rest as it was; all of it after a refusal.
 #[test]
 fn every_lent_number_is_what_it_must_be() {
