@@ -1,0 +1,1 @@
+// What holds in an accepted mesh, in specs/. No code stands here.
