@@ -186,3 +186,26 @@ fn the_example_files_have_their_reports() {
     }
     assert_eq!(pairs.len(), page.lines().filter(|line| line.starts_with("+ obj/")).count());
 }
+
+/// Every refusal is said in words behind its own line: with the line as it stands and a reason, or what differs.
+#[test]
+fn a_refusal_is_said_in_words() {
+    let (mut refused, mut numbers) = (0, BTreeSet::new());
+    for trial in fixed().into_iter().chain((0..40).flat_map(seeded)) {
+        let imported = import(&trial.start, &trial.end);
+        let words = compare::obj::blame::in_words(&trial.start, &trial.end);
+        let Err(refusal) = imported else {
+            assert_eq!(words, None);
+            continue;
+        };
+        let words = words.expect("words");
+        let (first, rest) = words.split_once('\n').expect("two lines");
+        assert!(reported(&Err(refusal)).starts_with(first) && rest.ends_with('\n'), "{words}");
+        let reasons = rest.lines().filter(|line| line.starts_with("  ")).count();
+        assert_eq!(reasons > 0, refusal.file.is_some() && refusal.number != 8, "{words}");
+        refused += 1;
+        numbers.insert(refusal.number);
+    }
+    assert!(refused > 100, "{refused}");
+    assert_eq!(numbers.into_iter().collect::<Vec<u64>>(), [2, 3, 4, 8, 9, 10, 11, 14]);
+}

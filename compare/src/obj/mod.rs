@@ -1,6 +1,7 @@
 //! Two Wavefront OBJ files, one for the start and one for the end, by document 02, §3: the scene that they give, or why they give none. With it
 //! the ways in which this is got wrong.
 
+pub mod blame;
 pub mod faults;
 pub mod making;
 
