@@ -27,7 +27,7 @@ extern "C" {
 #define MAKHNODRI_VERSION_MAJOR 0
 #define MAKHNODRI_VERSION_MINOR 6
 #define MAKHNODRI_VERSION_PATCH 1
-#define MAKHNODRI_VERSION "0.6.1"
+#define MAKHNODRI_VERSION "0.7.0"
 
 /* ---- Sizes ---- */
 

@@ -38,7 +38,9 @@ fn a_place_that_is_too_large_is_no_entry() {
 /// From 2^20 on two edges, also of a number that no pair has: as the library, the header and the Python module say.
 #[test]
 fn a_number_that_no_pair_has_is_told_as_two_edges() {
-    for (number, kind) in [((1 << 20) - 1, Kind::PointTriangle), (1 << 20, Kind::EdgeEdge), (1 << 21, Kind::EdgeEdge), (u32::MAX, Kind::EdgeEdge)] {
+    for (number, kind) in
+        [((1 << 20) - 1, Kind::PointTriangle), (1 << 20, Kind::EdgeEdge), (1 << 21, Kind::EdgeEdge), (u32::MAX, Kind::EdgeEdge)]
+    {
         assert_eq!(Pair::of_entry(number).kind, kind, "{number}");
     }
 }
