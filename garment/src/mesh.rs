@@ -114,11 +114,12 @@ pub fn join(name: &str, start: Obj, end: &Obj, rounded: Rounded, sewn: bool) -> 
     Ok(mesh)
 }
 
-/// Two corners of a triangle that stand for one vertex.
+/// Two corners of a triangle that stand for one vertex, the lower number first.
 fn twins(mesh: &Mesh, triangle: usize) -> [u32; 2] {
     let [a, b, c] = mesh.triangles[triangle];
     let one = |[a, b]: &[u32; 2]| mesh.stood(*a) == mesh.stood(*b);
-    [[a, b], [b, c], [c, a]].into_iter().find(one).expect("the triangle has two such corners")
+    let [a, b] = [[a, b], [b, c], [c, a]].into_iter().find(one).expect("the triangle has two such corners");
+    [a.min(b), a.max(b)]
 }
 
 /// The most by which two vertices differ along an axis, at the start or at the end.
