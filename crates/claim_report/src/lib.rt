@@ -1,11 +1,13 @@
 // The answers to claims as bytes: a line `yes` or `no` for each; or the one line of a refusal.
 
-ghost use Prim.Native.Nat.{_≤_};
+ghost use Prim.Native.Nat.{ℕ, _≤_, _<_};
 ghost use mathlib.Core.Path.{_≡_};
+ghost use mathlib.Core.List.{List};
 ghost use lib.ListN.{length};
 ghost use Rattle.sequences.specs.Gather.{gather};
 ghost use Rattle.sequences.specs.Wrote.{Wrote};
-ghost use Rattle.meaning.specs.Limits.{claimRoom};
+ghost use Rattle.meaning.specs.Limits.{claimRoom, textLimit};
+ghost use Rattle.meaning.specs.Report.{OfAllRead};
 ghost use Rattle.meaning.specs.Scene.{sceneAtEntry};
 ghost use Rattle.meaning.specs.Claims.{AnswersReported};
 ghost use Rattle.claim_report.specs.Printed.{answersLength, lineAt, SceneAnswered};
@@ -15,11 +17,13 @@ use meaning::CLAIM_ROOM;
 use meaning::ClaimsAnswer;
 use meaning::EDGE_NUMBERS;
 use meaning::POSITION_NUMBERS;
+use meaning::READ_BYTES;
 use meaning::SEAM_NUMBERS;
 use meaning::TRIANGLE_NUMBERS;
 use meaning::TextAnswer;
 use report_words::lines::answer_line;
 use report_words::lines::refused_line;
+use scene_parts::asked::smaller;
 
 // The bytes that hold the answers to any claims: `yes` and LF for each.
 pub const ANSWERS_BYTES: usize = 4 * CLAIM_ROOM;
@@ -91,4 +95,36 @@ pub fn write_answers(scene: &[u8], claims: &[u8], out: &mut [u8; ANSWERS_BYTES])
         }
         TextAnswer::Refused(refusal, line) => refused_line(out, 0, number_of(refusal), line as u64),
     }
+}
+
+// The answers of what was read of two texts into buffers that are longer than a text may be. Where it fills its buffer, a text is too long however
+// it goes on; else it is the text.
+fn front_answers(
+    scene: &[u8],
+    count: usize,
+    claims: &[u8],
+    claimed: usize,
+    out: &mut [u8; ANSWERS_BYTES],
+) -> usize
+    requires { ⌜ (textLimit < length (now scene)) × (textLimit < length (now claims)) ⌝ }
+    ensures { λ r. ⌜ OfAllRead (λ (s : List ℕ). OfAllRead (λ (t : List ℕ). AnswersReported s t (atEntry out) (atExit out) r)
+        (atEntry claims) claimed) (atEntry scene) count ⌝ }
+{
+    let first = smaller(count, scene.len());
+    let second = smaller(claimed, claims.len());
+    write_answers(&scene[..first], &claims[..second], out)
+}
+
+// The answers of what a program read: the first `count` bytes of the scene's buffer, and the first `claimed` of the claims'.
+pub fn answers_read(
+    scene: &[u8; READ_BYTES],
+    count: usize,
+    claims: &[u8; READ_BYTES],
+    claimed: usize,
+    out: &mut [u8; ANSWERS_BYTES],
+) -> usize
+    ensures { λ r. ⌜ OfAllRead (λ (s : List ℕ). OfAllRead (λ (t : List ℕ). AnswersReported s t (atEntry out) (atExit out) r)
+        (atEntry claims) claimed) (atEntry scene) count ⌝ }
+{
+    front_answers(scene, count, claims, claimed, out)
 }

@@ -5,12 +5,13 @@ use mathlib.Core.Bool.{Bool}
 use mathlib.Core.List.{List}
 use mathlib.Core.Path.{_≡_, refl, ap, subst}
 use native.Mathlib.Omega.{arith}
-use lib.ListN.{length}
+use lib.ListN.{length, take}
 use Rattle.meaning.specs.Limits.{textLimit, claimRoom}
 use Rattle.meaning.specs.Scene.{Scene}
 use Rattle.meaning.specs.Refusals.{Outcome, given, refused}
 use Rattle.meaning.specs.Text.{Holds, SceneFaultyAt}
-use Rattle.meaning.specs.Report.{refusedLine}
+use Rattle.meaning.specs.Report.{refusedLine, OfAllRead}
+use Rattle.meaning.specs.shown.ReadShown.{front-read}
 use Rattle.meaning.specs.Claims.{ClaimsOutcome, answerLines, AnswersOf, tooLong, noScene, refusedClaims, answered, AnswersReported}
 use Rattle.answers.specs.Printed.{one-in-front}
 use Rattle.text_scene.specs.OneReading.{same-scene, held-or-faulty, faulty-one}
@@ -50,6 +51,16 @@ one-answers (answered s ys h a p) (answered t bs k b q) = same-lines (same-scene
 pub one-answers-reported : (sceneText text o o′ o″ : List ℕ) (n n′ : ℕ) → AnswersReported sceneText text o o′ n → AnswersReported sceneText text o o″ n′
     → (n ≡ n′) × (o′ ≡ o″)
 one-answers-reported sceneText text o o′ o″ n n′ p q = one-in-front (AnswersOf sceneText text) (λ l k h g. one-answers h g) p q
+
+-- of what was read: there are always texts of which that was read
+pub one-answers-read : (scene claims o o′ o″ : List ℕ) (count claimed n n′ : ℕ)
+    → OfAllRead (λ (s : List ℕ). OfAllRead (λ (t : List ℕ). AnswersReported s t o o′ n) claims claimed) scene count
+    → OfAllRead (λ (s : List ℕ). OfAllRead (λ (t : List ℕ). AnswersReported s t o o″ n′) claims claimed) scene count
+    → (n ≡ n′) × (o′ ≡ o″)
+one-answers-read scene claims o o′ o″ count claimed n n′ p q =
+    let s = take count scene in
+    let t = take claimed claims in
+    one-answers-reported s t o o′ o″ n n′ (p s (front-read scene count) t (front-read claims claimed)) (q s (front-read scene count) t (front-read claims claimed))
 
 -- ---- taken apart: whose fault a line tells
 

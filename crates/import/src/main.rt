@@ -1,14 +1,14 @@
 // The program `import`: two OBJ files by name, one for the start and one for the end; the scene that they give, as scene text, on standard output.
+use meaning::READ_BYTES;
 use meaning::REPORT_BYTES;
-use meaning::TEXT_LIMIT;
 use named_files::PairRead;
 use named_files::read_pair;
 use named_files::write_out;
 
 fn main() {
     // one byte more than a text may have: a full buffer decides refusal 8
-    let mut start = [0u8; TEXT_LIMIT + 1];
-    let mut end = [0u8; TEXT_LIMIT + 1];
+    let mut start = [0u8; READ_BYTES];
+    let mut end = [0u8; READ_BYTES];
     let PairRead::Lengths(start_length, end_length) = read_pair(
         b"usage: import START END\n",
         b"import: the start file could not be read\n",
@@ -19,10 +19,6 @@ fn main() {
         return;
     };
     let mut out = [0u8; REPORT_BYTES];
-    let length = obj_report::write_import_text(
-        &start[..start_length],
-        &end[..end_length],
-        &mut out,
-    );
+    let length = obj_report::import_text_read(&start, start_length, &end, end_length, &mut out);
     write_out(&out[..length], b"import: the text could not be written\n");
 }

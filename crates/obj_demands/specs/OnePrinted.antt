@@ -4,11 +4,12 @@ use mathlib.Core.Bool.{Bool, true, false, cond}
 use mathlib.Core.List.{List, _++_}
 use mathlib.Core.Path.{_≡_, refl, sym, ap, _∙_, subst}
 use lib.Dec.{ltb}
-use lib.ListN.{length}
+use lib.ListN.{length, take}
 use Rattle.meaning.specs.Limits.{textLimit}
 use Rattle.meaning.specs.Scene.{Scene}
 use Rattle.meaning.specs.List.{pairs}
-use Rattle.meaning.specs.Report.{pairLines, totalLine, refusedLine}
+use Rattle.meaning.specs.Report.{pairLines, totalLine, refusedLine, OfAllRead}
+use Rattle.meaning.specs.shown.ReadShown.{front-read}
 use Rattle.meaning.specs.SceneLines.{SceneReport, noRoom, judged}
 use Rattle.meaning.specs.Saved.{savedText}
 use Rattle.meaning.specs.ObjPair.{ImportOutcome, read, refused, refusedIn}
@@ -57,3 +58,20 @@ one-obj-reported start end o o′ o″ n n′ p q = one-pair-printed SceneReport
 pub one-import-printed : (start end o o′ o″ : List ℕ) (n n′ : ℕ) → PairPrinted SceneText start end o o′ n → PairPrinted SceneText start end o o″ n′
     → (n ≡ n′) × (o′ ≡ o″)
 one-import-printed start end o o′ o″ n n′ p q = one-pair-printed SceneText one-scene-text start end p q
+
+-- of what was read: there are always files of which that was read
+module _ (start end o o′ o″ : List ℕ) (count behind n n′ : ℕ) where
+  abbrev Read : (Scene → List ℕ → Type 0) → List ℕ → ℕ → Type 0
+  Read Shown l m = OfAllRead (λ (s : List ℕ). OfAllRead (λ (t : List ℕ). PairPrinted Shown s t o l m) end behind) start count
+
+  pub one-obj-read : Read SceneReport o′ n → Read SceneReport o″ n′ → (n ≡ n′) × (o′ ≡ o″)
+  one-obj-read p q =
+      let s = take count start in
+      let t = take behind end in
+      one-obj-reported s t o o′ o″ n n′ (p s (front-read start count) t (front-read end behind)) (q s (front-read start count) t (front-read end behind))
+
+  pub one-import-read : Read SceneText o′ n → Read SceneText o″ n′ → (n ≡ n′) × (o′ ≡ o″)
+  one-import-read p q =
+      let s = take count start in
+      let t = take behind end in
+      one-import-printed s t o o′ o″ n n′ (p s (front-read start count) t (front-read end behind)) (q s (front-read start count) t (front-read end behind))

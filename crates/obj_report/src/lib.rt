@@ -1,7 +1,11 @@
 // What two OBJ files print, as bytes: the report of their scene, or its text; or the one line of a refusal, with its file where it has one.
 
+ghost use Prim.Native.Nat.{ℕ, _<_};
+ghost use mathlib.Core.List.{List};
 ghost use mathlib.Core.Path.{_≡_};
 ghost use lib.ListN.{length};
+ghost use Rattle.meaning.specs.Limits.{textLimit};
+ghost use Rattle.meaning.specs.Report.{OfAllRead};
 ghost use Rattle.meaning.specs.Scene.{sceneIn, sceneAtEntry, Accepted};
 ghost use Rattle.meaning.specs.SceneLines.{SceneReport};
 ghost use Rattle.meaning.specs.ObjPrinted.{SceneText, PairPrinted};
@@ -12,6 +16,7 @@ use answers::number_of;
 use meaning::EDGE_NUMBERS;
 use meaning::ImportAnswer;
 use meaning::POSITION_NUMBERS;
+use meaning::READ_BYTES;
 use meaning::REPORT_BYTES;
 use meaning::SEAM_NUMBERS;
 use meaning::SaveAnswer;
@@ -19,6 +24,7 @@ use meaning::TRIANGLE_NUMBERS;
 use obj_scene::import_plain;
 use report_words::file_lines::file_line;
 use report_words::lines::refused_line;
+use scene_parts::asked::smaller;
 
 // What is asked for of the scene.
 enum Asked {
@@ -109,4 +115,51 @@ pub fn write_import_text(start: &[u8], end: &[u8], out: &mut [u8; REPORT_BYTES])
     ensures { λ r. ⌜ PairPrinted SceneText (atEntry start) (atEntry end) (atEntry out) (atExit out) r ⌝ }
 {
     pair_shown(Asked::Text, start, end, out)
+}
+
+// What is printed of what was read of two files into buffers that are longer than a file may be. Where it fills its buffer, a file is too long
+// however it goes on; else it is the file.
+fn front_shown(
+    asked: Asked,
+    start: &[u8],
+    count: usize,
+    end: &[u8],
+    behind: usize,
+    out: &mut [u8; REPORT_BYTES],
+) -> usize
+    requires { ⌜ (textLimit < length (now start)) × (textLimit < length (now end)) ⌝ }
+    ensures { λ r. ⌜ OfAllRead (λ (s : List ℕ). OfAllRead (λ (t : List ℕ). PairPrinted (shownFor asked) s t (atEntry out)
+        (atExit out) r) (atEntry end) behind) (atEntry start) count ⌝ }
+{
+    let first = smaller(count, start.len());
+    let second = smaller(behind, end.len());
+    pair_shown(asked, &start[..first], &end[..second], out)
+}
+
+// The report of what a program read of two files: the first `count` bytes of the start's buffer, and the first `behind` of the end's.
+pub fn obj_report_read(
+    start: &[u8; READ_BYTES],
+    count: usize,
+    end: &[u8; READ_BYTES],
+    behind: usize,
+    out: &mut [u8; REPORT_BYTES],
+) -> usize
+    ensures { λ r. ⌜ OfAllRead (λ (s : List ℕ). OfAllRead (λ (t : List ℕ). PairPrinted SceneReport s t (atEntry out)
+        (atExit out) r) (atEntry end) behind) (atEntry start) count ⌝ }
+{
+    front_shown(Asked::Report, start, count, end, behind, out)
+}
+
+// The text of the scene, likewise.
+pub fn import_text_read(
+    start: &[u8; READ_BYTES],
+    count: usize,
+    end: &[u8; READ_BYTES],
+    behind: usize,
+    out: &mut [u8; REPORT_BYTES],
+) -> usize
+    ensures { λ r. ⌜ OfAllRead (λ (s : List ℕ). OfAllRead (λ (t : List ℕ). PairPrinted SceneText s t (atEntry out)
+        (atExit out) r) (atEntry end) behind) (atEntry start) count ⌝ }
+{
+    front_shown(Asked::Text, start, count, end, behind, out)
 }
