@@ -25,8 +25,8 @@ extern "C" {
 /* ---- Version: of this header and of the library that was installed with it; docs/CHANGES.md tells what changed ---- */
 
 #define MAKHNODRI_VERSION_MAJOR 0
-#define MAKHNODRI_VERSION_MINOR 6
-#define MAKHNODRI_VERSION_PATCH 1
+#define MAKHNODRI_VERSION_MINOR 7
+#define MAKHNODRI_VERSION_PATCH 0
 #define MAKHNODRI_VERSION "0.7.0"
 
 /* ---- Sizes ---- */
