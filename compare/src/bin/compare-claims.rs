@@ -6,7 +6,7 @@
 
 use compare::claims::making::{fixed, seeded, Trial};
 use compare::claims::mistakes::{self, ALL};
-use compare::claims::printed;
+use compare::claims::{printed, told};
 use compare::running::comparing::{give_up, OfFiles, MOST_SHOWN};
 use std::collections::BTreeMap;
 use std::process::exit;
@@ -46,7 +46,7 @@ fn compare(program: &str, seeds: u64, launcher: &[String]) {
         }
         texts += 1;
         let files: [(&str, &[u8]); 2] = [("scene", &trial.scene), ("claims", &trial.claims)];
-        if let Some((given, kept)) = comparison.differing(program, &files, &wanted) {
+        if let Some((given, kept)) = comparison.differing(program, &files, &wanted, told(&trial.scene, &wanted)) {
             println!("claims: the answers differ, and the two texts are in {}", kept.display());
             tell(&trial, &given, &wanted);
         }

@@ -70,7 +70,7 @@ fn compare(programs: [&str; 2], seeds: u64, launcher: &[&str]) {
 fn hold(comparison: &mut OfFiles, trial: &Trial, programs: [(&str, String); 2]) {
     let files: [(&str, &[u8]); 2] = [("start.obj", &trial.start), ("end.obj", &trial.end)];
     for (program, wanted) in programs {
-        let Some((given, kept)) = comparison.differing(program, &files, &wanted) else { continue };
+        let Some((given, kept)) = comparison.differing(program, &files, &wanted, "") else { continue };
         let at = given.lines().zip(wanted.lines()).position(|(a, b)| a != b).unwrap_or(0);
         let line = |text: &str| text.lines().nth(at).unwrap_or("").to_string();
         println!("obj: {program}: {}: the two files are in {}", trial.name, kept.display());

@@ -112,6 +112,15 @@ pub fn printed(scene: &[u8], claims: &[u8]) -> String {
     written(text::read(scene).and_then(|scene| answers(&scene, claims, CLAIM_ROOM)))
 }
 
+/// What the program tells on standard error where it prints this: which of the two texts is refused, since a line is counted in its own.
+pub fn told(scene: &[u8], printed: &str) -> &'static str {
+    match (printed.starts_with("refused"), text::read(scene)) {
+        (false, _) => "",
+        (true, Err(_)) => "claims: it is the scene that is refused\n",
+        (true, Ok(_)) => "claims: it is the claims that are refused\n",
+    }
+}
+
 pub fn written(answered: Result<Vec<bool>, Refusal>) -> String {
     match answered {
         Err(refusal) => format!("refused\t{}\t{}\n", refusal.number, refusal.third),

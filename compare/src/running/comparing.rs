@@ -119,13 +119,15 @@ impl OfFiles {
         format!("difference-{number}")
     }
 
-    /// What the program prints for these files, if that is not what is wanted, and the folder that they are kept in then.
-    pub fn differing(&mut self, program: &str, files: &[(&str, &[u8])], wanted: &str) -> Option<(String, PathBuf)> {
+    /// What the program prints for these files, if that is not what is wanted, or if it tells something else on standard error; and the folder that
+    /// they are kept in then.
+    pub fn differing(&mut self, program: &str, files: &[(&str, &[u8])], wanted: &str, told: &str) -> Option<(String, PathBuf)> {
         let place = OfFiles::place(self.differences + 1);
         let keep = |(name, text): &(&str, &[u8])| self.folder.keep(&format!("{place}/{name}"), text);
         let paths = files.iter().map(keep).collect::<std::io::Result<Vec<PathBuf>>>();
         let paths = paths.unwrap_or_else(|error| give_up(self.name, &error.to_string()));
-        let given = self.printed(program, &paths).unwrap_or_else(|error| give_up(self.name, &format!("{program}: {error}")));
+        let given =
+            self.printed(program, &paths, told).unwrap_or_else(|error| give_up(self.name, &format!("{program}: {error}")));
         if given == wanted {
             return None;
         }
@@ -133,11 +135,11 @@ impl OfFiles {
         Some((given, self.folder.path.join(place)))
     }
 
-    /// What a program prints; how it ended where it failed.
-    fn printed(&self, program: &str, files: &[PathBuf]) -> std::io::Result<String> {
+    /// What a program prints; how it ended where it failed, or told something else than it must.
+    fn printed(&self, program: &str, files: &[PathBuf], told: &str) -> std::io::Result<String> {
         let words = [&self.launcher[..], &[program.to_string()]].concat();
         let run = Command::new(&words[0]).args(&words[1..]).args(files).stdin(Stdio::null()).output()?;
-        if !run.status.success() || !run.stderr.is_empty() {
+        if !run.status.success() || run.stderr != told.as_bytes() {
             return Ok(format!("{} {}", run.status, String::from_utf8_lossy(&run.stderr)));
         }
         Ok(String::from_utf8_lossy(&run.stdout).into_owned())
