@@ -120,8 +120,7 @@ fn plain_word(verdict: Verdict) -> Settled
     }
 }
 
-// The word of a pair, from its verdict: only a degenerate one goes on. Hit and miss are one way: which of them it is cannot be foretold, and a
-// branch on it costs more than the choice of the word.
+// The word of a pair that was asked for alone, from its verdict: only a degenerate one goes on.
 pub(crate) fn pair_word(
     positions: &[i32],
     edges: &[u16],
@@ -143,7 +142,9 @@ pub(crate) fn pair_word(
     singular_word(positions, edges, triangles, stands, kind, i, j)
 }
 
-// A pair.
+// A pair: only a degenerate one goes on. Hit and miss are one way: which of them it is cannot be foretold, and a branch on it costs more than the
+// choice of the word. What `pair_word` says stands here once more, since a function with two callers is taken into neither, and a pair of a
+// list then takes a tenth more time.
 pub fn pair(
     positions: &[i32],
     edges: &[u16],
@@ -158,5 +159,8 @@ pub fn pair(
     ensures { λ r. ⌜ PairSettled (tabledAtEntry positions edges triangles stands) kind i j r ⌝ }
 {
     let verdict = three_words::accepted::pair(positions, edges, triangles, stands, kind, i, j);
-    pair_word(positions, edges, triangles, stands, kind, i, j, verdict)
+    let Verdict::Degenerate = verdict else {
+        return plain_word(verdict);
+    };
+    singular_word(positions, edges, triangles, stands, kind, i, j)
 }
