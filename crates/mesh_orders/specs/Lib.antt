@@ -1,0 +1,2 @@
+-- Orders of parts, and how an inverse tells them.
+pub mod Orders
