@@ -12,12 +12,13 @@ ghost use Rattle.meaning.specs.Scene.{edgeCount, triangleCount, edgeEnd, corner
 ghost use Rattle.meaning.specs.Refusals.{shares};
 ghost use Rattle.meaning.specs.declared.Kind.the-variants.{PointTriangle, EdgeEdge};
 ghost use Rattle.scene_seams.specs.Alone.{onlyEdges, onlyTriangles, onlyTable, edgesSewn, trianglesSewn, tabled};
-ghost use Rattle.scene_parts.specs.Ordering.{oneOfThree, oneInCommon};
 ghost use Rattle.sequences.specs.Lent.{atEntry};
 use meaning::Corners;
 use meaning::Ends;
 use mesh_seams::counts_as;
 use mesh_seams::wide;
+use scene_parts::one_in_common;
+use scene_parts::one_of_three;
 use scene_parts::written::among;
 use scene_parts::written::in_order;
 use scene_parts::written::rising;
@@ -105,12 +106,6 @@ pub fn corner_counts_as(triangles: &[u32], stands: &[u32], j: usize, k: usize) -
     counts_as(stands, corner(triangles, j, k))
 }
 
-fn one_of_three(v: usize, a: usize, b: usize, c: usize) -> bool
-    ensures { λ r. ⌜ r ≡ oneOfThree v a b c ⌝ }
-{
-    (v == a) | (v == b) | (v == c)
-}
-
 // Whether vertex v is a corner of triangle j.
 pub fn shares_pt(triangles: &[u32], stands: &[u32], v: usize, j: usize) -> bool
     requires { ⌜ j < triangleCount (onlyTriangles (now triangles)) ⌝ }
@@ -130,12 +125,6 @@ pub fn shares_pt(triangles: &[u32], stands: &[u32], v: usize, j: usize) -> bool
             counts_as(stands, c),
         )
     }
-}
-
-fn one_in_common(a: usize, b: usize, c: usize, d: usize) -> bool
-    ensures { λ r. ⌜ r ≡ oneInCommon a b c d ⌝ }
-{
-    (a == c) | (a == d) | (b == c) | (b == d)
 }
 
 // Whether an end of edge i is an end of edge j.

@@ -1,30 +1,25 @@
 // The table of seams of a mesh of any size, in a lent list of u32: at each vertex how far below it the vertex is that it stands for, and 0 for one
-// that stands for itself. What the table means is told in scene_seams, over lists of any length; here are the functions that read and make it.
+// that stands for itself. What the table means is told in scene_seams, over lists of any length; here are the functions that read and make it at this width.
 
 ghost use Prim.Native.Nat.{_-_, _<_, _/_};
 ghost use mathlib.Core.Bool.{not};
 ghost use mathlib.Core.Path.{_≡_};
 ghost use lib.Dec.{eqb};
-ghost use lib.IntN.{pos};
-ghost use lib.ListN.{length, getD};
-ghost use Rattle.meaning.specs.Scene.{vertexCount, stoodFor, differ, comesApart};
+ghost use lib.ListN.{getD};
+ghost use Rattle.meaning.specs.Scene.{vertexCount, stoodFor};
 ghost use Rattle.scene_seams.specs.Alone.{onlyPositions};
 ghost use Rattle.scene_seams.specs.Table.{seamsOf, sewnTo};
 ghost use Rattle.scene_seams.specs.Sewing.{breaksRules, Sewn};
 ghost use Rattle.mesh_seams.specs.Sewing.{MeshSewable};
 ghost use Rattle.sequences.specs.Lent.{atEntry, atExit};
+use scene_seams::comes_apart;
+use scene_seams::lowered;
 
 // A number of a lent list, in the type of indices.
 pub fn wide(x: u32) -> usize
     ensures { λ r. ⌜ r ≡ x ⌝ }
 {
     x as usize
-}
-
-fn lowered(v: usize, down: usize) -> usize
-    ensures { λ r. ⌜ r ≡ v - down ⌝ }
-{
-    if down < v { v - down } else { 0 }
 }
 
 // The vertex stood for.
@@ -47,31 +42,6 @@ fn replaced(stands: &[u32], v: usize) -> bool
     } else {
         false
     }
-}
-
-// Whether two coordinates differ.
-fn unequal(positions: &[i32], a: usize, b: usize) -> bool
-    requires { ⌜ (a < length (now positions)) × (b < length (now positions)) ⌝ }
-    ensures { λ r. ⌜ r ≡ differ (getD (atEntry positions) a (pos 0)) (getD (atEntry positions) b (pos 0)) ⌝ }
-{
-    let y = positions[a];
-    let z = positions[b];
-    (y < z) | (z < y)
-}
-
-// Whether two vertices are not in one place, at the start or at the end.
-fn comes_apart(positions: &[i32], a: usize, b: usize) -> bool
-    requires { ⌜ (a < vertexCount (onlyPositions (now positions)))
-        × (b < vertexCount (onlyPositions (now positions))) ⌝ }
-    ensures { λ r. ⌜ r ≡ comesApart (onlyPositions (atEntry positions)) a b ⌝ }
-{
-    let mut found = false;
-    let mut k = 0;
-    while k < 6 {
-        found = found | unequal(positions, 6 * a + k, 6 * b + k);
-        k += 1;
-    }
-    found
 }
 
 // 15 of one more seam: `least` is the lowest number that its first vertex may have.

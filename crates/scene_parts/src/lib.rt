@@ -92,7 +92,8 @@ pub fn corner_counts_as(triangles: &[u16], stands: &[u16], j: usize, k: usize) -
     counts_as(stands, corner(triangles, j, k))
 }
 
-fn one_of_three(v: usize, a: usize, b: usize, c: usize) -> bool
+// Whether v is one of three vertices.
+pub fn one_of_three(v: usize, a: usize, b: usize, c: usize) -> bool
     ensures { λ r. ⌜ r ≡ oneOfThree v a b c ⌝ }
 {
     (v == a) | (v == b) | (v == c)
@@ -119,7 +120,8 @@ pub fn shares_pt(triangles: &[u16], stands: &[u16], v: usize, j: usize) -> bool
     }
 }
 
-fn one_in_common(a: usize, b: usize, c: usize, d: usize) -> bool
+// Whether two vertices and two others have one in common.
+pub fn one_in_common(a: usize, b: usize, c: usize, d: usize) -> bool
     ensures { λ r. ⌜ r ≡ oneInCommon a b c d ⌝ }
 {
     (a == c) | (a == d) | (b == c) | (b == d)

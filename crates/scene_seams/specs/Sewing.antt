@@ -166,6 +166,10 @@ pub record Sewable (p : List ℤ) (w t : List ℕ) : Type 0 where
   pub few : length p / 6 ≤ vertexLimit
   pub inside : (i : ℕ) → i < length w → getD w i 0 < length p / 6
 
+-- the first vertex of each has a place in the table
+pub seam-fits : {p : List ℤ} {w t : List ℕ} → Sewable p w t → (k : ℕ) → k < length w / 2 → getD w (2 * k) 0 < length t
+seam-fits r k h = omega (arith, r .blank .room (omega arith), r .few, r .inside (2 * k) (omega arith))
+
 -- the first k seams are in the table, and whether one of them breaks the rules is known
 pub record Sewing (p : List ℤ) (w t₀ : List ℕ) (found : Bool) (t : List ℕ) (least k : ℕ) : Type 0 where
   pub within : k ≤ length w / 2
@@ -182,15 +186,15 @@ pub record Sewn (p : List ℤ) (w t₀ : List ℕ) (found : Bool) (t : List ℕ)
   pub tells : found ≡ false → seamsOf t ≡ w
 
 module _ (p : List ℤ) (w t₀ : List ℕ) where
-  pub sewing-starts : Blank w t₀ → Sewing p w t₀ false t₀ 0 0
+  pub sewing-starts : ((v : ℕ) → getD t₀ v 0 ≡ 0) → Sewing p w t₀ false t₀ 0 0
   unfolding tableAfter leastOf someBelow
-  sewing-starts b = record {
+  sewing-starts none = record {
     within = omega arith;
     table = refl;
     long = refl;
     next = refl;
     finds = refl;
-    tells = λ e. no-seams-from t₀ 0 (b .none);
+    tells = λ e. no-seams-from t₀ 0 none;
   }
 
   take-pair : (k : ℕ) → k < length w / 2 → take (2 * (k + 1)) w ≡ take (2 * k) w ++ (getD w (2 * k) 0 ∷ getD w (2 * k + 1) 0 ∷ [])
@@ -202,7 +206,8 @@ module _ (p : List ℤ) (w t₀ : List ℕ) where
       ∙ ap₂ (λ l x. l ++ (x ∷ [])) (take-suc w (2 * k) 0 (omega arith)) (ap (λ n. getD w n 0) f)
       ∙ append-assoc (take (2 * k) w) (getD w (2 * k) 0 ∷ []) (getD w (2 * k + 1) 0 ∷ [])
 
-  module _ {found : Bool} {t : List ℕ} {least k : ℕ} (s : Sewing p w t₀ found t least k) (r : Sewable p w t₀) (h : k < length w / 2) where
+  -- one more, whose first vertex has a place in the table
+  module _ {found : Bool} {t : List ℕ} {least k : ℕ} (s : Sewing p w t₀ found t least k) (h : k < length w / 2) (fits : getD w (2 * k) 0 < length t₀) where
     abbrev i : ℕ
     i = getD w (2 * k) 0
 
@@ -258,9 +263,7 @@ module _ (p : List ℤ) (w t₀ : List ℕ) where
         entered : found || now ≡ false → seamsOf (sewnTo t i j) ≡ take (2 * (k + 1)) w
         entered q =
             let (f, n) = neither found now q in
-            let space = r .blank .room (omega arith) in
-            let here = r .inside (2 * k) (omega arith) in
-            seam-entered p t i j (whole f) (sym (by-table f) ∙ n) (omega (arith, s .long, r .few)) ∙ taken (s .tells f)
+            seam-entered p t i j (whole f) (sym (by-table f) ∙ n) (omega (arith, s .long)) ∙ taken (s .tells f)
 
   -- all seams are taken
   pub sewing-ends : {found : Bool} {t : List ℕ} {least k : ℕ} → Sewing p w t₀ found t least k → length w / 2 ≤ k → length w ≡ 2 * (length w / 2)

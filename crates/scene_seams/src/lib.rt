@@ -19,7 +19,8 @@ pub fn wide(x: u16) -> usize
     x as usize
 }
 
-fn lowered(v: usize, down: usize) -> usize
+// So far below v.
+pub fn lowered(v: usize, down: usize) -> usize
     ensures { λ r. ⌜ r ≡ v - down ⌝ }
 {
     if down < v { v - down } else { 0 }
@@ -58,7 +59,7 @@ fn unequal(positions: &[i32], a: usize, b: usize) -> bool
 }
 
 // Whether two vertices are not in one place, at the start or at the end.
-fn comes_apart(positions: &[i32], a: usize, b: usize) -> bool
+pub fn comes_apart(positions: &[i32], a: usize, b: usize) -> bool
     requires { ⌜ (a < vertexCount (onlyPositions (now positions)))
         × (b < vertexCount (onlyPositions (now positions))) ⌝ }
     ensures { λ r. ⌜ r ≡ comesApart (onlyPositions (atEntry positions)) a b ⌝ }

@@ -1,47 +1,25 @@
 -- `shares_ee`: each vertex counts as itself where there are no seams, and is looked up where there are.
 use borrow.Author.Needs.{needs}
-use Prim.Native.Nat.{ℕ}
-use mathlib.Core.Path.{_≡_, sym, _∙_, ap}
 use denote.Ref.{now}
-use Rattle.meaning.specs.Scene.{stoodFor}
-use Rattle.meaning.specs.Refusals.{shares}
-use Rattle.scene_seams.specs.Table.{seamsOf, own-number}
-use Rattle.scene_parts.specs.Ordering.{four-alike}
+use Rattle.scene_parts.specs.FromLists.{end-shared, end-shared-plain}
 use Rattle.mesh_parts.proofs.shares_ee.Statement.{statement}
 use Rattle.mesh_parts.proofs.shares_ee.Tie as tie
 
 returns : tie.Need-returns
-unfolding shares
 returns c p t =
     let x = c .before .before .before .before .before .before .before .before .args in
-    let own : (v : ℕ) → v ≡ stoodFor (seamsOf (now (x .stands))) v = λ v. sym (own-number (now (x .stands)) v (c .before .if1 .taken)) in
-    c .one-in-common .ensures
-    ∙ four-alike (c .before .before .before .before .before .edge-end .ensures ∙ own _) (c .before .before .before .before .edge-end2 .ensures ∙ own _) (c .before .before .before .edge-end3 .ensures ∙ own _) (c .before .before .edge-end4 .ensures ∙ own _)
+    end-shared-plain (now (x .edges)) (now (x .stands)) (x .i) (x .j) (c .before .before .before .before .before .edge-end .ensures) (c .before .before .before .before .edge-end2 .ensures) (c .before .before .before .edge-end3 .ensures) (c .before .before .edge-end4 .ensures) p t
+    (c .before .if1 .taken) (c .one-in-common .ensures)
 
 returns-2 : tie.Need-returns-2
-unfolding shares
 returns-2 c p t =
     let x = c .before .before .before .before .before .before .before .before .before .before .before .before .args in
-    let up : ℕ → ℕ = λ v. stoodFor (seamsOf (now (x .stands))) v in
-    c .one-in-common2 .ensures
-    ∙ four-alike (c .before .before .before .before .counts-as .ensures ∙ ap up (c .before .before .before .before .before .before .before .before .before .edge-end .ensures))
-    (c .before .before .before .counts-as2 .ensures ∙ ap up (c .before .before .before .before .before .before .before .before .edge-end2 .ensures))
-    (c .before .before .counts-as3 .ensures ∙ ap up (c .before .before .before .before .before .before .before .edge-end3 .ensures))
-    (c .before .counts-as4 .ensures ∙ ap up (c .before .before .before .before .before .before .edge-end4 .ensures))
+    end-shared (now (x .edges)) (now (x .stands)) (x .i) (x .j) (c .before .before .before .before .before .before .before .before .before .edge-end .ensures) (c .before .before .before .before .before .before .before .before .edge-end2 .ensures) (c .before .before .before .before .before .before .before .edge-end3 .ensures) (c .before .before .before .before .before .before .edge-end4 .ensures) p t
+    (c .before .before .before .before .counts-as .ensures) (c .before .before .before .counts-as2 .ensures) (c .before .before .counts-as3 .ensures) (c .before .counts-as4 .ensures) (c .one-in-common2 .ensures)
 
 pub shares-ee-spec : {M : Type 1} → statement M
 shares-ee-spec =
     tie.close
-    (tie.spec
-    (λ c κs. search needs)
-    (λ c κs. search needs)
-    (λ c κs. search needs)
-    (λ c κs. search needs)
-    (λ c κs. search needs)
-    (λ c κs. search needs)
-    (λ c κs. search needs)
-    (λ c κs. search needs)
-    (λ c κs. search needs)
-    (λ c κs. search needs)
-    returns
-    returns-2)
+    (tie.spec (λ c κs. search needs) (λ c κs. search needs) (λ c κs. search needs) (λ c κs. search needs) (λ c κs. search needs)
+    (λ c κs. search needs) (λ c κs. search needs) (λ c κs. search needs) (λ c κs. search needs) (λ c κs. search needs)
+    returns returns-2)

@@ -3,8 +3,8 @@ use Prim.Native.Nat.{_*_, _-_, _/_}
 use native.Mathlib.Omega.{arith}
 use borrow.Author.Needs.{needs}
 use lib.ListN.{length}
-use Rattle.scene_seams.specs.Sewing.{Sewing, sewing-ends}
-use Rattle.mesh_seams.specs.Sewing.{mesh-sewing-starts, mesh-sewing-goes}
+use Rattle.scene_seams.specs.Sewing.{Sewing, sewing-starts, sewing-goes, sewing-ends}
+use Rattle.mesh_seams.specs.Sewing.{mesh-seam-fits}
 use Rattle.mesh_seams.proofs.sew_all.Statement.{statement}
 use Rattle.mesh_seams.proofs.sew_all.Tie as tie
 
@@ -15,7 +15,7 @@ abbrev μ-loop : tie.MeasureT-loop
 μ-loop positions seams stands₀ broken₀ least₀ k₀ stands broken least k = length seams / 2 - k
 
 loop-holds : tie.Need-loop-holds Inv-loop μ-loop
-loop-holds c = mesh-sewing-starts _ _ _ (c .before .before .pre)
+loop-holds c = sewing-starts _ _ _ (c .before .before .pre .blank .none)
 
 mul-sew-next : tie.Need-mul-sew-next Inv-loop μ-loop
 mul-sew-next c = omega arith
@@ -71,7 +71,7 @@ loop-again c =
     let start = c .before .before .before .before .before .before .before .before .before .before .before .before in
     let called = c .before .before .before .before .sew-next in
     rw (called .ensures .1, c .wide .ensures)
-    (mesh-sewing-goes _ _ _ (c .before .before .before .before .before .before .before .before .before .loop .inv) (start .pre) (omega arith) (called .result) (called .ensures .0))
+    (sewing-goes _ _ _ (c .before .before .before .before .before .before .before .before .before .loop .inv) (omega arith) (mesh-seam-fits (start .pre) _ (omega arith)) (called .result) (called .ensures .0))
 
 same-length : tie.Need-same-length Inv-loop μ-loop
 same-length c = c .before .loop .inv .long

@@ -1,48 +1,25 @@
 -- `ends_of`: each end counts as itself where there are no seams, and is looked up where there are.
 use borrow.Author.Needs.{needs}
-use mathlib.Core.Path.{sym, _∙_}
 use denote.Ref.{now}
-use Rattle.scene_seams.specs.Alone.{edgesSewn}
-use Rattle.scene_seams.specs.Table.{own-number}
-use Rattle.scene_parts.specs.Ordering.{ends-by}
+use Rattle.scene_parts.specs.FromLists.{ends-sewn, ends-plain}
 use Rattle.scene_parts.proofs.ends_of.Statement.{statement}
 use Rattle.scene_parts.proofs.ends_of.Tie as tie
 
 returns : tie.Need-returns
 returns c =
     let x = c .before .before .before .before .before .before .args in
-    let a = c .before .before .before .edge-end in
-    let b = c .before .before .edge-end2 in
-    c .rising .ensures
-    ∙ ends-by (edgesSewn (now (x .edges)) (now (x .stands))) (a .result) (a .result) (b .result) (b .result) _ _
-    (sym (own-number (now (x .stands)) (a .result) (c .before .if1 .taken)))
-    (sym (own-number (now (x .stands)) (b .result) (c .before .if1 .taken)))
-    (a .ensures)
-    (b .ensures)
+    ends-plain (now (x .edges)) (now (x .stands)) (x .j) (c .before .before .before .edge-end .ensures) (c .before .before .edge-end2 .ensures)
+    (c .before .if1 .taken) (c .rising .ensures)
 
 returns-2 : tie.Need-returns-2
 returns-2 c =
     let x = c .before .before .before .before .before .before .before .before .args in
-    let a = c .before .before .before .before .before .edge-end in
-    let b = c .before .before .before .before .edge-end2 in
-    let m = c .before .before .counts-as in
-    let n = c .before .counts-as2 in
-    c .rising2 .ensures
-    ∙ ends-by (edgesSewn (now (x .edges)) (now (x .stands))) (a .result) (m .result) (b .result) (n .result) _ _
-    (m .ensures)
-    (n .ensures)
-    (a .ensures)
-    (b .ensures)
+    ends-sewn (now (x .edges)) (now (x .stands)) (x .j) (c .before .before .before .before .before .edge-end .ensures) (c .before .before .before .before .edge-end2 .ensures)
+    (c .before .before .counts-as .ensures) (c .before .counts-as2 .ensures) (c .rising2 .ensures)
 
 pub ends-of-spec : {M : Type 1} → statement M
 ends-of-spec =
     tie.close
-    (tie.spec
+    (tie.spec (λ c κs. search needs) (λ c κs. search needs) (λ c κs. search needs) (λ c κs. search needs) (λ c κs. search needs)
     (λ c κs. search needs)
-    (λ c κs. search needs)
-    (λ c κs. search needs)
-    (λ c κs. search needs)
-    (λ c κs. search needs)
-    (λ c κs. search needs)
-    returns
-    returns-2)
+    returns returns-2)

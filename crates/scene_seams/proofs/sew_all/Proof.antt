@@ -3,7 +3,7 @@ use Prim.Native.Nat.{_*_, _-_, _/_}
 use native.Mathlib.Omega.{arith}
 use borrow.Author.Needs.{needs}
 use lib.ListN.{length}
-use Rattle.scene_seams.specs.Sewing.{Sewing, sewing-starts, sewing-goes, sewing-ends}
+use Rattle.scene_seams.specs.Sewing.{Sewing, seam-fits, sewing-starts, sewing-goes, sewing-ends}
 use Rattle.scene_seams.proofs.sew_all.Statement.{statement}
 use Rattle.scene_seams.proofs.sew_all.Tie as tie
 
@@ -13,87 +13,68 @@ Inv-loop positions seams stands₀ broken₀ least₀ k₀ stands broken least k
 abbrev μ-loop : tie.MeasureT-loop
 μ-loop positions seams stands₀ broken₀ least₀ k₀ stands broken least k = length seams / 2 - k
 
--- src/table.rt:109:5
 loop-holds : tie.Need-loop-holds Inv-loop μ-loop
-loop-holds c = sewing-starts _ _ _ (c .before .before .pre .blank)
+loop-holds c = sewing-starts _ _ _ (c .before .before .pre .blank .none)
 
--- src/table.rt:110:68
 mul-sew-next : tie.Need-mul-sew-next Inv-loop μ-loop
 mul-sew-next c = omega arith
 
--- src/table.rt:110:62
 mul-sew-next-2 : tie.Need-mul-sew-next-2 Inv-loop μ-loop
 mul-sew-next-2 c = omega arith
 
--- src/table.rt:110:62
 shared-slice-read-sew-next : tie.Need-shared-slice-read-sew-next Inv-loop μ-loop
 shared-slice-read-sew-next c = omega arith
 
--- src/table.rt:110:82
 mul-sew-next-3 : tie.Need-mul-sew-next-3 Inv-loop μ-loop
 mul-sew-next-3 c = omega arith
 
--- src/table.rt:110:82
 add-sew-next : tie.Need-add-sew-next Inv-loop μ-loop
 add-sew-next c = omega arith
 
--- src/table.rt:110:76
 mul-sew-next-4 : tie.Need-mul-sew-next-4 Inv-loop μ-loop
 mul-sew-next-4 c = omega arith
 
--- src/table.rt:110:76
 shared-slice-read-sew-next-2 : tie.Need-shared-slice-read-sew-next-2 Inv-loop μ-loop
 shared-slice-read-sew-next-2 c = omega arith
 
--- src/table.rt:110:27
 sew-next-requires : tie.Need-sew-next-requires Inv-loop μ-loop
 sew-next-requires c κs =
     let known = c .before .before .before .before .before .before .before .pre .inside in
     (known _ (omega arith), known _ (omega arith))
 
--- src/table.rt:111:28
 mul-wide : tie.Need-mul-wide Inv-loop μ-loop
 mul-wide c = omega arith
 
--- src/table.rt:111:22
 mul-wide-2 : tie.Need-mul-wide-2 Inv-loop μ-loop
 mul-wide-2 c = omega arith
 
--- src/table.rt:111:22
 shared-slice-read-wide : tie.Need-shared-slice-read-wide Inv-loop μ-loop
 shared-slice-read-wide c = omega arith
 
--- src/table.rt:111:17
 wide-requires : tie.Need-wide-requires Inv-loop μ-loop
 wide-requires c κs = search needs
 
--- src/table.rt:111:17
 add-least : tie.Need-add-least Inv-loop μ-loop
 add-least c =
     let start = c .before .before .before .before .before .before .before .before .before .before .before .before in
     omega (arith, c .wide .ensures, start .pre .few, start .pre .inside (2 * c .before .before .before .before .before .before .before .before .before .loop .k) (omega arith))
 
--- src/table.rt:112:9
 add-k : tie.Need-add-k Inv-loop μ-loop
 add-k c = omega arith
 
--- src/table.rt:109:5
 loop-less : tie.Need-loop-less Inv-loop μ-loop
 loop-less c = omega arith
 
--- src/table.rt:109:5
 loop-again : tie.Need-loop-again Inv-loop μ-loop
 loop-again c =
     let start = c .before .before .before .before .before .before .before .before .before .before .before .before in
     let called = c .before .before .before .before .sew-next in
     rw (called .ensures .1, c .wide .ensures)
-    (sewing-goes _ _ _ (c .before .before .before .before .before .before .before .before .before .loop .inv) (start .pre) (omega arith) (called .result) (called .ensures .0))
+    (sewing-goes _ _ _ (c .before .before .before .before .before .before .before .before .before .loop .inv) (omega arith) (seam-fits (start .pre) _ (omega arith)) (called .result) (called .ensures .0))
 
--- src/table.rt:102:1
 same-length : tie.Need-same-length Inv-loop μ-loop
 same-length c = c .before .loop .inv .long
 
--- src/table.rt:102:1
 returns : tie.Need-returns Inv-loop μ-loop
 returns c = sewing-ends _ _ _ (c .before .loop .inv) (omega arith) (c .before .before .before .before .pre .even)
 
