@@ -21,7 +21,8 @@ use scene_parts::vertex_count;
 use scene_parts::written::corner;
 use scene_parts::written::edge_end;
 
-fn fill_vertices(positions: &[i32], boxes: &mut [i32])
+// The boxes of all vertices, each under its number.
+pub fn fill_vertices(positions: &[i32], boxes: &mut [i32])
     requires { ⌜ 6 * vertexCount (onlyPositions (now positions)) ≤ length (now boxes) ⌝ }
     ensures { λ _. ⌜ VerticesIn (onlyPositions (atEntry positions)) (atExit boxes)
         × KeptBehind (atEntry boxes) (atExit boxes) (vertexCount (onlyPositions (atEntry positions))) ⌝ }

@@ -14,14 +14,14 @@ ghost use Rattle.mesh_walk.specs.Steps.{Tree, rowMeets, placesMet};
 use list_boxes::kept::boxes_meet;
 
 // Where a walk stands, and whether its last step found a part.
-struct Spot {
-    level: usize,
-    node: usize,
-    found: bool,
+pub struct Spot {
+    pub level: usize,
+    pub node: usize,
+    pub found: bool,
 }
 
 // Up from a node while it is the first of its 16: the first part under it stays the same.
-fn climb(level: usize, node: usize, top: usize, found: bool) -> Spot
+pub fn climb(level: usize, node: usize, top: usize, found: bool) -> Spot
     requires { ⌜ (level ≤ top) × (top ≤ 16) ⌝ }
     ensures { λ r. ⌜ (r .level ≤ top) × (firstUnder (r .level) (r .node) ≡ firstUnder level node) × (r .found ≡ found) ⌝ }
 {
@@ -39,7 +39,7 @@ fn climb(level: usize, node: usize, top: usize, found: bool) -> Spot
 }
 
 // One node is tested.
-fn step(
+pub fn step(
     boxes: &[i32],
     levels: &[usize],
     parts: usize,

@@ -1,0 +1,2 @@
+-- When the boxes of a mesh can be worked out.
+pub mod Drawing
