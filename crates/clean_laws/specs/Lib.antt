@@ -1,0 +1,7 @@
+-- Laws for the theorem that a clean drape stays clean.
+-- columns of five numbers, and their product
+pub mod Columns
+-- columns have nonnegative weights that bring them to nothing, or lie on one side: always one of the two
+pub mod Gordan
+-- vectors of a plane that have all others on one side: as many that lead as that trail
+pub mod Borders

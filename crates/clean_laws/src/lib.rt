@@ -1,0 +1,1 @@
+// Laws for the theorem that a clean drape stays clean, in specs/. No code stands here.
