@@ -127,7 +127,7 @@ no-sum : (w u v : ℤ) → w ≡ u +ℤ v → w <ℤ pos 0 → pos 0 ≤ℤ u �
 no-sum w u v e h p q = let all = of-eq (w ∷ u ∷ v ∷ []) (search quotes depth 40 fits 9000) e in omega (arith, ord)
 
 module _ {A : Type 0} (x : A → A → ℤ) (t : Turns x) where
-  none-to-itself : (a : A) → x a a ≡ pos 0
+  pub none-to-itself : (a : A) → x a a ≡ pos 0
   none-to-itself a = own (x a a) (t .back a a)
     where
       own : (z : ℤ) → z ≡ negℤ z → z ≡ pos 0
@@ -135,7 +135,7 @@ module _ {A : Type 0} (x : A → A → ℤ) (t : Turns x) where
       own (pos (suc n)) e = absurd (omega (arith, ord))
       own (negsuc n) e = absurd (omega (arith, ord))
 
-  turned-not-zero : (a b : A) → x a b ≢ pos 0 → x b a ≢ pos 0
+  pub turned-not-zero : (a b : A) → x a b ≢ pos 0 → x b a ≢ pos 0
   turned-not-zero a b h e = h (t .back a b ∙ ap negℤ e)
 
   turned-up : (a b : A) → x a b ≤ℤ pos 0 → pos 0 ≤ℤ x b a
@@ -147,10 +147,10 @@ module _ {A : Type 0} (x : A → A → ℤ) (t : Turns x) where
   -- ---- one at most leads
 
   -- two that lead would lie on one line
-  not-two : (a b : A) → x a b ≢ pos 0 → pos 0 ≤ℤ x a b → pos 0 ≤ℤ x b a → ⊥
+  pub not-two : (a b : A) → x a b ≢ pos 0 → pos 0 ≤ℤ x a b → pos 0 ≤ℤ x b a → ⊥
   not-two a b h p q = h (let r = turned-down b a q in omega (arith, ord))
 
-  one-at-most : (whole l : List A) → Apart x l → ((b : A) → Stands b l → Stands b whole) → odd (leads x whole) l ≡ some (leads x whole) l
+  pub one-at-most : (whole l : List A) → Apart x l → ((b : A) → Stands b l → Stands b whole) → odd (leads x whole) l ≡ some (leads x whole) l
   unfolding odd some Apart Stands
   one-at-most whole [] apart within = refl
   one-at-most whole (a ∷ l) apart within = by-first (leads x whole a) refl (one-at-most whole l (apart .1) (λ b s. within b (inr s)))
@@ -170,7 +170,7 @@ module _ {A : Type 0} (x : A → A → ℤ) (t : Turns x) where
   -- ---- where one leads, one trails
 
   -- every other one lies strictly to the one side of a
-  others : (l : List A) (a : A) → Apart x l → Stands a l → Every (λ d. (x a d ≢ pos 0) ⊎ (d ≡ a)) l
+  pub others : (l : List A) (a : A) → Apart x l → Stands a l → Every (λ d. (x a d ≢ pos 0) ⊎ (d ≡ a)) l
   unfolding Apart Stands
   others [] a apart s = tt
   others (b ∷ l) a apart (inl e) =

@@ -5,3 +5,5 @@ pub mod Columns
 pub mod Gordan
 -- vectors of a plane that have all others on one side: as many that lead as that trail
 pub mod Borders
+-- the facets of a cell that are met are the borders of its arrows
+pub mod Facets
