@@ -53,7 +53,7 @@ square z = by-sign (sgn z) refl
     by-sign positive e = inr (positive-is (z *ℤ z) .0 (sgn-mul z z ∙ rw e))
     by-sign negative e = inr (positive-is (z *ℤ z) .0 (sgn-mul z z ∙ rw e))
 
-square-not-below : (z : ℤ) → pos 0 ≤ℤ (z *ℤ z)
+pub square-not-below : (z : ℤ) → pos 0 ≤ℤ (z *ℤ z)
 square-not-below z = by-cases (square z)
   where
     by-cases : (z ≡ pos 0) ⊎ (pos 0 <ℤ (z *ℤ z)) → pos 0 ≤ℤ (z *ℤ z)

@@ -1,5 +1,5 @@
--- A cell's weights are forms in two numbers s and t, each an arrow of the plane. A facet of the cell is met where its own weight is 0, none is below 0
--- and one is above 0: exactly where its arrow is a border. So the facets met are even in number.
+-- A cell's weights are forms in two numbers s and t, each an arrow of the plane. A facet of the cell is met where its own weight is 0 and none is below
+-- 0, with s and t not both 0: exactly where its arrow is a border. So the facets met are even in number.
 use Prim.Native.Nat.{ℕ, zero, suc}
 use mathlib.Core.Bool.{Bool, true, false, true≢false, false≢true, _||_}
 use mathlib.Core.List.{List, [], _∷_}
@@ -13,7 +13,7 @@ use Rattle.whole.specs.Quote.{quotes, ring, times, combine}
 use Rattle.whole.specs.Order.{le, ord, nn-mul, parts-le}
 use Rattle.whole.specs.Signs.{Sgn, negative, nought, positive, isNegative, isPositive, sgn, sgn-mul, positive-is, negative-is, nought-is}
 use Rattle.theory.specs.Bounds.{Every}
-use Rattle.clean_laws.specs.Borders.{Stands, of-every, every-of, flip, leads, leads-said, leads-is, Apart, others, none-to-itself, turned-not-zero, border, Arrow, turn, plane-turns}
+use Rattle.clean_laws.specs.Borders.{Stands, of-every, every-of, flip, leads, leads-said, leads-is, Apart, others, none-to-itself, border, Arrow, turn, plane-turns}
 
 -- the weight of an arrow at s and t
 abbrev pub weight : ℤ → ℤ → Arrow → ℤ
@@ -25,9 +25,7 @@ pub record Met (l : List Arrow) (v : Arrow) : Type 0 where
   pub t : ℤ
   pub out : weight s t v ≡ pos 0
   pub up : Every (λ u. pos 0 ≤ℤ weight s t u) l
-  pub one : Arrow
-  pub stands : Stands one l
-  pub above : pos 0 <ℤ weight s t one
+  pub some : (s ≢ pos 0) ⊎ (t ≢ pos 0)
 
 -- ---- from a border
 
@@ -46,13 +44,26 @@ far-of b c l apart v s = let far = others turn plane-turns (b ∷ c ∷ l) v apa
     by-two (inr n) (inl m) = record { who = c; there = inr (inl refl); off = m }
     by-two (inr n) (inr m) = absurd (apart .0 .0 (rw (n, m) (none-to-itself turn plane-turns v)))
 
-above-0 : (z : ℤ) → pos 0 ≤ℤ z → z ≢ pos 0 → pos 0 <ℤ z
-above-0 z h n = by-sign (sgn z) refl
+unturned : (z : ℤ) → negℤ z ≡ pos 0 → z ≡ pos 0
+unturned z e = combine (z ∷ []) (times (negsuc 0) e ∷ []) (search quotes depth 40 fits 9000) refl
+
+pub positive-not : positive ≢ nought
+positive-not e = true≢false (ap isPositive e)
+
+pub negative-not : negative ≢ nought
+negative-not e = true≢false (ap isNegative e)
+
+-- an arrow from which another turns is not nothing
+not-nothing : (v u : Arrow) → turn v u ≢ pos 0 → (v .across ≢ pos 0) ⊎ (v .along ≢ pos 0)
+not-nothing v u n = by-sign (sgn (v .across)) refl
   where
-    by-sign : (g : Sgn) → sgn z ≡ g → pos 0 <ℤ z
-    by-sign positive e = positive-is z .0 e
-    by-sign nought e = absurd (n (nought-is z .0 e))
-    by-sign negative e = let low = negative-is z .0 e in absurd (omega (arith, ord))
+    by-along : v .across ≡ pos 0 → v .along ≢ pos 0
+    by-along e f = n (combine (v .across ∷ v .along ∷ u .across ∷ u .along ∷ []) (times (u .along) e ∷ times (negℤ (u .across)) f ∷ []) (search quotes depth 40 fits 9000) refl)
+
+    by-sign : (g : Sgn) → sgn (v .across) ≡ g → (v .across ≢ pos 0) ⊎ (v .along ≢ pos 0)
+    by-sign positive e = inl (λ z. positive-not (sym e ∙ nought-is (v .across) .1 z))
+    by-sign nought e = inr (by-along (nought-is (v .across) .0 e))
+    by-sign negative e = inl (λ z. negative-not (sym e ∙ nought-is (v .across) .1 z))
 
 weight-on : (v u : Arrow) → weight (negℤ (v .along)) (v .across) u ≡ turn v u
 weight-on v u = ring (v .along ∷ v .across ∷ u .along ∷ u .across ∷ []) (search quotes depth 40 fits 9000) refl
@@ -75,9 +86,7 @@ module _ (b c : Arrow) (l : List Arrow) (apart : Apart turn (b ∷ c ∷ l)) (v 
         t = v .across;
         out = weight-on v v ∙ none-to-itself turn plane-turns v;
         up = every-of (λ u. pos 0 ≤ℤ weight (negℤ (v .along)) (v .across) u) all (λ u q. rw (weight-on v u) (of-every (λ u. pos 0 ≤ℤ turn v u) all u up q));
-        one = far .who;
-        stands = far .there;
-        above = rw (weight-on v (far .who)) (above-0 (turn v (far .who)) (of-every (λ u. pos 0 ≤ℤ turn v u) all (far .who) up (far .there)) (far .off));
+        some = ⊎-elim (λ n. inr n) (λ n. inl (λ z. n (unturned (v .along) z))) (not-nothing v (far .who) (far .off));
       }
 
   trailed : leads (flip turn) all v ≡ true → Met all v
@@ -88,9 +97,7 @@ module _ (b c : Arrow) (l : List Arrow) (apart : Apart turn (b ∷ c ∷ l)) (v 
         t = negℤ (v .across);
         out = weight-back v v ∙ none-to-itself turn plane-turns v;
         up = every-of (λ u. pos 0 ≤ℤ weight (v .along) (negℤ (v .across)) u) all (λ u q. rw (weight-back v u) (of-every (λ u. pos 0 ≤ℤ turn u v) all u up q));
-        one = far .who;
-        stands = far .there;
-        above = rw (weight-back v (far .who)) (above-0 (turn (far .who) v) (of-every (λ u. pos 0 ≤ℤ turn u v) all (far .who) up (far .there)) (turned-not-zero turn plane-turns v (far .who) (far .off)));
+        some = ⊎-elim (λ n. inr (λ z. n (unturned (v .across) z))) inl (not-nothing v (far .who) (far .off));
       }
 
   pub border-met : border turn all v ≡ true → Met all v
@@ -120,15 +127,6 @@ square-above m n = by-sign (sgn m) refl
 
 turned : (z : ℤ) → z <ℤ pos 0 → pos 0 ≤ℤ negℤ z
 turned z h = le (z ∷ []) (search quotes depth 40 fits 9000) (omega (arith, ord))
-
-unturned : (z : ℤ) → negℤ z ≡ pos 0 → z ≡ pos 0
-unturned z e = combine (z ∷ []) (times (negsuc 0) e ∷ []) (search quotes depth 40 fits 9000) refl
-
-positive-not : positive ≢ nought
-positive-not e = true≢false (ap isPositive e)
-
-negative-not : negative ≢ nought
-negative-not e = true≢false (ap isNegative e)
 
 -- where k w = m r, r is on one side as w is
 same-side : (k m w r : ℤ) → k *ℤ w ≡ m *ℤ r → m ≢ pos 0 → pos 0 ≤ℤ (k *ℤ m) → pos 0 ≤ℤ w → pos 0 ≤ℤ r
@@ -175,16 +173,5 @@ module _ (all : List Arrow) (v : Arrow) (m : Met all v) where
       by-sign nought e = lead (rw (nought-is (k *ℤ n) .0 e) (parts-le (omega arith)))
       by-sign negative e = trail (turned (k *ℤ n) (negative-is (k *ℤ n) .0 e))
 
-  -- not both are 0, since one weight is above 0
   pub met-border : border turn all v ≡ true
-  met-border = by-s (sgn (m .s)) refl (sgn (m .t)) refl
-    where
-      by-s : (g : Sgn) → sgn (m .s) ≡ g → (h : Sgn) → sgn (m .t) ≡ h → border turn all v ≡ true
-      by-s g e positive f = sided (v .across) (m .t) (λ z. positive-not (sym f ∙ nought-is (m .t) .1 z)) by-across
-      by-s g e negative f = sided (v .across) (m .t) (λ z. negative-not (sym f ∙ nought-is (m .t) .1 z)) by-across
-      by-s positive e nought f = sided (v .along) (negℤ (m .s)) (λ z. positive-not (sym e ∙ nought-is (m .s) .1 (unturned (m .s) z))) by-along
-      by-s negative e nought f = sided (v .along) (negℤ (m .s)) (λ z. negative-not (sym e ∙ nought-is (m .s) .1 (unturned (m .s) z))) by-along
-      by-s nought e nought f =
-          let none : at (m .one) ≡ pos 0 = rw (nought-is (m .s) .0 e, nought-is (m .t) .0 f) (ring (m .one .across ∷ m .one .along ∷ []) (search quotes depth 40 fits 9000) refl) in
-          let high = m .above in
-          absurd (omega (arith, ord))
+  met-border = ⊎-elim (λ n. sided (v .along) (negℤ (m .s)) (λ z. n (unturned (m .s) z)) by-along) (λ n. sided (v .across) (m .t) n by-across) (m .some)

@@ -7,3 +7,5 @@ pub mod Gordan
 pub mod Borders
 -- the facets of a cell that are met are the borders of its arrows
 pub mod Facets
+-- cells of seven points: a facet touches exactly where its arrow is a border
+pub mod Cells
