@@ -9,3 +9,5 @@ pub mod Borders
 pub mod Facets
 -- cells of seven points: a facet touches exactly where its arrow is a border
 pub mod Cells
+-- seven points, and the two numbers that give all their balances
+pub mod Seven
