@@ -144,10 +144,10 @@ module _ {a b : List Event} (c : Cell a b) (u v : ℕ → ℕ) (balanced : Balan
   unfolding weightIn There
   not-both-none e f =
       let none : (i : ℕ) → i < length a → pos (u i) ≡ pos 0 =
-          λ i h.
-          zero-factor (c .size) (pos (u i)) (c .some)
-          (zero-factor (c .size) (c .size *ℤ pos (u i)) (c .some)
-          (sym (form (ofFirst i) h) ∙ rw (e, f) (ring (c .arrows (ofFirst i) .across ∷ c .arrows (ofFirst i) .along ∷ []) (search quotes depth 40 fits 9000) refl))) in
+      λ i h.
+      zero-factor (c .size) (pos (u i)) (c .some)
+      (zero-factor (c .size) (c .size *ℤ pos (u i)) (c .some)
+      (sym (form (ofFirst i) h) ∙ rw (e, f) (ring (c .arrows (ofFirst i) .across ∷ c .arrows (ofFirst i) .along ∷ []) (search quotes depth 40 fits 9000) refl))) in
       let all = total-none one (λ i. pos (u i)) a none in
       omega (arith, ord)
 
@@ -173,7 +173,7 @@ module _ {a b : List Event} (c : Cell a b) (u v : ℕ → ℕ) (balanced : Balan
       }
 
 -- a facet that touches is a border
-balanced-turned : {a b : List Event} {u v : ℕ → ℤ} → Balanced a b u v → Balanced b a v u
+pub balanced-turned : {a b : List Event} {u v : ℕ → ℤ} → Balanced a b u v → Balanced b a v u
 balanced-turned p = record { sums = sym (p .sums); xs = sym (p .xs); ys = sym (p .ys); zs = sym (p .zs); times = sym (p .times) }
 
 pub facet-border : {a b : List Event} (c : Cell a b) (p q : Slot) (ks : List Slot) → Kept c p q ks → (k : Slot) → Stands k (p ∷ q ∷ ks) → FacetTouch a b k → border turn (map (c .arrows) (p ∷ q ∷ ks)) (c .arrows k) ≡ true

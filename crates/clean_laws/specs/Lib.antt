@@ -11,3 +11,7 @@ pub mod Facets
 pub mod Cells
 -- seven points, and the two numbers that give all their balances
 pub mod Seven
+-- their cells, in the three orders of the second simplex
+pub mod Orders
+-- an edge and a triangle in general position: six cells, whose facets are even in number
+pub mod General
