@@ -15,3 +15,5 @@ pub mod Seven
 pub mod Orders
 -- an edge and a triangle in general position: six cells, whose facets are even in number
 pub mod General
+-- general position by sending p to n p + q
+pub mod Shaken
