@@ -209,7 +209,7 @@ every-back P g [] h = tt
 every-back P g (u ∷ l) h = (h .0, every-back P g l (h .1))
 
 -- a number is not below its size turned
-not-below-size : (z : ℤ) (b : ℕ) → natAbs z ≤ b → negℤ (pos b) ≤ℤ z
+pub not-below-size : (z : ℤ) (b : ℕ) → natAbs z ≤ b → negℤ (pos b) ≤ℤ z
 not-below-size (pos n) zero h = parts-le (omega arith)
 not-below-size (pos n) (suc b) h = parts-le (omega arith)
 not-below-size (negsuc n) zero h = absurd (omega arith)
@@ -220,7 +220,7 @@ joined x y m z d v h k e =
     combine (x ∷ y ∷ m ∷ z ∷ d ∷ v ∷ []) (times (pos 1) h ∷ times m k ∷ times (pos 1) e ∷ []) (search quotes depth 40 fits 9000) refl
 
 -- m is one more than b, and outweighs what is not below b turned
-outweighs : (m x y b : ℤ) → m ≡ b +ℤ pos 1 → pos 0 ≤ℤ b → pos 0 <ℤ x → negℤ b ≤ℤ y → pos 0 <ℤ (m *ℤ x +ℤ y)
+pub outweighs : (m x y b : ℤ) → m ≡ b +ℤ pos 1 → pos 0 ≤ℤ b → pos 0 <ℤ x → negℤ b ≤ℤ y → pos 0 <ℤ (m *ℤ x +ℤ y)
 outweighs m x y b e a h k =
     let env : List ℤ = m ∷ x ∷ y ∷ b ∷ [] in
     let one = of-eq env (search quotes depth 40 fits 9000) e in
@@ -233,7 +233,7 @@ outweighs m x y b e a h k =
 no-more : (m n : ℤ) → pos 0 <ℤ n → pos 0 <ℤ (m *ℤ pos 0 +ℤ n)
 no-more m n h = lt (m ∷ n ∷ []) (search quotes depth 40 fits 9000) (omega (arith, ord))
 
-next-is : (n : ℕ) → pos (suc n) ≡ pos n +ℤ pos 1
+pub next-is : (n : ℕ) → pos (suc n) ≡ pos n +ℤ pos 1
 next-is n = parts-eq (omega arith)
 
 module _ (c : Column) (l : List Column) (own : pos 0 <ℤ dot c c) (s : OneSided (map (shadow c) l)) where

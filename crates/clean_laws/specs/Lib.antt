@@ -17,3 +17,5 @@ pub mod Orders
 pub mod General
 -- general position by sending p to n p + q
 pub mod Shaken
+-- what does not touch stays so
+pub mod Staying
