@@ -240,7 +240,7 @@ total-least w [] i h = absurd (omega arith)
 total-least w (e ∷ l) zero h = first-of (pos (w 0)) (total one (λ i. pos (w (suc i))) l) (total-not-below (λ i. w (suc i)) l)
 total-least w (e ∷ l) (suc i) h = more-than (pos (w 0)) (pos (w (suc i))) (total one (λ i. pos (w (suc i))) l) (total-least (λ i. w (suc i)) l i (omega arith)) (parts-le (omega arith))
 
-size-is : (z : ℤ) → pos 0 ≤ℤ z → pos (natAbs z) ≡ z
+pub size-is : (z : ℤ) → pos 0 ≤ℤ z → pos (natAbs z) ≡ z
 size-is (pos n) h = refl
 size-is (negsuc n) h = absurd (h .le)
 

@@ -19,3 +19,5 @@ pub mod General
 pub mod Shaken
 -- what does not touch stays so
 pub mod Staying
+-- an edge through a triangle stays through it
+pub mod Proper
