@@ -117,7 +117,7 @@ up-from q r p w e hq hp hw = by-sign (sgn r) refl
         let high = nn-mul p w hp hw in
         absurd (omega (arith, ord))
 
-square-above : (m : ℤ) → m ≢ pos 0 → pos 0 <ℤ (m *ℤ m)
+pub square-above : (m : ℤ) → m ≢ pos 0 → pos 0 <ℤ (m *ℤ m)
 square-above m n = by-sign (sgn m) refl
   where
     by-sign : (g : Sgn) → sgn m ≡ g → pos 0 <ℤ (m *ℤ m)

@@ -113,10 +113,10 @@ shadows-weighed k c w l =
 
 -- ---- where the shadows come to nothing
 
-product-above : (a b : ℤ) → pos 0 <ℤ a → pos 0 <ℤ b → pos 0 <ℤ (a *ℤ b)
+pub product-above : (a b : ℤ) → pos 0 <ℤ a → pos 0 <ℤ b → pos 0 <ℤ (a *ℤ b)
 product-above a b h k = positive-is (a *ℤ b) .0 (sgn-mul a b ∙ rw (positive-is a .1 h, positive-is b .1 k))
 
-factor-above : (a b : ℤ) → pos 0 <ℤ a → pos 0 <ℤ (a *ℤ b) → pos 0 <ℤ b
+pub factor-above : (a b : ℤ) → pos 0 <ℤ a → pos 0 <ℤ (a *ℤ b) → pos 0 <ℤ b
 factor-above a b h k = positive-is b .0 (sym (rw (positive-is a .1 h) at (sgn-mul a b)) ∙ positive-is (a *ℤ b) .1 k)
 
 balanced : (a x t n y m : ℤ) → a ≡ negℤ m → t ≡ n *ℤ y → n *ℤ y -ℤ m *ℤ x ≡ pos 0 → a *ℤ x +ℤ t ≡ pos 0

@@ -20,8 +20,8 @@ use Rattle.corner_laws.specs.Tightest.{Tightest, tightest}
 use Rattle.theory.specs.NoCrack.{without}
 use Rattle.theory.specs.SamePoints.{touch-turned}
 use Rattle.clean_laws.specs.Cells.{touch-without, balanced-turned, size-is}
-use Rattle.clean_laws.specs.Facets.{positive-not, negative-not}
-use Rattle.clean_laws.specs.Gordan.{outweighs, next-is, not-below-size}
+use Rattle.clean_laws.specs.Facets.{square-above}
+use Rattle.clean_laws.specs.Gordan.{outweighs, next-is, not-below-size, product-above, factor-above}
 use Rattle.clean_laws.specs.Shaken.{shake}
 use Rattle.clean_laws.specs.Staying.{FromOn}
 
@@ -220,3 +220,114 @@ module _ (t : ℤ) (p : Five) (pr : Proper t p) (h : Touch (edgeAt t p) (faceAt 
   not-3 : h .v 2 ≡ 0 → ⊥
   unfolding without
   not-3 e = pr .no3 (without-second 2 e)
+
+-- ---- as four vectors from the first end
+
+abbrev fourOf : Five → Four Vector
+fourOf p = record { v0 = minus (p .b) (p .a); v1 = minus (p .c1) (p .a); v2 = minus (p .c2) (p .a); v3 = minus (p .c3) (p .a) }
+
+abbrev numbers : Five → Four ℤ
+numbers p = volumes (fourOf p)
+
+-- the first end's own number
+abbrev ownNumber : Five → ℤ
+ownNumber p = numbers p .v0 +ℤ numbers p .v1 +ℤ numbers p .v2 +ℤ numbers p .v3
+
+record FourNone (v : Four Vector) (w0 w1 w2 w3 : ℤ) : Type 0 where
+  inX : w0 *ℤ v .v0 .x +ℤ w1 *ℤ v .v1 .x +ℤ w2 *ℤ v .v2 .x +ℤ w3 *ℤ v .v3 .x ≡ pos 0
+  inY : w0 *ℤ v .v0 .y +ℤ w1 *ℤ v .v1 .y +ℤ w2 *ℤ v .v2 .y +ℤ w3 *ℤ v .v3 .y ≡ pos 0
+  inZ : w0 *ℤ v .v0 .z +ℤ w1 *ℤ v .v1 .z +ℤ w2 *ℤ v .v2 .z +ℤ w3 *ℤ v .v3 .z ≡ pos 0
+
+from-first : (wa wb w1 w2 w3 a b c d e : ℤ) → wa +ℤ wb ≡ w1 +ℤ w2 +ℤ w3 → wa *ℤ a +ℤ wb *ℤ b ≡ w1 *ℤ c +ℤ w2 *ℤ d +ℤ w3 *ℤ e → negℤ wb *ℤ (b -ℤ a) +ℤ w1 *ℤ (c -ℤ a) +ℤ w2 *ℤ (d -ℤ a) +ℤ w3 *ℤ (e -ℤ a) ≡ pos 0
+from-first wa wb w1 w2 w3 a b c d e s h = combine (wa ∷ wb ∷ w1 ∷ w2 ∷ w3 ∷ a ∷ b ∷ c ∷ d ∷ e ∷ []) (times (negsuc 0) h ∷ times a s ∷ []) (search quotes depth 60 fits 90000) refl
+
+four-none : (p : Five) (wa wb w1 w2 w3 : ℤ) → FiveBalance p wa wb w1 w2 w3 → FourNone (fourOf p) (negℤ wb) w1 w2 w3
+four-none p wa wb w1 w2 w3 q =
+    record {
+      inX = from-first wa wb w1 w2 w3 (p .a .x) (p .b .x) (p .c1 .x) (p .c2 .x) (p .c3 .x) (q .sums) (q .xs);
+      inY = from-first wa wb w1 w2 w3 (p .a .y) (p .b .y) (p .c1 .y) (p .c2 .y) (p .c3 .y) (q .sums) (q .ys);
+      inZ = from-first wa wb w1 w2 w3 (p .a .z) (p .b .z) (p .c1 .z) (p .c2 .z) (p .c3 .z) (q .sums) (q .zs);
+    }
+
+-- what combines four vectors to the origin is in proportion to their volumes
+module _ (v : Four Vector) (w0 w1 w2 w3 : ℤ) (h : FourNone v w0 w1 w2 w3) where
+  abbrev letters : List ℤ
+  letters = w0 ∷ w1 ∷ w2 ∷ w3 ∷ v .v0 .x ∷ v .v0 .y ∷ v .v0 .z ∷ v .v1 .x ∷ v .v1 .y ∷ v .v1 .z ∷ v .v2 .x ∷ v .v2 .y ∷ v .v2 .z ∷ v .v3 .x ∷ v .v3 .y ∷ v .v3 .z ∷ []
+
+  first-share : w0 *ℤ volumes v .v3 ≡ w3 *ℤ volumes v .v0
+  unfolding volume
+  first-share =
+      combine letters
+      (times (negℤ (v .v1 .y *ℤ v .v2 .z -ℤ v .v1 .z *ℤ v .v2 .y)) (h .inX) ∷ times (negℤ (v .v1 .z *ℤ v .v2 .x -ℤ v .v1 .x *ℤ v .v2 .z)) (h .inY) ∷ times (negℤ (v .v1 .x *ℤ v .v2 .y -ℤ v .v1 .y *ℤ v .v2 .x)) (h .inZ) ∷ []) (search quotes depth 80 fits 400000) refl
+
+  second-share : w1 *ℤ volumes v .v3 ≡ w3 *ℤ volumes v .v1
+  unfolding volume
+  second-share =
+      combine letters
+      (times (v .v0 .y *ℤ v .v2 .z -ℤ v .v0 .z *ℤ v .v2 .y) (h .inX) ∷ times (v .v0 .z *ℤ v .v2 .x -ℤ v .v0 .x *ℤ v .v2 .z) (h .inY) ∷ times (v .v0 .x *ℤ v .v2 .y -ℤ v .v0 .y *ℤ v .v2 .x) (h .inZ) ∷ []) (search quotes depth 80 fits 400000) refl
+
+  third-share : w2 *ℤ volumes v .v3 ≡ w3 *ℤ volumes v .v2
+  unfolding volume
+  third-share =
+      combine letters
+      (times (negℤ (v .v0 .y *ℤ v .v1 .z -ℤ v .v0 .z *ℤ v .v1 .y)) (h .inX) ∷ times (negℤ (v .v0 .z *ℤ v .v1 .x -ℤ v .v0 .x *ℤ v .v1 .z)) (h .inY) ∷ times (negℤ (v .v0 .x *ℤ v .v1 .y -ℤ v .v0 .y *ℤ v .v1 .x)) (h .inZ) ∷ []) (search quotes depth 80 fits 400000) refl
+
+-- where w n₃ = w₃ n and w, w₃ are above 0, n has the sign of n₃
+product-up : (w n3 w3 n : ℤ) → w *ℤ n3 ≡ w3 *ℤ n → pos 0 <ℤ w → pos 0 <ℤ w3 → n3 ≢ pos 0 → pos 0 <ℤ (n3 *ℤ n)
+product-up w n3 w3 n e hw h3 some =
+    let same : w3 *ℤ (n3 *ℤ n) ≡ w *ℤ (n3 *ℤ n3) = combine (w ∷ n3 ∷ w3 ∷ n ∷ []) (times (negℤ n3) e ∷ []) (search quotes depth 60 fits 90000) refl in
+    factor-above w3 (n3 *ℤ n) h3 (rw same (product-above w (n3 *ℤ n3) hw (square-above n3 some)))
+
+own-share : (wa wb w1 w2 w3 n0 n1 n2 n3 : ℤ) → wa +ℤ wb ≡ w1 +ℤ w2 +ℤ w3 → negℤ wb *ℤ n3 ≡ w3 *ℤ n0 → w1 *ℤ n3 ≡ w3 *ℤ n1 → w2 *ℤ n3 ≡ w3 *ℤ n2 → wa *ℤ n3 ≡ w3 *ℤ (n0 +ℤ n1 +ℤ n2 +ℤ n3)
+own-share wa wb w1 w2 w3 n0 n1 n2 n3 s e0 e1 e2 =
+    combine (wa ∷ wb ∷ w1 ∷ w2 ∷ w3 ∷ n0 ∷ n1 ∷ n2 ∷ n3 ∷ []) (times n3 s ∷ times (pos 1) e0 ∷ times (pos 1) e1 ∷ times (pos 1) e2 ∷ []) (search quotes depth 60 fits 90000) refl
+
+turned-share : (w n3 w3 n : ℤ) → negℤ w *ℤ n3 ≡ w3 *ℤ n → w *ℤ n3 ≡ w3 *ℤ negℤ n
+turned-share w n3 w3 n e = combine (w ∷ n3 ∷ w3 ∷ n ∷ []) (times (negsuc 0) e ∷ []) (search quotes depth 60 fits 90000) refl
+
+-- ---- off the plane: the products of the numbers are weights
+
+record Products (p : Five) : Type 0 where
+  ofA : pos 0 <ℤ (numbers p .v3 *ℤ ownNumber p)
+  ofB : pos 0 <ℤ (numbers p .v3 *ℤ negℤ (numbers p .v0))
+  of1 : pos 0 <ℤ (numbers p .v3 *ℤ numbers p .v1)
+  of2 : pos 0 <ℤ (numbers p .v3 *ℤ numbers p .v2)
+  of3 : pos 0 <ℤ (numbers p .v3 *ℤ numbers p .v3)
+
+products : (p : Five) (wa wb w1 w2 w3 : ℤ) → FiveBalance p wa wb w1 w2 w3 → pos 0 <ℤ wa → pos 0 <ℤ wb → pos 0 <ℤ w1 → pos 0 <ℤ w2 → pos 0 <ℤ w3 → numbers p .v3 ≢ pos 0 → Products p
+products p wa wb w1 w2 w3 q ha hb h1 h2 h3 some =
+    let f = four-none p wa wb w1 w2 w3 q in
+    let n = numbers p in
+    let e0 = first-share (fourOf p) (negℤ wb) w1 w2 w3 f in
+    let e1 = second-share (fourOf p) (negℤ wb) w1 w2 w3 f in
+    let e2 = third-share (fourOf p) (negℤ wb) w1 w2 w3 f in
+    record {
+      ofA = product-up wa (n .v3) w3 (ownNumber p) (own-share wa wb w1 w2 w3 (n .v0) (n .v1) (n .v2) (n .v3) (q .sums) e0 e1 e2) ha h3 some;
+      ofB = product-up wb (n .v3) w3 (negℤ (n .v0)) (turned-share wb (n .v3) w3 (n .v0) e0) hb h3 some;
+      of1 = product-up w1 (n .v3) w3 (n .v1) e1 h1 h3 some;
+      of2 = product-up w2 (n .v3) w3 (n .v2) e2 h2 h3 some;
+      of3 = square-above (n .v3) some;
+    }
+
+-- and back: five points with such numbers are an edge through a triangle
+back-in : (n0 n1 n2 n3 a b c d e : ℤ) → n0 *ℤ (b -ℤ a) +ℤ n1 *ℤ (c -ℤ a) +ℤ n2 *ℤ (d -ℤ a) +ℤ n3 *ℤ (e -ℤ a) ≡ pos 0
+    → (n3 *ℤ (n0 +ℤ n1 +ℤ n2 +ℤ n3)) *ℤ a +ℤ (n3 *ℤ negℤ n0) *ℤ b ≡ (n3 *ℤ n1) *ℤ c +ℤ (n3 *ℤ n2) *ℤ d +ℤ (n3 *ℤ n3) *ℤ e
+back-in n0 n1 n2 n3 a b c d e h = combine (n0 ∷ n1 ∷ n2 ∷ n3 ∷ a ∷ b ∷ c ∷ d ∷ e ∷ []) (times (negℤ n3) h ∷ []) (search quotes depth 60 fits 90000) refl
+
+back-sums : (n0 n1 n2 n3 : ℤ) → n3 *ℤ (n0 +ℤ n1 +ℤ n2 +ℤ n3) +ℤ n3 *ℤ negℤ n0 ≡ n3 *ℤ n1 +ℤ n3 *ℤ n2 +ℤ n3 *ℤ n3
+back-sums n0 n1 n2 n3 = ring (n0 ∷ n1 ∷ n2 ∷ n3 ∷ []) (search quotes depth 60 fits 90000) refl
+
+products-touch : (t : ℤ) (p : Five) → Products p → Touch (edgeAt t p) (faceAt t p)
+products-touch t p g =
+    let n = numbers p in
+    let h = balance (fourOf p) in
+    five-touch t p (n .v3 *ℤ ownNumber p) (n .v3 *ℤ negℤ (n .v0)) (n .v3 *ℤ n .v1) (n .v3 *ℤ n .v2) (n .v3 *ℤ n .v3) (weak (g .ofA)) (weak (g .ofB)) (weak (g .of1)) (weak (g .of2)) (g .of3)
+    (record {
+      sums = back-sums (n .v0) (n .v1) (n .v2) (n .v3);
+      xs = back-in (n .v0) (n .v1) (n .v2) (n .v3) (p .a .x) (p .b .x) (p .c1 .x) (p .c2 .x) (p .c3 .x) (ap (λ (v : Vector). v .x) h);
+      ys = back-in (n .v0) (n .v1) (n .v2) (n .v3) (p .a .y) (p .b .y) (p .c1 .y) (p .c2 .y) (p .c3 .y) (ap (λ (v : Vector). v .y) h);
+      zs = back-in (n .v0) (n .v1) (n .v2) (n .v3) (p .a .z) (p .b .z) (p .c1 .z) (p .c2 .z) (p .c3 .z) (ap (λ (v : Vector). v .z) h);
+    })
+  where
+    weak : {z : ℤ} → pos 0 <ℤ z → pos 0 ≤ℤ z
+    weak h = omega (arith, ord)
