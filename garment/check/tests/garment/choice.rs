@@ -140,55 +140,82 @@ fn face_lines(faces: &[Vec<u32>], before: u32) -> String {
     faces.iter().map(|face| format!("f{}\n", corners(face))).collect()
 }
 
-/// A body from files of its own is the body of one file, behind the cloth; its vertices are numbered as its files have them.
-#[test]
-fn a_body_from_files_of_its_own() {
+/// A sheet and a body below it: in four files, and in two.
+struct Worn {
+    cloth: [String; 2],
+    body: [String; 2],
+    in_one: [String; 2],
+    /// How many vertices are the cloth's.
+    count: u32,
+}
+
+fn worn() -> Worn {
     let cloth = cloth(KINDS[0], 150, 3);
     let body = below(&cloth, [3.0, -3.0]);
     let count = cloth.start.len() as u32;
     // a vertex without a face is the body's too, as a part of its file
-    let loose = "v 20 20 -1\n";
-    let own = [&body.start, &body.end].map(|places| vertex_lines(places) + loose + "o Skin\n" + &face_lines(&body.faces, 0));
-    let alone = [&cloth.start, &cloth.end].map(|places| vertex_lines(places) + "o Coat\n" + &face_lines(&cloth.faces, 0));
-    let (mesh, names, grid) = named(&alone, Some(&own), false).expect("it is read");
-    let in_one = [[&cloth.start, &body.start], [&cloth.end, &body.end]].map(|[cloth_places, body_places]| {
-        let skin = face_lines(&body.faces, count);
-        vertex_lines(cloth_places)
-            + &vertex_lines(body_places)
-            + loose
-            + "o Coat\n"
-            + &face_lines(&cloth.faces, 0)
-            + "o Skin\n"
-            + &skin
-    });
-    let (same, _, same_grid) = named(&in_one, None, false).expect("it is read");
+    let skin = |places: &[[f64; 3]]| vertex_lines(places) + "v 20 20 -1\n";
+    let of_cloth = "o Coat\n".to_string() + &face_lines(&cloth.faces, 0);
+    let of_body = |before: u32| "o Skin\n".to_string() + &face_lines(&body.faces, before);
+    let times = [[&cloth.start, &body.start], [&cloth.end, &body.end]];
+    Worn {
+        cloth: times.map(|[coat, _]| vertex_lines(coat) + &of_cloth),
+        body: times.map(|[_, under]| skin(under) + &of_body(0)),
+        in_one: times.map(|[coat, under]| vertex_lines(coat) + &skin(under) + &of_cloth + &of_body(count)),
+        count,
+    }
+}
+
+impl Worn {
+    fn is_body(&self, part: &[u32]) -> bool {
+        part.iter().all(|&vertex| vertex >= self.count)
+    }
+
+    /// The vertices of a part as its file numbers them, and its names.
+    fn told(&self, part: &[u32]) -> (String, &str) {
+        let before = if self.is_body(part) { self.count } else { 0 };
+        let names = match part {
+            [loose] if *loose == 2 * self.count => "body",
+            _ if self.is_body(part) => "body,Skin",
+            _ => "Coat",
+        };
+        (part.iter().map(|vertex| (vertex - before + 1).to_string()).collect::<Vec<_>>().join(","), names)
+    }
+}
+
+/// A body from files of its own is the body of one file, behind the cloth.
+#[test]
+fn a_body_from_files_of_its_own() {
+    let worn = worn();
+    let (mesh, names, grid) = named(&worn.cloth, Some(&worn.body), false).expect("it is read");
+    let (same, _, same_grid) = named(&worn.in_one, None, false).expect("it is read");
     assert_eq!((&mesh, grid), (&same, same_grid));
-    let is_body = |part: &[u32]| part.iter().all(|&vertex| vertex >= count);
-    let (wanted, left) = kept(&mesh, |pair| !parts(&mesh, pair).iter().all(|part| is_body(part)));
-    let choice = Choice::of(&mesh, &names, &[], &[]);
+    let (wanted, left) = kept(&mesh, |pair| !parts(&mesh, pair).iter().all(|part| worn.is_body(part)));
+    let beside = Beside { choice: Choice::of(&mesh, &names, &[], &[]), ..Beside::default() };
+    let text = told(&mesh, &Form::default(), &beside, 2).0;
+    assert!(left > 100 && text.starts_with(&format!("{wanted}left\t{left}\ntotal\t")), "{left} left out");
     let between = Choice::of(&mesh, &names, &[], &[["Coat".into(), "body".into()]]).expect("a choice");
-    let whereabouts = Some(Whereabouts::new(&mesh, names, grid));
-    let text = told(&mesh, &Form::default(), &Beside { choice, whereabouts, marked: false }, 2).0;
-    let foot = text.find("names\t").expect("totals by names");
-    let cut = |line: &str| line.split('\t').take(4).collect::<Vec<_>>().join("\t") + "\n";
-    assert_eq!(text[..foot].lines().map(cut).collect::<String>(), wanted);
-    assert!(left > 100 && text.contains(&format!("\nleft\t{left}\ntotal\t")), "{left} left out");
-    let mut crossing = 0;
-    for line in text[..foot].lines() {
+    let mixed = |pair: Pair| parts(&mesh, pair).iter().filter(|part| worn.is_body(part)).count() == 1;
+    assert!(exact::listed(&mesh).into_iter().all(|pair| between.keeps(pair) == mixed(pair)));
+}
+
+/// Its vertices are told as its own files number them, and all of it has the name `body`.
+#[test]
+fn numbers_and_names_of_its_own_files() {
+    let worn = worn();
+    let (mesh, names, grid) = named(&worn.cloth, Some(&worn.body), false).expect("it is read");
+    let beside = Beside { whereabouts: Some(Whereabouts::new(&mesh, names, grid)), ..Beside::default() };
+    let text = told(&mesh, &Form::default(), &beside, 2).0;
+    let mut of_body = 0;
+    for line in text.lines().filter(|line| line.starts_with("pt") || line.starts_with("ee")) {
         let fields: Vec<&str> = line.split('\t').collect();
         for (part, at) in parts(&mesh, pair_of(&fields)).iter().zip([4, 5]) {
-            let (name, before) = if is_body(part) { ("Skin,body", count) } else { ("Coat", 0) };
-            let name = if part == &[2 * count] { "body" } else { name };
-            let own: Vec<String> = part.iter().map(|vertex| (vertex - before + 1).to_string()).collect();
-            let mut named: Vec<&str> = fields[at + 2].split(',').collect();
-            named.sort_unstable();
-            assert_eq!((fields[at], &*named.join(",")), (&*own.join(","), name), "{line}");
+            let (numbers, names) = worn.told(part);
+            assert_eq!((fields[at], fields[at + 2]), (&*numbers, names), "{line}");
+            of_body += worn.is_body(part) as usize;
         }
-        let mixed = is_body(&parts(&mesh, pair_of(&fields))[0]) != is_body(&parts(&mesh, pair_of(&fields))[1]);
-        assert_eq!(between.keeps(pair_of(&fields)), mixed, "{line}");
-        crossing += mixed as usize;
     }
-    assert!(crossing > 100, "{crossing}");
+    assert!(of_body > 100, "{of_body}");
 }
 
 fn pair_of(fields: &[&str]) -> Pair {
