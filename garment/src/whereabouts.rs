@@ -57,8 +57,8 @@ impl Whereabouts {
 
     /// Vertex numbers as the file has them, from 1; the body's own file has its own.
     fn in_file(&self, vertices: &[u32]) -> Vec<String> {
-        let before = |vertex: usize| self.names.behind.as_ref().map_or(0, |behind| behind.vertices).min(vertex);
-        let number = |vertex: usize| if self.names.is_behind(vertex) { vertex - before(vertex) + 1 } else { vertex + 1 };
+        let first = self.names.behind.as_ref().map_or(usize::MAX, |behind| behind.vertices);
+        let number = |vertex: usize| 1 + if vertex >= first { vertex - first } else { vertex };
         vertices.iter().map(|&vertex| number(vertex as usize).to_string()).collect()
     }
 
