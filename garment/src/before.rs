@@ -85,7 +85,7 @@ pub fn again(command: &Command, options: &Options, step: f64) -> String {
 }
 
 /// A name as a shell takes it.
-fn quoted(name: &str) -> String {
+pub fn quoted(name: &str) -> String {
     let plain = |byte: u8| byte.is_ascii_alphanumeric() || b"-_./+:@%,".contains(&byte);
     if !name.is_empty() && name.bytes().all(plain) {
         name.to_string()

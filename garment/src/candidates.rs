@@ -45,13 +45,19 @@ impl<'a> Finder<'a> {
         found
     }
 
-    /// The low corner of what the boxes of a pair's parts have in common.
-    pub fn meeting(&self, pair: Pair) -> [i32; 3] {
+    /// The boxes of a pair's parts.
+    pub fn boxes(&self, pair: Pair) -> [&Swept; 2] {
         let (first, second) = (pair.first as usize, pair.second as usize);
         match pair.kind {
-            Kind::PointTriangle => self.vertices[first].meeting(&self.triangles[second]),
-            Kind::EdgeEdge => self.edges[first].meeting(&self.edges[second]),
+            Kind::PointTriangle => [&self.vertices[first], &self.triangles[second]],
+            Kind::EdgeEdge => [&self.edges[first], &self.edges[second]],
         }
+    }
+
+    /// The low corner of what they have in common.
+    pub fn meeting(&self, pair: Pair) -> [i32; 3] {
+        let [one, other] = self.boxes(pair);
+        one.meeting(other)
     }
 
     fn of_vertex(&self, vertex: u32, found: &mut Vec<Pair>) {

@@ -1,13 +1,18 @@
 //! What each command does, and the status that it ends with.
 
 use crate::before;
+use crate::choice::Choice;
 use crate::fault::Fault;
 use crate::index::Index;
+use crate::mark;
 use crate::mesh::{self, Mesh};
+use crate::names::Names;
 use crate::obj::{self, Obj};
 use crate::progress::Bar;
 use crate::report::{About, Tally};
-use crate::rounding::{onto_grid, Rounded};
+use crate::rounding::{onto_grid, Grid, Rounded};
+use crate::whereabouts::Whereabouts;
+use crate::whole::{Asked, Beside};
 use crate::words::{understood, Command, Options, USAGE};
 use crate::{join, scene_text, split, whole};
 use makhnodri::Settled;
@@ -35,7 +40,11 @@ pub fn run(words: impl Iterator<Item = OsString>) -> u8 {
         Ok(_) => DONE,
         Err(faults) => {
             faults.iter().for_each(|fault| tell(&fault.words));
-            NO_REPORT
+            if faults.iter().any(|fault| fault.misunderstood) {
+                NOT_UNDERSTOOD
+            } else {
+                NO_REPORT
+            }
         }
     }
 }
@@ -51,22 +60,40 @@ fn done(command: &Command, options: &Options) -> Result<Option<Tally>, Vec<Fault
     }
 }
 
+/// What is read of two files, or of four.
+struct Garment {
+    mesh: Mesh,
+    about: About,
+    names: Names,
+    grid: Grid,
+}
+
 fn report(command: &Command, files: &[String; 2], options: &Options) -> Result<Tally, Vec<Fault>> {
-    let (mesh, about) = read(command, files, options)?;
+    let Garment { mesh, about, names, grid } = read(command, files, options)?;
+    let choice = Choice::of(&mesh, &names, &options.body, &options.between);
+    let whereabouts = options.told_where.then(|| Whereabouts::new(&mesh, names, grid));
+    let beside = Beside { choice, whereabouts, marked: options.mark.is_some() };
     let mut bar = Bar::new("judging", !options.quiet);
-    let tally = whole::report(&mesh, &about, &options.form, options.threads, &mut bar, buffered()).map_err(alone)?;
+    let asked = Asked { mesh: &mesh, about: &about, form: &options.form, beside: &beside };
+    let told = whole::told(&asked, options.threads, &mut bar, buffered()).map_err(alone)?;
     drop(bar);
-    options.note(|| format!("{} pairs found, and as many judged", tally.listed()));
-    Ok(tally)
+    options.note(|| note_of_pairs(told.tally.listed(), beside.choice.as_ref().map(|_| told.left)));
+    if let Some(name) = &options.mark {
+        let time = mark::write(name, &mesh, &grid, &told.marked).map_err(alone)?;
+        options.note(|| {
+            format!("{name} has the mesh at {time} of 1048576 from start to end, with {} pairs marked", told.marked.len())
+        });
+    }
+    Ok(told.tally)
 }
 
 fn scene(command: &Command, files: &[String; 2], options: &Options) -> Result<(), Vec<Fault>> {
-    let (mesh, _) = read(command, files, options)?;
-    print(scene_text::of_mesh(&mesh).as_bytes()).map_err(alone)
+    let garment = read(command, files, options)?;
+    print(scene_text::of_mesh(&garment.mesh).as_bytes()).map_err(alone)
 }
 
 fn split_into(command: &Command, folder: &str, files: &[String; 2], options: &Options) -> Result<(), Vec<Fault>> {
-    let (mesh, about) = read(command, files, options)?;
+    let Garment { mesh, about, .. } = read(command, files, options)?;
     let mut bar = Bar::new("finding", !options.quiet);
     let index = split::split(&mesh, about, options.form.contacts, Path::new(folder), options.threads, &mut bar).map_err(alone)?;
     drop(bar);
@@ -94,16 +121,17 @@ fn joined(folder: &str, options: &Options) -> Result<Tally, Vec<Fault>> {
 }
 
 /// The mesh of two files, start first; what is wrong with either is told, and what is to be known before its report is read.
-fn read(command: &Command, files: &[String; 2], options: &Options) -> Result<(Mesh, About), Vec<Fault>> {
-    let [start, end] = both_read(files)?;
-    let [from, to] = files.each_ref().map(|name| obj::shown_name(name));
-    mesh::same_faces([from, to], &start, &end).map_err(alone)?;
+fn read(command: &Command, files: &[String; 2], options: &Options) -> Result<Garment, Vec<Fault>> {
+    let ([mut start, end], of_file) = all_read(files, options)?;
+    let from = obj::shown_name(&files[0]);
+    let names = std::mem::take(&mut start.names);
+    options.all_known(&names)?;
     let rounded =
         onto_grid(&start.places, &end.places, options.step, options.limit()).map_err(|fault| alone(options.of_range(fault)))?;
-    let (step, of_file, of_steps) = (rounded.step, note_of_file(from, &start), note_of_steps(&rounded, options.step.is_none()));
+    let (grid, of_steps) = (Grid { step: rounded.step, middle: rounded.middle }, note_of_steps(&rounded, options.step.is_none()));
     let mesh = mesh::join(from, start, &end, rounded, options.seams).map_err(alone)?;
-    let about = about(&mesh, step);
-    options.note(|| format!("{of_steps}; the same grid again: {}", before::again(command, options, step)));
+    let about = about(&mesh, grid.step);
+    options.note(|| format!("{of_steps}; the same grid again: {}", before::again(command, options, grid.step)));
     options.note(|| format!("{} vertices, {} edges, {} triangles{of_file}", about.vertices, about.edges, about.triangles));
     if options.seams {
         options.note(|| format!("{} vertices stand for another in their place", about.seams));
@@ -111,7 +139,28 @@ fn read(command: &Command, files: &[String; 2], options: &Options) -> Result<(Me
     if !options.quiet {
         before::of_mesh(&mesh, options.seams).iter().for_each(|words| tell(words));
     }
-    Ok((mesh, about))
+    Ok(Garment { mesh, about, names, grid })
+}
+
+/// Start and end, with the body's own files behind the cloth's where there are any, and what is to be noted of them.
+fn all_read(files: &[String; 2], options: &Options) -> Result<([Obj; 2], String), Vec<Fault>> {
+    let (mut both, mut note) = same_read(files)?;
+    if let Some(files) = &options.body_files {
+        let (body, more) = same_read(files)?;
+        note += &more;
+        for ((file, cloth), body) in files.iter().zip(&mut both).zip(body) {
+            cloth.join_body(obj::shown_name(file), body).map_err(alone)?;
+        }
+    }
+    Ok((both, note))
+}
+
+fn same_read(files: &[String; 2]) -> Result<([Obj; 2], String), Vec<Fault>> {
+    let [start, end] = both_read(files)?;
+    let [from, to] = files.each_ref().map(|name| obj::shown_name(name));
+    mesh::same_faces([from, to], &start, &end).map_err(alone)?;
+    let note = note_of_file(from, &start);
+    Ok(([start, end], note))
 }
 
 fn about(mesh: &Mesh, step: f64) -> About {
@@ -149,8 +198,16 @@ fn note_of_file(name: &str, obj: &Obj) -> String {
     note
 }
 
+fn note_of_pairs(judged: u64, left: Option<u64>) -> String {
+    let Some(left) = left else {
+        return format!("{judged} pairs found, and as many judged");
+    };
+    let none = if judged == 0 { ": this report speaks of no pair" } else { "" };
+    format!("{} pairs found: {judged} judged, {left} left out by --body, --body-files or --between{none}", judged + left)
+}
+
 fn note_of_steps(rounded: &Rounded, chosen: bool) -> String {
-    let Rounded { positions, step, moved, farthest, fallen, least: _ } = rounded;
+    let Rounded { positions, step, moved, farthest, fallen, least: _, middle: _ } = rounded;
     let how = if chosen { "chosen" } else { "given" };
     let all = 6 * positions.len();
     let mut note =
@@ -162,10 +219,15 @@ fn note_of_steps(rounded: &Rounded, chosen: bool) -> String {
 }
 
 impl Options {
+    /// Whether the library is asked for contacts: a time and a place are told in lines of contacts, behind words, and by a mesh that is marked.
+    fn wants_contacts(&self) -> bool {
+        self.form.contacts || self.told_where || self.mark.is_some()
+    }
+
     /// The largest coordinate. Contacts are given in the range that coordinates had at first, and refused with 16 in a mesh of which any
     /// coordinate is beyond it: so the whole mesh is held to it, before a pair is asked for.
     fn limit(&self) -> i32 {
-        if self.form.contacts {
+        if self.wants_contacts() {
             makhnodri::CONTACT_LIMIT
         } else {
             makhnodri::COORDINATE_LIMIT
@@ -173,10 +235,21 @@ impl Options {
     }
 
     fn of_range(&self, fault: Fault) -> Fault {
-        if self.form.contacts {
+        if self.wants_contacts() {
             Fault::new(format!("{}; contacts have less room than words, and are refused beyond it (16)", fault.words))
         } else {
             fault
+        }
+    }
+
+    /// Each name that is asked for is one of the files'.
+    fn all_known(&self, names: &Names) -> Result<(), Vec<Fault>> {
+        let asked = self.body.iter().chain(self.between.iter().flatten());
+        let unknown: Vec<Fault> = asked.filter(|name| names.known(name).is_none()).map(|name| misnamed(name, names)).collect();
+        if unknown.is_empty() {
+            Ok(())
+        } else {
+            Err(unknown)
         }
     }
 
@@ -185,6 +258,17 @@ impl Options {
             tell(&words());
         }
     }
+}
+
+/// With the names that there are, as many as a message can bear.
+fn misnamed(name: &str, names: &Names) -> Fault {
+    const MOST: usize = 20;
+    let more = if names.words.len() > MOST { ", .." } else { "" };
+    let there = match names.words.len() {
+        0 => "none has a name".to_string(),
+        count => format!("there are {}{more}", names.words[..count.min(MOST)].join(", ")),
+    };
+    Fault::misunderstood(format!("{name:?} is no object and no group of the start; {there}"))
 }
 
 /// Standard error may be closed or full; the report and the status are what counts.

@@ -6,11 +6,17 @@ use std::io;
 #[derive(Clone, Debug, PartialEq, Eq)]
 pub struct Fault {
     pub words: String,
+    /// A word of the command line is not understood, which only the files could tell.
+    pub misunderstood: bool,
 }
 
 impl Fault {
     pub fn new(words: impl Into<String>) -> Fault {
-        Fault { words: words.into() }
+        Fault { words: words.into(), misunderstood: false }
+    }
+
+    pub fn misunderstood(words: impl Into<String>) -> Fault {
+        Fault { words: words.into(), misunderstood: true }
     }
 
     /// In a line of a file, counted from 1.

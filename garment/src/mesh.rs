@@ -41,6 +41,18 @@ impl Mesh {
         self.edges[edge as usize].map(|vertex| self.stood(vertex))
     }
 
+    /// The numbers of the edges a b, b c, c a of each triangle.
+    pub fn sides(&self) -> Vec<[u32; 3]> {
+        let rising = |[a, b]: [u32; 2]| [a.min(b), a.max(b)];
+        let mut sorted: Vec<([u32; 2], u32)> = self.edges.iter().map(|&ends| rising(ends)).zip(0..).collect();
+        sorted.sort_unstable();
+        let number = |ends: [u32; 2]| {
+            let at = sorted.binary_search_by_key(&rising(ends), |&(ends, _)| ends).expect("the sides of a face are edges");
+            sorted[at].1
+        };
+        self.triangles.iter().map(|&triangle| sides(triangle).map(number)).collect()
+    }
+
     /// Each vertex that stands for another, and that one, in rising order.
     pub fn sewn(&self) -> impl Iterator<Item = [u32; 2]> + '_ {
         self.stands.iter().zip(0..).filter(|&(&stood, vertex)| stood != vertex).map(|(&stood, vertex)| [vertex, stood])
@@ -62,9 +74,12 @@ impl Mesh {
     }
 }
 
+fn sides([a, b, c]: [u32; 3]) -> [[u32; 2]; 3] {
+    [[a, b], [b, c], [c, a]]
+}
+
 /// The edges of the triangles a b c: a b, b c, c a, each once, either way round, in the order and in the way in which it first appears.
 fn edges_of(triangles: &[[u32; 3]]) -> Vec<[u32; 2]> {
-    let sides = |[a, b, c]: [u32; 3]| [[a, b], [b, c], [c, a]];
     let mut all: Vec<([u32; 2], usize)> = Vec::with_capacity(3 * triangles.len());
     for &triangle in triangles {
         for [a, b] in sides(triangle) {
@@ -101,13 +116,15 @@ pub fn same_faces(names: [&str; 2], start: &Obj, end: &Obj) -> Result<(), Fault>
 }
 
 /// The mesh of two files that were found to have the same faces.
-pub fn join(name: &str, start: Obj, end: &Obj, rounded: Rounded, sewn: bool) -> Result<Mesh, Fault> {
+pub fn join(name: &str, mut start: Obj, end: &Obj, rounded: Rounded, sewn: bool) -> Result<Mesh, Fault> {
     let Rounded { positions, least, .. } = rounded;
-    let mut mesh = Mesh::new(positions, start.triangles);
+    let mut mesh = Mesh::new(positions, std::mem::take(&mut start.triangles));
     if sewn {
         mesh.sew().map_err(|triangle| {
-            let [a, b] = twins(&mesh, triangle);
-            let words = unsewable([a, b], distance([&start.places, &end.places], [a, b]), least);
+            let twins = twins(&mesh, triangle);
+            let (name, before) = start.behind_at(triangle).map_or((name, 0), |behind| (behind.file.as_str(), behind.vertices));
+            let in_file = twins.map(|vertex| vertex - before as u32);
+            let words = unsewable(in_file, distance([&start.places, &end.places], twins), least);
             Fault::in_line(name, start.lines[triangle], words)
         })?;
     }
@@ -118,7 +135,7 @@ pub fn join(name: &str, start: Obj, end: &Obj, rounded: Rounded, sewn: bool) -> 
 fn twins(mesh: &Mesh, triangle: usize) -> [u32; 2] {
     let [a, b, c] = mesh.triangles[triangle];
     let one = |[a, b]: &[u32; 2]| mesh.stood(*a) == mesh.stood(*b);
-    let [a, b] = [[a, b], [b, c], [c, a]].into_iter().find(one).expect("the triangle has two such corners");
+    let [a, b] = sides([a, b, c]).into_iter().find(one).expect("the triangle has two such corners");
     [a.min(b), a.max(b)]
 }
 

@@ -3,6 +3,7 @@
 use crate::cutting;
 use crate::fault::Fault;
 use crate::fields::{corner, fields, place, shown, Wrong};
+use crate::names::{Behind, Names};
 use std::fs::File;
 use std::io::{self, BufRead, BufReader};
 
@@ -13,6 +14,9 @@ pub struct Obj {
     /// The line of the face that each triangle is of.
     pub lines: Vec<u64>,
     pub noted: Noted,
+    pub names: Names,
+    /// Where the body's own file begins, once it is joined.
+    pub behind: Option<Behind>,
 }
 
 /// What was cut or passed over, to be told.
@@ -24,10 +28,10 @@ pub struct Noted {
     pub loose: u64,
 }
 
-/// Statements without a corner of a face: names, materials, texture, normals, how it is shown.
-const PASSED: [&[u8]; 19] = [
-    b"o", b"g", b"s", b"mg", b"vt", b"vn", b"vp", b"usemtl", b"mtllib", b"usemap", b"maplib", b"lod", b"bevel", b"c_interp",
-    b"d_interp", b"shadow_obj", b"trace_obj", b"ctech", b"stech",
+/// Statements without a corner of a face: materials, texture, normals, how it is shown.
+const PASSED: [&[u8]; 17] = [
+    b"s", b"mg", b"vt", b"vn", b"vp", b"usemtl", b"mtllib", b"usemap", b"maplib", b"lod", b"bevel", b"c_interp", b"d_interp",
+    b"shadow_obj", b"trace_obj", b"ctech", b"stech",
 ];
 
 /// Statements of numbers, which alone may go on in a further line: a name that ends in a backslash is a name.
@@ -75,6 +79,14 @@ impl Obj {
                 self.noted.loose += 1;
                 Ok(())
             }
+            Some(b"o") => {
+                self.names.object(line);
+                Ok(())
+            }
+            Some(b"g") => {
+                self.names.groups(rest);
+                Ok(())
+            }
             Some(word) if PASSED.contains(&word) => Ok(()),
             Some(word) => Err(unknown(word)),
         }
@@ -102,7 +114,28 @@ impl Obj {
         all_different(corners)?;
         self.triangles.extend(cutting::triangles(corners));
         self.lines.resize(self.triangles.len(), line);
+        self.names.face(self.triangles.len());
         Ok(())
+    }
+
+    /// The body's mesh, from a file of its own, behind this one's.
+    pub fn join_body(&mut self, file: &str, body: Obj) -> Result<(), Fault> {
+        let (vertices, triangles) = (self.places.len(), self.triangles.len());
+        if vertices + body.places.len() > u32::MAX as usize {
+            return Err(Fault::new(format!("{file}: more vertices than 32 bits count, with those of the cloth")));
+        }
+        self.places.extend(body.places);
+        self.triangles.extend(body.triangles.iter().map(|corners| corners.map(|corner| corner + vertices as u32)));
+        self.lines.extend(body.lines);
+        let behind = Behind { file: file.to_string(), vertices, triangles };
+        self.names.join(&body.names, behind.clone());
+        self.behind = Some(behind);
+        Ok(())
+    }
+
+    /// The body's own file, where it has this triangle.
+    pub fn behind_at(&self, triangle: usize) -> Option<&Behind> {
+        self.behind.as_ref().filter(|behind| triangle >= behind.triangles)
     }
 
     /// Asked at the end, since a face may name a vertex that comes after it.

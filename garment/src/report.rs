@@ -1,6 +1,7 @@
 //! Lines of a report or of contacts and their totals, as docs/FORMAT.md has them, or the same as JSON.
 
 use crate::pairs::{Kind, Pair};
+use crate::whereabouts::{json_names, plain_names};
 use makhnodri::{Settled, CONTACT_LENGTH};
 use std::io::Write;
 
@@ -75,6 +76,21 @@ pub struct About {
     pub step: f64,
 }
 
+/// The totals of the pairs of which one part has the one names and the other the other.
+#[derive(Clone, Debug, PartialEq, Eq)]
+pub struct Sum {
+    pub names: [Vec<String>; 2],
+    pub tally: Tally,
+}
+
+/// What stands before the totals where it was asked for.
+#[derive(Clone, Debug, Default, PartialEq, Eq)]
+pub struct Sums {
+    pub by_names: Option<Vec<Sum>>,
+    /// How many pairs were left out.
+    pub left: Option<u64>,
+}
+
 /// How a report is written down: parted by tabs or as JSON; a word for each pair, and the lines of which words, or the contact of each hit. The
 /// totals are of all.
 #[derive(Clone, Debug, PartialEq, Eq)]
@@ -104,13 +120,18 @@ impl Form {
 
     /// The line of a pair, behind what is there. In JSON a comma stands before it; the writer leaves out the first.
     pub fn line(&self, pair: Pair, word: Settled, out: &mut Vec<u8>) {
+        self.line_with(pair, word, "", out);
+    }
+
+    /// The same with more fields before its end.
+    pub fn line_with(&self, pair: Pair, word: Settled, tail: &str, out: &mut Vec<u8>) {
         if !self.shown.contains(&word) {
             return;
         }
         let (kind, word) = (pair.kind.letters(), word.word());
         if self.json {
             let Pair { first, second, .. } = pair;
-            let line = format!(",\n{{\"kind\":\"{kind}\",\"first\":{first},\"second\":{second},\"word\":\"{word}\"}}");
+            let line = format!(",\n{{\"kind\":\"{kind}\",\"first\":{first},\"second\":{second},\"word\":\"{word}\"{tail}}}");
             out.extend_from_slice(line.as_bytes());
             return;
         }
@@ -119,44 +140,75 @@ impl Form {
         tab_and_number(pair.second, out);
         out.push(b'\t');
         out.extend_from_slice(word.as_bytes());
+        out.extend_from_slice(tail.as_bytes());
         out.push(b'\n');
     }
 
     /// The line of a hit pair's contact, behind what is there.
     pub fn contact(&self, pair: Pair, row: Row, out: &mut Vec<u8>) {
+        self.contact_with(pair, row, "", out);
+    }
+
+    /// The same with more fields before its end.
+    pub fn contact_with(&self, pair: Pair, row: Row, tail: &str, out: &mut Vec<u8>) {
         let Pair { kind, first, second } = pair;
         let [piece, k, shares @ ..] = &row[..row_length(kind)] else { return };
         let kind = kind.letters();
         if self.json {
             let shares = shares.iter().map(u32::to_string).collect::<Vec<String>>().join(",");
             let line = format!(
-                ",\n{{\"kind\":\"{kind}\",\"first\":{first},\"second\":{second},\"piece\":{piece},\"k\":{k},\"shares\":[{shares}]}}"
+                ",\n{{\"kind\":\"{kind}\",\"first\":{first},\"second\":{second},\"piece\":{piece},\"k\":{k},\"shares\":[{shares}]{tail}}}"
             );
             out.extend_from_slice(line.as_bytes());
             return;
         }
         out.extend_from_slice(kind.as_bytes());
         [first, second, *piece, *k].iter().chain(shares).for_each(|&number| tab_and_number(number, out));
+        out.extend_from_slice(tail.as_bytes());
         out.push(b'\n');
     }
 
     pub fn foot(&self, tally: Tally) -> String {
-        let [hit, miss, touch, apart] = tally.counts;
-        let listed = tally.listed();
-        if self.contacts {
-            return if self.json {
-                format!("\n],\n\"total\":{{\"listed\":{listed},\"hit\":{hit}}}}}\n")
-            } else {
-                format!("total\t{listed}\t{hit}\n")
-            };
-        }
+        self.foot_with(&Sums::default(), tally)
+    }
+
+    /// The same, with what stands before the totals.
+    pub fn foot_with(&self, sums: &Sums, tally: Tally) -> String {
+        let Sums { by_names, left } = sums;
+        let counts = self.counts(tally);
         if self.json {
-            format!(
-                "\n],\n\"total\":{{\"listed\":{listed},\"hit\":{hit},\"miss\":{miss},\"touch\":{touch},\"apart\":{apart}}}}}\n"
-            )
-        } else {
-            format!("total\t{listed}\t{hit}\t{miss}\t{touch}\t{apart}\n")
+            let rows = by_names.as_ref().map_or(String::new(), |rows| self.json_sums(rows));
+            let left = left.map_or(String::new(), |left| format!("\"left\":{left},\n"));
+            return format!("\n],\n{rows}{left}\"total\":{{{counts}}}}}\n");
         }
+        let row = |Sum { names, tally }: &Sum| {
+            let [one, other] = names.each_ref().map(|names| plain_names(names.iter().map(String::as_str)));
+            format!("names\t{one}\t{other}\t{}\n", self.counts(*tally))
+        };
+        let rows: String = by_names.iter().flatten().map(row).collect();
+        let left = left.map_or(String::new(), |left| format!("left\t{left}\n"));
+        format!("{rows}{left}total\t{counts}\n")
+    }
+
+    /// The counts of the totals: all five, or of contacts the first two.
+    fn counts(&self, tally: Tally) -> String {
+        const NAMES: [&str; 5] = ["listed", "hit", "miss", "touch", "apart"];
+        let [hit, miss, touch, apart] = tally.counts;
+        let shown = if self.contacts { 2 } else { 5 };
+        let counts = NAMES.into_iter().zip([tally.listed(), hit, miss, touch, apart]).take(shown);
+        if self.json {
+            counts.map(|(name, count)| format!("\"{name}\":{count}")).collect::<Vec<_>>().join(",")
+        } else {
+            counts.map(|(_, count)| count.to_string()).collect::<Vec<_>>().join("\t")
+        }
+    }
+
+    fn json_sums(&self, rows: &[Sum]) -> String {
+        let row = |Sum { names, tally }: &Sum| {
+            let [one, other] = names.each_ref().map(|names| json_names(names.iter().map(String::as_str)));
+            format!("{{\"names\":[{one},{other}],{}}}", self.counts(*tally))
+        };
+        format!("\"names\":[\n{}\n],\n", rows.iter().map(row).collect::<Vec<_>>().join(",\n"))
     }
 }
 
@@ -197,8 +249,12 @@ impl<'a, W: Write> Writer<'a, W> {
     }
 
     /// Totals, and all of it handed over: a write that fails late is told too.
-    pub fn end(mut self, tally: Tally) -> std::io::Result<()> {
-        self.out.write_all(self.form.foot(tally).as_bytes())?;
+    pub fn end(self, tally: Tally) -> std::io::Result<()> {
+        self.end_with(&Sums::default(), tally)
+    }
+
+    pub fn end_with(mut self, sums: &Sums, tally: Tally) -> std::io::Result<()> {
+        self.out.write_all(self.form.foot_with(sums, tally).as_bytes())?;
         self.out.flush()
     }
 

@@ -2,6 +2,7 @@
 
 use crate::fault::Fault;
 use crate::seams;
+use makhnodri::CONTACT_UNIT;
 
 pub type Place = [f64; 3];
 
@@ -10,6 +11,8 @@ pub struct Rounded {
     /// Start x, y, z, end x, y, z, in steps.
     pub positions: Vec<[i32; 6]>,
     pub step: f64,
+    /// The place that the whole numbers count from, in steps.
+    pub middle: [i64; 3],
     /// How many coordinates did not lie on the grid, and how far the farthest of them was moved, in steps.
     pub moved: u64,
     pub farthest: f64,
@@ -17,6 +20,31 @@ pub struct Rounded {
     pub fallen: u64,
     /// The least step that would be chosen for this mesh; nothing where there is none.
     pub least: Option<f64>,
+}
+
+/// The way back from whole numbers to the unit of the files.
+#[derive(Clone, Copy, Debug, PartialEq)]
+pub struct Grid {
+    pub step: f64,
+    pub middle: [i64; 3],
+}
+
+impl Grid {
+    /// A place that is given in 2^20ths of a step, in the files' unit, rounded to a hundredth of a step or finer.
+    pub fn written(&self, place: [i64; 3]) -> [String; 3] {
+        let decimals = (2.0 - self.step.log10()).ceil().max(0.0) as usize;
+        [0, 1, 2].map(|axis| {
+            let steps = self.middle[axis] as f64 + place[axis] as f64 / f64::from(CONTACT_UNIT);
+            unsigned_zero(format!("{:.decimals$}", steps * self.step))
+        })
+    }
+}
+
+fn unsigned_zero(text: String) -> String {
+    match text.strip_prefix('-') {
+        Some(zero) if zero.bytes().all(|byte| byte == b'0' || byte == b'.') => zero.to_string(),
+        _ => text,
+    }
 }
 
 /// What is off the grid by less stood on it: its decimals are no sum of halves, and so it comes out of a division a little aside.
@@ -35,7 +63,7 @@ pub fn onto_grid(start: &[Place], end: &[Place], wanted: Option<f64>, limit: i32
     };
     let middle = middle(&bounds, step)?;
     let least = least_step_for(widest(&bounds), limit);
-    let mut out = Rounded { positions: Vec::with_capacity(start.len()), step, moved: 0, farthest: 0.0, fallen: 0, least };
+    let mut out = Rounded { positions: Vec::with_capacity(start.len()), step, middle, moved: 0, farthest: 0.0, fallen: 0, least };
     let too_fine = |()| too_fine(step, &bounds, limit);
     for (from, to) in start.iter().zip(end) {
         let mut position = [0; 6];

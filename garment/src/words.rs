@@ -1,5 +1,7 @@
 //! The words of the command line, understood.
 
+use crate::before::quoted;
+use crate::mark;
 use crate::obj;
 use crate::report::{word_of, Form};
 use crate::work;
@@ -17,6 +19,16 @@ pub struct Options {
     pub no_hits: bool,
     pub threads: usize,
     pub quiet: bool,
+    /// Whether each line tells where the pair is.
+    pub told_where: bool,
+    /// The file that a coloured mesh is written to.
+    pub mark: Option<String>,
+    /// The names that the body has.
+    pub body: Vec<String>,
+    /// Two names each.
+    pub between: Vec<[String; 2]>,
+    /// The body's own files, start and end.
+    pub body_files: Option<[String; 2]>,
     /// The options that say what the report is, as they were given; not how it is made, nor the step.
     pub kept: Vec<String>,
 }
@@ -52,9 +64,7 @@ pub fn understood(words: impl Iterator<Item = OsString>) -> Result<(Command, Opt
     if let Some(name) = given.iter().find(|name| !command.takes(name)) {
         return Err(format!("{name} says nothing to this command"));
     }
-    if command.places().iter().filter(|&&name| name == obj::STANDARD_INPUT).count() > 1 {
-        return Err("standard input is one file, and - stands here twice".to_string());
-    }
+    options.of_files(&command, &given)?;
     if options.form.contacts && given.iter().any(|name| name == "--only") {
         return Err("--only says nothing beside --contacts, which has lines of hits alone".to_string());
     }
@@ -85,12 +95,10 @@ impl Command {
     /// Whether an option does anything here; one that does not is refused, since whoever gave it waits for something.
     fn takes(&self, option: &str) -> bool {
         let taken: &[&str] = match self {
-            Command::Report { .. } => {
-                &["--step", "--seams", "--contacts", "--json", "--only", "--no-hits", "--threads", "--quiet"]
-            }
+            Command::Report { .. } => return true,
             Command::Split { .. } => &["--step", "--seams", "--contacts", "--threads", "--quiet"],
             Command::Join { .. } => &["--contacts", "--json", "--only", "--no-hits", "--quiet"],
-            Command::Scene { .. } => &["--step", "--seams", "--quiet"],
+            Command::Scene { .. } => &["--step", "--seams", "--body-files", "--quiet"],
             Command::Help | Command::Version => &[],
         };
         taken.contains(&option)
@@ -122,10 +130,13 @@ fn command_of(mut plain: Vec<String>) -> Result<Command, String> {
 }
 
 /// The options that a value follows.
-const WITH_VALUE: [&str; 3] = ["--step", "--threads", "--only"];
+const WITH_VALUE: [&str; 5] = ["--step", "--threads", "--only", "--mark", "--body"];
+
+/// Those that two values follow.
+const WITH_TWO: [&str; 2] = ["--between", "--body-files"];
 
 /// The options that change nothing of what is reported, or that are told apart from the others.
-const NOT_KEPT: [&str; 3] = ["--step", "--threads", "--quiet"];
+const NOT_KEPT: [&str; 4] = ["--step", "--threads", "--quiet", "--mark"];
 
 impl Options {
     fn none() -> Options {
@@ -136,18 +147,26 @@ impl Options {
             no_hits: false,
             threads: work::all_cores(),
             quiet: false,
+            told_where: false,
+            mark: None,
+            body: Vec::new(),
+            between: Vec::new(),
+            body_files: None,
             kept: Vec::new(),
         }
     }
 
     /// Takes an option, with the value that stands behind it, and hands back its name.
     fn take(&mut self, word: &str, rest: &mut impl Iterator<Item = Result<String, String>>) -> Result<String, String> {
+        if WITH_TWO.contains(&word) {
+            return self.take_two(word, rest);
+        }
         let (name, within) = match word.split_once('=') {
             Some((name, value)) if WITH_VALUE.contains(&name) => (name, Some(value.to_string())),
             _ => (word, None),
         };
         let value = match within {
-            None if WITH_VALUE.contains(&name) => rest.next().transpose()?.ok_or_else(|| format!("{name} wants a value"))?,
+            None if WITH_VALUE.contains(&name) => next_value(name, "a value", rest)?,
             within => within.unwrap_or_default(),
         };
         match self.set(name, &value) {
@@ -160,9 +179,36 @@ impl Options {
         }
     }
 
+    fn take_two(&mut self, name: &str, rest: &mut impl Iterator<Item = Result<String, String>>) -> Result<String, String> {
+        let both = [next_value(name, "two values", rest)?, next_value(name, "two values", rest)?];
+        let [one, other] = both.each_ref().map(|value| quoted(value));
+        self.kept.push(format!("{name} {one} {other}"));
+        match name {
+            "--between" => self.between.push(both),
+            _ => self.body_files = Some(both),
+        }
+        Ok(name.to_string())
+    }
+
     fn keep(&mut self, name: &str, value: &str) {
         if !NOT_KEPT.contains(&name) {
-            self.kept.push(if WITH_VALUE.contains(&name) { format!("{name}={value}") } else { name.to_string() });
+            self.kept.push(if WITH_VALUE.contains(&name) { format!("{name}={}", quoted(value)) } else { name.to_string() });
+        }
+    }
+
+    /// Of all files that are named, one at most is standard input, none is written over, and none is passed over since another was named.
+    fn of_files(&self, command: &Command, given: &[String]) -> Result<(), String> {
+        let twice = |name: &&str| given.iter().filter(|given| given == name).count() > 1;
+        if let Some(name) = ["--body-files", "--mark"].into_iter().find(twice) {
+            return Err(format!("{name} stands here twice"));
+        }
+        let named: Vec<&str> = command.places().into_iter().chain(self.body_files.iter().flatten().map(String::as_str)).collect();
+        if named.iter().filter(|&&name| name == obj::STANDARD_INPUT).count() > 1 {
+            return Err("standard input is one file, and - stands here twice".to_string());
+        }
+        match self.mark.as_deref().filter(|mark| named.iter().any(|name| mark::same_file(mark, name))) {
+            Some(mark) => Err(format!("--mark would write over {mark}, which is read")),
+            None => Ok(()),
         }
     }
 
@@ -173,6 +219,9 @@ impl Options {
             "--only" => {
                 self.form.shown = value.split(',').map(|word| word_of(word.as_bytes())).collect::<Option<Vec<Settled>>>()?
             }
+            "--mark" => self.mark = Some(Some(value.to_string()).filter(|name| mark::is_taken(name))?),
+            "--body" => self.body.push(value.to_string()),
+            "--where" => self.told_where = true,
             "--seams" => self.seams = true,
             "--contacts" => self.form.contacts = true,
             "--json" => self.form.json = true,
@@ -182,6 +231,10 @@ impl Options {
         }
         Some(())
     }
+}
+
+fn next_value(name: &str, wants: &str, rest: &mut impl Iterator<Item = Result<String, String>>) -> Result<String, String> {
+    rest.next().transpose()?.ok_or_else(|| format!("{name} wants {wants}"))
 }
 
 /// More is a slip of the pen.

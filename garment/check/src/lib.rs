@@ -2,5 +2,6 @@
 
 pub mod clocks;
 pub mod cloth;
+pub mod dressed;
 pub mod exact;
 pub mod ways;

@@ -5,12 +5,13 @@ use compare::numbers::random::Random;
 use compare::scene::Scene as ExactScene;
 use garment::fault::Fault;
 use garment::mesh::{self, Mesh};
-use garment::obj;
+use garment::names::Names;
+use garment::obj::{self, Obj};
 use garment::progress::Bar;
 use garment::report::{About, Form, Tally};
-use garment::rounding::onto_grid;
-use garment::whole;
-use makhnodri::{Contact, Scene, COORDINATE_LIMIT};
+use garment::rounding::{onto_grid, Grid};
+use garment::whole::{self, Asked, Beside, Told};
+use makhnodri::{Contact, Scene, CONTACT_LIMIT, COORDINATE_LIMIT};
 
 pub const NAMES: [&str; 2] = ["start.obj", "end.obj"];
 
@@ -25,6 +26,30 @@ pub fn mesh_within(limit: i32, texts: &[String; 2], step: Option<f64>, sewn: boo
     mesh::same_faces(NAMES, &start, &end)?;
     let rounded = onto_grid(&start.places, &end.places, step, limit)?;
     mesh::join(from, start, &end, rounded, sewn)
+}
+
+/// A mesh in the range of contacts, with its names and its grid, from files of cloth and perhaps of a body.
+pub fn named(cloth: &[String; 2], body: Option<&[String; 2]>, sewn: bool) -> Result<(Mesh, Names, Grid), Fault> {
+    let [from, to] = NAMES;
+    let read = |texts: &[String; 2]| Ok([obj::read(from, texts[0].as_bytes())?, obj::read(to, texts[1].as_bytes())?]);
+    let [mut start, mut end]: [Obj; 2] = read(cloth)?;
+    if let Some(texts) = body {
+        let [of_start, of_end] = read(texts)?;
+        start.join_body("body-start.obj", of_start)?;
+        end.join_body("body-end.obj", of_end)?;
+    }
+    mesh::same_faces(NAMES, &start, &end)?;
+    let rounded = onto_grid(&start.places, &end.places, None, CONTACT_LIMIT)?;
+    let (names, grid) = (start.names.clone(), Grid { step: rounded.step, middle: rounded.middle });
+    Ok((mesh::join(from, start, &end, rounded, sewn)?, names, grid))
+}
+
+/// The report with what is asked beside it.
+pub fn told(mesh: &Mesh, form: &Form, beside: &Beside, threads: usize) -> (String, Told) {
+    let (mut out, about) = (Vec::new(), about(mesh));
+    let asked = Asked { mesh, about: &about, form, beside };
+    let told = whole::told(&asked, threads, &mut no_bar(), &mut out).expect("a report is made");
+    (String::from_utf8(out).expect("a report is text"), told)
 }
 
 pub fn made(cloth: &Cloth) -> Mesh {

@@ -79,6 +79,9 @@ fn the_command_that_repeats_a_run() {
         (&["split", "to", "--contacts", "a", "b"], "garment split --step 0.0001 --contacts to a b"),
         (&["scene", "a b", "it's"], "garment scene --step 0.0001 'a b' 'it'\\''s'"),
         (&["--", "-a", ""], "garment --step 0.0001 -- -a ''"),
+        (&["--where", "--mark", "x.ply", "--body", "A b", "a", "b"], "garment --step 0.0001 --where --body='A b' a b"),
+        (&["--between", "a", "b c", "d", "e"], "garment --step 0.0001 --between a 'b c' d e"),
+        (&["scene", "--body-files", "-", "-x", "d", "e"], "garment scene --step 0.0001 --body-files - -x d e"),
     ] {
         let (command, options) = understood(words(line)).expect("understood");
         assert_eq!(again(&command, &options, 1e-4), wanted);
