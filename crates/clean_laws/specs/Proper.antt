@@ -8,7 +8,7 @@ use native.Mathlib.Omega.{arith}
 use lib.IntN.{ℤ, pos, negsuc, negℤ, natAbs, _+ℤ_, _-ℤ_, _*ℤ_}
 use lib.Signed.{_≤ℤ_, _<ℤ_}
 use Rattle.whole.specs.Quote.{quotes, ring, times, combine}
-use Rattle.whole.specs.Order.{le, lt, of-le, of-lt, of-eq, ord, nn-mul, parts-le, parts-lt, eq-parts}
+use Rattle.whole.specs.Order.{P, le, lt, of-le, of-lt, of-eq, ord, nn-mul, parts-le, parts-lt, eq-parts}
 use Rattle.whole.specs.Signs.{Sgn, negative, nought, positive, _·_, sgn, sgn-mul, sgn-neg, opposite, natAbs-neg, natAbs-positive, positive-is, negative-is, nought-is}
 use Rattle.whole.specs.Vector.{Vector, minus, volume}
 use Rattle.whole.specs.VectorLaws.{vector-eq}
@@ -331,3 +331,253 @@ products-touch t p g =
   where
     weak : {z : ℤ} → pos 0 <ℤ z → pos 0 ≤ℤ z
     weak h = omega (arith, ord)
+
+-- ---- sent
+
+abbrev pub shakenFive : ℤ → Five → Five → Five
+shakenFive n p q = record { a = shake n (p .a) (q .a); b = shake n (p .b) (q .b); c1 = shake n (p .c1) (q .c1); c2 = shake n (p .c2) (q .c2); c3 = shake n (p .c3) (q .c3) }
+
+minus-shaken : (n : ℤ) (u v p q : Vector) → minus (shake n u p) (shake n v q) ≡ shake n (minus u v) (minus p q)
+minus-shaken n u v p q = vector-eq (law n (u .x) (v .x) (p .x) (q .x)) (law n (u .y) (v .y) (p .y) (q .y)) (law n (u .z) (v .z) (p .z) (q .z))
+  where
+    law : (n u v p q : ℤ) → n *ℤ u +ℤ p -ℤ (n *ℤ v +ℤ q) ≡ n *ℤ (u -ℤ v) +ℤ (p -ℤ q)
+    law n u v p q = ring (n ∷ u ∷ v ∷ p ∷ q ∷ []) (search quotes depth 60 fits 90000) refl
+
+cubic-same : {f g : ℤ → ℤ} {z : ℤ} → ((n : ℤ) → f n ≡ g n) → Cubic g z → Cubic f z
+cubic-same e p = record { a = p .a; b = p .b; c = p .c; is = λ n. e n ∙ p .is n }
+
+module _ (p q : Five) where
+  abbrev shook : ℤ → Five
+  shook n = shakenFive n p q
+
+  -- the volume of three of the four vectors
+  sent-volume : (x y z x′ y′ z′ o o′ : Vector) → Cubic (λ n. volume (minus (shake n x x′) (shake n o o′)) (minus (shake n y y′) (shake n o o′)) (minus (shake n z z′) (shake n o o′))) (volume (minus x o) (minus y o) (minus z o))
+  sent-volume x y z x′ y′ z′ o o′ =
+      cubic-same
+      (λ n.
+      ap (λ (v : Vector). volume v (minus (shake n y y′) (shake n o o′)) (minus (shake n z z′) (shake n o o′))) (minus-shaken n x o x′ o′)
+      ∙ ap (λ (v : Vector). volume (shake n (minus x o) (minus x′ o′)) v (minus (shake n z z′) (shake n o o′))) (minus-shaken n y o y′ o′)
+      ∙ ap (λ (v : Vector). volume (shake n (minus x o) (minus x′ o′)) (shake n (minus y o) (minus y′ o′)) v) (minus-shaken n z o z′ o′))
+      (volume-cubic (minus x o) (minus y o) (minus z o) (minus x′ o′) (minus y′ o′) (minus z′ o′))
+
+  cubic-0 : Cubic (λ n. numbers (shook n) .v0) (numbers p .v0)
+  cubic-0 = sent-volume (p .c1) (p .c2) (p .c3) (q .c1) (q .c2) (q .c3) (p .a) (q .a)
+
+  cubic-1 : Cubic (λ n. numbers (shook n) .v1) (numbers p .v1)
+  cubic-1 = cubic-neg (sent-volume (p .b) (p .c2) (p .c3) (q .b) (q .c2) (q .c3) (p .a) (q .a))
+
+  cubic-2 : Cubic (λ n. numbers (shook n) .v2) (numbers p .v2)
+  cubic-2 = sent-volume (p .b) (p .c1) (p .c3) (q .b) (q .c1) (q .c3) (p .a) (q .a)
+
+  cubic-3 : Cubic (λ n. numbers (shook n) .v3) (numbers p .v3)
+  cubic-3 = cubic-neg (sent-volume (p .b) (p .c1) (p .c2) (q .b) (q .c1) (q .c2) (p .a) (q .a))
+
+  cubic-own : Cubic (λ n. ownNumber (shook n)) (ownNumber p)
+  cubic-own = cubic-plus (cubic-plus (cubic-plus cubic-0 cubic-1) cubic-2) cubic-3
+
+  -- a product that is above 0 has no factor 0
+  left-some : (x y : ℤ) → pos 0 <ℤ (x *ℤ y) → x ≢ pos 0
+  left-some x y h e = let z : x *ℤ y ≡ pos 0 = combine (x ∷ y ∷ []) (times y e ∷ []) (search quotes depth 60 fits 90000) refl in omega (arith, ord)
+
+  right-some : (x y : ℤ) → pos 0 <ℤ (x *ℤ y) → y ≢ pos 0
+  right-some x y h e = let z : x *ℤ y ≡ pos 0 = combine (x ∷ y ∷ []) (times x e ∷ []) (search quotes depth 60 fits 90000) refl in omega (arith, ord)
+
+  -- and keeps its sign where the factors do
+  product-stays : (x y x′ y′ : ℤ) → pos 0 <ℤ (x *ℤ y) → sgn x′ ≡ sgn x → sgn y′ ≡ sgn y → pos 0 <ℤ (x′ *ℤ y′)
+  product-stays x y x′ y′ h e f = positive-is (x′ *ℤ y′) .0 (sgn-mul x′ y′ ∙ rw (e, f) (sym (sgn-mul x y) ∙ positive-is (x *ℤ y) .1 h))
+
+  stays-off : (t : ℤ) → Products p → FromOn (λ n. Touch (edgeAt t (shook (pos n))) (faceAt t (shook (pos n))))
+  stays-off t g =
+      let n = numbers p in
+      let s3 = cubic-stays cubic-3 (left-some (n .v3) (n .v3) (g .of3)) in
+      let sa = cubic-stays cubic-own (right-some (n .v3) (ownNumber p) (g .ofA)) in
+      let sb = cubic-stays (cubic-neg cubic-0) (right-some (n .v3) (negℤ (n .v0)) (g .ofB)) in
+      let s1 = cubic-stays cubic-1 (right-some (n .v3) (n .v1) (g .of1)) in
+      let s2 = cubic-stays cubic-2 (right-some (n .v3) (n .v2) (g .of2)) in
+      record {
+        least = s3 .least + sa .least + sb .least + s1 .least + s2 .least;
+        holds = λ k h.
+            let m = numbers (shook (pos k)) in
+            let e3 = s3 .holds k (omega arith) in
+            products-touch t (shook (pos k))
+            (record {
+              ofA = product-stays (n .v3) (ownNumber p) (m .v3) (ownNumber (shook (pos k))) (g .ofA) e3 (sa .holds k (omega arith));
+              ofB = product-stays (n .v3) (negℤ (n .v0)) (m .v3) (negℤ (m .v0)) (g .ofB) e3 (sb .holds k (omega arith));
+              of1 = product-stays (n .v3) (n .v1) (m .v3) (m .v1) (g .of1) e3 (s1 .holds k (omega arith));
+              of2 = product-stays (n .v3) (n .v2) (m .v3) (m .v2) (g .of2) e3 (s2 .holds k (omega arith));
+              of3 = product-stays (n .v3) (n .v3) (m .v3) (m .v3) (g .of3) e3 e3;
+            });
+      }
+
+-- ---- in the plane: a border would touch
+
+mixed-sums : (s r wa wb w1 w2 w3 ca cb c1 c2 c3 : ℤ) → wa +ℤ wb ≡ w1 +ℤ w2 +ℤ w3 → ca +ℤ cb ≡ c1 +ℤ c2 +ℤ c3
+    → (wa *ℤ s -ℤ r *ℤ ca) +ℤ (wb *ℤ s -ℤ r *ℤ cb) ≡ (w1 *ℤ s -ℤ r *ℤ c1) +ℤ (w2 *ℤ s -ℤ r *ℤ c2) +ℤ (w3 *ℤ s -ℤ r *ℤ c3)
+mixed-sums s r wa wb w1 w2 w3 ca cb c1 c2 c3 h k = combine (s ∷ r ∷ wa ∷ wb ∷ w1 ∷ w2 ∷ w3 ∷ ca ∷ cb ∷ c1 ∷ c2 ∷ c3 ∷ []) (times s h ∷ times (negℤ r) k ∷ []) (search quotes depth 60 fits 90000) refl
+
+mixed-in : (s r wa wb w1 w2 w3 ca cb c1 c2 c3 a b c d e : ℤ) → wa *ℤ a +ℤ wb *ℤ b ≡ w1 *ℤ c +ℤ w2 *ℤ d +ℤ w3 *ℤ e → ca *ℤ a +ℤ cb *ℤ b ≡ c1 *ℤ c +ℤ c2 *ℤ d +ℤ c3 *ℤ e
+    → (wa *ℤ s -ℤ r *ℤ ca) *ℤ a +ℤ (wb *ℤ s -ℤ r *ℤ cb) *ℤ b ≡ (w1 *ℤ s -ℤ r *ℤ c1) *ℤ c +ℤ (w2 *ℤ s -ℤ r *ℤ c2) *ℤ d +ℤ (w3 *ℤ s -ℤ r *ℤ c3) *ℤ e
+mixed-in s r wa wb w1 w2 w3 ca cb c1 c2 c3 a b c d e h k = combine (s ∷ r ∷ wa ∷ wb ∷ w1 ∷ w2 ∷ w3 ∷ ca ∷ cb ∷ c1 ∷ c2 ∷ c3 ∷ a ∷ b ∷ c ∷ d ∷ e ∷ []) (times s h ∷ times (negℤ r) k ∷ []) (search quotes depth 60 fits 90000) refl
+
+-- s times one balance less r times another
+mixed : (p : Five) (s r wa wb w1 w2 w3 ca cb c1 c2 c3 : ℤ) → FiveBalance p wa wb w1 w2 w3 → FiveBalance p ca cb c1 c2 c3
+    → FiveBalance p (wa *ℤ s -ℤ r *ℤ ca) (wb *ℤ s -ℤ r *ℤ cb) (w1 *ℤ s -ℤ r *ℤ c1) (w2 *ℤ s -ℤ r *ℤ c2) (w3 *ℤ s -ℤ r *ℤ c3)
+mixed p s r wa wb w1 w2 w3 ca cb c1 c2 c3 q k =
+    record {
+      sums = mixed-sums s r wa wb w1 w2 w3 ca cb c1 c2 c3 (q .sums) (k .sums);
+      xs = mixed-in s r wa wb w1 w2 w3 ca cb c1 c2 c3 (p .a .x) (p .b .x) (p .c1 .x) (p .c2 .x) (p .c3 .x) (q .xs) (k .xs);
+      ys = mixed-in s r wa wb w1 w2 w3 ca cb c1 c2 c3 (p .a .y) (p .b .y) (p .c1 .y) (p .c2 .y) (p .c3 .y) (q .ys) (k .ys);
+      zs = mixed-in s r wa wb w1 w2 w3 ca cb c1 c2 c3 (p .a .z) (p .b .z) (p .c1 .z) (p .c2 .z) (p .c3 .z) (q .zs) (k .zs);
+    }
+
+-- what is above 0 of a number
+up-part : (z : ℤ) → z ≤ℤ pos (P z)
+up-part (pos n) = parts-le (omega arith)
+up-part (negsuc n) = parts-le (omega arith)
+
+up-is : (z : ℤ) → 0 < P z → z ≡ pos (P z)
+up-is (pos n) h = refl
+up-is (negsuc n) h = absurd (omega arith)
+
+-- a weight that is left is not below 0
+left-up : (wj si wi : ℕ) (c : ℤ) → wi * P c ≤ wj * si → pos 0 ≤ℤ (pos wj *ℤ pos si -ℤ pos wi *ℤ c)
+left-up wj si wi c h = law (pos wj *ℤ pos si) (pos wi) c (pos (P c)) (parts-le (omega arith)) (up-part c) (parts-le (omega arith))
+  where
+    law : (l w c u : ℤ) → pos 0 ≤ℤ w → c ≤ℤ u → (w *ℤ u) ≤ℤ l → pos 0 ≤ℤ (l -ℤ w *ℤ c)
+    law l w c u hw hc h =
+        let env : List ℤ = l ∷ w ∷ c ∷ u ∷ [] in
+        let d : pos 0 ≤ℤ (u -ℤ c) = le env (search quotes depth 60 fits 90000) (omega (arith, ord)) in
+        let m = of-le env (search quotes depth 60 fits 90000) (nn-mul w (u -ℤ c) hw d) in
+        let k = of-le env (search quotes depth 60 fits 90000) h in
+        le env (search quotes depth 60 fits 90000) (omega arith)
+
+left-none : (w s : ℕ) (c : ℤ) → c ≡ pos s → natAbs (pos w *ℤ pos s -ℤ pos w *ℤ c) ≡ 0
+left-none w s c e = ap natAbs (law (pos w) (pos s) c e)
+  where
+    law : (w s c : ℤ) → c ≡ s → w *ℤ s -ℤ w *ℤ c ≡ pos 0
+    law w s c e = combine (w ∷ s ∷ c ∷ []) (times (negℤ w) e ∷ []) (search quotes depth 60 fits 90000) refl
+
+abbrev five : {A : Type 0} → A → A → A → A → A → ℕ → A
+five a b c d e zero = a
+five a b c d e (suc zero) = b
+five a b c d e (suc (suc zero)) = c
+five a b c d e (suc (suc (suc zero))) = d
+five a b c d e (suc (suc (suc (suc i)))) = e
+
+module _ (t : ℤ) (p : Five) (pr : Proper t p) (wa wb w1 w2 w3 : ℕ) (some : 0 < w3) (q : FiveBalance p (pos wa) (pos wb) (pos w1) (pos w2) (pos w3))
+    (ca cb c1 c2 : ℤ) (k : FiveBalance p ca cb c1 c2 (pos 0)) where
+  abbrev ws : ℕ → ℕ
+  ws = five wa wb w1 w2 w3
+
+  abbrev ss : ℕ → ℕ
+  ss = five (P ca) (P cb) (P c1) (P c2) 0
+
+  left-some-3 : (si wi : ℕ) → 0 < si → pos 0 <ℤ (pos w3 *ℤ pos si -ℤ pos wi *ℤ pos 0)
+  left-some-3 si wi h = law (pos w3 *ℤ pos si) (pos wi) (product-above (pos w3) (pos si) (parts-lt (omega arith)) (parts-lt (omega arith)))
+    where
+      law : (l w : ℤ) → pos 0 <ℤ l → pos 0 <ℤ (l -ℤ w *ℤ pos 0)
+      law l w h = lt (l ∷ w ∷ []) (search quotes depth 60 fits 90000) (omega (arith, ord))
+
+  module _ (i : ℕ) (above : 0 < ss i) (least : (j : ℕ) → j < 5 → ws i * ss j ≤ ws j * ss i) where
+    abbrev left : ℕ → ℤ → ℤ
+    left w c = pos w *ℤ pos (ss i) -ℤ pos (ws i) *ℤ c
+
+    thin : Touch (edgeAt t p) (faceAt t p)
+    thin =
+        weights-touch t p (natAbs (left wa ca)) (natAbs (left wb cb)) (natAbs (left w1 c1)) (natAbs (left w2 c2)) (natAbs (left w3 (pos 0))) (natAbs-positive (left w3 (pos 0)) (λ e. let h = left-some-3 (ss i) (ws i) above in omega (arith, ord)))
+        (five-sizes p (left wa ca) (left wb cb) (left w1 c1) (left w2 c2) (left w3 (pos 0)) (left-up wa (ss i) (ws i) ca (least 0 (omega arith))) (left-up wb (ss i) (ws i) cb (least 1 (omega arith))) (left-up w1 (ss i) (ws i) c1 (least 2 (omega arith))) (left-up w2 (ss i) (ws i) c2 (least 3 (omega arith))) (let h = left-some-3 (ss i) (ws i) above in omega (arith, ord))
+        (mixed p (pos (ss i)) (pos (ws i)) (pos wa) (pos wb) (pos w1) (pos w2) (pos w3) ca cb c1 c2 (pos 0) q k))
+
+  -- whichever place is the tightest, its border touches
+  not-tight : (i : ℕ) → 0 < ss i → ((j : ℕ) → j < 5 → ws i * ss j ≤ ws j * ss i) → ⊥
+  unfolding weights-touch thin
+  not-tight zero above least = not-a t p pr (thin 0 above least) (left-none wa (P ca) ca (up-is ca above))
+  not-tight (suc zero) above least = not-b t p pr (thin 1 above least) (left-none wb (P cb) cb (up-is cb above))
+  not-tight (suc (suc zero)) above least = not-1 t p pr (thin 2 above least) (left-none w1 (P c1) c1 (up-is c1 above))
+  not-tight (suc (suc (suc zero))) above least = not-2 t p pr (thin 3 above least) (left-none w2 (P c2) c2 (up-is c2 above))
+  not-tight (suc (suc (suc (suc i)))) above least = absurd (omega arith)
+
+  no-share : (j : ℕ) → j < 5 → 0 < ss j → ⊥
+  no-share j h above = let m = tightest 5 ws ss j h above in not-tight (m .place) (m .shares) (m .least)
+
+turned-balance : (p : Five) (ca cb c1 c2 : ℤ) → FiveBalance p ca cb c1 c2 (pos 0) → FiveBalance p (negℤ ca) (negℤ cb) (negℤ c1) (negℤ c2) (pos 0)
+turned-balance p ca cb c1 c2 k =
+    record {
+      sums = law-sums ca cb c1 c2 (k .sums);
+      xs = law ca cb c1 c2 (p .a .x) (p .b .x) (p .c1 .x) (p .c2 .x) (p .c3 .x) (k .xs);
+      ys = law ca cb c1 c2 (p .a .y) (p .b .y) (p .c1 .y) (p .c2 .y) (p .c3 .y) (k .ys);
+      zs = law ca cb c1 c2 (p .a .z) (p .b .z) (p .c1 .z) (p .c2 .z) (p .c3 .z) (k .zs);
+    }
+  where
+    law-sums : (ca cb c1 c2 : ℤ) → ca +ℤ cb ≡ c1 +ℤ c2 +ℤ pos 0 → negℤ ca +ℤ negℤ cb ≡ negℤ c1 +ℤ negℤ c2 +ℤ pos 0
+    law-sums ca cb c1 c2 h = combine (ca ∷ cb ∷ c1 ∷ c2 ∷ []) (times (negsuc 0) h ∷ []) (search quotes depth 60 fits 90000) refl
+
+    law : (ca cb c1 c2 a b c d e : ℤ) → ca *ℤ a +ℤ cb *ℤ b ≡ c1 *ℤ c +ℤ c2 *ℤ d +ℤ pos 0 *ℤ e → negℤ ca *ℤ a +ℤ negℤ cb *ℤ b ≡ negℤ c1 *ℤ c +ℤ negℤ c2 *ℤ d +ℤ pos 0 *ℤ e
+    law ca cb c1 c2 a b c d e h = combine (ca ∷ cb ∷ c1 ∷ c2 ∷ a ∷ b ∷ c ∷ d ∷ e ∷ []) (times (negsuc 0) h ∷ []) (search quotes depth 60 fits 90000) refl
+
+flat-balance : (p : Five) (x y z : ℤ)
+    → x *ℤ (p .b .x -ℤ p .a .x) +ℤ y *ℤ (p .c1 .x -ℤ p .a .x) +ℤ z *ℤ (p .c2 .x -ℤ p .a .x) ≡ pos 0
+    → x *ℤ (p .b .y -ℤ p .a .y) +ℤ y *ℤ (p .c1 .y -ℤ p .a .y) +ℤ z *ℤ (p .c2 .y -ℤ p .a .y) ≡ pos 0
+    → x *ℤ (p .b .z -ℤ p .a .z) +ℤ y *ℤ (p .c1 .z -ℤ p .a .z) +ℤ z *ℤ (p .c2 .z -ℤ p .a .z) ≡ pos 0
+    → FiveBalance p (x +ℤ y +ℤ z) (negℤ x) y z (pos 0)
+flat-balance p x y z hx hy hz =
+    record {
+      sums = ring (x ∷ y ∷ z ∷ []) (search quotes depth 60 fits 90000) refl;
+      xs = law x y z (p .a .x) (p .b .x) (p .c1 .x) (p .c2 .x) (p .c3 .x) hx;
+      ys = law x y z (p .a .y) (p .b .y) (p .c1 .y) (p .c2 .y) (p .c3 .y) hy;
+      zs = law x y z (p .a .z) (p .b .z) (p .c1 .z) (p .c2 .z) (p .c3 .z) hz;
+    }
+  where
+    law : (x y z a b c d e : ℤ) → x *ℤ (b -ℤ a) +ℤ y *ℤ (c -ℤ a) +ℤ z *ℤ (d -ℤ a) ≡ pos 0 → (x +ℤ y +ℤ z) *ℤ a +ℤ negℤ x *ℤ b ≡ y *ℤ c +ℤ z *ℤ d +ℤ pos 0 *ℤ e
+    law x y z a b c d e h = combine (x ∷ y ∷ z ∷ a ∷ b ∷ c ∷ d ∷ e ∷ []) (times (negsuc 0) h ∷ []) (search quotes depth 60 fits 90000) refl
+
+-- a number that is not 0 is above 0, or is when turned
+one-way : (z : ℤ) → z ≢ pos 0 → (0 < P z) ⊎ (0 < P (negℤ z))
+one-way (pos zero) n = absurd (n refl)
+one-way (pos (suc k)) n = inl (omega arith)
+one-way (negsuc k) n = inr (omega arith)
+
+turned-twice : (z : ℤ) → 0 < P z → 0 < P (negℤ (negℤ z))
+turned-twice (pos zero) h = absurd (omega arith)
+turned-twice (pos (suc n)) h = omega arith
+turned-twice (negsuc n) h = absurd (omega arith)
+
+not-flat : (t : ℤ) (p : Five) → Proper t p → (h : Touch (edgeAt t p) (faceAt t p)) → volume (minus (p .b) (p .a)) (minus (p .c1) (p .a)) (minus (p .c2) (p .a)) ≢ pos 0
+not-flat t p pr h e = ⊎-elim by-x (λ r. ⊎-elim by-y by-z r) (f .some)
+  where
+    f : Three (minus (p .b) (p .a)) (minus (p .c1) (p .a)) (minus (p .c2) (p .a))
+    f = flat₃ (minus (p .b) (p .a)) (minus (p .c1) (p .a)) (minus (p .c2) (p .a)) e
+
+    k : FiveBalance p (f .x +ℤ f .y +ℤ f .z) (negℤ (f .x)) (f .y) (f .z) (pos 0)
+    k = flat-balance p (f .x) (f .y) (f .z) (ap (λ (v : Vector). v .x) (f .is)) (ap (λ (v : Vector). v .y) (f .is)) (ap (λ (v : Vector). v .z) (f .is))
+
+    some : 0 < h .v 2
+    some = above-none (h .v 2) (not-3 t p pr h)
+
+    share : (j : ℕ) → j < 5 → 0 < five (P (f .x +ℤ f .y +ℤ f .z)) (P (negℤ (f .x))) (P (f .y)) (P (f .z)) 0 j → ⊥
+    share = no-share t p pr (h .u 0) (h .u 1) (h .v 0) (h .v 1) (h .v 2) some (balance-of t p h) (f .x +ℤ f .y +ℤ f .z) (negℤ (f .x)) (f .y) (f .z) k
+
+    turned : (j : ℕ) → j < 5 → 0 < five (P (negℤ (f .x +ℤ f .y +ℤ f .z))) (P (negℤ (negℤ (f .x)))) (P (negℤ (f .y))) (P (negℤ (f .z))) 0 j → ⊥
+    turned = no-share t p pr (h .u 0) (h .u 1) (h .v 0) (h .v 1) (h .v 2) some (balance-of t p h) (negℤ (f .x +ℤ f .y +ℤ f .z)) (negℤ (negℤ (f .x))) (negℤ (f .y)) (negℤ (f .z)) (turned-balance p (f .x +ℤ f .y +ℤ f .z) (negℤ (f .x)) (f .y) (f .z) k)
+
+    by-x : f .x ≢ pos 0 → ⊥
+    by-x n = ⊎-elim (λ a. turned 1 (omega arith) (turned-twice (f .x) a)) (λ a. share 1 (omega arith) a) (one-way (f .x) n)
+
+    by-y : f .y ≢ pos 0 → ⊥
+    by-y n = ⊎-elim (λ a. share 2 (omega arith) a) (λ a. turned 2 (omega arith) a) (one-way (f .y) n)
+
+    by-z : f .z ≢ pos 0 → ⊥
+    by-z n = ⊎-elim (λ a. share 3 (omega arith) a) (λ a. turned 3 (omega arith) a) (one-way (f .z) n)
+
+-- ---- so it stays
+
+unnegated : (z : ℤ) → negℤ z ≡ pos 0 → z ≡ pos 0
+unnegated z e = combine (z ∷ []) (times (negsuc 0) e ∷ []) (search quotes depth 60 fits 90000) refl
+
+pub stays-through : (t : ℤ) (p q : Five) → Proper t p → Touch (edgeAt t p) (faceAt t p) → FromOn (λ n. Touch (edgeAt t (shakenFive (pos n) p q)) (faceAt t (shakenFive (pos n) p q)))
+stays-through t p q pr h =
+    stays-off p q t
+    (products p (pos (h .u 0)) (pos (h .u 1)) (pos (h .v 0)) (pos (h .v 1)) (pos (h .v 2)) (balance-of t p h) (up (h .u 0) (not-a t p pr h)) (up (h .u 1) (not-b t p pr h)) (up (h .v 0) (not-1 t p pr h)) (up (h .v 1) (not-2 t p pr h)) (up (h .v 2) (not-3 t p pr h)) (λ e. not-flat t p pr h (unnegated (volume (minus (p .b) (p .a)) (minus (p .c1) (p .a)) (minus (p .c2) (p .a))) e)))
+  where
+    up : (n : ℕ) → (n ≡ 0 → ⊥) → pos 0 <ℤ pos n
+    up n k = let a = above-none n k in parts-lt (omega arith)
