@@ -21,3 +21,5 @@ pub mod Shaken
 pub mod Staying
 -- an edge through a triangle stays through it
 pub mod Proper
+-- clean at the start, nothing touched: clean at the end
+pub mod Clean
