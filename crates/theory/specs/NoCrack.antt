@@ -133,35 +133,19 @@ put-in-total f (suc i) w [] = refl
 put-in-total f zero w (a ∷ l) = ap (λ n. n +ℤ total f (λ n. pos (w n)) l) (zero-*ℤ (f a)) ∙ +ℤ-idl (total f (λ n. pos (w n)) l)
 put-in-total f (suc i) w (a ∷ l) = ap (λ n. pos (w 0) *ℤ f a +ℤ n) (put-in-total f i (λ n. w (suc n)) l)
 
-put-in-none : (i : ℕ) (w : ℕ → ℕ) → put-in i w i ≡ 0
-unfolding put-in
-put-in-none zero w = refl
-put-in-none (suc i) w = put-in-none i (λ n. w (suc n))
-
--- weights for all points, with none for the i-th of the first
-pub record TouchWithout (i : ℕ) (l b : List Event) : Type 0 where
-  pub touch : Touch l b
-  pub none : touch .u i ≡ 0
-
-pub face-weights : (i : ℕ) (l b : List Event) → Touch (without i l) b → TouchWithout i l b
-face-weights i l b t = record {
-  touch = record {
-    u = put-in i (t .u);
-    v = t .v;
-    balanced = record {
-      sums = put-in-total one i (t .u) l ∙ t .balanced .sums;
-      xs = put-in-total xOf i (t .u) l ∙ t .balanced .xs;
-      ys = put-in-total yOf i (t .u) l ∙ t .balanced .ys;
-      zs = put-in-total zOf i (t .u) l ∙ t .balanced .zs;
-      times = put-in-total timeOf i (t .u) l ∙ t .balanced .times;
-    };
-    some = rw (put-in-total one i (t .u) l) (t .some);
-  };
-  none = put-in-none i (t .u);
-}
-
 pub touch-of-face : (i : ℕ) (l b : List Event) → Touch (without i l) b → Touch l b
-touch-of-face i l b t = face-weights i l b t .touch
+touch-of-face i l b t = record {
+  u = put-in i (t .u);
+  v = t .v;
+  balanced = record {
+    sums = put-in-total one i (t .u) l ∙ t .balanced .sums;
+    xs = put-in-total xOf i (t .u) l ∙ t .balanced .xs;
+    ys = put-in-total yOf i (t .u) l ∙ t .balanced .ys;
+    zs = put-in-total zOf i (t .u) l ∙ t .balanced .zs;
+    times = put-in-total timeOf i (t .u) l ∙ t .balanced .times;
+  };
+  some = rw (put-in-total one i (t .u) l) (t .some);
+}
 
 -- so what touches a face of a triangle's piece touches a piece of the triangle
 pub touch-through : (s : Scene) (c : Corners) (f b : List Event) → FaceOf s c f → Touch f b → (k : ℕ) × (k < 3) × Touch (movingTriangle (s .positions) c k) b

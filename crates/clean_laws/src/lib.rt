@@ -1,1 +1,0 @@
-// Laws for the theorem that a clean drape stays clean, in specs/. No code stands here.
