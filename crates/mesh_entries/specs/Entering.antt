@@ -1,10 +1,12 @@
 -- Numbers counted and entered in one walk: each is entered while its place is below `most`, and all are counted. As list_entries/UpTo for pairs of a
 -- scene, and said of numbers: so that it serves whatever an entry is made of.
 use Prim.Native.Nat.{ℕ, _+_, _≤_}
+use mathlib.Core.Bool.{Bool, true, false}
 use mathlib.Core.List.{List, [], _∷_, _++_, append-assoc, append-nil}
 use mathlib.Core.Path.{_≡_, refl, sym, ap, _∙_}
 use native.Mathlib.Omega.{arith}
 use lib.ListN.{length, length-append}
+use Rattle.sequences.specs.Chosen.{one}
 use Rattle.sequences.specs.Gather.{gather, gather-none, gather-last}
 use Rattle.sequences.specs.Wrote.{Wrote}
 use Rattle.list_entries.specs.UpTo.{kept, enterAll, enter-length, enter-append, enter-wrote}
@@ -44,6 +46,14 @@ entered-then {most} {k} {m} {n} {o} {o₁} {o₂} {ns} {ms} v w =
           ∙ ap (λ (j : ℕ). enterAll most j ms (enterAll most k ns o)) (v .counts)
           ∙ sym (enter-append most k ns ms o);
     }
+
+-- a number that is entered or not by a test t, which was made and answered r
+module _ {most : ℕ} {o : List ℕ} {k : ℕ} (t : Bool) (n : ℕ) {r : Bool} (made : r ≡ t) where
+  pub entered-if : {o′ : List ℕ} → r ≡ true → o′ ≡ kept most k n o → Entered most o k (one t n) o′ (k + 1)
+  entered-if e w = rw (← made, e) (entered-number w)
+
+  pub entered-else : r ≡ false → Entered most o k (one t n) o k
+  entered-else e = rw (← made, e) (entered-none most o k)
 
 -- ---- a walk that has entered a front part of what it is to enter
 

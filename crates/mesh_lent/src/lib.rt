@@ -22,7 +22,7 @@ pub fn blank(table: &mut [u32])
 }
 
 // 12: there are seams, and the lent list has no room for a table of the vertices.
-fn table_short(positions: &[i32], seams: &[u32], table: &[u32]) -> bool
+pub fn table_short(positions: &[i32], seams: &[u32], table: &[u32]) -> bool
     ensures { λ r. ⌜ r ≡ tableShort (length (atEntry positions)) (length (atEntry seams)) (length (atEntry table)) ⌝ }
 {
     (seams.len() != 0) & (table.len() < positions.len() / 6)

@@ -1,0 +1,43 @@
+-- `enter_found`: a pair that is listed is counted, and one that is not leaves everything as it is.
+use borrow.Author.Needs.{needs}
+use mathlib.Core.Bool.{_&&_}
+use mathlib.Core.Path.{sym, _∙_}
+use Rattle.sequences.specs.Pick.{both}
+use Rattle.scene_seams.specs.Alone.{tabled}
+use Rattle.mesh_entries.specs.Entering.{entered-if, entered-else}
+use Rattle.mesh_rows.specs.Rows.{apart, entryOf}
+use Rattle.mesh_rows.proofs.enter_found.Statement.{statement}
+use Rattle.mesh_rows.proofs.enter_found.Tie as tie
+
+put-below-requires : tie.Need-put-below-requires
+put-below-requires c κs =
+    let start = c .before .before .before .before .before .before .before in
+    let a = start .args in
+    let s = tabled (a .positions .now) (a .edges .now) (a .triangles .now) (a .stands .now) in
+    let found = both (a .found) (apart s (a .kind) (a .i) (a .j)) (sym (c .before .before .is-listed .ensures) ∙ c .before .if1 .taken) .0 in
+    (start .pre .1 .0, start .pre .0 .1, start .pre .0 .3 found)
+
+returns : tie.Need-returns
+returns c =
+    let a = c .before .before .before .before .before .before .before .before .before .before .args in
+    let s = tabled (a .positions .now) (a .edges .now) (a .triangles .now) (a .stands .now) in
+    entered-if (a .found && apart s (a .kind) (a .i) (a .j)) (entryOf (a .kind) (a .i) (a .j)) (c .before .before .before .before .before .is-listed .ensures)
+    (c .before .before .before .before .if1 .taken)
+    (c .before .before .put-below .ensures)
+
+returns-2 : tie.Need-returns-2
+returns-2 c =
+    let a = c .before .before .before .before .before .before .args in
+    let s = tabled (a .positions .now) (a .edges .now) (a .triangles .now) (a .stands .now) in
+    entered-else (a .found && apart s (a .kind) (a .i) (a .j)) (entryOf (a .kind) (a .i) (a .j)) (c .before .is-listed .ensures) (c .if1 .left)
+
+pub enter-found-spec : {M : Type 1} → statement M
+enter-found-spec =
+    tie.close
+    (tie.spec
+    (λ c κs. search needs)
+    put-below-requires
+    (λ c. search needs)
+    (λ c. search needs)
+    returns
+    returns-2)
