@@ -17,7 +17,6 @@ use meaning::Settled;
 use meaning::WholeContact;
 use mesh_parts::corners_of;
 use mesh_parts::ends_of;
-use mesh_words::pairs::word;
 use scene_parts::asked::larger;
 use scene_parts::asked::smaller;
 
@@ -49,7 +48,7 @@ fn contact_numbers(
 }
 
 // From the word of a pair: only a hit goes on.
-fn contact_of_word(
+pub fn contact_of_word(
     positions: &[i32],
     edges: &[u32],
     triangles: &[u32],
@@ -78,21 +77,4 @@ fn contact_of_word(
         Settled::Touch => WholeContact::Touch,
         Settled::Apart => WholeContact::Apart,
     }
-}
-
-pub fn contact(
-    positions: &[i32],
-    edges: &[u32],
-    triangles: &[u32],
-    stands: &[u32],
-    kind: Kind,
-    i: usize,
-    j: usize,
-) -> WholeContact
-    requires { ⌜ SoundWithin contactLimit (tabledIn positions edges triangles stands)
-        × (notThere (tabledIn positions edges triangles stands) kind i j ≡ false) ⌝ }
-    ensures { λ r. ⌜ WholeContactIs (tabledAtEntry positions edges triangles stands) kind i j r ⌝ }
-{
-    let found = word(positions, edges, triangles, stands, kind, i, j);
-    contact_of_word(positions, edges, triangles, stands, kind, i, j, found)
 }

@@ -20,7 +20,7 @@ pub struct Wanted {
 }
 
 // The word that a byte stands for; where it stands for none, the last.
-fn word_in(byte: u8) -> Settled
+pub fn word_in(byte: u8) -> Settled
     ensures { λ r. ⌜ r ≡ wordOfByte byte ⌝ }
 {
     if byte == 0 {
