@@ -19,6 +19,7 @@ use Rattle.meaning.specs.declared.Kind.{Kind}
 use Rattle.corner_leaf.specs.declared.SixPoints.{SixPoints}
 use Rattle.corner_leaf.specs.Points.{pieceAt, SixIn}
 use Rattle.corner_search.specs.Sixes.{sixOf, six-piece}
+use Rattle.scene_checks.specs.Facts.{accepted-sound}
 use Rattle.four_words.specs.Six.{six-in}
 use Rattle.claim_line.specs.Rendered.{numbersIn, nine-numbers}
 use Rattle.claim_line.specs.Reading.{ClaimGot}
@@ -84,7 +85,7 @@ module _ (s : Scene) (text : List ℕ) (at : ℕ) (sizes : List ℕ) (minus : Li
 
 module _ (s : Scene) (kind : Kind) (i j k : ℕ) {six : SixPoints} (is : six ≡ sixOf s kind i j k) where
   pub points-in : Accepted s → notThere s kind i j ≡ false → SixIn (s .positions) six
-  points-in a e = subst (SixIn (s .positions)) (sym is) (six-in s a kind i j k e)
+  points-in a e = subst (SixIn (s .positions)) (sym is) (six-in s (accepted-sound a) kind i j k e)
 
   pub points-answer : (ws : List ℕ) (b : Bool) → AnswerIs (pieceAt (s .positions) six) ws b → AnswerIs (pieceOf s kind i j k) ws b
   points-answer ws b h = subst (λ (p : Piece). AnswerIs p ws b) (ap (pieceAt (s .positions)) is ∙ six-piece s kind i j k) h

@@ -32,7 +32,7 @@ fn rests(positions: &[i32], v: usize) -> bool
     same(positions, at) & same(positions, at + 1) & same(positions, at + 2)
 }
 
-fn point_rests(positions: &[i32], p: usize, c: Corners) -> bool
+pub fn point_rests(positions: &[i32], p: usize, c: Corners) -> bool
     requires { ⌜ PointReady (now positions) p c ⌝ }
     ensures { λ r. ⌜ r ≡ pointRests (atEntry positions) p c ⌝ }
 {
@@ -42,7 +42,7 @@ fn point_rests(positions: &[i32], p: usize, c: Corners) -> bool
         & rests(positions, c.high)
 }
 
-fn edges_rest(positions: &[i32], e: Ends, f: Ends) -> bool
+pub fn edges_rest(positions: &[i32], e: Ends, f: Ends) -> bool
     requires { ⌜ EdgesReady (now positions) e f ⌝ }
     ensures { λ r. ⌜ r ≡ edgesRest (atEntry positions) e f ⌝ }
 {

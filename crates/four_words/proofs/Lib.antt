@@ -1,2 +1,2 @@
 -- Laws that several proofs of this crate cite.
-mod Apart
+pub mod Apart

@@ -9,8 +9,7 @@ use lib.Dec.{ltb}
 use lib.IntN.{ℤ}
 use lib.ListN.{length}
 use borrow.Author.Tests.{lt-ltb}
-use Rattle.meaning.specs.Limits.{vertexLimit}
-use Rattle.meaning.specs.Scene.{Scene, Accepted, endsOf, cornersOf}
+use Rattle.meaning.specs.Scene.{Scene, endsOf, cornersOf}
 use Rattle.meaning.specs.Pieces.{pieceOf}
 use Rattle.meaning.specs.Refusals.{notThere}
 use Rattle.meaning.specs.Verdicts.{PieceIs}
@@ -21,7 +20,7 @@ use Rattle.meaning.specs.declared.Kind.{Kind}
 use Rattle.meaning.specs.declared.Kind.the-variants.{PointTriangle, EdgeEdge}
 use Rattle.meaning.specs.declared.Verdict.{Verdict}
 use Rattle.meaning.specs.declared.Settled.{Settled}
-use Rattle.scene_checks.specs.Facts.{accepted-sized}
+use Rattle.scene_checks.specs.Facts.{soundLimit, Sound}
 use Rattle.three_words.specs.Ready.{PointReady, EdgesReady}
 use Rattle.three_words.specs.Pairs.{pt-ready, ee-ready}
 use Rattle.corner_leaf.specs.declared.SixPoints.{SixPoints}
@@ -71,16 +70,16 @@ edges-tested e (suc i) f (suc j) = rw (above-none i, above-none j) refl
 
 -- vertex numbers that leave room for 6 v + 3
 pub record PointFew (p : ℕ) (c : Corners) : Type 0 where
-  pub point : p < vertexLimit
-  pub low : c .low < vertexLimit
-  pub middle : c .middle < vertexLimit
-  pub high : c .high < vertexLimit
+  pub point : p < soundLimit
+  pub low : c .low < soundLimit
+  pub middle : c .middle < soundLimit
+  pub high : c .high < soundLimit
 
 pub record EdgesFew (e f : Ends) : Type 0 where
-  pub low : e .low < vertexLimit
-  pub high : e .high < vertexLimit
-  pub otherLow : f .low < vertexLimit
-  pub otherHigh : f .high < vertexLimit
+  pub low : e .low < soundLimit
+  pub high : e .high < soundLimit
+  pub otherLow : f .low < soundLimit
+  pub otherHigh : f .high < soundLimit
 
 -- ---- each of them stands in the positions
 
@@ -126,21 +125,21 @@ module _ {ps : List ℤ} where
 -- ---- the piece of a pair that is asked for
 
 module _ (s : Scene) where
-  pub six-in : Accepted s → (kind : Kind) (i j k : ℕ) → notThere s kind i j ≡ false → SixIn (s .positions) (sixOf s kind i j k)
+  pub six-in : Sound s → (kind : Kind) (i j k : ℕ) → notThere s kind i j ≡ false → SixIn (s .positions) (sixOf s kind i j k)
   unfolding sixOf
   six-in a PointTriangle i j k e = point-six-in k (pt-ready s i j a e)
   six-in a EdgeEdge i j k e = edges-six-in (k / 2) (k % 2) (ee-ready s i j a e)
 
-  pub pt-few : Accepted s → (i j : ℕ) → notThere s PointTriangle i j ≡ false → PointFew i (cornersOf s j)
+  pub pt-few : Sound s → (i j : ℕ) → notThere s PointTriangle i j ≡ false → PointFew i (cornersOf s j)
   pt-few a i j e =
       let r = pt-ready s i j a e in
-      let n = accepted-sized a .fewVertices in
+      let n = a .few in
       record { point = lt-of-lt-of-le (r .point) n; low = lt-of-lt-of-le (r .low) n; middle = lt-of-lt-of-le (r .middle) n; high = lt-of-lt-of-le (r .high) n }
 
-  pub ee-few : Accepted s → (i j : ℕ) → notThere s EdgeEdge i j ≡ false → EdgesFew (endsOf s (min i j)) (endsOf s (max i j))
+  pub ee-few : Sound s → (i j : ℕ) → notThere s EdgeEdge i j ≡ false → EdgesFew (endsOf s (min i j)) (endsOf s (max i j))
   ee-few a i j e =
       let r = ee-ready s i j a e in
-      let n = accepted-sized a .fewVertices in
+      let n = a .few in
       record { low = lt-of-lt-of-le (r .low) n; high = lt-of-lt-of-le (r .high) n; otherLow = lt-of-lt-of-le (r .otherLow) n; otherHigh = lt-of-lt-of-le (r .otherHigh) n }
 
   -- what the search asks of its six points, and what it says of the piece
@@ -148,7 +147,7 @@ module _ (s : Scene) where
     at-piece : pieceAt (s .positions) six ≡ pieceOf s kind i j k
     at-piece = ap (pieceAt (s .positions)) is ∙ six-piece s kind i j k
 
-    pub asked : Accepted s → notThere s kind i j ≡ false → (v : Verdict) → PieceIs (pieceOf s kind i j k) v → SixIn (s .positions) six × PieceIs (pieceAt (s .positions) six) v
+    pub asked : Sound s → notThere s kind i j ≡ false → (v : Verdict) → PieceIs (pieceOf s kind i j k) v → SixIn (s .positions) six × PieceIs (pieceAt (s .positions) six) v
     asked a e v h = (subst (SixIn (s .positions)) (sym is) (six-in a kind i j k e), subst (λ p. PieceIs p v) (sym at-piece) h)
 
     pub settled : (w : Settled) → PieceSettled (pieceAt (s .positions) six) w → PieceSettled (pieceOf s kind i j k) w

@@ -110,7 +110,7 @@ fn singular_word(
 }
 
 // The word of a pair that is not degenerate.
-fn plain_word(verdict: Verdict) -> Settled
+pub fn plain_word(verdict: Verdict) -> Settled
     ensures { λ r. ⌜ r ≡ plainWord verdict ⌝ }
 {
     match verdict {

@@ -5,11 +5,11 @@
 ghost use mathlib.Core.Path.{_≡_};
 ghost use mathlib.Core.Bool.{false};
 ghost use Prim.Native.Nat.{_<_};
-ghost use Rattle.meaning.specs.Limits.{vertexLimit};
 ghost use Rattle.meaning.specs.Scene.{Accepted};
 ghost use Rattle.meaning.specs.Refusals.{notThere};
 ghost use Rattle.corner_search.specs.Sixes.{pointSix, edgesSix, sixOf};
 ghost use Rattle.scene_seams.specs.Alone.{tabledIn, tabledAtEntry};
+ghost use Rattle.scene_checks.specs.Facts.{soundLimit};
 ghost use Rattle.four_words.specs.Six.{between, PointFew, EdgesFew};
 use corner_leaf::SixPoints;
 use meaning::Corners;
@@ -20,14 +20,14 @@ use scene_parts::asked::smaller;
 
 // The point between the lower vertex at the start and the higher at the end.
 fn between(low: usize, high: usize, end: bool) -> usize
-    requires { ⌜ (low < vertexLimit) × (high < vertexLimit) ⌝ }
+    requires { ⌜ (low < soundLimit) × (high < soundLimit) ⌝ }
     ensures { λ r. ⌜ r ≡ between low high end ⌝ }
 {
     if end { 6 * low + 3 } else { 6 * high }
 }
 
 // p p' and 1 2 3 3', or 1 2 2' 3', or 1 1' 2' 3'.
-fn point_six(p: usize, c: Corners, k: usize) -> SixPoints
+pub fn point_six(p: usize, c: Corners, k: usize) -> SixPoints
     requires { ⌜ PointFew p c ⌝ }
     ensures { λ r. ⌜ r ≡ pointSix p c k ⌝ }
 {
@@ -43,7 +43,7 @@ fn point_six(p: usize, c: Corners, k: usize) -> SixPoints
 }
 
 // 1 2 2' in piece A (0), 1 1' 2' in piece B, of either edge.
-fn edges_six(e: Ends, i: usize, f: Ends, j: usize) -> SixPoints
+pub fn edges_six(e: Ends, i: usize, f: Ends, j: usize) -> SixPoints
     requires { ⌜ EdgesFew e f ⌝ }
     ensures { λ r. ⌜ r ≡ edgesSix e i f j ⌝ }
 {

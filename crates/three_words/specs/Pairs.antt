@@ -3,7 +3,7 @@ use Prim.Native.Nat.{ℕ, zero, suc, _/_, _%_, min, max, _<_, _≤_}
 use mathlib.Core.Path.{_≡_, refl, sym, ap, subst, _∙_}
 use mathlib.Core.Bool.{Bool, true, false, _||_}
 use native.Mathlib.Omega.{arith}
-use Rattle.meaning.specs.Scene.{Scene, vertexCount, edgeCount, triangleCount, endsOf, cornersOf, Accepted}
+use Rattle.meaning.specs.Scene.{Scene, vertexCount, edgeCount, triangleCount, endsOf, cornersOf}
 use Rattle.three_words.specs.Ready.{PointReady, EdgesReady, point-ready, edges-ready}
 use Rattle.meaning.specs.Pieces.{Piece, pieceOf, pieceCount, movingPoint, movingTriangle, movingEdge}
 use Rattle.meaning.specs.Refusals.{notThere}
@@ -13,6 +13,7 @@ use Rattle.meaning.specs.declared.Kind.the-variants.{PointTriangle, EdgeEdge}
 use Rattle.meaning.specs.declared.Verdict.{Verdict}
 use Rattle.meaning.specs.declared.Verdict.the-variants.{Hit, Miss, Degenerate}
 use Rattle.scene_parts.specs.There.{pt-there, ee-there}
+use Rattle.scene_checks.specs.Facts.{Sound}
 use Rattle.exact_signs.specs.BySigns.{told, eitherOf}
 use Rattle.exact_signs.specs.declared.Signs.{Signs}
 use Rattle.theory.specs.Computed.{joined, joinedBelow, pieceVerdict, pairVerdict}
@@ -65,9 +66,9 @@ module _ (s : Scene) (i j : ℕ) where
   ee-larger-there e = omega (arith, ee-there s i j e)
 
   -- what the verdict asks is there
-  pub pt-ready : Accepted s → notThere s PointTriangle i j ≡ false → PointReady (s .positions) i (cornersOf s j)
+  pub pt-ready : Sound s → notThere s PointTriangle i j ≡ false → PointReady (s .positions) i (cornersOf s j)
   pt-ready a e = point-ready a i j (pt-there s i j e .0) (pt-there s i j e .1)
 
-  pub ee-ready : Accepted s → notThere s EdgeEdge i j ≡ false
+  pub ee-ready : Sound s → notThere s EdgeEdge i j ≡ false
       → EdgesReady (s .positions) (endsOf s (min i j)) (endsOf s (max i j))
   ee-ready a e = edges-ready a (min i j) (max i j) (ee-smaller-there e) (ee-larger-there e)

@@ -66,7 +66,7 @@ pub fn either(a: Signs, b: Signs) -> Signs
 }
 
 // The pieces of a pair share their determinants, so a pair takes the volumes of all its pieces at once.
-fn point_pair(positions: &[i32], p: usize, c: Corners) -> Verdict
+pub fn point_pair(positions: &[i32], p: usize, c: Corners) -> Verdict
     requires { ⌜ PointReady (now positions) p c ⌝ }
     ensures { λ r. ⌜ ((e t w : List ℕ) (j : ℕ) → cornersOf (sceneOf (atEntry positions) e t w) j ≡ c
         → PairIs (sceneOf (atEntry positions) e t w) PointTriangle p j r) ⌝ }
@@ -81,7 +81,7 @@ fn point_pair(positions: &[i32], p: usize, c: Corners) -> Verdict
     verdict_of(either(a, either(b, d)))
 }
 
-fn edges_pair(positions: &[i32], first: Ends, second: Ends) -> Verdict
+pub fn edges_pair(positions: &[i32], first: Ends, second: Ends) -> Verdict
     requires { ⌜ EdgesReady (now positions) first second ⌝ }
     ensures { λ r. ⌜ ((e t w : List ℕ) (i j : ℕ) → endsOf (sceneOf (atEntry positions) e t w) (min i j) ≡ first
         → endsOf (sceneOf (atEntry positions) e t w) (max i j) ≡ second

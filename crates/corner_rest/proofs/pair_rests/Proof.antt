@@ -4,6 +4,7 @@ use Rattle.meaning.specs.Scene.{Scene}
 use Rattle.scene_seams.specs.Alone.{tabled}
 use Rattle.three_words.specs.Pairs.{ee-smaller-there, ee-larger-there, pt-ready, ee-ready}
 use Rattle.scene_parts.specs.There.{pt-there}
+use Rattle.scene_checks.specs.Facts.{accepted-sound}
 use Rattle.corner_rest.specs.Rests.{pt-rests, ee-rests}
 use Rattle.corner_rest.proofs.pair_rests.Statement.{statement}
 use Rattle.corner_rest.proofs.pair_rests.Tie as tie
@@ -17,7 +18,7 @@ point-rests-requires : tie.Need-point-rests-requires
 point-rests-requires c κs =
     let a = c .before .before .before .before .before .before .args in
     let p = c .before .before .before .before .before .before .pre in
-    rw (c .corners-of .ensures) (pt-ready (tabled (a .positions .now) (a .edges .now) (a .triangles .now) (a .stands .now)) (a .i) (a .j) (p .0) (rw (c .before .enum-told .given .1) at (p .1)))
+    rw (c .corners-of .ensures) (pt-ready (tabled (a .positions .now) (a .edges .now) (a .triangles .now) (a .stands .now)) (a .i) (a .j) (accepted-sound (p .0)) (rw (c .before .enum-told .given .1) at (p .1)))
 
 ends-of-requires : tie.Need-ends-of-requires
 ends-of-requires c κs =
@@ -34,7 +35,7 @@ edges-rest-requires c κs =
     let a = c .before .before .before .before .before .before .before .before .before .args in
     let p = c .before .before .before .before .before .before .before .before .before .pre in
     rw (c .ends-of2 .ensures, c .before .before .ends-of .ensures, c .before .larger .ensures, c .before .before .before .smaller .ensures)
-    (ee-ready (tabled (a .positions .now) (a .edges .now) (a .triangles .now) (a .stands .now)) (a .i) (a .j) (p .0) (rw (c .before .before .before .before .enum-told2 .given .1) at (p .1)))
+    (ee-ready (tabled (a .positions .now) (a .edges .now) (a .triangles .now) (a .stands .now)) (a .i) (a .j) (accepted-sound (p .0)) (rw (c .before .before .before .before .enum-told2 .given .1) at (p .1)))
 
 returns : tie.Need-returns
 returns c =

@@ -4,6 +4,7 @@ use mathlib.Core.Path.{refl, sym}
 use Rattle.scene_seams.specs.Alone.{tabled}
 use Rattle.three_words.specs.Pairs.{ee-smaller-there, ee-larger-there}
 use Rattle.scene_parts.specs.There.{pt-there}
+use Rattle.scene_checks.specs.Facts.{accepted-sound}
 use Rattle.contact_pair.specs.Ready.{pt-asked, ee-asked}
 use Rattle.contact_pair.proofs.accepted.contact_numbers.Statement.{statement}
 use Rattle.contact_pair.proofs.accepted.contact_numbers.Tie as tie
@@ -18,7 +19,7 @@ point-contact-numbers-requires : tie.Need-point-contact-numbers-requires
 point-contact-numbers-requires c κs =
     let s = c .before .before .before .before .before .before in
     let a = s .args in
-    rw (c .corners-of .ensures) (pt-asked (tabled (a .positions .now) (a .edges .now) (a .triangles .now) (a .stands .now)) (a .i) (a .j) (s .pre .0) (rw (c .before .enum-told .given .1) at (s .pre .1)) (rw (c .before .enum-told .given .1) at (s .pre .2)))
+    rw (c .corners-of .ensures) (pt-asked (tabled (a .positions .now) (a .edges .now) (a .triangles .now) (a .stands .now)) (a .i) (a .j) (accepted-sound (s .pre .0)) (rw (c .before .enum-told .given .1) at (s .pre .1)) (rw (c .before .enum-told .given .1) at (s .pre .2)))
 
 ends-of-requires : tie.Need-ends-of-requires
 ends-of-requires c κs =
@@ -38,7 +39,7 @@ edges-contact-numbers-requires c κs =
     let a = s .args in
     let k = c .before .before .before .before .enum-told2 .given .1 in
     rw (c .ends-of2 .ensures, c .before .before .ends-of .ensures, c .before .larger .ensures, c .before .before .before .smaller .ensures)
-    (ee-asked (tabled (a .positions .now) (a .edges .now) (a .triangles .now) (a .stands .now)) (a .i) (a .j) (s .pre .0) (rw k at (s .pre .1)) (rw k at (s .pre .2)))
+    (ee-asked (tabled (a .positions .now) (a .edges .now) (a .triangles .now) (a .stands .now)) (a .i) (a .j) (accepted-sound (s .pre .0)) (rw k at (s .pre .1)) (rw k at (s .pre .2)))
 
 returns : tie.Need-returns
 returns c =

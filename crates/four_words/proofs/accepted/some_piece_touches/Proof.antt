@@ -5,6 +5,7 @@ use mathlib.Core.Path.{sym, subst}
 use borrow.Author.Needs.{needs}
 use Rattle.meaning.specs.Scene.{Scene}
 use Rattle.scene_seams.specs.Alone.{tabled}
+use Rattle.scene_checks.specs.Facts.{accepted-sound}
 use Rattle.corner_leaf.specs.Points.{SixIn}
 use Rattle.four_words.specs.Six.{six-in}
 use Rattle.four_words.specs.Words.{NoneBefore, none-before, one-more, touch-found, none-found}
@@ -23,7 +24,7 @@ piece-touches-requires c κs =
     let b = c .before .before .before .before .before .before .before in
     let a = b .args in
     let s : Scene = tabled (a .positions .now) (a .edges .now) (a .triangles .now) (a .stands .now) in
-    subst (SixIn (a .positions .now)) (sym (c .six-of .ensures)) (six-in s (b .pre .0) (a .kind) (a .i) (a .j) _ (b .pre .1))
+    subst (SixIn (a .positions .now)) (sym (c .six-of .ensures)) (six-in s (accepted-sound (b .pre .0)) (a .kind) (a .i) (a .j) _ (b .pre .1))
 
 returns : tie.Need-returns Inv-loop μ-loop
 returns c =

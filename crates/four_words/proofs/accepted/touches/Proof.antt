@@ -3,6 +3,7 @@ use borrow.Author.Needs.{needs}
 use mathlib.Core.Path.{sym, subst}
 use Rattle.meaning.specs.Scene.{Scene}
 use Rattle.scene_seams.specs.Alone.{tabled}
+use Rattle.scene_checks.specs.Facts.{accepted-sound}
 use Rattle.corner_leaf.specs.declared.SixPoints.{SixPoints}
 use Rattle.corner_leaf.specs.Points.{SixIn}
 use Rattle.four_words.specs.Six.{six-in}
@@ -15,7 +16,7 @@ starts-touch-requires c κs =
     let b = c .before .before .before .before .before .before in
     let a = b .args in
     let s : Scene = tabled (a .positions .now) (a .edges .now) (a .triangles .now) (a .stands .now) in
-    subst (SixIn (a .positions .now)) (sym (c .six-of .ensures)) (six-in s (b .pre .0) (a .kind) (a .i) (a .j) 0 (b .pre .1))
+    subst (SixIn (a .positions .now)) (sym (c .six-of .ensures)) (six-in s (accepted-sound (b .pre .0)) (a .kind) (a .i) (a .j) 0 (b .pre .1))
 
 returns : tie.Need-returns
 returns c =

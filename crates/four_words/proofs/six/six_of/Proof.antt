@@ -4,6 +4,7 @@ use Rattle.meaning.specs.Scene.{Scene}
 use Rattle.scene_seams.specs.Alone.{tabled}
 use Rattle.three_words.specs.Pairs.{ee-smaller-there, ee-larger-there}
 use Rattle.scene_parts.specs.There.{pt-there}
+use Rattle.scene_checks.specs.Facts.{accepted-sound}
 use Rattle.four_words.specs.Six.{pt-few, ee-few, pt-six, ee-six}
 use Rattle.four_words.proofs.six.six_of.Statement.{statement}
 use Rattle.four_words.proofs.six.six_of.Tie as tie
@@ -20,7 +21,7 @@ point-six-requires : tie.Need-point-six-requires
 point-six-requires c κs =
     let a = c .before .before .before .before .before .before .args in
     let p = c .before .before .before .before .before .before .pre in
-    rw (c .corners-of .ensures) (pt-few (tabled (a .positions .now) (a .edges .now) (a .triangles .now) (a .stands .now)) (p .0) (a .i) (a .j) (rw (c .before .enum-told .given .1) at (p .1)))
+    rw (c .corners-of .ensures) (pt-few (tabled (a .positions .now) (a .edges .now) (a .triangles .now) (a .stands .now)) (accepted-sound (p .0)) (a .i) (a .j) (rw (c .before .enum-told .given .1) at (p .1)))
 
 enum-told-2 : tie.Need-enum-told-2
 enum-told-2 c = search needs
@@ -46,7 +47,7 @@ edges-six-requires c κs =
     let a = c .before .before .before .before .before .before .before .before .before .args in
     let p = c .before .before .before .before .before .before .before .before .before .pre in
     rw (c .ends-of2 .ensures, c .before .before .ends-of .ensures, c .before .larger .ensures, c .before .before .before .smaller .ensures)
-    (ee-few (tabled (a .positions .now) (a .edges .now) (a .triangles .now) (a .stands .now)) (p .0) (a .i) (a .j) (rw (c .before .before .before .before .enum-told2 .given .1) at (p .1)))
+    (ee-few (tabled (a .positions .now) (a .edges .now) (a .triangles .now) (a .stands .now)) (accepted-sound (p .0)) (a .i) (a .j) (rw (c .before .before .before .before .enum-told2 .given .1) at (p .1)))
 
 returns : tie.Need-returns
 returns c =

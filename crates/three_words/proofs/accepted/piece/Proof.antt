@@ -3,6 +3,7 @@ use Rattle.scene_seams.specs.Alone.{tabled}
 use Rattle.meaning.specs.Pieces.{pieceOf}
 use Rattle.three_words.specs.Pairs.{ee-smaller-there, ee-larger-there, pt-ready, ee-ready}
 use Rattle.scene_parts.specs.There.{pt-there}
+use Rattle.scene_checks.specs.Facts.{accepted-sound}
 use Rattle.three_words.proofs.accepted.piece.Statement.{statement}
 use Rattle.three_words.proofs.accepted.piece.Tie as tie
 use Rattle.three_words.proofs.accepted.piece.Reads as reads
@@ -28,7 +29,7 @@ corners-of-requires c κs =
 point-piece-requires : tie.Need-point-piece-requires
 point-piece-requires c κs =
     let a = c .before .before .before .before .before .before .args in
-    rw (c .corners-of .ensures) (pt-ready (tabled (a .positions .now) (a .edges .now) (a .triangles .now) (a .stands .now)) (a .i) (a .j) (c .before .before .before .before .before .before .pre .0) (rw (c .before .enum-told .given .1) at (c .before .before .before .before .before .before .pre .1)))
+    rw (c .corners-of .ensures) (pt-ready (tabled (a .positions .now) (a .edges .now) (a .triangles .now) (a .stands .now)) (a .i) (a .j) (accepted-sound (c .before .before .before .before .before .before .pre .0)) (rw (c .before .enum-told .given .1) at (c .before .before .before .before .before .before .pre .1)))
 
 -- src/accepted.rt:80:55
 enum-told-2 : tie.Need-enum-told-2
@@ -59,7 +60,7 @@ edges-piece-requires : tie.Need-edges-piece-requires
 edges-piece-requires c κs =
     let a = c .before .before .before .before .before .before .before .before .before .args in
     rw (c .ends-of2 .ensures, c .before .before .ends-of .ensures, c .before .larger .ensures, c .before .before .before .smaller .ensures)
-    (ee-ready (tabled (a .positions .now) (a .edges .now) (a .triangles .now) (a .stands .now)) (a .i) (a .j) (c .before .before .before .before .before .before .before .before .before .pre .0) (rw (c .before .before .before .before .enum-told2 .given .1) at (c .before .before .before .before .before .before .before .before .before .pre .1)))
+    (ee-ready (tabled (a .positions .now) (a .edges .now) (a .triangles .now) (a .stands .now)) (a .i) (a .j) (accepted-sound (c .before .before .before .before .before .before .before .before .before .pre .0)) (rw (c .before .before .before .before .enum-told2 .given .1) at (c .before .before .before .before .before .before .before .before .before .pre .1)))
 
 -- src/accepted.rt:63:1
 returns : tie.Need-returns
