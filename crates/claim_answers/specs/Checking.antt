@@ -10,12 +10,13 @@ use borrow.Author.Tests.{lt-ltb, le-ltb, ltb-false}
 use Rattle.answers.specs.Answering.{refuses, lets-pass, gives, is-given, one-answer}
 use Rattle.scene_seams.specs.Alone.{tabled}
 use Rattle.scene_checks.specs.Checking.{Stitched, from-table}
-use Rattle.scene_checks.specs.Accepting.{after-accepted, after-refused}
+use Rattle.scene_checks.specs.Accepting.{after-accepted}
+use Rattle.answers_order.specs.InOrder.{Checked, firstOf, refusedIf, in-order, one-check}
 use Rattle.answers.specs.Speaking.{one-number}
 use Rattle.meaning.specs.Limits.{textLimit}
 use Rattle.meaning.specs.Scene.{Scene, Accepted}
 use Rattle.meaning.specs.Pieces.{Piece}
-use Rattle.meaning.specs.Refusals.{Outcome, given, refused, numberOf, SceneChecked, Check, Answers}
+use Rattle.meaning.specs.Refusals.{Outcome, given, refused, numberOf, sceneSays, sceneChecks, SceneChecked, Check, Answers}
 use Rattle.meaning.specs.Lines as Lines
 use Rattle.meaning.specs.Lines.{AllSound, LinesAre}
 use Rattle.meaning.specs.Text.{longText}
@@ -56,29 +57,36 @@ found-claims s text count (given cs) h e = record { claims = cs; sound = h; many
 found-claims s text count (refused n line) h e = let z : _≡_ {A = ℕ} 0 1 = cc in absurd (omega arith)
 
 module _ (s : Scene) (text o : List ℕ) where
-  pub checked-scene : {r : SceneAnswer} {x : Refusal} → SceneChecked s r → r ≡ SceneAnswers.the-variants.Refused x
+  -- 8 is the second of the two
+  pub scene-first : (scene : SceneAnswer) → SceneChecked s scene → Checked (claimsFirst s text) (firstOf scene (refusedIf (longText text) LongText))
+  unfolding numberOf
+  scene-first scene p =
+      in-order (sceneChecks s) (longCheck text) scene (refusedIf (longText text) LongText) p (one-check (longText text) LongText)
+
+  -- where neither refuses, the scene is accepted and the text is short enough
+  pub both-passed : {r : SceneAnswer} → r ≡ SceneAnswers.the-variants.Accepted → Checked (claimsFirst s text) r → Accepted s × (length text ≤ textLimit)
+  unfolding sceneSays
+  both-passed e p =
+      let (h1, q1) = is-given (λ t. Unit {0}) _ _ tt (subst (Checked (claimsFirst s text)) e p) in
+      let (h2, q2) = is-given (λ t. Unit {0}) _ _ tt q1 in
+      let (h3, q3) = is-given (λ t. Unit {0}) _ _ tt q2 in
+      let (h4, q4) = is-given (λ t. Unit {0}) _ _ tt q3 in
+      let (h5, q5) = is-given (λ t. Unit {0}) _ _ tt q4 in
+      let (brief, q6) = is-given (λ t. Unit {0}) _ _ tt q5 in
+      (record { shapely = h1; inRange = h2; known = h3; sewnWell = h4; distinct = h5 }, ltb-false textLimit (length text) brief)
+
+  pub checked-first : {r : SceneAnswer} {x : Refusal} → Checked (claimsFirst s text) r → r ≡ SceneAnswers.the-variants.Refused x
       → ClaimsChecked s text o o (ClaimsAnswers.the-variants.Refused x 0)
-  unfolding claimsSays howManyTold answersLeft
-  checked-scene {r} {x} p e =
+  unfolding claimsSays howManyTold answersLeft sceneSays
+  checked-first {r} {x} p e =
       record {
         outcome = refused (numberOf x) 0;
-        right = before (numberOf x) 0 refl (after-refused s (longCheck text) (λ t. Unit {0}) e p);
+        right = before (numberOf x) 0 refl (subst (Checked (claimsFirst s text)) e p);
         says = refl;
         leaves = refl;
       }
 
   module _ (a : Accepted s) where
-    pub checked-long : textLimit < length text → ClaimsChecked s text o o (ClaimsAnswers.the-variants.Refused LongText 0)
-    unfolding claimsSays howManyTold answersLeft numberOf
-    checked-long h =
-        record {
-          outcome = refused 8 0;
-          right = before 8 0 refl
-              (after-accepted s (longCheck text) (λ t. Unit {0}) (refused 8 0) a (refuses _ _ _ _ (lt-ltb textLimit (length text) h) refl));
-          says = refl;
-          leaves = refl;
-        }
-
     module _ (brief : length text ≤ textLimit) {r : ClaimsAnswer} (i : Inspected s text r) where
       first : FirstIs s text (given tt)
       first =

@@ -15,6 +15,8 @@ ghost use Rattle.claim_answers.specs.Inspecting.{Inspected};
 ghost use Rattle.claim_answers.specs.Weighing.{weightsFrom};
 ghost use Rattle.claim_answers.specs.Answering.{Roomy, Answered};
 ghost use Rattle.sequences.specs.Lent.{atEntry, atExit};
+use answers_order::first_of;
+use answers_order::refused_if;
 use claim_line::Step;
 use claim_line::next_claim;
 use claim_sums::borne_out;
@@ -156,17 +158,10 @@ fn check_into(
     ensures { λ r. ⌜ ClaimsChecked (sceneAtEntry positions edges triangles seams) (atEntry text) (atEntry answers)
         (atExit answers) r × Stitched (sceneAtEntry positions edges triangles seams) (atEntry stands) (atExit stands) ⌝ }
 {
-    if let SceneAnswer::Refused(refusal) = scene_checks::check_into(
-        positions,
-        edges,
-        triangles,
-        seams,
-        stands,
-    ) {
+    let scene = scene_checks::check_into(positions, edges, triangles, seams, stands);
+    let brief = refused_if(TEXT_LIMIT < text.len(), Refusal::LongText);
+    if let SceneAnswer::Refused(refusal) = first_of(scene, brief) {
         return ClaimsAnswer::Refused(refusal, 0);
-    }
-    if TEXT_LIMIT < text.len() {
-        return ClaimsAnswer::Refused(Refusal::LongText, 0);
     }
     match inspect(positions, edges, triangles, stands, text) {
         ClaimsAnswer::Refused(fault, line) => ClaimsAnswer::Refused(fault, line),

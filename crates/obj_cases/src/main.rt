@@ -70,7 +70,7 @@ fn show_same(label: &[u8], file: &[u8]) {
     show(label, file, file);
 }
 
-fn shapes() {
+fn fields() {
     show_same(b"nothing", b"");
     show_same(b"skipped lines", b"\n#\nvt 1\nvn \n");
     show_same(b"two fields", b"v 0 0\n");
@@ -78,6 +78,9 @@ fn shapes() {
     show_same(b"two blanks", b"v 0  0 0\n");
     show_same(b"a blank at the end", b"v 0 0 0 \n");
     show_same(b"tabs", b"v\t0\t0\t0\n");
+}
+
+fn lines() {
     show_same(b"CR", b"v 0 0 0\r\n");
     show_same(b"no LF", b"\n# a");
     show_same(b"vt without a blank", b"vt\n");
@@ -85,12 +88,15 @@ fn shapes() {
     show_same(b"slashes", b"v 0 0 0\nf 1/1 1/1 1/1\n");
 }
 
-fn decimals() {
+fn zeros() {
     show_same(b"minus nothing", b"v -0 -0.0 -0.00\n");
     show_same(b"zeros in front", b"v 000000001 01.0 00.10\n");
     show_same(b"ten digits", b"v 0000000001 0 0\n");
     show_same(b"three behind the point", b"v 0.000 0 0\n");
     show_same(b"nothing behind the point", b"v 1. 0 0\n");
+}
+
+fn decimals() {
     show_same(b"nothing before the point", b"v .5 0 0\n");
     show_same(b"plus", b"v +1 0 0\n");
     show_same(b"an exponent", b"v 1e2 0 0\n");
@@ -153,6 +159,18 @@ fn print_vertex(n: u16) {
     print_number(wide(n));
 }
 
+// The first numbers of a list, as many as there are.
+fn print_front(list: &[u16], count: usize) {
+    let mut k: usize = 0;
+    while k < count {
+        if list.len() <= k {
+            return;
+        }
+        print_vertex(list[k]);
+        k += 1;
+    }
+}
+
 // Edges and triangles of the scene of two files, and the numbers behind them.
 fn numbers() {
     let mut positions = [77i32; 3072];
@@ -169,32 +187,16 @@ fn numbers() {
     );
     print_answer(answer);
     print(b"\nedges");
-    print_vertex(edges[0]);
-    print_vertex(edges[1]);
-    print_vertex(edges[2]);
-    print_vertex(edges[3]);
-    print_vertex(edges[4]);
-    print_vertex(edges[5]);
-    print_vertex(edges[6]);
-    print_vertex(edges[7]);
-    print_vertex(edges[8]);
-    print_vertex(edges[9]);
-    print_vertex(edges[10]);
-    print_vertex(edges[11]);
+    print_front(&edges, 12);
     print(b"\ntriangles");
-    print_vertex(triangles[0]);
-    print_vertex(triangles[1]);
-    print_vertex(triangles[2]);
-    print_vertex(triangles[3]);
-    print_vertex(triangles[4]);
-    print_vertex(triangles[5]);
-    print_vertex(triangles[6]);
-    print_vertex(triangles[7]);
+    print_front(&triangles, 8);
     print(b"\n");
 }
 
 fn main() {
-    shapes();
+    fields();
+    lines();
+    zeros();
     decimals();
     faces();
     pairs();

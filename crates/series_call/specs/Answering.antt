@@ -38,7 +38,7 @@ use Rattle.series_walk.specs.Telling.{firstOver, over-gives, refusedWith}
 use Rattle.text_draft.specs.Reading.{total}
 use Rattle.series_walk.specs.Reading.{FirstStep, LastTold, StepsAre}
 use Rattle.meaning.specs.SeriesCall.{toldPart, ToldWhole, countsPart, countsSaid, FillsLast, lastCount, SeriesCalled, SeriesCounted}
-use Rattle.series_call.specs.Leaving.{frontOf, LeaveReady, LastLeft}
+use Rattle.series_leave.specs.Leaving.{frontOf, LeaveReady, LastLeft}
 
 -- the lent buffers are large enough, and the text is not too long
 pub record AllLent (text : List ℕ) (lent : Scene) (b : List ℤ) : Type 0 where

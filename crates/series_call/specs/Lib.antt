@@ -1,3 +1,2 @@
 -- A series in one call.
-pub mod Leaving
 pub mod Answering

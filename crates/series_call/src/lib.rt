@@ -1,8 +1,6 @@
 // A series in one call: its text is read step by step into arrays of the call's own, each step is told, and only where nothing refuses do the
 // lent buffers get the last step. So a refusal has touched none of them.
 
-mod leaving; // leaving.rt: the last step goes into the lent buffers
-
 ghost use Prim.Native.Nat.{_≤_};
 ghost use mathlib.Core.Path.{_≡_};
 ghost use lib.ListN.{length};
@@ -14,7 +12,6 @@ ghost use Rattle.meaning.specs.SeriesCall.{SeriesCalled, SeriesCounted};
 ghost use Rattle.series_walk.specs.Telling.{refusedWith};
 ghost use Rattle.series_call.specs.Answering.{AllLent, DraftTold, TextTold};
 ghost use Rattle.sequences.specs.Lent.{atEntry, atExit};
-use leaving::leave_last;
 use meaning::BOX_NUMBERS;
 use meaning::EDGE_NUMBERS;
 use meaning::POSITION_NUMBERS;
@@ -29,6 +26,7 @@ use meaning::TRIANGLE_NUMBERS;
 use meaning::VERTEX_LIMIT;
 use series_front::FrontAnswer;
 use series_front::draft_front;
+use series_leave::leave_last;
 use series_walk::tell_steps;
 
 // A refusal, with its line or count; nothing is told and nothing listed.

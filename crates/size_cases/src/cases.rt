@@ -4,8 +4,18 @@ use case_marks::marks::print;
 use case_marks::show_cut;
 use case_marks::show_read;
 
-// So many of one line, then so many of the next, then so many of a third; the coordinates that are wanted then.
-fn show_lines(want: &[i32], a: &[u8], m: usize, b: &[u8], n: usize, c: &[u8], k: usize) {
+// A label, then so many of one line, so many of the next, and so many of a third; the coordinates that are wanted then.
+fn show_lines(
+    label: &[u8],
+    want: &[i32],
+    a: &[u8],
+    m: usize,
+    b: &[u8],
+    n: usize,
+    c: &[u8],
+    k: usize,
+) {
+    print(label);
     let mut space = [0u8; 40000];
     show_made(want, a, m, b, n, c, k, &mut space);
 }
@@ -26,66 +36,109 @@ fn show_made(
     show_read(&out[..third], want, &[0, 1], &[0, 1, 2], &[1, 0]);
 }
 
+// Lines that want zeros: of three kinds, of two, of one.
+fn show_three(label: &[u8], a: &[u8], m: usize, b: &[u8], n: usize, c: &[u8], k: usize) {
+    show_lines(label, &[0], a, m, b, n, c, k);
+}
+
+fn show_two(label: &[u8], a: &[u8], m: usize, b: &[u8], n: usize) {
+    show_three(label, a, m, b, n, b"", 0);
+}
+
+fn show_one(label: &[u8], a: &[u8], m: usize) {
+    show_two(label, a, m, b"", 0);
+}
+
 // At the sizes, and one past them.
 pub(crate) fn long() {
     let v = b"v\t0\t0\t0\t0\t0\t0\n";
-    let e = b"e\t0\t1\n";
-    print(b"512 v");
-    show_lines(&[0], v, 512, b"", 0, b"", 0);
-    print(b"\n513 v");
-    show_lines(&[0], v, 513, b"", 0, b"", 0);
-    print(b"\nthe 513th below e");
-    show_lines(&[0], v, 512, e, 1, v, 1);
-    print(b"\nthe 513th out of range");
-    show_lines(&[0], v, 512, b"v\t524288\t0\t0\t0\t0\t0\n", 1, b"", 0);
-    print(b"\nthe 513th without form");
-    show_lines(&[0], v, 512, b"v\t524288\t0\t0\t0\t0\n", 1, b"", 0);
+    show_one(b"512 v", v, 512);
+    show_one(b"\n513 v", v, 513);
+    show_three(b"\nthe 513th below e", v, 512, b"e\t0\t1\n", 1, v, 1);
+    show_two(
+        b"\nthe 513th out of range",
+        v,
+        512,
+        b"v\t524288\t0\t0\t0\t0\t0\n",
+        1,
+    );
+    show_two(
+        b"\nthe 513th without form",
+        v,
+        512,
+        b"v\t524288\t0\t0\t0\t0\n",
+        1,
+    );
 }
 
-pub(crate) fn longer() {
+pub(crate) fn edges() {
     let v = b"v\t0\t0\t0\t0\t0\t0\n";
     let e = b"e\t0\t1\n";
-    let t = b"t\t0\t1\t2\n";
-    print(b"\n1025 e");
-    show_lines(&[0], v, 2, e, 1025, b"", 0);
-    print(b"\nthe 1025th with an unknown vertex");
-    show_lines(&[0], v, 2, e, 1024, b"e\t0\t2\n", 1);
-    print(b"\nthe 1025th with one vertex twice");
-    show_lines(&[0], v, 2, e, 1024, b"e\t0\t0\n", 1);
-    print(b"\n513 t");
-    show_lines(&[0], v, 3, t, 513, b"", 0);
-    print(b"\na seam below 512 v");
-    show_lines(&[0], v, 512, b"w\t1\t0\n", 1, b"", 0);
-    print(b"\n513 w, the second one at fault");
-    show_lines(&[0], v, 512, b"w\t1\t0\n", 513, b"", 0);
+    show_two(b"\n1025 e", v, 2, e, 1025);
+    show_three(
+        b"\nthe 1025th with an unknown vertex",
+        v,
+        2,
+        e,
+        1024,
+        b"e\t0\t2\n",
+        1,
+    );
+    show_three(
+        b"\nthe 1025th with one vertex twice",
+        v,
+        2,
+        e,
+        1024,
+        b"e\t0\t0\n",
+        1,
+    );
+}
+
+pub(crate) fn triangles_and_seams() {
+    let v = b"v\t0\t0\t0\t0\t0\t0\n";
+    let w = b"w\t1\t0\n";
+    show_two(b"\n513 t", v, 3, b"t\t0\t1\t2\n", 513);
+    show_two(b"\na seam below 512 v", v, 512, w, 1);
+    show_two(b"\n513 w, the second one at fault", v, 512, w, 513);
+}
+
+fn show_far(label: &[u8], a: &[u8], m: usize, b: &[u8], n: usize, c: &[u8], k: usize) {
+    show_lines(label, &[-524287], a, m, b, n, c, k);
 }
 
 pub(crate) fn longest() {
     let v = b"v\t-524287\t-524287\t-524287\t-524287\t-524287\t-524287\n";
     let e = b"e\t0\t1\n";
-    print(b"\n32768 bytes");
-    show_lines(&[-524287], v, 512, e, 1024, b"t\t0\t1\t2\n", 128);
-    print(b"\na few bytes more");
-    show_lines(&[-524287], v, 512, e, 1024, b"t\t0\t1\t10\n", 128);
-    print(b"\none byte more, and no line");
-    show_lines(&[-524287], b"x", 32769, b"", 0, b"", 0);
+    show_far(b"\n32768 bytes", v, 512, e, 1024, b"t\t0\t1\t2\n", 128);
+    show_far(
+        b"\na few bytes more",
+        v,
+        512,
+        e,
+        1024,
+        b"t\t0\t1\t10\n",
+        128,
+    );
+    show_far(b"\none byte more, and no line", b"x", 32769, b"", 0, b"", 0);
+}
+
+fn show_short(label: &[u8], text: &[u8], p: usize, e: usize, t: usize, w: usize) {
+    print(label);
+    show_cut(text, p, e, t, w);
 }
 
 // Buffers of other lengths: longer ones are fine, a shorter one is 12 before anything else.
 pub(crate) fn buffers() {
     let v = b"v\t1\t2\t3\t4\t5\t6\n";
-    print(b"\nlonger buffers");
-    show_cut(v, 3080, 2056, 1544, 1032);
-    print(b"\none position too few");
-    show_cut(v, 3071, 2048, 1536, 1024);
-    print(b"\none edge number too few");
-    show_cut(v, 3072, 2047, 1536, 1024);
-    print(b"\none triangle number too few");
-    show_cut(v, 3072, 2048, 1535, 1024);
-    print(b"\none seam number too few");
-    show_cut(v, 3072, 2048, 1536, 1023);
-    print(b"\n12 and 9");
-    show_cut(b"\n", 3071, 2048, 1536, 1024);
-    print(b"\n12 and 8");
-    show_cut(&[0u8; 32769], 3072, 2048, 1536, 1023);
+    show_short(b"\nlonger buffers", v, 3080, 2056, 1544, 1032);
+    show_short(b"\none position too few", v, 3071, 2048, 1536, 1024);
+    show_short(b"\none edge number too few", v, 3072, 2047, 1536, 1024);
+    show_short(b"\none triangle number too few", v, 3072, 2048, 1535, 1024);
+    show_short(b"\none seam number too few", v, 3072, 2048, 1536, 1023);
+}
+
+pub(crate) fn buffers_first() {
+    show_short(b"\n12 and 9", b"\n", 3071, 2048, 1536, 1024);
+    show_short(b"\n12 and 8", &[0u8; 32769], 3072, 2048, 1536, 1023);
 }

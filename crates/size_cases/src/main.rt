@@ -6,8 +6,10 @@ mod texts; // texts.rt: texts made of lines, each so many times
 
 fn main() {
     cases::long();
-    cases::longer();
+    cases::edges();
+    cases::triangles_and_seams();
     cases::longest();
     cases::buffers();
+    cases::buffers_first();
     case_marks::marks::print(b"\n");
 }

@@ -7,7 +7,7 @@ use mathlib.Core.Path.{_≡_, refl, sym, subst, _∙_}
 use native.Mathlib.Omega.{arith}
 use lib.IntN.{ℤ}
 use lib.ListN.{length}
-use Rattle.meaning.specs.Scene.{Scene, Accepted, vertexCount, edgeCount, triangleCount}
+use Rattle.meaning.specs.Scene.{Scene, sceneOf, Accepted, vertexCount, edgeCount, triangleCount}
 use Rattle.meaning.specs.Refusals.{Outcome, given, refused, numberOf, Check, Answers, sceneSays, SceneChecked}
 use Rattle.meaning.specs.List.{pairs, entries, roomOf, listSays, leaves}
 use Rattle.meaning.specs.StoredBoxes.{Boxed, boxNumbers, shortBoxes, staleBox, boxChecks, staleChecks, storedChecks, CountedStored, ListedStored}
@@ -18,9 +18,12 @@ use Rattle.meaning.specs.declared.SceneAnswer.{SceneAnswer}
 use Rattle.meaning.specs.declared.ListAnswer as ListAnswers
 use Rattle.meaning.specs.declared.ListAnswer.{ListAnswer}
 use borrow.Author.Tests.{ltb-false}
-use Rattle.answers.specs.Answering.{refuses, lets-pass, gives, is-given, refused-before, given-before}
-use Rattle.scene_checks.specs.Accepting.{checked-accepted}
+use Rattle.answers.specs.Answering.{gives, is-given, refused-before, given-before}
+use Rattle.answers_order.specs.InOrder.{Checked, refusedIf, one-check}
+use Rattle.scene_checks.specs.Accepting.{checked-accepted, accepted-by}
+use Rattle.scene_checks.specs.Checking as SceneChecking
 use Rattle.scene_checks.specs.Checking.{Stitched, from-table}
+use Rattle.list_boxes.specs.Parts.{Drawn, accepted-drawn}
 use Rattle.scene_seams.specs.Alone.{tabled}
 use Rattle.scene_checks.specs.Facts.{accepted-sized}
 use Rattle.stored_laws.specs.Checks.{short-boxes, boxed-refused, boxed-accepted}
@@ -29,6 +32,11 @@ use Rattle.list_pairs.specs.Answering.{IsCount, roomChecks, ListedIn}
 
 abbrev Fine : Unit {0} → Type 0
 Fine t = Unit {0}
+
+-- the parts of a scene that was checked and accepted are there, so that its boxes can be looked over
+pub drawn-by : {p : List ℤ} {e t w u u′ : List ℕ} {r : SceneAnswer} → SceneChecking.Checked (sceneOf p e t w) u u′ r
+    → r ≡ SceneAnswers.the-variants.Accepted → Drawn (sceneOf p e t [])
+drawn-by {p} {e} {t} {w} c h = accepted-drawn (accepted-by (sceneOf p e t w) h (c .checked))
 
 -- 12, the scene's, 17
 abbrev pub lookChecks : Scene → List ℤ → List Check
@@ -43,6 +51,10 @@ pub look-short : (s : Scene) (b : List ℤ) {t : List ℕ} → shortBoxes b ≡ 
 unfolding sceneSays numberOf
 look-short s b h = record { answer = short-boxes s b (staleChecks s b) Fine h; table = rw h refl }
 
+pub stale-told : (s : Scene) (b : List ℤ) → Checked (staleChecks s b) (refusedIf (staleBox s b) StaleBox)
+unfolding numberOf
+stale-told s b = one-check (staleBox s b) StaleBox
+
 module _ (s : Scene) (b : List ℤ) {t t′ : List ℕ} where
   module _ (long : shortBoxes b ≡ false) (into : Stitched s t t′) where
     pub look-refused : {r : SceneAnswer} (x : Refusal) → r ≡ SceneAnswers.the-variants.Refused x → SceneChecked s r
@@ -50,20 +62,9 @@ module _ (s : Scene) (b : List ℤ) {t t′ : List ℕ} where
     unfolding sceneSays
     look-refused x e p = record { answer = boxed-refused s b (staleChecks s b) Fine long e p; table = rw long into }
 
-    module _ (a : Accepted s) where
-      pub look-stale : staleBox s b ≡ true → LookedAt s b t t′ (SceneAnswers.the-variants.Refused StaleBox)
-      unfolding sceneSays numberOf
-      look-stale h = record {
-        answer = boxed-accepted s b (staleChecks s b) Fine long (refused 17 0) a (refuses Fine _ [] (refused 17 0) h refl);
-        table = rw long into;
-      }
-
-      pub look-right : staleBox s b ≡ false → LookedAt s b t t′ SceneAnswers.the-variants.Accepted
-      unfolding sceneSays
-      look-right h = record {
-        answer = boxed-accepted s b (staleChecks s b) Fine long (given tt) a (lets-pass Fine _ [] (given tt) h (gives Fine tt tt));
-        table = rw long into;
-      }
+    -- 17 alone is left
+    pub look-behind : (r : SceneAnswer) → Accepted s → Checked (staleChecks s b) r → LookedAt s b t t′ r
+    look-behind r a p = record { answer = boxed-accepted s b (staleChecks s b) Fine long (sceneSays r) a p; table = rw long into }
 
 -- ---- a scene that passes is accepted, and its boxes are right
 

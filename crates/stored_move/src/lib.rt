@@ -6,11 +6,14 @@ ghost use Prim.Native.Nat.{_+_, _<_};
 ghost use mathlib.Core.Path.{_≡_};
 ghost use lib.ListN.{length};
 ghost use Rattle.meaning.specs.Scene.{sceneAtEntry, vertexCount};
-ghost use Rattle.meaning.specs.StoredBoxes.{BoxesFilled};
+ghost use Rattle.meaning.specs.StoredBoxes.{boxChecks, BoxesFilled};
 ghost use Rattle.meaning.specs.Dragging.{placed, newOutside, VertexMoved};
+ghost use Rattle.answers_order.specs.InOrder.{Checked};
 ghost use Rattle.scene_seams.specs.Alone.{onlyPositions};
 ghost use Rattle.stored_laws.specs.Placed.{threePlaced};
 ghost use Rattle.sequences.specs.Lent.{atEntry, atExit};
+use answers_order::first_of;
+use answers_order::refused_if;
 use list_boxes::filling::fill;
 use meaning::BOX_NUMBERS;
 use meaning::Refusal;
@@ -20,6 +23,21 @@ use scene_checks::faults::out_of_range;
 use scene_parts::vertex_count;
 use stored_mend::mend;
 use tearing::tears_seam;
+
+// 12 for a short buffer, then the scene's own checks.
+fn check_boxed(
+    positions: &[i32],
+    edges: &[u16],
+    triangles: &[u16],
+    seams: &[u16],
+    boxes: &[i32],
+) -> SceneAnswer
+    ensures { λ r. ⌜ Checked (boxChecks (sceneAtEntry positions edges triangles seams) (atEntry boxes)) r ⌝ }
+{
+    let room = refused_if(boxes.len() < BOX_NUMBERS, Refusal::ShortBuffer);
+    let scene = check_scene(positions, edges, triangles, seams);
+    first_of(room, scene)
+}
 
 // The boxes of a scene, in front of a lent buffer.
 pub fn fill_boxes(
@@ -31,10 +49,7 @@ pub fn fill_boxes(
 ) -> SceneAnswer
     ensures { λ r. ⌜ BoxesFilled (sceneAtEntry positions edges triangles seams) (atEntry boxes) (atExit boxes) r ⌝ }
 {
-    if boxes.len() < BOX_NUMBERS {
-        return SceneAnswer::Refused(Refusal::ShortBuffer);
-    }
-    if let SceneAnswer::Refused(why) = check_scene(positions, edges, triangles, seams) {
+    if let SceneAnswer::Refused(why) = check_boxed(positions, edges, triangles, seams, boxes) {
         return SceneAnswer::Refused(why);
     }
     fill(positions, edges, triangles, boxes);
@@ -84,10 +99,7 @@ pub fn move_vertex(
     ensures { λ r. ⌜ VertexMoved (sceneAtEntry positions edges triangles seams) v (atEntry coordinates)
         (atExit positions) (atEntry boxes) (atExit boxes) r ⌝ }
 {
-    if boxes.len() < BOX_NUMBERS {
-        return SceneAnswer::Refused(Refusal::ShortBuffer);
-    }
-    if let SceneAnswer::Refused(why) = check_scene(positions, edges, triangles, seams) {
+    if let SceneAnswer::Refused(why) = check_boxed(positions, edges, triangles, seams, boxes) {
         return SceneAnswer::Refused(why);
     }
     let absent = vertex_count(positions) <= v;

@@ -2,7 +2,7 @@
 
 ghost use mathlib.Core.Path.{_≡_};
 ghost use Rattle.meaning.specs.Scene.{sceneIn, sceneAtEntry, sceneAtExit};
-ghost use Rattle.series_call.specs.Leaving.{countOf, LeaveReady, LastLeft};
+ghost use Rattle.series_leave.specs.Leaving.{countOf, LeaveReady, LastLeft};
 ghost use Rattle.sequences.specs.Lent.{atEntry, atExit};
 use list_boxes::filling::fill;
 use list_pairs::accepted::list_accepted;
@@ -21,7 +21,7 @@ fn count_of(listed: ListAnswer) -> usize
 }
 
 // How many pairs the last step lists is returned.
-pub(crate) fn leave_last(
+pub fn leave_last(
     c: SceneCounts,
     p: &[i32],
     e: &[u16],

@@ -1,12 +1,12 @@
--- `leaving::leave_last`: copied, its boxes filled in, and listed.
+-- `leave_last`: copied, its boxes filled in, and listed.
 use borrow.Author.Needs.{needs}
 use native.Mathlib.Omega.{arith}
 use mathlib.Core.Path.{refl, sym, _∙_}
 use lib.Seq.{length-take-le}
 use Rattle.meaning.specs.Scene.{sceneIn}
-use Rattle.series_call.specs.Leaving.{frontOf, front-drawn, front-accepted, front-listed}
-use Rattle.series_call.proofs.leaving.leave_last.Statement.{statement}
-use Rattle.series_call.proofs.leaving.leave_last.Tie as tie
+use Rattle.series_leave.specs.Leaving.{frontOf, front-drawn, front-accepted, front-listed}
+use Rattle.series_leave.proofs.leave_last.Statement.{statement}
+use Rattle.series_leave.proofs.leave_last.Tie as tie
 
 slice-aggregate-fill : tie.Need-slice-aggregate-fill
 slice-aggregate-fill c = sym (length-take-le _ _ (omega (arith, c .before .before .before .before .before .before .before .before .before .before .before .before .before .before .before .before .before .before .before .before .before .before .before .before .pre .bounded .vertices, c .before .before .before .before .before .before .before .before .before .before .before .before .before .before .before .before .before .before .before .before .before .before .before .before .pre .own-room .positions)))

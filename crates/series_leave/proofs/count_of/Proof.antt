@@ -1,9 +1,9 @@
--- `leaving::count_of`: case by case.
+-- `count_of`: case by case.
 use borrow.Author.Needs.{needs}
 use mathlib.Core.Path.{refl}
-use Rattle.series_call.specs.Leaving.{countOf}
-use Rattle.series_call.proofs.leaving.count_of.Statement.{statement}
-use Rattle.series_call.proofs.leaving.count_of.Tie as tie
+use Rattle.series_leave.specs.Leaving.{countOf}
+use Rattle.series_leave.proofs.count_of.Statement.{statement}
+use Rattle.series_leave.proofs.count_of.Tie as tie
 
 returns : tie.Need-returns
 unfolding countOf

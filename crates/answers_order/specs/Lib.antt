@@ -1,0 +1,2 @@
+-- What two answers say, one behind the other.
+pub mod InOrder

@@ -1,0 +1,2 @@
+-- The last step of a series in lent buffers.
+pub mod Leaving
