@@ -3,8 +3,6 @@
 ghost use Rattle.meaning.specs.Scene.{sceneAtEntry};
 ghost use Rattle.meaning.specs.StoredBoxes.{CountedStored, ListedStored};
 ghost use Rattle.meaning.specs.Runs.{Tested};
-ghost use Rattle.scene_seams.specs.Sewing.{Blank};
-ghost use Rattle.stored_list.specs.Looked.{LookedAt};
 ghost use Rattle.meaning.specs.StoredBoxes.{SettledStored};
 ghost use Rattle.sequences.specs.Lent.{atEntry, atExit};
 use list_entries::room;
@@ -14,40 +12,11 @@ use list_pairs::accepted::put_tests;
 use list_walk::skipping::WALK_NUMBERS;
 use list_walk::skipping::prepare_stored;
 use list_words::settle_prepared;
-use meaning::BOX_NUMBERS;
 use meaning::ListAnswer;
 use meaning::Made;
-use meaning::Refusal;
 use meaning::SceneAnswer;
 use meaning::VERTEX_LIMIT;
-use scene_checks::check_into;
-use stored_look::stale_box;
-
-// 12, the scene's own checks and 17, in this order; the table of seams is made on the way.
-pub fn look(
-    positions: &[i32],
-    edges: &[u16],
-    triangles: &[u16],
-    seams: &[u16],
-    stored: &[i32],
-    stands: &mut [u16],
-) -> SceneAnswer
-    requires { ⌜ Blank (now seams) (now stands) ⌝ }
-    ensures { λ r. ⌜ LookedAt (sceneAtEntry positions edges triangles seams) (atEntry stored) (atEntry stands)
-        (atExit stands) r ⌝ }
-{
-    if stored.len() < BOX_NUMBERS {
-        return SceneAnswer::Refused(Refusal::ShortBuffer);
-    }
-    if let SceneAnswer::Refused(why) = check_into(positions, edges, triangles, seams, stands) {
-        return SceneAnswer::Refused(why);
-    }
-    if stale_box(positions, edges, triangles, stored) {
-        SceneAnswer::Refused(Refusal::StaleBox)
-    } else {
-        SceneAnswer::Accepted
-    }
-}
+use stored_checks::look;
 
 // How many pairs are listed, and into the lent number how many boxes of the pt part are tested for that. The look is no test.
 pub fn count_stored(
