@@ -1,15 +1,16 @@
 -- What is printed of a scene that was read: of its list, in a buffer of the program's own.
 use Prim.Native.Nat.{ℕ, _≤_, _<_}
-use mathlib.Core.Bool.{true, false}
+use mathlib.Core.Bool.{true, false, true≢false}
 use mathlib.Core.Logic.{_⊎_, inl, inr}
 use mathlib.Core.List.{List, [], _++_}
-use mathlib.Core.Path.{_≡_, refl, ap, subst}
+use mathlib.Core.Path.{_≡_, refl, sym, _∙_, ap, subst}
+use native.Mathlib.Omega.{arith}
 use lib.Dec.{ltb}
 use lib.IntN.{ℤ}
 use lib.ListN.{length, replicate}
 use borrow.Author.Tests.{ltb-true}
 use Rattle.sequences.specs.Pick.{either}
-use Rattle.sequences.specs.Wrote.{Wrote}
+use Rattle.sequences.specs.Wrote.{Wrote, wrote-unique}
 use Rattle.meaning.specs.Limits.{contactLimit, reportRoom}
 use Rattle.meaning.specs.Scene.{Scene, sceneOf, reachesBeyond}
 use Rattle.meaning.specs.Refusals.{Outcome, refused, numberOf, Answers}
@@ -23,7 +24,7 @@ use Rattle.meaning.specs.declared.ListAnswer.{ListAnswer}
 use Rattle.meaning.specs.declared.WholeContact.{WholeContact}
 use Rattle.answers.specs.Answering.{is-refused, is-past}
 use Rattle.list_pairs.specs.Answering.{roomChecks, IsCount, ListedIn}
-use Rattle.contact_entries.specs.Listed.{contactsOf, all-met}
+use Rattle.contact_entries.specs.Listed.{contactsOf, all-met, all-met-one}
 use Rattle.report_words.specs.Lines.{wrote-as}
 
 -- what is printed for a scene that was read: 16, or 7 with the count needed, or the contacts and the totals
@@ -77,3 +78,20 @@ no-room {s} {room} {x} {n} j e = by-test (either (ltb room (length (pairs s))))
         let same : _≡_ {A = Outcome ℕ} (refused (numberOf x) n) (refused 7 (length (pairs s))) = is-refused (IsCount s) _ [] (refused (numberOf x) n) h a in
         (cc, ltb-true room (length (pairs s)) h)
     by-test (inr h) = absurd (is-past (IsCount s) _ [] (refused (numberOf x) n) h a)
+
+-- ---- two results are one
+
+pub one-scene-contacts : {s : Scene} {l l′ : List ℕ} → SceneContacts s l → SceneContacts s l′ → l ≡ l′
+one-scene-contacts (beyondOldRange far) (beyondOldRange too) = refl
+one-scene-contacts (beyondOldRange far) (noRoom near m) = absurd (true≢false (sym far ∙ near))
+one-scene-contacts (beyondOldRange far) (told ns near m w) = absurd (true≢false (sym far ∙ near))
+one-scene-contacts (noRoom near n) (beyondOldRange far) = absurd (true≢false (sym far ∙ near))
+one-scene-contacts (noRoom near n) (noRoom also m) = refl
+one-scene-contacts (noRoom near n) (told ns also m w) = absurd (omega arith)
+one-scene-contacts (told ms near n v) (beyondOldRange far) = absurd (true≢false (sym far ∙ near))
+one-scene-contacts (told ms near n v) (noRoom also m) = absurd (omega arith)
+one-scene-contacts {s} (told ms near n v) (told ns also m w) =
+    ap (λ (xs : List WholeContact). contactLines (pairs s) xs ++ contactTotal xs) (all-met-one s (pairs s) ms v ∙ sym (all-met-one s (pairs s) ns w))
+
+pub one-scene-told : {s : Scene} {o o′ o″ : List ℕ} {n n′ : ℕ} → SceneTold s o o′ n → SceneTold s o o″ n′ → (o′ ≡ o″) × (n ≡ n′)
+one-scene-told p q = wrote-unique (p .wrote) (rw (one-scene-contacts (q .right) (p .right)) at (q .wrote))
