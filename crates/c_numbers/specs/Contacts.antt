@@ -11,7 +11,7 @@ use Rattle.meaning.specs.declared.WholeContact.{WholeContact}
 use Rattle.meaning.specs.declared.WholeContactAnswer.{WholeContactAnswer}
 use Rattle.meaning.specs.declared.WholeContactAnswer.the-variants.{Found, Refused}
 use Rattle.answers.specs.Answering.{is-given}
-use Rattle.contact_scene.specs.Rows.{SmallContact, whole-contact-small}
+use Rattle.contact_entries.specs.Rows.{SmallContact, whole-contact-small}
 use Rattle.meaning.specs.Numbers.{upper, numberFor, Numbered}
 use Rattle.meaning.specs.Numbers.{wordNumber, contactNumber, rowAfter, ContactInto}
 

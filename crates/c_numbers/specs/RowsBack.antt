@@ -16,7 +16,7 @@ use Rattle.meaning.specs.declared.ListAnswer.{ListAnswer}
 use Rattle.meaning.specs.declared.WholeContact.{WholeContact}
 use Rattle.meaning.specs.declared.WholeContact.the-variants.{Hit, Miss, Touch, Apart}
 use Rattle.answers.specs.Answering.{is-given}
-use Rattle.contact_scene.specs.Listed.{all-met-one, contacts-length}
+use Rattle.contact_entries.specs.Listed.{all-met-one, contacts-length}
 use Rattle.meaning.specs.Numbers.{wordNumber}
 use Rattle.c_numbers.specs.Back.{wholeContactIn, whole-contact-back}
 

@@ -76,7 +76,7 @@ pub fn settled_number(answer: SettledAnswer) -> u64
 pub fn word_number(contact: WholeContact) -> u64
     ensures { λ r. ⌜ r ≡ wordNumber contact ⌝ }
 {
-    list_words::byte_of(contact_scene::rows::settled_of(contact)) as u64
+    list_words::byte_of(contact_entries::rows::settled_of(contact)) as u64
 }
 
 pub fn list_number(answer: ListAnswer) -> u64

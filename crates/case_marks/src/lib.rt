@@ -3,100 +3,13 @@
 ghost use Prim.Native.Nat.{_≤_};
 ghost use lib.ListN.{length};
 
-pub mod marks; // marks.rt: what is seen of a buffer after a call
+pub mod marks; // marks.rt: what a program of cases prints itself
 
-use answers::number_of;
-use marks::kept;
-use marks::kept_plain;
-use marks::print;
-use marks::print_number;
-use marks::stand;
-use marks::stand_plain;
-use meaning::Refusal;
-use meaning::SceneCounts;
+use case_buffers::told::print_seen;
 use meaning::TextAnswer;
 use text_scene::read_scene;
 
-fn print_kept(all: bool) {
-    if all {
-        print(b", the rest kept");
-    } else {
-        print(b", the rest CHANGED");
-    }
-}
-
-fn print_front(all: bool) {
-    if all {
-        print(b", as written");
-    } else {
-        print(b", WRONG");
-    }
-}
-
-// The counts, whether the wanted numbers are all that stands in front, and whether the numbers behind the scene are still marks.
-fn print_read(
-    c: SceneCounts,
-    want: &[i32],
-    ends: &[u16],
-    corners: &[u16],
-    sewn: &[u16],
-    positions: &[i32],
-    edges: &[u16],
-    triangles: &[u16],
-    seams: &[u16],
-) {
-    let v = c.vertices;
-    let e = c.edges;
-    let t = c.triangles;
-    let w = c.seams;
-    print(b": read");
-    print_number(v);
-    print_number(e);
-    print_number(t);
-    print_number(w);
-    if 512 < v {
-        return;
-    }
-    if 1024 < e {
-        return;
-    }
-    if 512 < t {
-        return;
-    }
-    if 512 < w {
-        return;
-    }
-    print_front(
-        stand(positions, want, 6 * v)
-            & stand_plain(edges, ends, 2 * e)
-            & stand_plain(triangles, corners, 3 * t)
-            & stand_plain(seams, sewn, 2 * w),
-    );
-    print_kept(
-        kept(positions, 6 * v)
-            & kept_plain(edges, 2 * e)
-            & kept_plain(triangles, 3 * t)
-            & kept_plain(seams, 2 * w),
-    );
-}
-
-fn print_refused(
-    refusal: Refusal,
-    line: usize,
-    positions: &[i32],
-    edges: &[u16],
-    triangles: &[u16],
-    seams: &[u16],
-) {
-    print(b": refused");
-    print_number(number_of(refusal) as usize);
-    print_number(line);
-    print_kept(
-        kept(positions, 0) & kept_plain(edges, 0) & kept_plain(triangles, 0) & kept_plain(seams, 0),
-    );
-}
-
-// Reads a text into buffers that hold marks. The wanted numbers stand there again and again, up to the end of the scene.
+// Reads a text into buffers that hold marks, and prints what is seen of them.
 fn show_in(
     text: &[u8],
     want: &[i32],
@@ -108,27 +21,18 @@ fn show_in(
     triangles: &mut [u16],
     seams: &mut [u16],
 ) {
-    match read_scene(text, positions, edges, triangles, seams) {
-        TextAnswer::Read(c) => print_read(
-            c,
-            want,
-            ends,
-            corners,
-            sewn,
-            positions,
-            edges,
-            triangles,
-            seams,
-        ),
-        TextAnswer::Refused(refusal, line) => print_refused(
-            refusal,
-            line,
-            positions,
-            edges,
-            triangles,
-            seams,
-        ),
-    }
+    let answer: TextAnswer = read_scene(text, positions, edges, triangles, seams);
+    print_seen(
+        answer,
+        want,
+        ends,
+        corners,
+        sewn,
+        positions,
+        edges,
+        triangles,
+        seams,
+    );
 }
 
 // Room for the largest scene, and not one number more.

@@ -14,7 +14,7 @@ use Rattle.meaning.specs.declared.ListAnswer.{ListAnswer}
 use Rattle.theory.specs.Rewritten.{Rewritten}
 use Rattle.answers.specs.Answering.{is-past, is-given}
 use Rattle.list_pairs.specs.Once.{list-says-one}
-use Rattle.contact_scene.specs.Listed.{contactByte, all-met-one}
+use Rattle.contact_entries.specs.Listed.{contactByte, all-met-one}
 use Rattle.answers.specs.Deciding.{holds-or-not}
 use Rattle.demands.specs.Demand1.{SceneRows}
 use Rattle.demands.specs.StillAccepted.{rewritten-accepted, refused-alike}

@@ -16,7 +16,7 @@ use Rattle.meaning.specs.declared.WholeContactAnswer.{WholeContactAnswer}
 use Rattle.meaning.specs.declared.ContactAnswer.{ContactAnswer}
 use Rattle.meaning.specs.declared.ListAnswer.{ListAnswer}
 use Rattle.answers.specs.Deciding.{Refuses, carriedBy, NoneHolds, absent, distinct, refused-exactly, carries-only, number-known, gives-exactly}
-use Rattle.contact_scene.specs.OneContact.{one-whole-contact, one-contact}
+use Rattle.contact_entries.specs.OneContact.{one-whole-contact, one-contact}
 
 -- none of the scene's five, and then
 abbrev pub ThenIs : Scene → Type 0 → Type 0

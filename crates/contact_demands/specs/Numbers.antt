@@ -18,7 +18,7 @@ use Rattle.meaning.specs.declared.Kind.{Kind}
 use Rattle.meaning.specs.declared.Verdict as Verdicts
 use Rattle.meaning.specs.declared.ContactNumbers.{ContactNumbers}
 use Rattle.corner_search.specs.Decided.{some-hit}
-use Rattle.contact_scene.specs.Computed.{SmallNumbers, HasContact, hit-has-contact, contact-small}
+use Rattle.contact_entries.specs.Computed.{SmallNumbers, HasContact, hit-has-contact, contact-small}
 
 module _ (s : Scene) (kind : Kind) (i j : ℕ) where
   -- k over 2^20 against the time of any weights that solve the piece

@@ -18,7 +18,7 @@ use Rattle.meaning.specs.declared.WholeContact.{WholeContact}
 use Rattle.theory.specs.Rewritten.{Rewritten, rewritten-back}
 use Rattle.list_pairs.specs.InOrder.{list-is}
 use Rattle.text_scene.specs.Accepted.{text-accepted}
-use Rattle.contact_scene.specs.Listed.{all-met-one}
+use Rattle.contact_entries.specs.Listed.{all-met-one}
 use Rattle.text_scene.specs.OneReading.{same-scene, held-or-faulty, faulty-one}
 use Rattle.list_pairs.specs.OneRoom.{many-or-few}
 use Rattle.demands.specs.AnyWriting.{rewritten-list}

@@ -17,7 +17,7 @@ use Rattle.meaning.specs.declared.ContactAnswer.{ContactAnswer}
 use Rattle.theory.specs.Moved.{Moves}
 use Rattle.answers.specs.Deciding.{holds-or-not}
 use Rattle.scene_checks.specs.Facts.{accepted-wider}
-use Rattle.contact_scene.specs.Computed.{wholeContactOf, met-pair}
+use Rattle.contact_entries.specs.Computed.{wholeContactOf, met-pair}
 use Rattle.contact_scene.specs.OneResult.{one-whole-contact-answer, one-contact-answer}
 use Rattle.demands.specs.SameAnswer.{there-alike, shares-alike}
 use Rattle.contact_demands.specs.Demand1.{ThenIs, ContactTable, demand1-contact, demand1-contact-in-f64}

@@ -12,7 +12,7 @@ use Rattle.theory.specs.Computed.{pieceVerdict, joined, joinedBelow, pointDiffe
 use Rattle.contact_laws.specs.Numbers.{pointEnds, isB, turnedIn}
 use Rattle.exact_signs.specs.BySigns.{keep}
 use Rattle.corner_search.specs.Decided.{settledBy, pairWord}
-use Rattle.contact_scene.specs.Computed.{contactNumbersAt, timeBy, later, earliestOf, timesOf, byWord, wholeContactOf, whole-contact-is}
+use Rattle.contact_entries.specs.Computed.{contactNumbersAt, timeBy, later, earliestOf, timesOf, byWord, wholeContactOf, whole-contact-is}
 use Rattle.demands.specs.Table.{numbered}
 
 pub first-case : WholeContactIs (numbered 1 .scene) PointTriangle 3 0 (Hit (record { piece = 1; k = 524_288; first = 524_288; second = 262_144; third = 262_144 }))

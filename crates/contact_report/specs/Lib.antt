@@ -1,6 +1,4 @@
--- The contacts of a list that stands in its buffer, and of a text.
-pub mod Sizes
-pub mod Lines
+-- The contacts of a scene as lines, and of a text.
 pub mod Whole
 pub mod FromCalls
 pub mod ReadSoFar

@@ -1,67 +1,26 @@
 // The contacts of a scene as bytes: a line for each listed pair that is hit, then the totals; or the one line of a refusal.
 
-mod hits; // hits.rt: the lines of a list and its totals
-
 ghost use Prim.Native.Nat.{_<_};
 ghost use mathlib.Core.Path.{_≡_};
 ghost use lib.ListN.{length};
-ghost use Rattle.meaning.specs.Limits.{contactLimit, textLimit};
-ghost use Rattle.meaning.specs.Scene.{sceneIn, sceneAtEntry, Accepted, AcceptedWithin};
+ghost use Rattle.meaning.specs.Limits.{textLimit};
+ghost use Rattle.meaning.specs.Scene.{sceneIn, sceneAtEntry, Accepted};
 ghost use Rattle.meaning.specs.ContactLines.{ContactsReported, ContactsRead};
-ghost use Rattle.scene_seams.specs.Alone.{tabledIn, tabledAtEntry};
-ghost use Rattle.contact_report.specs.Sizes.{contactsLength};
-ghost use Rattle.contact_report.specs.Whole.{SceneTold};
+ghost use Rattle.hit_report.specs.Sizes.{contactsLength};
+ghost use Rattle.hit_report.specs.Told.{SceneTold};
 ghost use Rattle.sequences.specs.Lent.{atEntry, atExit};
 use answers::number_of;
-use hits::hits_report;
+use hit_report::near_contacts;
 use meaning::CONTACTS_BYTES;
 use meaning::EDGE_NUMBERS;
-use meaning::ListAnswer;
 use meaning::POSITION_NUMBERS;
 use meaning::READ_BYTES;
-use meaning::REPORT_ROOM;
 use meaning::SEAM_NUMBERS;
 use meaning::TRIANGLE_NUMBERS;
 use meaning::TextAnswer;
 use meaning::VERTEX_LIMIT;
 use report_words::lines::refused_line;
 use scene_seams::sew_all;
-
-// The contacts of a scene that is accepted and within the old range, its seams in the table: 7 is found before anything is written.
-fn near_contacts(
-    positions: &[i32],
-    edges: &[u16],
-    triangles: &[u16],
-    stands: &[u16],
-    out: &mut [u8],
-) -> usize
-    requires { ⌜ AcceptedWithin contactLimit (tabledIn positions edges triangles stands)
-        × (length (now out) ≡ contactsLength) ⌝ }
-    ensures { λ r. ⌜ SceneTold (tabledAtEntry positions edges triangles stands) (atEntry out) (atExit out) r ⌝ }
-{
-    let mut list = [0u32; REPORT_ROOM];
-    let mut tests = [0usize; 1];
-    match list_pairs::accepted::list_accepted(
-        positions,
-        edges,
-        triangles,
-        stands,
-        &mut list,
-        REPORT_ROOM,
-        &mut tests,
-    ) {
-        ListAnswer::Listed(made) => hits_report(
-            positions,
-            edges,
-            triangles,
-            stands,
-            &list,
-            made.count,
-            out,
-        ),
-        ListAnswer::Refused(_, needed) => refused_line(out, 0, 7, needed as u64),
-    }
-}
 
 // The contacts of a scene that is accepted: 16 before 7.
 fn scene_lines(

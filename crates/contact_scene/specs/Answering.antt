@@ -22,7 +22,7 @@ use Rattle.scene_checks.specs.Accepting.{after-accepted, after-refused}
 use Rattle.list_pairs.specs.Answering.{IsCount, ListedIn}
 use Rattle.list_words.specs.Listed.{pairsIn}
 use Rattle.list_words.specs.Answering.{made-pairs}
-use Rattle.contact_scene.specs.Listed.{contactsOf, contactBytes, all-met}
+use Rattle.contact_entries.specs.Listed.{contactsOf, contactBytes, all-met}
 
 -- the list of a scene within the old range was made and judged, if there is room for it
 pub record MetNear (s : Scene) (room : ℕ) (o o′ b b′ c c′ : List ℕ) (r : ListAnswer) : Type 0 where

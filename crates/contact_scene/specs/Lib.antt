@@ -1,7 +1,3 @@
--- The contacts of a whole scene: each pair has one, and how they stand in lent buffers.
-pub mod OneContact
-pub mod Computed
-pub mod Rows
-pub mod Listed
+-- The contacts of a whole scene, with its list: one result, and how an answer is built.
 pub mod Answering
 pub mod OneResult

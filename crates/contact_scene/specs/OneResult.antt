@@ -15,8 +15,8 @@ use Rattle.meaning.specs.declared.ListAnswer.{ListAnswer}
 use Rattle.answers.specs.Answering.{one-answer}
 use Rattle.answers.specs.Speaking.{one-number}
 use Rattle.list_pairs.specs.Once.{list-says-one}
-use Rattle.contact_scene.specs.OneContact.{one-whole-contact, one-contact}
-use Rattle.contact_scene.specs.Listed.{contactByte, all-met-one}
+use Rattle.contact_entries.specs.OneContact.{one-whole-contact, one-contact}
+use Rattle.contact_entries.specs.Listed.{contactByte, all-met-one}
 
 pub whole-contact-says-one : (r r′ : WholeContactAnswer) → wholeContactSays r ≡ wholeContactSays r′ → r ≡ r′
 unfolding wholeContactSays

@@ -24,7 +24,7 @@ ghost use Rattle.meaning.specs.Numbers.{claimsNumber};
 ghost use Rattle.meaning.specs.Numbers.{savedNumber};
 ghost use Rattle.meaning.specs.Saved.{Measured, Saved};
 ghost use Rattle.meaning.specs.Numbers.{contactNumber, ContactInto};
-ghost use Rattle.contact_scene.specs.Rows.{SmallContact};
+ghost use Rattle.contact_entries.specs.Rows.{SmallContact};
 ghost use Rattle.meaning.specs.Numbers.{sceneNumber, pairNumber, settledNumber, listNumber, textNumber, ReadInto, Numbered};
 ghost use Rattle.sequences.specs.Lent.{atEntry, atExit};
 use c_numbers::claims_number;

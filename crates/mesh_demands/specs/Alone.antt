@@ -35,7 +35,7 @@ use Rattle.theory.specs.Written.{endsWritten, cornersWritten, Different}
 use Rattle.answers.specs.Below.{or-left, or-rest, none-passes}
 use Rattle.scene_checks.specs.Facts.{vertex-inside, accepted-wider}
 use Rattle.list_pairs.specs.InOrder.{FirstBelow}
-use Rattle.contact_scene.specs.OneContact.{one-whole-contact, one-contact}
+use Rattle.contact_entries.specs.OneContact.{one-whole-contact, one-contact}
 use Rattle.answers.specs.Deciding.{NoneHolds, gives-exactly}
 use Rattle.demands.specs.Demand1.{demand1-pair, demand1-piece, demand1-settled-pair, demand1-settled-piece}
 use Rattle.mesh_demands.specs.Part.{PartOf, firstPlace, secondPlace}

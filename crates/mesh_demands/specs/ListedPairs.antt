@@ -16,7 +16,7 @@ use Rattle.meaning.specs.declared.Settled.{Settled}
 use Rattle.meaning.specs.declared.WholeContact.{WholeContact}
 use Rattle.answers.specs.Below.{none-passes}
 use Rattle.corner_search.specs.Decided.{pairWord, pair-word-is}
-use Rattle.contact_scene.specs.Computed.{wholeContactOf, met-pair}
+use Rattle.contact_entries.specs.Computed.{wholeContactOf, met-pair}
 use Rattle.mesh_demands.specs.Joined.{Reported, Met, PartsOf, HoldAll, SomeLists, stands-there}
 use Rattle.mesh_demands.specs.EachAlone.{listed-apart}
 use Rattle.mesh_demands.specs.Beside.{Around, Before}

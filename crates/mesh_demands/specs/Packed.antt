@@ -16,8 +16,8 @@ use Rattle.meaning.specs.declared.ListAnswer.{ListAnswer}
 use Rattle.corner_search.specs.Decided.{pairWord, pair-word-is, settled-pair}
 use Rattle.list_words.specs.Listed.{wordOfPair, wordsOf, bytesOf, all-judged}
 use Rattle.list_words.specs.OneResult.{all-judged-one}
-use Rattle.contact_scene.specs.Computed.{wholeContactOf, met-pair, whole-contact-is}
-use Rattle.contact_scene.specs.Listed.{wholeContactOfPair, contactsOf, contactByte, contactBytes, all-met-one}
+use Rattle.contact_entries.specs.Computed.{wholeContactOf, met-pair, whole-contact-is}
+use Rattle.contact_entries.specs.Listed.{wholeContactOfPair, contactsOf, contactByte, contactBytes, all-met-one}
 use Rattle.mesh_demands.specs.Part.{Places, PartOf, firstPlace, secondPlace, inWhole}
 use Rattle.mesh_demands.specs.Meshes.{Mesh}
 use Rattle.mesh_demands.specs.Says.{SaysTheSame, a-part-says-the-same, says-back, says-on}

@@ -17,7 +17,7 @@ use Rattle.meaning.specs.declared.Kind.the-variants.{PointTriangle, EdgeEdge}
 use Rattle.meaning.specs.declared.ListAnswer.{ListAnswer}
 use Rattle.list_entries.specs.Entries.{Narrow, number-back}
 use Rattle.list_words.specs.Listed.{bytesOf}
-use Rattle.contact_scene.specs.Listed.{contactsOf, contactBytes}
+use Rattle.contact_entries.specs.Listed.{contactsOf, contactBytes}
 use Rattle.mesh_demands.specs.Part.{PartOf, firstPlace, secondPlace, inWhole}
 use Rattle.mesh_demands.specs.Meshes.{Mesh}
 use Rattle.mesh_demands.specs.CutOut.{placeIn, vertices-many, positions-long, edges-long, triangles-long}

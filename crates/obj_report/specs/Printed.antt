@@ -29,7 +29,7 @@ use Rattle.meaning.specs.declared.SaveAnswer.{SaveAnswer}
 use Rattle.meaning.specs.declared.ImportAnswer.{ImportAnswer}
 use Rattle.meaning.specs.declared.ImportAnswer.the-variants.{Read, Refused, RefusedIn}
 use Rattle.text_scene.specs.Using.{frontOf}
-use Rattle.scene_report.specs.Sizes.{reportLength}
+use Rattle.pair_report.specs.Sizes.{reportLength}
 use Rattle.scene_report.specs.Whole.{SceneReported}
 use Rattle.obj_scene.specs.Using.{SceneImported, scene-imported, front-imported, import-refusal, import-refusal-in}
 use Rattle.obj_report.specs.declared.Asked.{Asked}

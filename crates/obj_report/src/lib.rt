@@ -9,7 +9,7 @@ ghost use Rattle.meaning.specs.Report.{OfAllRead};
 ghost use Rattle.meaning.specs.Scene.{sceneIn, sceneAtEntry, Accepted};
 ghost use Rattle.meaning.specs.SceneLines.{SceneReport};
 ghost use Rattle.meaning.specs.ObjPrinted.{SceneText, PairPrinted};
-ghost use Rattle.scene_report.specs.Sizes.{reportLength};
+ghost use Rattle.pair_report.specs.Sizes.{reportLength};
 ghost use Rattle.obj_report.specs.Asking.{shownFor, Shown};
 ghost use Rattle.sequences.specs.Lent.{atEntry, atExit};
 use answers::number_of;

@@ -24,7 +24,7 @@ use Rattle.scene_checks.specs.Accepting.{after-accepted, after-refused}
 use Rattle.scene_seams.specs.Alone.{tabled}
 use Rattle.scene_checks.specs.Checking.{Stitched, from-table}
 use Rattle.list_words.specs.Listed.{pairsIn}
-use Rattle.contact_scene.specs.Listed.{contactsOf, contactBytes, all-met}
+use Rattle.contact_entries.specs.Listed.{contactsOf, contactBytes, all-met}
 use Rattle.meaning.specs.OwnList.{askedFor, entryFaults, wordRoom, ownLimit, OwnContacts}
 use Rattle.own_words.specs.Faults.{FaultFound}
 

@@ -7,7 +7,7 @@ use Rattle.meaning.specs.Refusals.{Outcome, refused}
 use Rattle.meaning.specs.List.{listSays, leaves}
 use Rattle.meaning.specs.WholeContacts.{rowsAfter}
 use Rattle.meaning.specs.declared.ListAnswer.{ListAnswer}
-use Rattle.contact_scene.specs.Listed.{contactByte, all-met-one}
+use Rattle.contact_entries.specs.Listed.{contactByte, all-met-one}
 use Rattle.meaning.specs.OwnList.{askedFor, OwnContacts}
 use Rattle.own_words.specs.OneResult.{one-count}
 

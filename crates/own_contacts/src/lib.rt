@@ -47,7 +47,7 @@ fn contact_sound(
     if smaller(words.len(), contacts.len() / ROW_NUMBERS) < count {
         return ListAnswer::Refused(Refusal::NoRoom, count);
     }
-    contact_scene::contact_entries(
+    contact_entries::contact_entries(
         positions,
         edges,
         triangles,

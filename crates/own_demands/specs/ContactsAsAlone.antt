@@ -19,8 +19,8 @@ use Rattle.answers.specs.Answering.{is-given, is-past}
 use Rattle.scene_checks.specs.Accepting.{past-accepted}
 use Rattle.list_words.specs.Listed.{noPair}
 use Rattle.own_words.specs.Faults.{Sound, entry-is-there, each-passed}
-use Rattle.contact_scene.specs.Computed.{wholeContactOf, whole-contact-is}
-use Rattle.contact_scene.specs.Listed.{wholeContactOfPair, contactsOf, all-met-one, contacts-at}
+use Rattle.contact_entries.specs.Computed.{wholeContactOf, whole-contact-is}
+use Rattle.contact_entries.specs.Listed.{wholeContactOfPair, contactsOf, all-met-one, contacts-at}
 use Rattle.own_demands.specs.AsAlone.{scene-given, front-given}
 
 -- what comes behind some checks gives what all of them give

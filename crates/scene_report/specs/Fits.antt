@@ -18,7 +18,7 @@ use Rattle.list_entries.specs.Entries.{AllNarrow}
 use Rattle.list_pairs.specs.Sizes.{pairs-narrow}
 use Rattle.tally.specs.Counted.{at-most}
 use Rattle.report_words.specs.Lines.{pair-line-short}
-use Rattle.scene_report.specs.Sizes.{reportLength}
+use Rattle.pair_report.specs.Sizes.{reportLength}
 
 lines-fit : (ps : List Pair) (ws : List Settled) → AllNarrow ps → length (pairLines ps ws) ≤ length ps * 21
 unfolding pairLines

@@ -32,7 +32,7 @@ use Rattle.list_pairs.specs.Answering.{roomChecks, IsCount, ListedIn}
 use Rattle.list_words.specs.Listed.{ListStands, bytesOf, bytes-length, word-in-front}
 use Rattle.list_words.specs.Answering.{SettledIn, MadeList, made-list, made-stands}
 use Rattle.text_scene.specs.Using.{Came, byBuffers, byLength, byLines, read-refusal-of}
-use Rattle.scene_report.specs.Sizes.{Held}
+use Rattle.pair_report.specs.Sizes.{Held}
 
 -- the table that an accepted scene's seams are taken into has them
 pub accepted-sewable : {s : Scene} → Accepted s → Sewable (s .positions) (s .seams) (replicate vertexLimit 0)

@@ -1,6 +1,4 @@
 -- The report of a list in its buffers, and of a text.
-pub mod Rendered
-pub mod Sizes
 pub mod Whole
 pub mod FromCalls
 pub mod Fits

@@ -20,7 +20,7 @@ use Rattle.meaning.specs.declared.Settled.the-variants.{Hit}
 use Rattle.list_entries.specs.Entries.{pairAt}
 use Rattle.list_words.specs.Listed.{ListStands, wordOfPair, wordsOf, bytesOf, all-judged, noPair, word-of-its-byte, byte-in-front}
 use Rattle.report_words.specs.Lines.{wrote-as}
-use Rattle.scene_report.specs.Rendered.{verdictAt, lineAt, verdictsIn, gather-is, lines-are}
+use Rattle.pair_report.specs.Rendered.{verdictAt, lineAt, verdictsIn, gather-is, lines-are}
 
 pub record SceneReported (s : Scene) (o o′ : List ℕ) (n : ℕ) : Type 0 where
   pub report : List ℕ

@@ -1,7 +1,5 @@
 // The report as bytes: a line for each listed pair, then the totals; or the one line of a refusal.
 
-mod pairs; // pairs.rt: the lines of a list and its totals
-
 ghost use Prim.Native.Nat.{_<_};
 ghost use mathlib.Core.Path.{_≡_};
 ghost use lib.ListN.{length};
@@ -9,7 +7,7 @@ ghost use Rattle.meaning.specs.Scene.{sceneIn, sceneAtEntry, Accepted};
 ghost use Rattle.meaning.specs.Limits.{textLimit};
 ghost use Rattle.meaning.specs.Report.{Reported, ReportedRead};
 ghost use Rattle.scene_seams.specs.Alone.{tabledIn, tabledAtEntry};
-ghost use Rattle.scene_report.specs.Sizes.{reportLength};
+ghost use Rattle.pair_report.specs.Sizes.{reportLength};
 ghost use Rattle.scene_report.specs.Whole.{SceneReported};
 ghost use Rattle.sequences.specs.Lent.{atEntry, atExit};
 use answers::number_of;
@@ -24,7 +22,7 @@ use meaning::TEXT_LIMIT;
 use meaning::TRIANGLE_NUMBERS;
 use meaning::TextAnswer;
 use meaning::VERTEX_LIMIT;
-use pairs::pairs_report;
+use pair_report::pairs_report;
 use report_words::lines::refused_line;
 use scene_seams::sew_all;
 

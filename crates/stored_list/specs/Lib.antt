@@ -1,4 +1,4 @@
--- The look over the stored boxes, and what the calls that list from them answer.
-pub mod Looked
+-- What the calls that list from stored boxes answer.
+pub mod Calls
 pub mod Settling
 pub mod OneResult

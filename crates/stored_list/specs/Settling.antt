@@ -13,7 +13,7 @@ use Rattle.meaning.specs.declared.SceneAnswer.{SceneAnswer}
 use Rattle.meaning.specs.declared.ListAnswer as ListAnswers
 use Rattle.meaning.specs.declared.ListAnswer.{ListAnswer}
 use Rattle.list_pairs.specs.Answering.{IsCount, roomChecks}
-use Rattle.stored_list.specs.Looked.{LookedAt, refused-too, accepted-too}
+use Rattle.stored_checks.specs.Looked.{LookedAt, refused-too, accepted-too}
 use Rattle.list_words.specs.Answering.{SettledIn}
 use Rattle.list_words.specs.Listed.{wordsOf, all-judged}
 

@@ -5,7 +5,7 @@ use Rattle.c_numbers.proofs.word_number.Statement.{statement}
 use Rattle.c_numbers.proofs.word_number.Tie as tie
 use Rattle.c_numbers.proofs.word_number.Reads as reads
 use Rattle.c_numbers.proofs.word_number.Lts as lts
-use Rattle.contact_scene.proofs.rows.settled_of.Reads as settled-of-reads
+use Rattle.contact_entries.proofs.rows.settled_of.Reads as settled-of-reads
 use Rattle.list_words.proofs.byte_of.Reads as byte-of-reads
 
 -- src/lib.rt:71:26

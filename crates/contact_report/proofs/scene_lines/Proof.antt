@@ -6,13 +6,13 @@ use Rattle.meaning.specs.Limits.{contactLimit}
 use Rattle.meaning.specs.Scene.{sceneOf, AcceptedWithin}
 use Rattle.scene_report.specs.FromCalls.{accepted-sewable, accepted-tabled}
 use Rattle.contact_pair.specs.Ready.{within-old}
-use Rattle.contact_report.specs.Whole.{beyond-refused, told-as}
+use Rattle.hit_report.specs.Told.{beyond-refused, told-as}
 use borrow.Author.Needs.{needs}
 use Rattle.contact_report.proofs.scene_lines.Statement.{statement}
 use Rattle.contact_report.proofs.scene_lines.Tie as tie
 use Rattle.contact_report.proofs.scene_lines.Reads as reads
 use Rattle.contact_report.proofs.scene_lines.Lts as lts
-use Rattle.contact_report.proofs.near_contacts.Reads as near-contacts-reads
+use Rattle.hit_report.proofs.near_contacts.Reads as near-contacts-reads
 use Rattle.contact_pair.proofs.beyond_old_range.Reads as beyond-old-range-reads
 use Rattle.scene_seams.proofs.sew_all.Reads as sew-all-reads
 use Rattle.report_words.proofs.lines.refused_line.Reads as refused-line-reads

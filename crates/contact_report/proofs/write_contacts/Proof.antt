@@ -11,42 +11,6 @@ use Rattle.contact_report.specs.Whole.{scene-to-text, refused-text}
 use Rattle.contact_report.proofs.write_contacts.Statement.{statement}
 use Rattle.contact_report.proofs.write_contacts.Tie as tie
 
-mul-p : tie.Need-mul-p
-mul-p c = fronts-read (c .before .before .before .before .before .before .before .before .read-scene .ensures) (c .before .before .counts .given .1) .pointsFit
-
-mul-e : tie.Need-mul-e
-mul-e c = fronts-read (c .before .before .before .before .before .before .before .before .before .read-scene .ensures) (c .before .before .before .counts .given .1) .sidesFit
-
-mul-t : tie.Need-mul-t
-mul-t c = fronts-read (c .before .before .before .before .before .before .before .before .before .before .read-scene .ensures) (c .before .before .before .before .counts .given .1) .cornersFit
-
-mul-w : tie.Need-mul-w
-mul-w c = fronts-read (c .before .before .before .before .before .before .before .before .before .before .before .read-scene .ensures) (c .before .before .before .before .before .counts .given .1) .sewnFit
-
-array-share-prefix-positions : tie.Need-array-share-prefix-positions
-array-share-prefix-positions c = fronts-read (c .before .before .before .before .before .before .before .before .before .before .before .read-scene .ensures) (c .before .before .before .before .before .counts .given .1) .points
-
-slice-aggregate-scene-lines : tie.Need-slice-aggregate-scene-lines
-slice-aggregate-scene-lines c = fronts-read (c .before .before .before .before .before .before .before .before .before .before .before .before .read-scene .ensures) (c .before .before .before .before .before .before .counts .given .1) .pointsLong
-
-array-share-prefix-edges : tie.Need-array-share-prefix-edges
-array-share-prefix-edges c = fronts-read (c .before .before .before .before .before .before .before .before .before .before .before .before .read-scene .ensures) (c .before .before .before .before .before .before .counts .given .1) .sides
-
-slice-aggregate-scene-lines-2 : tie.Need-slice-aggregate-scene-lines-2
-slice-aggregate-scene-lines-2 c = fronts-read (c .before .before .before .before .before .before .before .before .before .before .before .before .before .read-scene .ensures) (c .before .before .before .before .before .before .before .counts .given .1) .sidesLong
-
-array-share-prefix-triangles : tie.Need-array-share-prefix-triangles
-array-share-prefix-triangles c = fronts-read (c .before .before .before .before .before .before .before .before .before .before .before .before .before .read-scene .ensures) (c .before .before .before .before .before .before .before .counts .given .1) .corners
-
-slice-aggregate-scene-lines-3 : tie.Need-slice-aggregate-scene-lines-3
-slice-aggregate-scene-lines-3 c = fronts-read (c .before .before .before .before .before .before .before .before .before .before .before .before .before .before .read-scene .ensures) (c .before .before .before .before .before .before .before .before .counts .given .1) .cornersLong
-
-array-share-prefix-seams : tie.Need-array-share-prefix-seams
-array-share-prefix-seams c = fronts-read (c .before .before .before .before .before .before .before .before .before .before .before .before .before .before .read-scene .ensures) (c .before .before .before .before .before .before .before .before .counts .given .1) .sewn
-
-slice-aggregate-scene-lines-4 : tie.Need-slice-aggregate-scene-lines-4
-slice-aggregate-scene-lines-4 c = fronts-read (c .before .before .before .before .before .before .before .before .before .before .before .before .before .before .before .read-scene .ensures) (c .before .before .before .before .before .before .before .before .before .counts .given .1) .sewnLong
-
 scene-lines-requires : tie.Need-scene-lines-requires
 scene-lines-requires c κs = (accepted-read (c .before .before .before .before .before .before .before .before .before .before .before .before .before .before .before .before .read-scene .ensures) (c .before .before .before .before .before .before .before .before .before .before .counts .given .1), search needs)
 
@@ -72,18 +36,18 @@ write-contacts-spec =
     (λ c. search needs)
     (λ c κs. search needs)
     (λ c. search needs)
-    mul-p
-    mul-e
-    mul-t
-    mul-w
-    array-share-prefix-positions
-    slice-aggregate-scene-lines
-    array-share-prefix-edges
-    slice-aggregate-scene-lines-2
-    array-share-prefix-triangles
-    slice-aggregate-scene-lines-3
-    array-share-prefix-seams
-    slice-aggregate-scene-lines-4
+    (λ c. fronts-read (c .before .before .before .before .before .before .before .before .read-scene .ensures) (c .before .before .counts .given .1) .pointsFit)
+    (λ c. fronts-read (c .before .before .before .before .before .before .before .before .before .read-scene .ensures) (c .before .before .before .counts .given .1) .sidesFit)
+    (λ c. fronts-read (c .before .before .before .before .before .before .before .before .before .before .read-scene .ensures) (c .before .before .before .before .counts .given .1) .cornersFit)
+    (λ c. fronts-read (c .before .before .before .before .before .before .before .before .before .before .before .read-scene .ensures) (c .before .before .before .before .before .counts .given .1) .sewnFit)
+    (λ c. fronts-read (c .before .before .before .before .before .before .before .before .before .before .before .read-scene .ensures) (c .before .before .before .before .before .counts .given .1) .points)
+    (λ c. fronts-read (c .before .before .before .before .before .before .before .before .before .before .before .before .read-scene .ensures) (c .before .before .before .before .before .before .counts .given .1) .pointsLong)
+    (λ c. fronts-read (c .before .before .before .before .before .before .before .before .before .before .before .before .read-scene .ensures) (c .before .before .before .before .before .before .counts .given .1) .sides)
+    (λ c. fronts-read (c .before .before .before .before .before .before .before .before .before .before .before .before .before .read-scene .ensures) (c .before .before .before .before .before .before .before .counts .given .1) .sidesLong)
+    (λ c. fronts-read (c .before .before .before .before .before .before .before .before .before .before .before .before .before .read-scene .ensures) (c .before .before .before .before .before .before .before .counts .given .1) .corners)
+    (λ c. fronts-read (c .before .before .before .before .before .before .before .before .before .before .before .before .before .before .read-scene .ensures) (c .before .before .before .before .before .before .before .before .counts .given .1) .cornersLong)
+    (λ c. fronts-read (c .before .before .before .before .before .before .before .before .before .before .before .before .before .before .read-scene .ensures) (c .before .before .before .before .before .before .before .before .counts .given .1) .sewn)
+    (λ c. fronts-read (c .before .before .before .before .before .before .before .before .before .before .before .before .before .before .before .read-scene .ensures) (c .before .before .before .before .before .before .before .before .before .counts .given .1) .sewnLong)
     scene-lines-requires
     (λ c. search needs)
     (λ c κs. search needs)

@@ -16,7 +16,7 @@ use Rattle.meaning.specs.declared.ContactNumbers.{ContactNumbers}
 use Rattle.meaning.specs.declared.WholeContact.{WholeContact}
 use Rattle.meaning.specs.declared.WholeContact.the-variants.{Hit, Miss, Touch, Apart}
 use Rattle.meaning.proofs.WholeContact.{the-type}
-use Rattle.contact_scene.specs.Rows.{SmallContact}
+use Rattle.contact_entries.specs.Rows.{SmallContact}
 use Rattle.makhnodri.proofs.put_contact.Statement.{statement}
 use Rattle.makhnodri.proofs.put_contact.Tie as tie
 

@@ -9,7 +9,7 @@ use Rattle.scene_report.proofs.tabled_report.Reads as reads
 use Rattle.scene_report.proofs.tabled_report.Lts as lts
 use Rattle.list_words.proofs.settle_accepted.Reads as settle-accepted-reads
 use Rattle.report_words.proofs.lines.refused_line.Reads as refused-line-reads
-use Rattle.scene_report.proofs.pairs.pairs_report.Reads as pairs-report-reads
+use Rattle.pair_report.proofs.pairs_report.Reads as pairs-report-reads
 
 -- src/lib.rt:49:64
 slice-aggregate-settle-accepted : tie.Need-slice-aggregate-settle-accepted

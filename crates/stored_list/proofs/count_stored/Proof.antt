@@ -10,7 +10,8 @@ use Rattle.meaning.specs.List.{pairs}
 use Rattle.meaning.specs.Runs.{boxTests}
 use Rattle.scene_checks.specs.Checking.{to-table, from-table}
 use Rattle.list_pairs.specs.Answering.{tested-refused, tested-listed}
-use Rattle.stored_list.specs.Looked.{passed, counted-refused, counted-right}
+use Rattle.stored_checks.specs.Looked.{passed}
+use Rattle.stored_list.specs.Calls.{counted-refused, counted-right}
 use Rattle.stored_list.proofs.count_stored.Statement.{statement}
 use Rattle.stored_list.proofs.count_stored.Tie as tie
 

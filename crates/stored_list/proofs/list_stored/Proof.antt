@@ -6,7 +6,8 @@ use Rattle.meaning.specs.StoredBoxes.{Boxed}
 use Rattle.scene_seams.specs.Sewing.{blank-table}
 use Rattle.scene_checks.specs.Checking.{one-scene, to-table}
 use Rattle.list_pairs.specs.Answering.{tested-refused, tested-as}
-use Rattle.stored_list.specs.Looked.{passed, listed-refused, listed-right}
+use Rattle.stored_checks.specs.Looked.{passed}
+use Rattle.stored_list.specs.Calls.{listed-refused, listed-right}
 use Rattle.stored_list.proofs.list_stored.Statement.{statement}
 use Rattle.stored_list.proofs.list_stored.Tie as tie
 

@@ -5,7 +5,7 @@ use Rattle.meaning.specs.Scene.{Scene, sceneIn, Accepted}
 use Rattle.meaning.specs.StoredBoxes.{Boxed}
 use Rattle.scene_seams.specs.Sewing.{blank-table}
 use Rattle.scene_checks.specs.Checking.{to-table}
-use Rattle.stored_list.specs.Looked.{passed}
+use Rattle.stored_checks.specs.Looked.{passed}
 use Rattle.list_words.specs.Answering.{settled-in-table}
 use Rattle.stored_list.specs.Settling.{settled-refused, settled-right}
 use Rattle.stored_list.proofs.settle_stored.Statement.{statement}
