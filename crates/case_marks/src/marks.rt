@@ -1,5 +1,6 @@
 // What is seen of a buffer after a call: every number of it was the mark before.
 
+// Bytes to standard output as they are. Whether they were written is not asked: the gate compares what came out.
 pub fn print(text: &[u8]) {
     io::write_all(1, text);
 }
