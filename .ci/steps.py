@@ -11,10 +11,10 @@ import sys
 top = pathlib.Path(__file__).resolve().parents[1]
 
 
-def on_x86_64():
-    """The words before a program for x86-64, as the proved programs are; none on x86-64."""
-    words = subprocess.run([top / "tools/on-x86-64", "--words"], check=True, capture_output=True, text=True)
-    return words.stdout.split()
+def programs():
+    """The proved programs for this processor by their names, built first where a source is newer."""
+    made = subprocess.run([top / "tools/programs"], stdin=subprocess.DEVNULL, stdout=subprocess.PIPE, check=True, text=True, timeout=3600)
+    return {pathlib.Path(line).name: line for line in made.stdout.splitlines()}
 
 
 class Step:

@@ -5,11 +5,19 @@
  * A question is `struct question`, then each of the buffers in the order of the `enum`: as many numbers as its length
  * says, with MARGIN bytes in front of them and MARGIN behind, which are not lent. An answer is the number that the call gave,
  * then all those bytes as the call left them.
+ *
+ * A word says where the buffers stand that are lent, so that a read outside them shows too: `before` or `behind`, with a page
+ * right before or right behind each that nobody may touch, so that the process ends there; `exact`, each in a block of just its
+ * size, for a memory checker. Without a word they stand between their margins.
  */
+#define _DEFAULT_SOURCE
 #include "makhnodri.h"
 
 #include <stdio.h>
 #include <stdlib.h>
+#include <string.h>
+#include <sys/mman.h>
+#include <unistd.h>
 
 /* each buffer is aligned for 64-bit numbers, and not for more */
 enum { MARGIN = 24, CAPACITY = 1 << 22 };
@@ -21,11 +29,14 @@ struct question {
     uint64_t call, asked[3], length[BUFFERS];
 };
 
-static uint8_t *memory[BUFFERS];
+static uint8_t *memory[BUFFERS], *place[BUFFERS], *fenced[BUFFERS];
+static enum { BETWEEN_MARGINS, BEFORE, BEHIND, EXACT } stands = BETWEEN_MARGINS;
 
-static void *lent(int buffer) { return memory[buffer] + MARGIN; }
+static void *lent(int buffer) { return place[buffer]; }
 
-static size_t bytes(const struct question *q, int buffer) { return 2 * MARGIN + q->length[buffer] * size_of[buffer]; }
+static size_t lent_bytes(const struct question *q, int buffer) { return q->length[buffer] * size_of[buffer]; }
+
+static size_t bytes(const struct question *q, int buffer) { return 2 * MARGIN + lent_bytes(q, buffer); }
 
 static void give_up(const char *why) {
     fprintf(stderr, "driver: %s\n", why);
@@ -82,16 +93,54 @@ static uint64_t answer(const struct question *q) {
     return 0;
 }
 
-int main(void) {
-    for (int i = 0; i < BUFFERS; i++)
+/* A page that nobody may touch, CAPACITY bytes, and another such page. */
+static void fence(int buffer) {
+    size_t page = (size_t)sysconf(_SC_PAGESIZE);
+    uint8_t *all = mmap(NULL, CAPACITY + 2 * page, PROT_READ | PROT_WRITE, MAP_PRIVATE | MAP_ANONYMOUS, -1, 0);
+    if (all == MAP_FAILED || mprotect(all, page, PROT_NONE) || mprotect(all + page + CAPACITY, page, PROT_NONE)) give_up("no memory");
+    fenced[buffer] = all + page;
+}
+
+static void set_place(const struct question *q, int buffer) {
+    size_t count = lent_bytes(q, buffer);
+    switch (stands) {
+    case BETWEEN_MARGINS: place[buffer] = memory[buffer] + MARGIN; return;
+    case BEFORE: place[buffer] = fenced[buffer]; break;
+    case BEHIND: place[buffer] = fenced[buffer] + CAPACITY - count; break;
+    case EXACT:
+        if (!(place[buffer] = malloc(count)) && count) give_up("no memory");
+    }
+    if (count) memcpy(place[buffer], memory[buffer] + MARGIN, count);
+}
+
+static void take_back(const struct question *q, int buffer) {
+    size_t count = lent_bytes(q, buffer);
+    if (stands != BETWEEN_MARGINS && count) memcpy(memory[buffer] + MARGIN, place[buffer], count);
+    if (stands == EXACT) free(place[buffer]);
+}
+
+static void read_word(const char *word) {
+    if (!strcmp(word, "before")) stands = BEFORE;
+    else if (!strcmp(word, "behind")) stands = BEHIND;
+    else if (!strcmp(word, "exact")) stands = EXACT;
+    else give_up("a word that is not known");
+}
+
+int main(int count, char **words) {
+    if (count > 1) read_word(words[1]);
+    for (int i = 0; i < BUFFERS; i++) {
         if (!(memory[i] = aligned_alloc(64, CAPACITY))) give_up("no memory");
+        if (stands == BEFORE || stands == BEHIND) fence(i);
+    }
     struct question q;
     while (fread(&q, sizeof q, 1, stdin) == 1) {
         for (int i = 0; i < BUFFERS; i++) {
             if (q.length[i] > CAPACITY / 16) give_up("a buffer is too long");
             if (fread(memory[i], bytes(&q, i), 1, stdin) != 1) give_up("the input ends inside a question");
+            set_place(&q, i);
         }
         uint64_t number = answer(&q);
+        for (int i = 0; i < BUFFERS; i++) take_back(&q, i);
         fwrite(&number, sizeof number, 1, stdout);
         for (int i = 0; i < BUFFERS; i++) fwrite(memory[i], bytes(&q, i), 1, stdout);
     }

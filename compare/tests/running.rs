@@ -74,3 +74,36 @@ fn what_a_comparison_keeps_is_in_a_folder_of_its_own() {
         std::fs::remove_dir_all(&temporary).unwrap();
     }
 }
+
+/// A program that is not there cannot be compared, which is no difference; a file that is not there has the status that it has in every program.
+#[test]
+fn what_is_not_there_is_told_with_one_status() {
+    let missing = "no such file";
+    for (comparison, words, status) in [
+        (env!("CARGO_BIN_EXE_compare-with"), [missing, "0"].as_slice(), 2),
+        (env!("CARGO_BIN_EXE_compare-contacts"), &[missing, "0"], 2),
+        (env!("CARGO_BIN_EXE_compare-series"), &[missing, "0"], 2),
+        (env!("CARGO_BIN_EXE_compare-claims"), &[missing, "0"], 2),
+        (env!("CARGO_BIN_EXE_compare-obj"), &[missing, missing, "0"], 2),
+        (env!("CARGO_BIN_EXE_raw"), &["0", missing], 2),
+        (env!("CARGO_BIN_EXE_compare-claims"), &["--answers", missing, missing], 1),
+        (env!("CARGO_BIN_EXE_compare-obj"), &["--report", missing, missing], 1),
+        (env!("CARGO_BIN_EXE_compare-obj"), &["--scene", missing, missing], 1),
+        (env!("CARGO_BIN_EXE_explain"), &[missing, missing], 1),
+    ] {
+        let run = Command::new(comparison).args(words).output().unwrap();
+        assert_eq!(run.status.code(), Some(status), "{comparison} {words:?}");
+        assert!(
+            run.stdout.is_empty() && String::from_utf8_lossy(&run.stderr).contains(missing),
+            "{comparison} {words:?}: {run:?}"
+        );
+    }
+}
+
+/// Answers that differ are told with the number of the line.
+#[test]
+fn where_answers_part_is_told() {
+    let run = Command::new(env!("CARGO_BIN_EXE_compare-claims")).args(["true", "0"]).output().unwrap();
+    let told = String::from_utf8(run.stdout).unwrap();
+    assert!(told.contains("    at line 1: \"nothing\" and should be ") && !told.contains("Some("), "{told}");
+}

@@ -7,7 +7,8 @@
 use compare::claims::making::{fixed, seeded, Trial};
 use compare::claims::mistakes::{self, ALL};
 use compare::claims::{printed, told};
-use compare::running::comparing::{give_up, OfFiles, MOST_SHOWN};
+use compare::running::comparing::{give_up, read_named, OfFiles, MOST_SHOWN};
+use compare::running::looks::parting;
 use std::collections::BTreeMap;
 use std::process::exit;
 
@@ -23,8 +24,7 @@ fn main() {
     let words: Vec<String> = std::env::args().skip(1).collect();
     match &words[..] {
         [flag, scene, claims] if flag == "--answers" => {
-            let read = |name: &String| std::fs::read(name).unwrap_or_else(|error| give_up("claims", &format!("{name}: {error}")));
-            print!("{}", printed(&read(scene), &read(claims)));
+            print!("{}", printed(&read_named("claims", scene), &read_named("claims", claims)));
         }
         [program] => compare(program, SEEDS, &[]),
         [program, seeds, launcher @ ..] => {
@@ -63,11 +63,12 @@ fn compare(program: &str, seeds: u64, launcher: &[String]) {
     exit((differences > 0) as i32);
 }
 
-/// The line at which the answers part, and which mistakes part there.
+/// The line at which the answers part, if they do, and which mistakes part there.
 fn tell(trial: &Trial, given: &str, wanted: &str) {
-    let at = given.lines().zip(wanted.lines()).position(|(a, b)| a != b);
-    let line = |text: &str| text.lines().nth(at.unwrap_or(0)).unwrap_or("").to_string();
-    println!("    at line {:?}: {:?} and should be {:?}", at.map(|at| at + 1), line(given), line(wanted));
+    match parting(wanted, given) {
+        Some(parting) => println!("    at line {}: {:?} and should be {:?}", parting.line, parting.got, parting.wanted),
+        None => println!("    standard error has something else"),
+    }
     let prints = |mistake: &&mistakes::Mistake| mistakes::printed(**mistake, &trial.scene, &trial.claims) == given;
     println!("    it looks like {:?}", ALL.iter().filter(prints).collect::<Vec<_>>());
 }

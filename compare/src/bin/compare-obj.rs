@@ -9,7 +9,7 @@
 use compare::obj::faults::{cells, reached, Cell};
 use compare::obj::making::{fixed, seeded, Trial};
 use compare::obj::{import, import_with, reported, saved, Wrong, WRONG};
-use compare::running::comparing::{give_up, OfFiles, MOST_SHOWN};
+use compare::running::comparing::{give_up, read_named, OfFiles, MOST_SHOWN};
 use compare::running::streams::print;
 use std::collections::BTreeSet;
 use std::process::exit;
@@ -37,7 +37,7 @@ fn main() {
 }
 
 fn read(name: &str) -> Vec<u8> {
-    std::fs::read(name).unwrap_or_else(|error| give_up("obj", &format!("{name}: {error}")))
+    read_named("obj", name)
 }
 
 fn compare(programs: [&str; 2], seeds: u64, launcher: &[&str]) {

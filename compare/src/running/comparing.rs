@@ -2,7 +2,7 @@
 //! the line told.
 
 use super::looks::parting;
-use super::Program;
+use super::{Failed, Program};
 use std::collections::BTreeMap;
 use std::fmt::Debug;
 use std::path::PathBuf;
@@ -63,6 +63,7 @@ impl Comparison {
         self.texts += 1;
         let given = match self.program.run(text, 1 + self.texts % 3) {
             Ok(bytes) => String::from_utf8_lossy(&bytes).into_owned(),
+            Err(Failed::ToStart(fault)) => give_up(self.name, &format!("the program cannot be run: {fault}")),
             Err(failed) => format!("{failed:?}\n"),
         };
         let Some(parting) = parting(wanted, &given) else { return };
@@ -150,6 +151,14 @@ impl OfFiles {
         let cleared = self.folder.clear(&OfFiles::place(self.differences + 1));
         cleared.unwrap_or_else(|error| give_up(self.name, &error.to_string()));
     }
+}
+
+/// The bytes of a file that is named. One that cannot be read has the status that it has in every program of this house.
+pub fn read_named(name: &str, file: &str) -> Vec<u8> {
+    std::fs::read(file).unwrap_or_else(|error| {
+        eprintln!("compare-{name}: {file}: {error}");
+        exit(1)
+    })
 }
 
 /// Why a comparison cannot go on.

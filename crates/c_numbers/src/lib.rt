@@ -34,6 +34,7 @@ pub fn refused(why: Refusal, carries: usize) -> u64
     answers::number_of(why) * 4294967296 + (carries as u64)
 }
 
+// What C hears of a scene that was checked: 0, or the refusal with nothing carried, since no line or count belongs to it.
 pub fn scene_number(answer: SceneAnswer) -> u64
     ensures { λ r. ⌜ r ≡ sceneNumber answer ⌝ }
 {
@@ -54,6 +55,7 @@ fn verdict_number(verdict: Verdict) -> u64
     }
 }
 
+// What C hears of a pair or a piece that was judged: the verdict's number, or the refusal.
 pub fn pair_number(answer: PairAnswer) -> u64
     ensures { λ r. ⌜ r ≡ pairNumber answer ⌝ }
 {
@@ -63,6 +65,7 @@ pub fn pair_number(answer: PairAnswer) -> u64
     }
 }
 
+// The same in the four words: the byte that stands for the word in a lent buffer, so that C has one number for it everywhere.
 pub fn settled_number(answer: SettledAnswer) -> u64
     ensures { λ r. ⌜ r ≡ settledNumber answer ⌝ }
 {
@@ -79,6 +82,7 @@ pub fn word_number(contact: WholeContact) -> u64
     list_words::byte_of(contact_entries::rows::settled_of(contact)) as u64
 }
 
+// What C hears of a list: how many pairs it has, or the refusal with what it carries, which for 7 is the room that was needed.
 pub fn list_number(answer: ListAnswer) -> u64
     requires { ⌜ toldIn (listSays answer) < upper ⌝ }
     ensures { λ r. ⌜ r ≡ listNumber answer ⌝ }
@@ -89,6 +93,7 @@ pub fn list_number(answer: ListAnswer) -> u64
     }
 }
 
+// What C hears of claims: how many were answered, or the refusal with the line or the room that was needed.
 pub fn claims_number(answer: ClaimsAnswer) -> u64
     requires { ⌜ toldIn (claimsSays answer) < upper ⌝ }
     ensures { λ r. ⌜ r ≡ claimsNumber answer ⌝ }
@@ -99,6 +104,7 @@ pub fn claims_number(answer: ClaimsAnswer) -> u64
     }
 }
 
+// What C hears of a scene that was saved or measured: how many bytes its text has, or the refusal with what it carries.
 pub fn saved_number(answer: SaveAnswer) -> u64
     requires { ⌜ toldIn (saveSays answer) < upper ⌝ }
     ensures { λ r. ⌜ r ≡ savedNumber answer ⌝ }
@@ -120,6 +126,7 @@ fn file_bit(file: WhichFile) -> usize
     }
 }
 
+// What C hears of two OBJ files: 0, since counts go into a lent buffer, or the refusal; one that a file has carries the line and, in a bit above, which file.
 pub fn import_number(answer: ImportAnswer) -> u64
     requires { ⌜ importLine answer < lineLimit ⌝ }
     ensures { λ r. ⌜ r ≡ importNumber answer ⌝ }

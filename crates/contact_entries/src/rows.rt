@@ -34,6 +34,7 @@ fn put_row(contacts: &mut [u32], at: usize, m: ContactNumbers)
     contacts[at + 4] = m.third;
 }
 
+// The row of a pair's contact from a place on. Where the word is no hit the five numbers stay as they were, since a caller looks at none of them then.
 pub fn put_contact_row(contacts: &mut [u32], at: usize, contact: WholeContact)
     requires { ⌜ (at + 5 ≤ length (now contacts)) × SmallContact contact ⌝ }
     ensures { λ _. ⌜ Wrote (atEntry contacts) at (rowLeft contact (take 5 (drop at (atEntry contacts))))

@@ -77,6 +77,7 @@ pub(crate) fn contact_of_word(
     }
 }
 
+// When and where a pair of an accepted scene touched, or its word. For who has checked the scene already, so that nothing is checked twice.
 pub fn contact(
     positions: &[i32],
     edges: &[u16],

@@ -58,6 +58,7 @@ fn hit_contact(kind: Kind, m: ContactNumbers) -> Contact
     }
 }
 
+// A contact as Rattle's callers have it, with f64s for time and shares: the whole numbers are the answer, and these are made from them.
 pub fn contact_of(kind: Kind, contact: WholeContact) -> Contact
     ensures { λ r. ⌜ r ≡ contactOf kind contact ⌝ }
 {

@@ -5,6 +5,7 @@ ghost use mathlib.Core.List.{[], _∷_};
 ghost use Prim.Native.Nat.{min};
 ghost use Rattle.contact_times.specs.Earliest.{Earliest};
 
+// For the three pieces of a point and a triangle: the piece with the earliest contact, on a tie the lowest.
 pub fn of_three(a: u32, b: u32, c: u32) -> usize
     ensures { λ r. ⌜ Earliest (a ∷ b ∷ c ∷ []) r ⌝ }
 {
@@ -21,6 +22,7 @@ fn smaller(a: u32, b: u32) -> u32
     if a < b { a } else { b }
 }
 
+// The same for the four pieces of two edges.
 pub fn of_four(a: u32, b: u32, c: u32, d: u32) -> usize
     ensures { λ r. ⌜ Earliest (a ∷ b ∷ c ∷ d ∷ []) r ⌝ }
 {

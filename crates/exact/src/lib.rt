@@ -142,6 +142,7 @@ fn volumes_with(
     in_turn(e0, e1, e2, e3)
 }
 
+// The four volumes of a piece from the places of its points and of what each is seen from. Two share their minors each, which are worked out once.
 pub fn volumes_at(
     positions: &[i32],
     o0: usize,

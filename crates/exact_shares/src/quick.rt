@@ -17,6 +17,7 @@ fn in_two(part: u64, whole: u64) -> u32
     (first * 1024 + rest * 1024 / whole) as u32
 }
 
+// A part of a whole in parts of 2^20, cut, by the shortest way that fits 64 bits: one division, two, or else long division.
 pub fn quick_cut(part: u64, whole: u64) -> u32
     requires { ⌜ (0 < whole) × (part ≤ whole) × (whole < 2 ^ 62) ⌝ }
     ensures { λ r. ⌜ CutTo part whole r ⌝ }

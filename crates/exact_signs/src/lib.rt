@@ -146,6 +146,7 @@ pub fn point_verdict(v: Volumes) -> Verdict
     verdict_of(point_signs(v))
 }
 
+// The same for two edges, whose signs depend on which of the four points are at the end.
 pub fn edge_verdict(v: Volumes, t0: bool, t1: bool, t2: bool, t3: bool) -> Verdict
     requires { ⌜ Small v ⌝ }
     ensures { λ r. ⌜ r ≡ edgeVerdict (four t0 t1 t2 t3) (fourOf v) ⌝ }
@@ -172,6 +173,7 @@ pub fn judge_point(
     point_verdict(volumes_at(positions, o0, b0, o1, b1, o2, b2, o3, b3))
 }
 
+// The same for a piece of two edges, each of whose four points also says whether it is at the end.
 pub fn judge_edges(
     positions: &[i32],
     o0: usize,

@@ -56,6 +56,7 @@ pub fn settle_into(
     }
 }
 
+// The word of a pair: hit, miss, touch or apart, or a refusal. A scene without seams gets by without a table of them.
 pub fn settle_pair(
     positions: &[i32],
     edges: &[u16],
@@ -139,6 +140,7 @@ fn settle_piece_into(
     }
 }
 
+// The word of one piece of a pair, or a refusal; `settle_pair` gives that of all of its pieces together.
 pub fn settle_piece(
     positions: &[i32],
     edges: &[u16],

@@ -99,6 +99,7 @@ pub fn first_count(
     }
 }
 
+// How many second places a kind has: triangles, or edges.
 pub fn second_count(
     positions: &[i32],
     edges: &[u16],

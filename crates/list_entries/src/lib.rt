@@ -54,12 +54,14 @@ pub fn kind_of(entry: u32) -> Kind
     }
 }
 
+// The first place, which stands in the middle ten bits of an entry.
 pub fn first_of(entry: u32) -> usize
     ensures { λ r. ⌜ r ≡ firstOf entry ⌝ }
 {
     (entry / 1024 % 1024) as usize
 }
 
+// The second place, which stands in the lowest ten.
 pub fn second_of(entry: u32) -> usize
     ensures { λ r. ⌜ r ≡ secondOf entry ⌝ }
 {

@@ -47,6 +47,7 @@ pub fn count_prepared(
     walk_prepared(positions, edges, triangles, stands, boxes, &mut none, 0)
 }
 
+// How many pairs an accepted scene lists, and how many box tests that took, with the boxes worked out here. Nothing is written.
 pub fn count_accepted(positions: &[i32], edges: &[u16], triangles: &[u16], stands: &[u16]) -> Walk
     requires { ⌜ Accepted (tabledIn positions edges triangles stands) ⌝ }
     ensures { λ r. ⌜ (r .next ≡ length (pairs (tabledAtEntry positions edges triangles stands)))
@@ -136,6 +137,7 @@ pub fn list_prepared(
     ListAnswer::Listed(Made { count })
 }
 
+// The list of an accepted scene into a lent buffer, of which so many entries may be used; or 7 with the count, and the buffer stays as it was.
 pub fn list_accepted(
     positions: &[i32],
     edges: &[u16],

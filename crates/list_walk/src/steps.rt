@@ -152,6 +152,7 @@ fn walk_run(
     }
 }
 
+// All pairs of one first part, run by run: where the boxes of a run of second parts do not meet its box, none of them is looked at.
 pub fn walk_row(
     positions: &[i32],
     edges: &[u16],

@@ -127,6 +127,7 @@ pub extern "C" fn makhnodri_settle_scene_slices(
 
 // ---- the verdict of a pair and of a piece: hit, miss or degenerate. A kind has functions of its own, so that no bad kind can be asked for
 
+// The verdict of a vertex and a triangle.
 #[no_mangle]
 pub extern "C" fn makhnodri_judge_pt_slices(
     positions: &[i32],
@@ -150,6 +151,7 @@ pub extern "C" fn makhnodri_judge_pt_slices(
     ))
 }
 
+// The verdict of two edges.
 #[no_mangle]
 pub extern "C" fn makhnodri_judge_ee_slices(
     positions: &[i32],
@@ -166,6 +168,7 @@ pub extern "C" fn makhnodri_judge_ee_slices(
     pair_number(three_words::judge_pair(positions, edges, triangles, seams, kind, first, second))
 }
 
+// The verdict of one of the three pieces of a vertex and a triangle.
 #[no_mangle]
 pub extern "C" fn makhnodri_judge_pt_piece_slices(
     positions: &[i32],
@@ -191,6 +194,7 @@ pub extern "C" fn makhnodri_judge_pt_piece_slices(
     ))
 }
 
+// The verdict of one of the four pieces of two edges.
 #[no_mangle]
 pub extern "C" fn makhnodri_judge_ee_piece_slices(
     positions: &[i32],
@@ -218,6 +222,7 @@ pub extern "C" fn makhnodri_judge_ee_piece_slices(
 
 // ---- the same in the four words: a degenerate piece is decided too
 
+// The word of a vertex and a triangle.
 #[no_mangle]
 pub extern "C" fn makhnodri_settle_pt_slices(
     positions: &[i32],
@@ -241,6 +246,7 @@ pub extern "C" fn makhnodri_settle_pt_slices(
     ))
 }
 
+// The word of two edges.
 #[no_mangle]
 pub extern "C" fn makhnodri_settle_ee_slices(
     positions: &[i32],
@@ -264,6 +270,7 @@ pub extern "C" fn makhnodri_settle_ee_slices(
     ))
 }
 
+// The word of one of the three pieces of a vertex and a triangle.
 #[no_mangle]
 pub extern "C" fn makhnodri_settle_pt_piece_slices(
     positions: &[i32],
@@ -289,6 +296,7 @@ pub extern "C" fn makhnodri_settle_pt_piece_slices(
     ))
 }
 
+// The word of one of the four pieces of two edges.
 #[no_mangle]
 pub extern "C" fn makhnodri_settle_ee_piece_slices(
     positions: &[i32],
@@ -348,6 +356,7 @@ fn contact_told(
     }
 }
 
+// The word of a vertex and a triangle and, where that is hit, when and where in five lent numbers; else these stay as they were.
 #[no_mangle]
 pub extern "C" fn makhnodri_contact_pt_slices(
     positions: &[i32],
@@ -374,6 +383,7 @@ pub extern "C" fn makhnodri_contact_pt_slices(
     )
 }
 
+// The same of two edges.
 #[no_mangle]
 pub extern "C" fn makhnodri_contact_ee_slices(
     positions: &[i32],

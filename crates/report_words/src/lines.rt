@@ -15,6 +15,7 @@ use crate::words::put_word;
 use meaning::Kind;
 use meaning::Settled;
 
+// The first field of a line, pt or ee.
 pub fn put_kind(out: &mut [u8], at: usize, kind: Kind) -> usize
     requires { ⌜ at + 2 ≤ length (now out) ⌝ }
     ensures { λ r. ⌜ Wrote (atEntry out) at (kindWord kind) (atExit out) r ⌝ }

@@ -8,6 +8,7 @@ ghost use Rattle.sequences.specs.Wrote.{Wrote};
 ghost use Rattle.meaning.specs.Text.{tab};
 ghost use Rattle.sequences.specs.Lent.{atEntry, atExit};
 
+// One byte: a tab, or the end of a line.
 pub fn put_byte(out: &mut [u8], at: usize, byte: u8) -> usize
     requires { ⌜ at + 1 ≤ length (now out) ⌝ }
     ensures { λ r. ⌜ Wrote (atEntry out) at (byte ∷ []) (atExit out) r ⌝ }
@@ -16,6 +17,7 @@ pub fn put_byte(out: &mut [u8], at: usize, byte: u8) -> usize
     at + 1
 }
 
+// All bytes of a word, in order.
 pub fn put_word(out: &mut [u8], at: usize, word: &[u8]) -> usize
     requires { ⌜ at + length (now word) ≤ length (now out) ⌝ }
     ensures { λ r. ⌜ Wrote (atEntry out) at (atEntry word) (atExit out) r ⌝ }

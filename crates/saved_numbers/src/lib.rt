@@ -13,6 +13,7 @@ ghost use Rattle.sequences.specs.Lent.{atEntry, atExit};
 use decimals::count_digits;
 use decimals::write_number;
 
+// One byte: the letter of a record, a tab, or the end of a line.
 pub fn put_byte(out: &mut [u8], at: usize, byte: u8) -> usize
     requires { ⌜ at + 1 ≤ length (now out) ⌝ }
     ensures { λ r. ⌜ Wrote (atEntry out) at (byte ∷ []) (atExit out) r ⌝ }
@@ -78,6 +79,7 @@ fn put_mark(out: &mut [u8], at: usize, positions: &[i32], i: usize) -> usize
     }
 }
 
+// A coordinate as a field: a tab, a minus where it is below 0, and its digits.
 pub fn put_coordinate(out: &mut [u8], at: usize, positions: &[i32], i: usize) -> usize
     requires { ⌜ (i < length (now positions)) × Coordinates (now positions) ⌝ }
     requires { ⌜ at + length (tab ∷ numeral (getD (now positions) i (pos 0))) ≤ length (now out) ⌝ }
@@ -87,6 +89,7 @@ pub fn put_coordinate(out: &mut [u8], at: usize, positions: &[i32], i: usize) ->
     write_number(out, next, size_of(positions, i))
 }
 
+// A vertex number as a field: a tab and its digits.
 pub fn put_number(out: &mut [u8], at: usize, list: &[u16], i: usize) -> usize
     requires { ⌜ i < length (now list) ⌝ }
     requires { ⌜ at + length (tab ∷ numeral (pos (getD (now list) i 0))) ≤ length (now out) ⌝ }

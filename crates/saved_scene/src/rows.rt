@@ -64,6 +64,7 @@ fn put_triangle(out: &mut [u8], at: usize, list: &[u16], k: usize) -> usize
     put_byte(out, next, b'\n')
 }
 
+// A v record for each vertex, in order: places count from 0, so that their order is all that numbers them.
 pub fn put_vertices(out: &mut [u8], at: usize, positions: &[i32]) -> usize
     requires { ⌜ (length (now positions) ≡ 6 * (length (now positions) / 6)) × Coordinates (now positions) ⌝ }
     requires { ⌜ at + length (vertexLines (now positions)) ≤ length (now out) ⌝ }
@@ -95,6 +96,7 @@ pub fn put_pairs(out: &mut [u8], at: usize, letter: u8, list: &[u16]) -> usize
     next
 }
 
+// A t record for each triangle, in order, with its corners in the order in which they are stored.
 pub fn put_triangles(out: &mut [u8], at: usize, list: &[u16]) -> usize
     requires { ⌜ length (now list) ≡ 3 * (length (now list) / 3) ⌝ }
     requires { ⌜ at + length (tripleLines (now list)) ≤ length (now out) ⌝ }

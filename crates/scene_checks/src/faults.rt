@@ -51,6 +51,7 @@ fn outside(positions: &[i32], i: usize) -> bool
     (c < -COORDINATE_LIMIT) | (COORDINATE_LIMIT < c)
 }
 
+// 2 of a whole scene. Every coordinate is looked at, whether one was found or not, so that the loop has one way out.
 pub fn out_of_range(positions: &[i32]) -> bool
     ensures { λ r. ⌜ r ≡ outOfRange (onlyPositions (atEntry positions)) ⌝ }
 {
@@ -83,6 +84,7 @@ fn unknown_in(list: &[u16], count: usize) -> bool
     found
 }
 
+// 3 of a whole scene: of edges, triangles and seams alike.
 pub fn unknown_vertex(positions: &[i32], edges: &[u16], triangles: &[u16], seams: &[u16]) -> bool
     ensures { λ r. ⌜ r ≡ unknownVertex (sceneAtEntry positions edges triangles seams) ⌝ }
 {
@@ -222,6 +224,7 @@ fn written_in_triangles(triangles: &[u16]) -> bool
     found | written_behind(triangles, j)
 }
 
+// 4 of a whole scene. Without seams a vertex counts as itself, so that the numbers are compared as they are written.
 pub fn repeated_vertex(edges: &[u16], triangles: &[u16], stands: &[u16]) -> bool
     ensures { λ r. ⌜ r ≡ repeatedVertex (tabled [] (atEntry edges) (atEntry triangles) (atEntry stands)) ⌝ }
 {

@@ -51,6 +51,7 @@ pub fn check_into(
     }
 }
 
+// Whether a scene is accepted, or the first check that it fails, in the table's order. The table of seams is made here and goes with the call.
 pub fn check_scene(
     positions: &[i32],
     edges: &[u16],

@@ -31,6 +31,7 @@ pub fn not_there(
     }
 }
 
+// How many pieces a pair of a kind is cut into: a piece that is asked for must be one of them, and a pair is settled by all.
 pub fn piece_count(kind: Kind) -> usize
     ensures { λ r. ⌜ r ≡ pieceCount kind ⌝ }
 {
@@ -66,6 +67,7 @@ pub fn smaller(i: usize, j: usize) -> usize
     if i < j { i } else { j }
 }
 
+// The higher of two places: of two edges the list has the lower one first.
 pub fn larger(i: usize, j: usize) -> usize
     ensures { λ r. ⌜ r ≡ max i j ⌝ }
 {

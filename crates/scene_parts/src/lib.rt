@@ -24,24 +24,28 @@ use written::edge_end;
 use written::in_order;
 use written::rising;
 
+// How many vertices there are: six coordinates each.
 pub fn vertex_count(positions: &[i32]) -> usize
     ensures { λ r. ⌜ r ≡ vertexCount (onlyPositions (atEntry positions)) ⌝ }
 {
     positions.len() / 6
 }
 
+// How many edges there are: two vertex numbers each.
 pub fn edge_count(edges: &[u16]) -> usize
     ensures { λ r. ⌜ r ≡ edgeCount (onlyEdges (atEntry edges)) ⌝ }
 {
     edges.len() / 2
 }
 
+// How many triangles there are: three vertex numbers each.
 pub fn triangle_count(triangles: &[u16]) -> usize
     ensures { λ r. ⌜ r ≡ triangleCount (onlyTriangles (atEntry triangles)) ⌝ }
 {
     triangles.len() / 3
 }
 
+// The ends of an edge in the order by which it is cut: by the vertices that they stand for, so that sewn edges are cut alike.
 pub fn ends_of(edges: &[u16], stands: &[u16], j: usize) -> Ends
     requires { ⌜ j < edgeCount (onlyEdges (now edges)) ⌝ }
     ensures { λ r. ⌜ r ≡ endsOf (edgesSewn (atEntry edges) (atEntry stands)) j ⌝ }
@@ -55,6 +59,7 @@ pub fn ends_of(edges: &[u16], stands: &[u16], j: usize) -> Ends
     }
 }
 
+// The corners of a triangle in the same order, so that faces on both sides of a seam are cut along one diagonal.
 pub fn corners_of(triangles: &[u16], stands: &[u16], j: usize) -> Corners
     requires { ⌜ j < triangleCount (onlyTriangles (now triangles)) ⌝ }
     ensures { λ r. ⌜ r ≡ cornersOf (trianglesSewn (atEntry triangles) (atEntry stands)) j ⌝ }
@@ -85,6 +90,7 @@ pub fn end_counts_as(edges: &[u16], stands: &[u16], j: usize, k: usize) -> usize
     counts_as(stands, edge_end(edges, j, k))
 }
 
+// The vertex that a corner stands for, by which it is asked whether two parts share one.
 pub fn corner_counts_as(triangles: &[u16], stands: &[u16], j: usize, k: usize) -> usize
     requires { ⌜ (j < triangleCount (onlyTriangles (now triangles))) × (k < 3) ⌝ }
     ensures { λ r. ⌜ r ≡ countsAs (onlyTable (atEntry stands)) (corner (onlyTriangles (atEntry triangles)) j k) ⌝ }

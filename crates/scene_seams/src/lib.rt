@@ -13,6 +13,7 @@ ghost use Rattle.scene_seams.specs.Table.{seamsOf, sewnTo};
 ghost use Rattle.scene_seams.specs.Sewing.{breaksRules, Sewable, Sewn};
 ghost use Rattle.sequences.specs.Lent.{atEntry, atExit};
 
+// A vertex number as an index, in a function of its own, so that proofs meet the cast in one place.
 pub fn wide(x: u16) -> usize
     ensures { λ r. ⌜ r ≡ x ⌝ }
 {

@@ -108,6 +108,7 @@ pub fn pair_into(
     }
 }
 
+// The verdict of a pair: hit, miss or degenerate, or a refusal. A scene without seams gets by without a table of them.
 pub fn judge_pair(
     positions: &[i32],
     edges: &[u16],
@@ -187,6 +188,7 @@ pub fn piece_into(
     }
 }
 
+// The verdict of one piece of a pair, or a refusal; `judge_pair` gives that of all of its pieces together.
 pub fn judge_piece(
     positions: &[i32],
     edges: &[u16],
