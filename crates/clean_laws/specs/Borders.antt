@@ -184,10 +184,10 @@ module _ {A : Type 0} (turn : A → A → ℤ) where
   NoTwo [] = Unit {0}
   NoTwo (a ∷ l) = Every (λ b. turn a b ≢ pos 0) l × NoTwo l
 
-le-true : (a b : ℤ) → leZ a b ≡ true → a ≤ℤ b
+pub le-true : (a b : ℤ) → leZ a b ≡ true → a ≤ℤ b
 le-true a b e = leZ-yes (subst T (sym e) tt)
 
-true-le : (a b : ℤ) → a ≤ℤ b → leZ a b ≡ true
+pub true-le : (a b : ℤ) → a ≤ℤ b → leZ a b ≡ true
 true-le a b h = go (leZ a b) (h .le)
   where
     go : (x : Bool) → T x → x ≡ true
@@ -338,7 +338,7 @@ module _ {A : Type 0} {turn : A → A → ℤ} (t : Turning turn) (l : List A) (
 
 -- ---- seen from behind who led trails
 
-same-test : (x y : Bool) → (x ≡ true → y ≡ true) → (y ≡ true → x ≡ true) → x ≡ y
+pub same-test : (x y : Bool) → (x ≡ true → y ≡ true) → (y ≡ true → x ≡ true) → x ≡ y
 same-test true y f g = sym (f refl)
 same-test false true f g = g refl
 same-test false false f g = refl

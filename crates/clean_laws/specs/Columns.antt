@@ -40,7 +40,7 @@ square (pos n) = nat-le _
 square (negsuc n) = nat-le _
 
 -- numbers whose squares sum to 0 are 0
-no-square : (a b : ℤ) → pos 0 ≤ℤ b → (a *ℤ a +ℤ b) ≤ℤ pos 0 → a ≡ pos 0
+pub no-square : (a b : ℤ) → pos 0 ≤ℤ b → (a *ℤ a +ℤ b) ≤ℤ pos 0 → a ≡ pos 0
 no-square a b h k = go (leZ a (pos 0)) (leZ (pos 0) a) (compared a (pos 0)) (compared (pos 0) a)
   where
     e : List ℤ

@@ -48,7 +48,7 @@ module _ {E : Type 0} (s : Space E) where
 at-least-one : (x : ℤ) → pos 0 <ℤ x → pos 1 ≤ℤ x
 at-least-one x h = le (x ∷ []) (search quotes depth 40 fits 9000) (omega (arith, ord))
 
-size-of : (z : ℤ) → pos 0 ≤ℤ z → pos (natAbs z) ≡ z
+pub size-of : (z : ℤ) → pos 0 ≤ℤ z → pos (natAbs z) ≡ z
 size-of (pos n) h = refl
 size-of (negsuc n) h = absurd (h .le)
 
@@ -112,7 +112,7 @@ module _ {E : Type 0} where
               (every-both (λ b. pos 0 <ℤ f b) (λ b. pos 0 <ℤ (pos (r .n) *ℤ f b +ℤ g b)) (λ b. pos 0 <ℤ (pos (suc (M (g c)) + r .n) *ℤ f b +ℤ g b))
               (λ b p q. still-outgrows (pos (r .n)) (pos (suc (M (g c)))) (f b) (g b) p (nat-le (suc (M (g c)))) q) l (h .1) (r .stretched))
 
-  no-weights : (f : E → ℤ) (l : List E) → total f (λ i. pos 0) l ≡ pos 0
+  pub no-weights : (f : E → ℤ) (l : List E) → total f (λ i. pos 0) l ≡ pos 0
   unfolding total
   no-weights f [] = refl
   no-weights f (c ∷ l) = ap (λ n. pos 0 *ℤ f c +ℤ n) (no-weights f l) ∙ nought (f c)

@@ -5,3 +5,11 @@ pub mod Borders
 pub mod Gordan
 -- points as columns: what does not touch stays so when it is blown up and nudged
 pub mod Columns
+-- a point has weight 0 in some weights exactly when its vector is a border
+pub mod Facets
+-- the seven points of a cell: all that balances over them is given by two numbers
+pub mod Cells
+-- a point without weight may be left out, or another put in its place
+pub mod Dropped
+-- in general position: pierced at the start exactly when pierced at the end, where nothing is touched
+pub mod SixCells
