@@ -53,7 +53,7 @@ size-of (pos n) h = refl
 size-of (negsuc n) h = absurd (h .le)
 
 -- stretched so far that what is beside it does not matter
-outgrows : (k f g : ℤ) → pos 0 <ℤ f → pos 0 ≤ℤ k → pos 0 <ℤ (k +ℤ g) → pos 0 <ℤ (k *ℤ f +ℤ g)
+pub outgrows : (k f g : ℤ) → pos 0 <ℤ f → pos 0 ≤ℤ k → pos 0 <ℤ (k +ℤ g) → pos 0 <ℤ (k *ℤ f +ℤ g)
 outgrows k f g h i j =
     let e : List ℤ = k ∷ f ∷ g ∷ [] in
     let d : pos 0 ≤ℤ (f -ℤ pos 1) = le e (search quotes depth 40 fits 9000) (omega (arith, ord)) in
@@ -69,7 +69,7 @@ still-outgrows k j f g h i p =
     let n = of-lt e (search quotes depth 40 fits 9000) p in
     lt e (search quotes depth 40 fits 9000) (omega arith)
 
-above-its-minus : (g m p j : ℤ) → g +ℤ m ≡ p → pos 0 ≤ℤ p → pos 0 <ℤ j → pos 0 <ℤ (m +ℤ j +ℤ g)
+pub above-its-minus : (g m p j : ℤ) → g +ℤ m ≡ p → pos 0 ≤ℤ p → pos 0 <ℤ j → pos 0 <ℤ (m +ℤ j +ℤ g)
 above-its-minus g m p j e h i =
     let l : List ℤ = g ∷ m ∷ p ∷ j ∷ [] in
     lt l (search quotes depth 40 fits 9000) (omega (arith, ord, of-eq l (search quotes depth 40 fits 9000) e))
@@ -77,7 +77,7 @@ above-its-minus g m p j e h i =
 pub nat-le : (n : ℕ) → pos 0 ≤ℤ pos n
 nat-le n = parts-le (omega arith)
 
-nat-lt : (n : ℕ) → pos 0 <ℤ pos (suc n)
+pub nat-lt : (n : ℕ) → pos 0 <ℤ pos (suc n)
 nat-lt n = parts-lt (omega arith)
 
 module _ {E : Type 0} where

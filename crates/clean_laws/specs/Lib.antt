@@ -13,3 +13,11 @@ pub mod Cells
 pub mod Dropped
 -- in general position: pierced at the start exactly when pierced at the end, where nothing is touched
 pub mod SixCells
+-- blown up by n and nudged: congruent by n to the nudges
+pub mod Congruent
+-- ten nudges in general position
+pub mod Nudges
+-- what is through, and touches nothing, stays through
+pub mod Proper
+-- nothing touched: pierced at the start exactly when pierced at the end, whatever the places
+pub mod Clean
