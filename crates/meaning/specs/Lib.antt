@@ -14,6 +14,8 @@ pub mod Verdicts
 pub mod Resting
 -- the table: a check, an answer that is right by it, its number
 pub mod Refusals
+-- pierced: an edge through a triangle at one time
+pub mod Pierced
 -- ---- the list
 -- swept boxes
 pub mod Boxes

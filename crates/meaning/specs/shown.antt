@@ -8,3 +8,4 @@ pub mod NumbersShown
 pub mod ContactsShown
 pub mod ClaimsShown
 pub mod OrderShown
+pub mod PiercedShown

@@ -110,6 +110,19 @@ pub enum SettledAnswer {
     Refused(Refusal),
 }
 
+// One of the two times of a scene.
+pub enum Frame {
+    Start,
+    End,
+}
+
+// The answer to "is this edge through this triangle at that time?".
+pub enum PiercedAnswer {
+    Pierced,
+    Clear,
+    Refused(Refusal),
+}
+
 // An edge's ends, the lower vertex first; vertices are ordered by the number of the vertex stood for.
 pub struct Ends {
     pub low: usize,

@@ -5,6 +5,7 @@ use mathlib.Core.Path.{_≡_, refl}
 use lib.IntN.{ℤ}
 use Rattle.meaning.specs.Scene.{Scene}
 use Rattle.meaning.specs.Refusals.{Check, pieceChecks}
+use Rattle.meaning.specs.Pierced.{piercedChecks}
 use Rattle.meaning.specs.List.{listChecks}
 use Rattle.meaning.specs.Saved.{saveChecks}
 use Rattle.meaning.specs.Claims.{Claim, claimsFirst, claimsLast}
@@ -20,6 +21,10 @@ module _ (s : Scene) where
   -- 'then 5, 6; 7 last'
   pub order-of-a-pair : (kind : Kind) (i j k : ℕ) → numbers (pieceChecks s kind i j k) ≡ 1 ∷ 2 ∷ 3 ∷ 15 ∷ 4 ∷ 5 ∷ 6 ∷ []
   order-of-a-pair kind i j k = refl
+
+  -- of an edge and a triangle too
+  pub order-of-a-pierced-pair : (i j : ℕ) → numbers (piercedChecks s i j) ≡ 1 ∷ 2 ∷ 3 ∷ 15 ∷ 4 ∷ 5 ∷ 6 ∷ []
+  order-of-a-pierced-pair i j = refl
 
   pub order-of-a-list : (room : ℕ) → numbers (listChecks s room) ≡ 1 ∷ 2 ∷ 3 ∷ 15 ∷ 4 ∷ 7 ∷ []
   order-of-a-list room = refl
