@@ -17,9 +17,9 @@ use Rattle.meaning.specs.declared.WholeContact.{WholeContact}
 use Rattle.meaning.specs.declared.WholeContact.the-variants.{Miss}
 use Rattle.corner_search.specs.Decided.{pair-word-is}
 use Rattle.list_words.specs.Listed.{wordOfPair, bytesOf, wordOfByte, byte-back}
-use Rattle.contact_scene.specs.Computed.{met-pair, whole-contact-is}
-use Rattle.contact_scene.specs.Listed.{wholeContactOfPair, contactsOf, contactBytes, contacts-length, contacts-at}
-use Rattle.contact_scene.specs.OneContact.{whole-contact-word}
+use Rattle.contact_entries.specs.Computed.{met-pair, whole-contact-is}
+use Rattle.contact_entries.specs.Listed.{wholeContactOfPair, contactsOf, contactBytes, contacts-length, contacts-at}
+use Rattle.contact_entries.specs.OneContact.{whole-contact-word}
 use Rattle.mesh_words.specs.Asked.{meshPairAt, meshPairsIn, mesh-in-length, mesh-in-at, mesh-bytes-length, mesh-bytes-at}
 
 -- a pair that was read from an entry has the contact of the entry's pair

@@ -1,6 +1,5 @@
 // The words of pairs of a mesh of any size, asked for by their entries: a byte for each, in their order.
 
-pub mod entries; // entries.rt: an entry of 64 bits taken apart
 pub mod verdicts; // verdicts.rt: the verdict of a pair, whether it rests, the six points of a piece
 pub mod pairs; // pairs.rt: the word of one pair
 
@@ -16,10 +15,10 @@ ghost use Rattle.scene_seams.specs.Alone.{tabledIn, tabledAtEntry};
 ghost use Rattle.scene_checks.specs.Facts.{Sound};
 ghost use Rattle.list_words.specs.Listed.{wordOfPair, bytesOf};
 ghost use Rattle.mesh_words.specs.Asked.{meshPairAt, meshPairsIn, MeshThere};
-use entries::first_of;
-use entries::kind_of;
-use entries::second_of;
 use list_words::byte_of;
+use mesh_entries::first_of;
+use mesh_entries::kind_of;
+use mesh_entries::second_of;
 use pairs::word;
 
 // The word of the k-th entry.

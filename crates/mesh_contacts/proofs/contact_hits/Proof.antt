@@ -8,8 +8,8 @@ use lib.ListN.{length, drop, drop-of-length-le}
 use Rattle.meaning.specs.Scene.{Scene}
 use Rattle.meaning.specs.declared.WholeContact.{WholeContact}
 use Rattle.scene_seams.specs.Alone.{tabled}
-use Rattle.contact_scene.specs.Rows.{RowsGoing, rows-start, rows-step, rows-end}
-use Rattle.contact_scene.specs.Listed.{contactsOf, pair-small}
+use Rattle.contact_entries.specs.Rows.{RowsGoing, rows-start, rows-step, rows-end}
+use Rattle.contact_entries.specs.Listed.{contactsOf, pair-small}
 use Rattle.mesh_words.specs.Asked.{meshPairsIn}
 use Rattle.mesh_contacts.specs.Met.{contacts-in-length, contacts-left, known-word}
 use Rattle.mesh_contacts.proofs.contact_hits.Statement.{statement}
