@@ -7,7 +7,7 @@ use Rattle.meaning.specs.Scene.{Scene}
 use Rattle.meaning.specs.Refusals.{numberOf, sceneSays, pairSays, sceneChecks, SceneChecked}
 use Rattle.meaning.specs.Resting.{settledSays}
 use Rattle.meaning.specs.declared.Refusal.{Refusal}
-use Rattle.meaning.specs.declared.Refusal.the-variants.{Shape, Coordinate, UnknownVertex, RepeatedVertex, NotThere, SharedVertex, NoRoom, LongText, BadLine, LateRecord, TooMany, ShortBuffer, BlockLength, FilesDiffer, BrokenSeam, BeyondOldRange, StaleBox}
+use Rattle.meaning.specs.declared.Refusal.the-variants.{Shape, Coordinate, UnknownVertex, RepeatedVertex, NotThere, SharedVertex, NoRoom, LongText, BadLine, LateRecord, TooMany, ShortBuffer, BlockLength, FilesDiffer, BrokenSeam, BeyondOldRange, StaleBox, WrongOrder}
 use Rattle.meaning.specs.declared.SceneAnswer as SceneAnswers
 use Rattle.meaning.specs.declared.SceneAnswer.{SceneAnswer}
 use Rattle.meaning.specs.declared.PairAnswer as PairAnswers
@@ -20,7 +20,7 @@ use Rattle.answers.specs.Answering.{one-answer}
 abbrev numbered : ℕ → Refusal
 numbered n =
     getD
-    (Shape ∷ Coordinate ∷ UnknownVertex ∷ RepeatedVertex ∷ NotThere ∷ SharedVertex ∷ NoRoom ∷ LongText ∷ BadLine ∷ LateRecord ∷ TooMany ∷ ShortBuffer ∷ BlockLength ∷ FilesDiffer ∷ BrokenSeam ∷ BeyondOldRange ∷ StaleBox ∷ [])
+    (Shape ∷ Coordinate ∷ UnknownVertex ∷ RepeatedVertex ∷ NotThere ∷ SharedVertex ∷ NoRoom ∷ LongText ∷ BadLine ∷ LateRecord ∷ TooMany ∷ ShortBuffer ∷ BlockLength ∷ FilesDiffer ∷ BrokenSeam ∷ BeyondOldRange ∷ StaleBox ∷ WrongOrder ∷ [])
     (pred n)
     Shape
 
@@ -43,6 +43,7 @@ own-number FilesDiffer = refl
 own-number BrokenSeam = refl
 own-number BeyondOldRange = refl
 own-number StaleBox = refl
+own-number WrongOrder = refl
 
 pub one-number : (x y : Refusal) → numberOf x ≡ numberOf y → x ≡ y
 one-number x y e = sym (own-number x) ∙ ap numbered e ∙ own-number y

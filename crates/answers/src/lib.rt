@@ -26,5 +26,6 @@ pub fn number_of(refusal: Refusal) -> u64
         Refusal::BrokenSeam => 15,
         Refusal::BeyondOldRange => 16,
         Refusal::StaleBox => 17,
+        Refusal::WrongOrder => 18,
     }
 }

@@ -14,7 +14,7 @@ use Rattle.meaning.specs.SceneWords.{SettledScene}
 use Rattle.meaning.specs.Text.{textOf, SceneFaultyAt, TextIs, shortBuffer, longText, TextOutcome, countsTold, textSays, TextRead}
 use Rattle.meaning.specs.WholeContacts.{rangeCheck, contactRoom, contactListChecks, ContactsListed}
 use Rattle.meaning.specs.declared.Refusal.{Refusal}
-use Rattle.meaning.specs.declared.Refusal.the-variants.{Shape, Coordinate, UnknownVertex, RepeatedVertex, NotThere, SharedVertex, NoRoom, LongText, BadLine, LateRecord, TooMany, ShortBuffer, BlockLength, FilesDiffer, BrokenSeam, BeyondOldRange, StaleBox}
+use Rattle.meaning.specs.declared.Refusal.the-variants.{Shape, Coordinate, UnknownVertex, RepeatedVertex, NotThere, SharedVertex, NoRoom, LongText, BadLine, LateRecord, TooMany, ShortBuffer, BlockLength, FilesDiffer, BrokenSeam, BeyondOldRange, StaleBox, WrongOrder}
 use Rattle.meaning.specs.declared.ListAnswer.{ListAnswer}
 use Rattle.meaning.specs.declared.TextAnswer.{TextAnswer}
 use Rattle.answers.specs.Answering.{is-refused, is-past}
@@ -35,7 +35,7 @@ toldIn (refused n c) = c
 -- a number of the table
 pub record InTable (n : ℕ) : Type 0 where
   pub some : 0 < n
-  pub few : n ≤ 17
+  pub few : n ≤ 18
 
 pub number-in-table : (x : Refusal) → InTable (numberOf x)
 unfolding numberOf
@@ -56,6 +56,7 @@ number-in-table FilesDiffer = record { some = omega arith; few = omega arith }
 number-in-table BrokenSeam = record { some = omega arith; few = omega arith }
 number-in-table BeyondOldRange = record { some = omega arith; few = omega arith }
 number-in-table StaleBox = record { some = omega arith; few = omega arith }
+number-in-table WrongOrder = record { some = omega arith; few = omega arith }
 
 -- ---- the list
 

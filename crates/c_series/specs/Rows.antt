@@ -7,7 +7,7 @@ use lib.ListN.{length, take, getD}
 use Rattle.sequences.specs.Parts.{take-next}
 use Rattle.meaning.specs.Refusals.{numberOf}
 use Rattle.meaning.specs.declared.Refusal.{Refusal}
-use Rattle.meaning.specs.declared.Refusal.the-variants.{Shape, Coordinate, UnknownVertex, RepeatedVertex, NotThere, SharedVertex, NoRoom, LongText, BadLine, LateRecord, TooMany, ShortBuffer, BlockLength, FilesDiffer, BrokenSeam, BeyondOldRange, StaleBox}
+use Rattle.meaning.specs.declared.Refusal.the-variants.{Shape, Coordinate, UnknownVertex, RepeatedVertex, NotThere, SharedVertex, NoRoom, LongText, BadLine, LateRecord, TooMany, ShortBuffer, BlockLength, FilesDiffer, BrokenSeam, BeyondOldRange, StaleBox, WrongOrder}
 use Rattle.meaning.specs.declared.StepHit.{StepHit}
 use Rattle.meaning.specs.SeriesNumbers.{rowStep, rowEntry, rowsOf}
 
@@ -44,3 +44,4 @@ number-small FilesDiffer = omega arith
 number-small BrokenSeam = omega arith
 number-small BeyondOldRange = omega arith
 number-small StaleBox = omega arith
+number-small WrongOrder = omega arith

@@ -29,6 +29,17 @@ pub mod Runs
 pub mod SceneWords
 -- a list of one's own
 pub mod OwnList
+-- ---- meshes
+-- a scene of any size, and its checks
+pub mod Mesh
+-- far and near pairs, and boxes at one time
+pub mod Near
+-- the list row by row, and the calls over a stretch of rows
+pub mod MeshRows
+-- whether every side of a triangle is an edge, by a lent certificate
+pub mod MeshEdges
+-- the edges that are through a triangle, row by row
+pub mod PiercedRows
 -- ---- texts
 -- a text of any grammar: sound lines, or the first faulty one
 pub mod Lines
@@ -84,5 +95,7 @@ pub mod Numbers
 pub mod ImportNumbers
 -- a series told as numbers into lent arrays, since neither a struct nor an enum crosses to C: the rows of its log, and the numbers beside it
 pub mod SeriesNumbers
+-- the calls over meshes as a number and a lent array
+pub mod MeshNumbers
 -- ---- cases shown
 pub mod shown

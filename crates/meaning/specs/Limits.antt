@@ -21,6 +21,10 @@ triangleLimit = 512
 abbrev pub seamLimit : ℕ
 seamLimit = 512
 
+-- a mesh has at most 2^30 parts of each kind, so that rows times parts stay below 2^63
+abbrev pub partLimit : ℕ
+partLimit = 1_073_741_824
+
 abbrev pub textLimit : ℕ
 textLimit = 32_768
 

@@ -147,7 +147,7 @@ contactListChecks s room = sceneChecks s ++ (rangeCheck s ∷ roomCheck room (le
 abbrev pub contactRoom : List ℕ → List ℕ → List ℕ → ℕ
 contactRoom o b c = min (min (roomOf o) (length b)) (length c / rowLength)
 
-unfoldable pub rowsAfter : Outcome ℕ → List WholeContact → List ℕ → List ℕ
+unfoldable pub rowsAfter : {A : Type 0} → Outcome A → List WholeContact → List ℕ → List ℕ
 rowsAfter (given n) ms c = rowsLeft ms c
 rowsAfter (refused n d) ms c = c
 

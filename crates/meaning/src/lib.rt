@@ -14,6 +14,9 @@ pub const TRIANGLE_LIMIT: usize = 512;
 
 pub const SEAM_LIMIT: usize = 512;
 
+// A mesh has at most so many parts of each kind.
+pub const PART_LIMIT: usize = 1073741824;
+
 pub const TEXT_LIMIT: usize = 32768;
 // the bytes that a program reads into: one more than a text may have, so that a full buffer decides refusal 8
 pub const READ_BYTES: usize = TEXT_LIMIT + 1;
@@ -71,7 +74,7 @@ pub enum Settled {
     Apart,
 }
 
-// The refusals of documents 01 and 02, in the order of their numbers, 1 to 17.
+// The refusals of documents 01 and 02, in the order of their numbers, 1 to 17, and 18 of a mesh.
 pub enum Refusal {
     Shape,
     Coordinate,
@@ -90,6 +93,7 @@ pub enum Refusal {
     BrokenSeam,
     BeyondOldRange,
     StaleBox,
+    WrongOrder,
 }
 
 // The answer to "may this scene be used?".
@@ -145,6 +149,45 @@ pub struct Made {
 pub enum ListAnswer {
     Listed(Made),
     Refused(Refusal, usize),
+}
+
+// Which pairs of the rows of a mesh: all that are listed, or of these the ones that are not far from each other.
+pub enum RowPairs {
+    Listed,
+    Near,
+}
+
+// Which of the four words are asked for.
+pub struct Wanted {
+    pub hit: bool,
+    pub miss: bool,
+    pub touch: bool,
+    pub apart: bool,
+}
+
+// Of a stretch of rows: how many pairs were kept, how many there are, and how many of these have each word.
+pub struct KeptRows {
+    pub count: usize,
+    pub listed: u64,
+    pub hits: u64,
+    pub misses: u64,
+    pub touches: u64,
+    pub aparts: u64,
+}
+
+// The answer to "keep the pairs whose words are asked for". A refusal carries the count needed where it is NoRoom, else 0.
+pub enum KeptAnswer {
+    Kept(KeptRows),
+    Refused(Refusal, usize),
+}
+
+// The answer to "is every side of every triangle an edge, and no edge there twice?": the first side that has not the edge lent for it, or the
+// first number of the order of the edges behind which their ends do not rise.
+pub enum EdgesAnswer {
+    Whole,
+    Bare(usize),
+    Twice(usize),
+    Refused(Refusal),
 }
 
 // How many vertices, edges, triangles and seams a scene has.
