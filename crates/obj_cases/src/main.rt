@@ -1,5 +1,7 @@
 // Runs the import on pairs of OBJ files that are taken, and on pairs for each refusal and for some that meet. It prints each answer, and of the pair
 // that is shown whole whether the wanted numbers stand in front. What it must print stands in the file stdout.
+ghost use Prim.Native.Nat.{_≤_};
+ghost use lib.ListN.{length};
 use answers::number_of;
 use meaning::ImportAnswer;
 use meaning::WhichFile;
@@ -159,13 +161,11 @@ fn print_vertex(n: u16) {
     print_number(wide(n));
 }
 
-// The first numbers of a list, as many as there are.
-fn print_front(list: &[u16], count: usize) {
+fn print_vertices(list: &[u16], count: usize)
+    requires { ⌜ count ≤ length (now list) ⌝ }
+{
     let mut k: usize = 0;
     while k < count {
-        if list.len() <= k {
-            return;
-        }
         print_vertex(list[k]);
         k += 1;
     }
@@ -187,9 +187,9 @@ fn numbers() {
     );
     print_answer(answer);
     print(b"\nedges");
-    print_front(&edges, 12);
+    print_vertices(&edges, 12);
     print(b"\ntriangles");
-    print_front(&triangles, 8);
+    print_vertices(&triangles, 8);
     print(b"\n");
 }
 

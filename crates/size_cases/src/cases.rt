@@ -1,4 +1,5 @@
 // Texts made of lines that stand many times, and buffers of other lengths.
+ghost use Prim.Native.Nat.{_≤_};
 use crate::texts::repeat;
 use case_marks::marks::print;
 use case_marks::show_cut;
@@ -123,7 +124,12 @@ pub(crate) fn longest() {
     show_far(b"\none byte more, and no line", b"x", 32769, b"", 0, b"", 0);
 }
 
-fn show_short(label: &[u8], text: &[u8], p: usize, e: usize, t: usize, w: usize) {
+fn show_short(label: &[u8], text: &[u8], p: usize, e: usize, t: usize, w: usize)
+    requires { ⌜ p ≤ 3080 ⌝ }
+    requires { ⌜ e ≤ 2056 ⌝ }
+    requires { ⌜ t ≤ 1544 ⌝ }
+    requires { ⌜ w ≤ 1032 ⌝ }
+{
     print(label);
     show_cut(text, p, e, t, w);
 }
