@@ -2,6 +2,7 @@
 
 use crate::before;
 use crate::choice::Choice;
+use crate::edges;
 use crate::fault::Fault;
 use crate::index::Index;
 use crate::mark;
@@ -126,10 +127,14 @@ fn read(command: &Command, files: &[String; 2], options: &Options) -> Result<Gar
     let from = obj::shown_name(&files[0]);
     let names = std::mem::take(&mut start.names);
     options.all_known(&names)?;
-    let rounded =
-        onto_grid(&start.places, &end.places, options.step, options.limit()).map_err(|fault| alone(options.of_range(fault)))?;
+    let (rounded, edges) = thread::scope(|scope| {
+        let edges = scope.spawn(|| edges::of(start.places.len(), &start.triangles));
+        let rounded = onto_grid(&start.places, &end.places, options.step, options.limit());
+        (rounded, edges.join().unwrap_or_else(|panic| std::panic::resume_unwind(panic)))
+    });
+    let rounded = rounded.map_err(|fault| alone(options.of_range(fault)))?;
     let (grid, of_steps) = (Grid { step: rounded.step, middle: rounded.middle }, note_of_steps(&rounded, options.step.is_none()));
-    let mesh = mesh::join(from, start, &end, rounded, options.seams).map_err(alone)?;
+    let mesh = mesh::join_with(from, &mut start, &end, rounded, edges, options.seams).map_err(alone)?;
     let about = about(&mesh, grid.step);
     options.note(|| format!("{of_steps}; the same grid again: {}", before::again(command, options, grid.step)));
     options.note(|| format!("{} vertices, {} edges, {} triangles{of_file}", about.vertices, about.edges, about.triangles));

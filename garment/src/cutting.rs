@@ -10,3 +10,17 @@ pub fn triangles(corners: &mut [u32]) -> impl Iterator<Item = [u32; 3]> + '_ {
     let first = corners[0];
     corners[1..].windows(2).map(move |two| [first, two[0], two[1]])
 }
+
+/// The same of a face of three corners, or of four.
+#[inline]
+pub fn plain([a, b, c, d]: [u32; 4], count: usize) -> impl Iterator<Item = [u32; 3]> {
+    let lowest = a.min(b).min(c).min(d);
+    let [one, other] = match lowest {
+        _ if count == 3 => [[a, b, c], [0; 3]],
+        _ if lowest == a => [[a, b, c], [a, c, d]],
+        _ if lowest == b => [[b, c, d], [b, d, a]],
+        _ if lowest == c => [[c, d, a], [c, a, b]],
+        _ => [[d, a, b], [d, b, c]],
+    };
+    [one, other].into_iter().take(count - 2)
+}

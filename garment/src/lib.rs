@@ -1,7 +1,7 @@
 //! A whole garment judged: two OBJ exports of any size, start and end, in; one report, in the mesh's own numbers, out.
 //!
-//! As data goes through it: `obj` and `fields` read a file, `cutting` cuts its faces into triangles; `rounding` puts start and end onto
-//! the grid, `seams` finds vertices in one place, `mesh` holds what comes of it; `boxes`, `cells` and `candidates` find every pair whose
+//! As data goes through it: `obj`, `plain` and `fields` read a file, `cutting` cuts its faces into triangles; `rounding` puts start and end onto
+//! the grid, `edges` are made of the faces, `seams` finds vertices in one place, `mesh` holds what comes of it; `boxes`, `cells` and `candidates` find every pair whose
 //! swept boxes meet, each once; `judging` asks the library, and nothing else does; `work` does it on all cores, and `report` writes it
 //! down in order. For a farm `curve` and `packing` fill scenes, `split` writes them and `join` puts their reports together by the `index`.
 //! Where only some are asked for, `names` has which parts are an object's or a group's and `choice` leaves the others out; `whereabouts` says where a
@@ -19,6 +19,7 @@ pub mod choice;
 pub mod command;
 pub mod curve;
 pub mod cutting;
+pub mod edges;
 pub mod fault;
 pub mod fields;
 pub mod index;
@@ -30,6 +31,7 @@ pub mod names;
 pub mod obj;
 pub mod packing;
 pub mod pairs;
+pub mod plain;
 pub mod progress;
 pub mod report;
 pub mod rounding;

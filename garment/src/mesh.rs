@@ -1,5 +1,6 @@
 //! A mesh at two times, of any size: what every other part of the program looks at.
 
+use crate::edges::{self, sides_of, Edges};
 use crate::fault::Fault;
 use crate::obj::Obj;
 use crate::rounding::{parting_step, Place, Rounded};
@@ -13,12 +14,21 @@ pub struct Mesh {
     pub triangles: Vec<[u32; 3]>,
     /// The vertex that each one stands for, which has its place; empty where nothing is sewn.
     pub stands: Vec<u32>,
+    /// The edge of each side of the triangles, and the edges in the order of their ends: what shows that the edges are those of the faces.
+    pub sides: Vec<u32>,
+    pub order: Vec<u32>,
 }
 
 impl Mesh {
     pub fn new(positions: Vec<[i32; 6]>, triangles: Vec<[u32; 3]>) -> Mesh {
-        let edges = edges_of(&triangles);
-        Mesh { positions, edges, triangles, stands: Vec::new() }
+        let edges = edges::of(positions.len(), &triangles);
+        Mesh::of_edges(positions, triangles, edges)
+    }
+
+    /// With edges that are made already.
+    pub fn of_edges(positions: Vec<[i32; 6]>, triangles: Vec<[u32; 3]>, edges: Edges) -> Mesh {
+        let Edges { ends, sides, order } = edges;
+        Mesh { positions, edges: ends, triangles, stands: Vec::new(), sides, order }
     }
 
     /// Sharing and the order of corners go by the vertex stood for; so does a position, since it is the same.
@@ -42,15 +52,8 @@ impl Mesh {
     }
 
     /// The numbers of the edges a b, b c, c a of each triangle.
-    pub fn sides(&self) -> Vec<[u32; 3]> {
-        let rising = |[a, b]: [u32; 2]| [a.min(b), a.max(b)];
-        let mut sorted: Vec<([u32; 2], u32)> = self.edges.iter().map(|&ends| rising(ends)).zip(0..).collect();
-        sorted.sort_unstable();
-        let number = |ends: [u32; 2]| {
-            let at = sorted.binary_search_by_key(&rising(ends), |&(ends, _)| ends).expect("the sides of a face are edges");
-            sorted[at].1
-        };
-        self.triangles.iter().map(|&triangle| sides(triangle).map(number)).collect()
+    pub fn sides(&self) -> impl Iterator<Item = [u32; 3]> + '_ {
+        self.sides.chunks_exact(3).map(|three| [three[0], three[1], three[2]])
     }
 
     /// Each vertex that stands for another, and that one, in rising order.
@@ -72,25 +75,6 @@ impl Mesh {
             None => Ok(()),
         }
     }
-}
-
-fn sides([a, b, c]: [u32; 3]) -> [[u32; 2]; 3] {
-    [[a, b], [b, c], [c, a]]
-}
-
-/// The edges of the triangles a b c: a b, b c, c a, each once, either way round, in the order and in the way in which it first appears.
-fn edges_of(triangles: &[[u32; 3]]) -> Vec<[u32; 2]> {
-    let mut all: Vec<([u32; 2], usize)> = Vec::with_capacity(3 * triangles.len());
-    for &triangle in triangles {
-        for [a, b] in sides(triangle) {
-            all.push(([a.min(b), a.max(b)], all.len()));
-        }
-    }
-    // equal ones stand side by side then, the first of them first; sorted again, no table has to be asked, and a hub costs no more than a sheet
-    all.sort_unstable();
-    all.dedup_by_key(|(ends, _)| *ends);
-    all.sort_unstable_by_key(|&(_, appears)| appears);
-    all.into_iter().map(|(_, appears)| sides(triangles[appears / 3])[appears % 3]).collect()
 }
 
 /// The two files have the same vertices and the same faces in the same order; only places differ.
@@ -117,8 +101,14 @@ pub fn same_faces(names: [&str; 2], start: &Obj, end: &Obj) -> Result<(), Fault>
 
 /// The mesh of two files that were found to have the same faces.
 pub fn join(name: &str, mut start: Obj, end: &Obj, rounded: Rounded, sewn: bool) -> Result<Mesh, Fault> {
+    let edges = edges::of(start.places.len(), &start.triangles);
+    join_with(name, &mut start, end, rounded, edges, sewn)
+}
+
+/// The same with edges that are made already; the triangles are taken out of the start.
+pub fn join_with(name: &str, start: &mut Obj, end: &Obj, rounded: Rounded, edges: Edges, sewn: bool) -> Result<Mesh, Fault> {
     let Rounded { positions, least, .. } = rounded;
-    let mut mesh = Mesh::new(positions, std::mem::take(&mut start.triangles));
+    let mut mesh = Mesh::of_edges(positions, std::mem::take(&mut start.triangles), edges);
     if sewn {
         mesh.sew().map_err(|triangle| {
             let twins = twins(&mesh, triangle);
@@ -135,7 +125,7 @@ pub fn join(name: &str, mut start: Obj, end: &Obj, rounded: Rounded, sewn: bool)
 fn twins(mesh: &Mesh, triangle: usize) -> [u32; 2] {
     let [a, b, c] = mesh.triangles[triangle];
     let one = |[a, b]: &[u32; 2]| mesh.stood(*a) == mesh.stood(*b);
-    let [a, b] = sides([a, b, c]).into_iter().find(one).expect("the triangle has two such corners");
+    let [a, b] = sides_of([a, b, c]).into_iter().find(one).expect("the triangle has two such corners");
     [a.min(b), a.max(b)]
 }
 

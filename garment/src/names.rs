@@ -153,9 +153,9 @@ pub struct OfParts<T> {
 impl<T: Copy> OfParts<T> {
     /// From that of the triangles; what faces that share a part say is joined.
     pub fn of(mesh: &Mesh, triangles: Vec<T>, mut join: impl FnMut(T, T) -> T, loose: impl Fn(usize) -> T) -> OfParts<T> {
-        let mut gather = |count: usize, parts: &[[u32; 3]]| {
+        let mut gather = |count: usize, parts: &[u32]| {
             let mut found = vec![None; count];
-            for (parts, &of_face) in parts.iter().zip(&triangles) {
+            for (parts, &of_face) in parts.chunks_exact(3).zip(&triangles) {
                 for &part in parts {
                     let slot = &mut found[part as usize];
                     *slot = Some(slot.map_or(of_face, |before| join(before, of_face)));
@@ -163,8 +163,8 @@ impl<T: Copy> OfParts<T> {
             }
             found
         };
-        let vertices = gather(mesh.positions.len(), &mesh.triangles);
-        let edges = gather(mesh.edges.len(), &mesh.sides());
+        let vertices = gather(mesh.positions.len(), mesh.triangles.as_flattened());
+        let edges = gather(mesh.edges.len(), &mesh.sides);
         let vertices = vertices.into_iter().enumerate().map(|(vertex, found)| found.unwrap_or_else(|| loose(vertex))).collect();
         let edges = edges.into_iter().map(|found| found.expect("an edge is a face's")).collect();
         OfParts { vertices, edges, triangles }

@@ -4,8 +4,9 @@ use crate::cutting;
 use crate::fault::Fault;
 use crate::fields::{corner, fields, place, shown, Wrong};
 use crate::names::{Behind, Names};
+use crate::plain;
 use std::fs::File;
-use std::io::{self, BufRead, BufReader};
+use std::io::{self, Read};
 
 #[derive(Debug, Default, PartialEq)]
 pub struct Obj {
@@ -54,21 +55,56 @@ pub fn read_file(name: &str) -> Result<Obj, Fault> {
         return read(shown_name(name), io::stdin().lock());
     }
     let file = File::open(name).map_err(|error| Fault::of_file(name, &error))?;
-    read(name, BufReader::with_capacity(1 << 16, file))
+    read(name, file)
 }
 
-pub fn read(name: &str, input: impl BufRead) -> Result<Obj, Fault> {
-    let mut lines = Lines { input, line: Vec::new(), first: 0, last: 0 };
+/// All of a file at once: its lines are then looked at where they stand, and none is copied.
+pub fn read(name: &str, mut input: impl Read) -> Result<Obj, Fault> {
+    let mut bytes = Vec::new();
+    input.read_to_end(&mut bytes).map_err(|error| Fault::of_file(name, &error))?;
+    of_bytes(name, &bytes)
+}
+
+pub fn of_bytes(name: &str, bytes: &[u8]) -> Result<Obj, Fault> {
+    let mut lines =
+        Lines { bytes: bytes.strip_prefix(b"\xef\xbb\xbf").unwrap_or(bytes), joined: Vec::new(), at: 0, first: 0, last: 0 };
     let mut obj = Obj::default();
     let mut corners = Vec::new();
-    while lines.next().map_err(|error| Fault::of_file(name, &error))? {
-        obj.statement(&lines.line, lines.first, &mut corners).map_err(|wrong| Fault::in_line(name, lines.first, wrong))?;
+    while lines.at < lines.bytes.len() {
+        if let Some(end) = obj.plain_line(lines.bytes, lines.at, lines.last + 1) {
+            lines.pass_to(end);
+            continue;
+        }
+        let (line, first) = lines.statement();
+        obj.statement(line, first, &mut corners).map_err(|wrong| Fault::in_line(name, first, wrong))?;
     }
     obj.known_corners(name)?;
     Ok(obj)
 }
 
 impl Obj {
+    /// A vertex of three decimals, or a face of three or four corners that all differ, as nearly every line of an export is; hands back where the line
+    /// ends. Of any other line nothing is taken: it is read by fields.
+    #[inline]
+    fn plain_line(&mut self, bytes: &[u8], at: usize, line: u64) -> Option<usize> {
+        match bytes[at..] {
+            [b'v', b' ', ..] if self.places.len() < u32::MAX as usize => {
+                let (place, end) = plain::place(bytes, at + 2)?;
+                self.places.push(place);
+                Some(end)
+            }
+            [b'f', b' ', ..] => {
+                let (corners, count, end) = plain::corners(bytes, at + 2)?;
+                self.triangles.extend(cutting::plain(corners, count));
+                self.noted.quads += (count == 4) as u64;
+                self.lines.resize(self.triangles.len(), line);
+                self.names.face(self.triangles.len());
+                Some(end)
+            }
+            _ => None,
+        }
+    }
+
     fn statement(&mut self, line: &[u8], number: u64, corners: &mut Vec<u32>) -> Result<(), Wrong> {
         let mut rest = fields(line);
         match rest.next() {
@@ -186,72 +222,61 @@ fn unknown(word: &[u8]) -> Wrong {
 }
 
 /// Lines that end in LF, in CR LF or in CR; a statement of numbers whose line ends in a backslash goes on in the next.
-struct Lines<R> {
-    input: R,
-    line: Vec<u8>,
-    /// Where the statement begins, and where it ends.
+struct Lines<'a> {
+    bytes: &'a [u8],
+    /// A statement of several lines.
+    joined: Vec<u8>,
+    /// Where the next line begins.
+    at: usize,
+    /// The line in which a statement begins, and the last that was read.
     first: u64,
     last: u64,
 }
 
-impl<R: BufRead> Lines<R> {
-    /// Whether there is a further one.
-    fn next(&mut self) -> io::Result<bool> {
-        self.line.clear();
+impl Lines<'_> {
+    /// The next statement, with the line that it begins in.
+    fn statement(&mut self) -> (&[u8], u64) {
         self.first = self.last + 1;
-        if !self.append()? {
-            return Ok(false);
+        let line = self.next();
+        if !goes_on(line) {
+            return (line, self.first);
         }
-        if self.first == 1 && self.line.starts_with(b"\xef\xbb\xbf") {
-            self.line.drain(..3);
-        }
-        while self.goes_on() {
-            *self.line.last_mut().expect("it has a last byte") = b' ';
-            if !self.append()? {
+        let mut joined = std::mem::take(&mut self.joined);
+        joined.clear();
+        joined.extend_from_slice(line);
+        while goes_on(&joined) {
+            *joined.last_mut().expect("it has a last byte") = b' ';
+            if self.at == self.bytes.len() {
                 break;
             }
+            joined.extend_from_slice(self.next());
         }
-        Ok(true)
-    }
-
-    /// A backslash at the end of a comment belongs to the comment.
-    fn goes_on(&self) -> bool {
-        self.line.last() == Some(&b'\\')
-            && !self.line.contains(&b'#')
-            && fields(&self.line).next().is_some_and(|word| OF_NUMBERS.contains(&word))
-    }
-
-    /// The next line of the file behind what is there; whether there is one.
-    fn append(&mut self) -> io::Result<bool> {
-        let mut any = false;
-        loop {
-            let bytes = filled(&mut self.input)?;
-            if bytes.is_empty() {
-                self.last += any as u64;
-                return Ok(any);
-            }
-            any = true;
-            let end = bytes.iter().position(|&byte| byte == b'\n' || byte == b'\r');
-            let (taken, carriage) = (end.unwrap_or(bytes.len()), end.is_some_and(|end| bytes[end] == b'\r'));
-            self.line.extend_from_slice(&bytes[..taken]);
-            self.input.consume(taken + end.is_some() as usize);
-            if carriage && filled(&mut self.input)?.first() == Some(&b'\n') {
-                self.input.consume(1);
-            }
-            if end.is_some() {
-                self.last += 1;
-                return Ok(true);
-            }
-        }
+        self.joined = joined;
+        (&self.joined, self.first)
     }
 }
 
-/// What is read ahead; a read that was interrupted is asked for again.
-fn filled(input: &mut impl BufRead) -> io::Result<&[u8]> {
-    while let Err(error) = input.fill_buf() {
-        if error.kind() != io::ErrorKind::Interrupted {
-            return Err(error);
-        }
+impl<'a> Lines<'a> {
+    /// The next line of the file, without its end.
+    fn next(&mut self) -> &'a [u8] {
+        let rest = &self.bytes[self.at..];
+        let length = rest.iter().position(|&byte| byte == b'\n' || byte == b'\r').unwrap_or(rest.len());
+        self.pass_to(self.at + length);
+        &rest[..length]
     }
-    input.fill_buf()
+
+    /// The line that ends here is read.
+    fn pass_to(&mut self, end: usize) {
+        self.at = match self.bytes[end..] {
+            [b'\r', b'\n', ..] => end + 2,
+            [] => end,
+            _ => end + 1,
+        };
+        self.last += 1;
+    }
+}
+
+/// A backslash at the end of a comment belongs to the comment.
+fn goes_on(line: &[u8]) -> bool {
+    line.last() == Some(&b'\\') && !line.contains(&b'#') && fields(line).next().is_some_and(|word| OF_NUMBERS.contains(&word))
 }

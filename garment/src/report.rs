@@ -123,6 +123,22 @@ impl Form {
         self.line_with(pair, word, "", out);
     }
 
+    /// The lines of pairs, behind what is there. Pairs of a row have the same beginning, which is made once.
+    pub fn lines(&self, told: impl Iterator<Item = (Pair, Settled)>, out: &mut Vec<u8>) {
+        if self.json {
+            return told.for_each(|(pair, word)| self.line(pair, word, out));
+        }
+        let shown = WORDS.map(|word| self.shown.contains(&word));
+        let mut head = Head::default();
+        for (pair, word) in told {
+            let word = place(word);
+            if shown[word] {
+                head.turn_to(pair);
+                head.line(pair.second, word, out);
+            }
+        }
+    }
+
     /// The same with more fields before its end.
     pub fn line_with(&self, pair: Pair, word: Settled, tail: &str, out: &mut Vec<u8>) {
         if !self.shown.contains(&word) {
@@ -214,17 +230,88 @@ impl Form {
 
 /// A report is mostly such numbers, so they go past the formatter.
 fn tab_and_number(number: u32, out: &mut Vec<u8>) {
-    let (mut digits, mut at, mut rest) = ([0; 10], 10, number);
-    loop {
-        at -= 1;
-        digits[at] = b'0' + (rest % 10) as u8;
-        rest /= 10;
-        if rest == 0 {
-            break;
-        }
-    }
+    let (digits, count) = digits(number);
     out.push(b'\t');
-    out.extend_from_slice(&digits[at..]);
+    out.extend_from_slice(&digits[..count]);
+}
+
+/// The digits of a number from the first on, and how many there are.
+#[inline]
+fn digits(number: u32) -> ([u8; 16], usize) {
+    const EIGHT: u32 = 100_000_000;
+    let mut out = [0; 16];
+    if number < EIGHT {
+        let (bytes, count) = without_zeros(eight_digits(number));
+        out[..8].copy_from_slice(&bytes);
+        return (out, count);
+    }
+    let (high, above) = without_zeros(eight_digits(number / EIGHT));
+    out[..8].copy_from_slice(&high);
+    out[above..above + 8].copy_from_slice(&(eight_digits(number % EIGHT) | ZEROS).to_le_bytes());
+    (out, above + 8)
+}
+
+/// The letter 0 in each byte.
+const ZEROS: u64 = 0x3030_3030_3030_3030;
+
+/// The eight digits of a number below 10^8, zeros before it and all, a byte each, the first one lowest: parted into two of four, four of two and eight of
+/// one, all at once. A multiplication and a shift are the division by 100, and by 10.
+#[inline]
+fn eight_digits(number: u32) -> u64 {
+    let fours = u64::from(number / 10_000) | u64::from(number % 10_000) << 32;
+    let hundreds = (fours * 10_486) >> 20 & 0x0000_007f_0000_007f;
+    let twos = hundreds | (fours - 100 * hundreds) << 16;
+    let tens = (twos * 103) >> 10 & 0x000f_000f_000f_000f;
+    tens | (twos - 10 * tens) << 8
+}
+
+/// As letters, from the first that is not 0 on, and how many there are; 0 is one letter.
+#[inline]
+fn without_zeros(digits: u64) -> ([u8; 8], usize) {
+    let zeros = (digits.trailing_zeros() / 8).min(7);
+    (((digits | ZEROS) >> (8 * zeros)).to_le_bytes(), 8 - zeros as usize)
+}
+
+/// The beginning of a line: kind and first number, with a tab behind each.
+#[derive(Default)]
+struct Head {
+    of: Option<(Kind, u32)>,
+    letters: [u8; 16],
+    length: usize,
+}
+
+/// What ends the line of each word, in the order of `WORDS`, with room behind it.
+const ENDS: [(&[u8; 8], usize); 4] = [(b"\thit\n   ", 5), (b"\tmiss\n  ", 6), (b"\ttouch\n ", 7), (b"\tapart\n ", 7)];
+
+impl Head {
+    #[inline]
+    fn turn_to(&mut self, pair: Pair) {
+        if self.of == Some((pair.kind, pair.first)) {
+            return;
+        }
+        let mut letters = Vec::with_capacity(16);
+        letters.extend_from_slice(pair.kind.letters().as_bytes());
+        tab_and_number(pair.first, &mut letters);
+        letters.push(b'\t');
+        self.letters[..letters.len()].copy_from_slice(&letters);
+        (self.of, self.length) = (Some((pair.kind, pair.first)), letters.len());
+    }
+
+    /// Pieces of a fixed length are copied, one over the end of the other, since that takes no call; what is too long is cut off.
+    #[inline]
+    fn line(&self, second: u32, word: usize, out: &mut Vec<u8>) {
+        let (digits, count) = digits(second);
+        let (end, length) = ENDS[word];
+        let mut line = [0; 48];
+        line[..16].copy_from_slice(&self.letters);
+        let mut at = self.length.min(16);
+        line[at..at + 16].copy_from_slice(&digits);
+        at += count.min(16);
+        line[at..at + 8].copy_from_slice(end);
+        let before = out.len();
+        out.extend_from_slice(&line);
+        out.truncate(before + at + length);
+    }
 }
 
 /// A report as it goes out, part after part.

@@ -117,10 +117,9 @@ fn judged(asked: &Asked, finder: &Finder, rows: Range<usize>) -> Result<Judged, 
                 judged.contact(asked, finder, pair, word, row);
             }
         } else {
-            for (&pair, word) in some.iter().zip(packed.settle(mesh, some).map_err(|refusal| refused(some, refusal))?) {
-                judged.told.tally.add(word);
-                form.line(pair, word, &mut judged.lines);
-            }
+            let words = packed.settle(mesh, some).map_err(|refusal| refused(some, refusal))?;
+            let tally = &mut judged.told.tally;
+            form.lines(some.iter().copied().zip(words.inspect(|&word| tally.add(word))), &mut judged.lines);
         }
     }
     Ok(judged)

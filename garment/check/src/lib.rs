@@ -4,4 +4,5 @@ pub mod clocks;
 pub mod cloth;
 pub mod dressed;
 pub mod exact;
+pub mod former;
 pub mod ways;

@@ -126,5 +126,6 @@ pub fn as_it_is(scene: &ExactScene) -> Mesh {
         edges: scene.edges.iter().map(|edge| edge.map(numbers)).collect(),
         triangles: scene.triangles.iter().map(|triangle| triangle.map(numbers)).collect(),
         stands,
+        ..Mesh::default()
     }
 }

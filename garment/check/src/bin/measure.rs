@@ -4,15 +4,19 @@
 
 use compare::ways::cubic::{self, Moving};
 use garment::candidates::Finder;
+use garment::edges;
 use garment::judging::{settle, Packed, TOGETHER};
 use garment::mesh::{self, Mesh};
 use garment::obj;
 use garment::pairs::{Kind, Pair};
 use garment::report::Form;
 use garment::rounding::onto_grid;
+use garment::seams;
 use garment::work::all_cores;
 use garment_check::clocks::{run, taken, Run};
 use garment_check::cloth::{cloth, Kind as ClothKind, KINDS};
+use garment_check::former;
+use garment_check::ways::made;
 use makhnodri::COORDINATE_LIMIT;
 use std::hint::black_box;
 use std::process::Command;
@@ -32,6 +36,63 @@ fn main() {
     let sizes = if sizes.is_empty() { vec![20_000, 100_000] } else { sizes };
     as_called(folder, &sizes);
     by_parts(&sizes);
+    beside_former(&sizes);
+}
+
+/// The shortest times of two ways to the same, in turns.
+fn in_turns<T, U>(mut one: impl FnMut() -> T, mut other: impl FnMut() -> U) -> [f64; 2] {
+    let mut best = [f64::MAX; 2];
+    for _ in 0..ROUNDS {
+        let began = taken();
+        black_box(one());
+        let between = taken();
+        black_box(other());
+        best[0] = best[0].min((between - began).as_secs_f64());
+        best[1] = best[1].min((taken() - between).as_secs_f64());
+    }
+    best
+}
+
+/// Reading, edges, seams and lines as they were made before and as they are now, in turns: ms of processor time, and the ratio.
+fn beside_former(sizes: &[usize]) {
+    println!("\none thread, before and now: ms of its processor time");
+    println!("  {:<16}{:>26}{:>26}{:>26}{:>26}", "", "read", "edges", "seams", "write");
+    for kind in KINDS {
+        for &size in sizes {
+            let columns: String = former_and_now(kind, size)
+                .iter()
+                .map(|[before, now]| format!("{:>10.2}{:>9.2}{:>7.2}", 1e3 * before, 1e3 * now, now / before))
+                .collect();
+            println!("  {:<16}{columns}", format!("{} {size}", kind.name));
+        }
+    }
+}
+
+fn former_and_now(kind: ClothKind, size: usize) -> [[f64; 2]; 4] {
+    let texts = cloth(kind, size, 1).objs();
+    let bytes = texts.each_ref().map(|text| text.as_bytes());
+    let reading = in_turns(|| bytes.map(|text| former::read("made", text)), || bytes.map(|text| obj::read("made", text)));
+    let mesh = made(&cloth(kind, size, 1));
+    let triangles = &mesh.triangles;
+    let edging = in_turns(|| former::edges_of(triangles), || edges::of(mesh.positions.len(), triangles));
+    let sewing = in_turns(|| former::by_position(&mesh.positions), || seams::by_position(&mesh.positions));
+    let finder = Finder::new(&mesh);
+    let pairs = finder.in_rows(0..finder.rows());
+    let told: Vec<_> = pairs.iter().map(|&pair| (pair, settle(&mesh, pair).expect("a word"))).collect();
+    let form = Form::default();
+    let mut out = Vec::new();
+    let before = || {
+        out.clear();
+        told.iter().for_each(|&(pair, word)| former::line(&form, pair, word, &mut out));
+        out.len()
+    };
+    let mut out = Vec::new();
+    let now = || {
+        out.clear();
+        form.lines(told.iter().copied(), &mut out);
+        out.len()
+    };
+    [reading, edging, sewing, in_turns(before, now)]
 }
 
 /// The shortest time of some work, in seconds, and what came of it.
@@ -74,7 +135,7 @@ fn parts_of(kind: ClothKind, size: usize) {
     let words: Vec<_> = pairs.iter().map(|&pair| settle(&mesh, pair).expect("a word")).collect();
     let (writing, _) = shortest(|| {
         let mut lines = Vec::new();
-        pairs.iter().zip(&words).for_each(|(&pair, &word)| Form::default().line(pair, word, &mut lines));
+        Form::default().lines(pairs.iter().copied().zip(words.iter().copied()), &mut lines);
         lines.len()
     });
     let [reading, meshing, celling, finding, writing] =

@@ -1,7 +1,11 @@
 //! From two files to a mesh: edges, the grid, seams, and files that do not belong together.
 
+use compare::numbers::random::Random;
+use garment::edges;
 use garment::mesh::Mesh;
 use garment::rounding::{least_step_for, onto_grid, parting_step};
+use garment::seams;
+use garment_check::former;
 use garment_check::ways::mesh_of;
 use makhnodri::COORDINATE_LIMIT;
 
@@ -14,6 +18,49 @@ fn each_edge_once_as_it_first_appears() {
     let mesh = Mesh::new(vec![[0; 6]; 5], vec![[2, 1, 0], [1, 2, 3], [0, 4, 2]]);
     assert_eq!(mesh.edges, [[2, 1], [1, 0], [0, 2], [2, 3], [3, 1], [0, 4], [4, 2]]);
     assert!(Mesh::new(vec![[0; 6]; 5], vec![]).edges.is_empty());
+}
+
+/// Triangles of few vertices, so that many share a side, and one vertex that most have: edges, the edge of each side and the order of the ends.
+#[test]
+fn edges_with_what_shows_that_they_are_all() {
+    for seed in 0..300 {
+        let mut random = Random::new(seed);
+        let vertices = 3 + random.below(40);
+        let triangles: Vec<[u32; 3]> = (0..random.below(120)).map(|_| a_triangle(&mut random, vertices)).collect();
+        let edges = edges::of(vertices, &triangles);
+        assert_eq!(edges.ends, former::edges_of(&triangles), "seed {seed}");
+        let rising = |[a, b]: [u32; 2]| [a.min(b), a.max(b)];
+        let sides = triangles.iter().flat_map(|&triangle| edges::sides_of(triangle));
+        assert_eq!(edges.sides.len(), 3 * triangles.len());
+        for (&edge, side) in edges.sides.iter().zip(sides) {
+            assert_eq!(rising(edges.ends[edge as usize]), rising(side), "seed {seed}");
+        }
+        let ends: Vec<[u32; 2]> = edges.order.iter().map(|&edge| rising(edges.ends[edge as usize])).collect();
+        assert!(ends.len() == edges.ends.len() && ends.is_sorted_by(|one, other| one < other), "seed {seed}");
+    }
+}
+
+fn a_triangle(random: &mut Random, vertices: usize) -> [u32; 3] {
+    loop {
+        let mut corner = || if random.chance(4) { 1 } else { random.below(vertices) as u32 };
+        let [a, b, c] = [corner(), corner(), corner()];
+        if a != b && b != c && c != a {
+            return [a, b, c];
+        }
+    }
+}
+
+#[test]
+fn vertices_in_one_place_by_numbers_of_their_positions() {
+    for seed in 0..200 {
+        let mut random = Random::new(seed);
+        let wide = random.pick(&[1, 2, 1_000_000]);
+        let mut positions: Vec<[i32; 6]> =
+            (0..random.below(300)).map(|_| [(); 6].map(|()| random.between(-wide, wide) as i32)).collect();
+        let twice: Vec<[i32; 6]> = positions.iter().copied().filter(|_| random.chance(3)).collect();
+        positions.extend(twice);
+        assert_eq!(seams::by_position(&positions), former::by_position(&positions), "seed {seed}");
+    }
 }
 
 #[test]

@@ -2,8 +2,11 @@
 
 use compare::numbers::random::Random;
 use garment::obj::{read, Noted, Obj};
-use garment::report::Form;
+use garment::pairs::{Kind, Pair};
+use garment::report::{Form, WORDS};
+use garment_check::former;
 use garment_check::ways::{mesh_of, objs_of, report};
+use makhnodri::Settled;
 
 fn obj(text: &[u8]) -> Obj {
     read("m.obj", text).unwrap_or_else(|fault| panic!("{}: {fault}", text.escape_ascii()))
@@ -164,6 +167,7 @@ fn damaged_files() {
                 _ => bytes.truncate(at),
             }
         }
+        assert_eq!(read("m.obj", &bytes[..]), former::read("m.obj", &bytes[..]), "{}", bytes.escape_ascii());
         match read("m.obj", &bytes[..]) {
             Err(fault) => {
                 assert!(fault.words.starts_with("m.obj:"), "{fault}");
@@ -179,4 +183,81 @@ fn damaged_files() {
         }
     }
     assert!(read_all > 500 && told > 500, "{read_all} read, {told} told");
+}
+
+/// A decimal of up to so many digits, plain or not so plain.
+fn a_decimal(random: &mut Random) -> String {
+    let digits = |random: &mut Random, most: usize| -> String {
+        let count = random.below(most + 1);
+        (0..count).map(|_| random.pick(b"0123456789") as char).collect()
+    };
+    let sign = random.pick(&["", "", "-", "+"]);
+    let most = random.pick(&[1, 6, 9, 12, 20, 30]);
+    let (whole, below) = (digits(random, most), digits(random, most));
+    let point = random.pick(&[".", ".", ".", ""]);
+    let power = if random.below(8) == 0 { format!("e{}", random.below(60) as i64 - 30) } else { String::new() };
+    format!("{sign}{whole}{point}{below}{power}")
+}
+
+/// Places by plain digits are to the last bit those of the parser that goes by fields; and so are faces, lines and what is told.
+#[test]
+fn plain_lines_are_read_as_by_fields() {
+    let (mut places, mut told) = (0, 0);
+    for seed in 0..20_000 {
+        let mut random = Random::new(seed);
+        let blank = random.pick(&[" ", " ", "  ", "\t", " \t "]);
+        let numbers: Vec<String> = (0..random.pick(&[3, 3, 3, 4, 2])).map(|_| a_decimal(&mut random)).collect();
+        let end = random.pick(&["\n", "\r\n", " \n", "\r", "", " # c\n"]);
+        let text = format!("v{blank}{}{end}", numbers.join(blank));
+        let (plain, by_fields) = (read("m.obj", text.as_bytes()), former::read("m.obj", text.as_bytes()));
+        let bits = |obj: &Obj| obj.places.iter().map(|place| place.map(f64::to_bits)).collect::<Vec<_>>();
+        assert_eq!(plain.as_ref().map(bits), by_fields.as_ref().map(bits), "{text:?}");
+        *if plain.is_ok() { &mut places } else { &mut told } += 1;
+    }
+    assert!(places > 5_000 && told > 1_000, "{places} {told}");
+}
+
+#[test]
+fn plain_faces_are_read_as_by_fields() {
+    let (mut read_all, mut told) = (0, 0);
+    for seed in 0..20_000 {
+        let mut random = Random::new(seed);
+        let blank = random.pick(&[" ", " ", "  ", "\t"]);
+        let corner = |random: &mut Random| {
+            let number = random.pick(&["1", "2", "3", "4", "5", "05", "6", "7", "-1", "0", "8", "4294967297", "9999999999"]);
+            let more = random.pick(&["", "", "/1", "//1", "/1/1", "/", "/1/", "/1/1/1", "//", "/-1/2", "/a", "/12345678901"]);
+            format!("{number}{more}")
+        };
+        let corners: Vec<String> = (0..random.pick(&[3, 4, 3, 4, 5, 2])).map(|_| corner(&mut random)).collect();
+        let end = random.pick(&["\n", "\r\n", " \n", "\r", "", " # c\n", " \\\n5\n"]);
+        let text = format!("{}f{blank}{}{end}v 1 2 3\n", "v 0 0 0\n".repeat(6), corners.join(blank));
+        let (plain, by_fields) = (read("m.obj", text.as_bytes()), former::read("m.obj", text.as_bytes()));
+        assert_eq!(plain, by_fields, "{text:?}");
+        *if plain.is_ok() { &mut read_all } else { &mut told } += 1;
+    }
+    assert!(read_all > 500 && told > 5_000, "{read_all} {told}");
+}
+
+/// Lines of a report by eight digits at once are those by one digit after the other, at every number of digits.
+#[test]
+fn lines_are_written_as_digit_by_digit() {
+    let borders = (0..10).flat_map(|power| [-1, 0, 1].map(|aside| (10i64.pow(power) + aside) as u32));
+    let mut random = Random::new(1);
+    let others = (0..2_000).map(|_| (random.next() >> random.below(40)) as u32).collect::<Vec<_>>();
+    let numbers: Vec<u32> = borders.chain([u32::MAX, u32::MAX - 1]).chain(others).collect();
+    let kinds = [Kind::PointTriangle, Kind::EdgeEdge];
+    let shown = |words: &[Settled]| Form { shown: words.to_vec(), ..Form::default() };
+    for form in [Form::default(), shown(&[Settled::Hit]), shown(&[Settled::Touch, Settled::Apart]), shown(&[])] {
+        let pairs: Vec<(Pair, Settled)> = numbers
+            .windows(2)
+            .enumerate()
+            .map(|(at, two)| (Pair { kind: kinds[at / 7 % 2], first: two[at % 2], second: two[1] }, WORDS[at % 4]))
+            .collect();
+        let (mut lines, mut by_digits, mut one_by_one) = (b"before\n".to_vec(), b"before\n".to_vec(), b"before\n".to_vec());
+        form.lines(pairs.iter().copied(), &mut lines);
+        pairs.iter().for_each(|&(pair, word)| former::line(&form, pair, word, &mut by_digits));
+        pairs.iter().for_each(|&(pair, word)| form.line(pair, word, &mut one_by_one));
+        assert_eq!(String::from_utf8(lines), String::from_utf8(by_digits.clone()));
+        assert_eq!(one_by_one, by_digits);
+    }
 }
