@@ -3,3 +3,11 @@
 pub mod Sides
 -- an edge and a triangle
 pub mod OnePair
+-- in words: hit, touch, miss, apart
+pub mod Words
+-- a scene or a mesh in which every side is an edge
+pub mod Mesh
+-- that every side is an edge, by a certificate
+pub mod Lent
+-- that nothing is touched, by the list and its words
+pub mod Listed
