@@ -11,3 +11,7 @@ pub mod Mesh
 pub mod Lent
 -- that nothing is touched, by the list and its words
 pub mod Listed
+-- a series, from step to step
+pub mod Steps
+-- what is told of a series
+pub mod Told
