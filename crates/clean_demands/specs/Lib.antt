@@ -1,0 +1,17 @@
+-- Clean at the start, nothing touched: clean at the end.
+-- an edge that is a side of a triangle, by the vertices stood for
+pub mod Sides
+-- an edge and a triangle
+pub mod OnePair
+-- in words: hit, touch, miss, apart
+pub mod Words
+-- a scene or a mesh in which every side is an edge
+pub mod Mesh
+-- that every side is an edge, by a certificate
+pub mod Lent
+-- that nothing is touched, by the list and its words
+pub mod Listed
+-- a series, from step to step
+pub mod Steps
+-- what is told of a series
+pub mod Told
