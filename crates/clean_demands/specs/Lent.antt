@@ -1,16 +1,16 @@
 -- That every side is an edge is told by a certificate: for each side the number of its edge, each of which has the side's two ends. The look at it
 -- is `JoinedTo` of `meaning/MeshEdges`.
-use Prim.Native.Nat.{ℕ, _+_, _-_, _*_, _%_, _<_}
+use Prim.Native.Nat.{ℕ, _+_, _-_, _*_, _%_}
 use native.Mathlib.Omega.{arith}
 use mathlib.Core.Path.{_≡_, ap, _∙_}
-use mathlib.Core.Bool.{Bool, true, false, not, _&&_, _||_}
+use mathlib.Core.Bool.{true, false, not, _&&_}
 use mathlib.Core.List.{List}
 use mathlib.Core.Logic.{_≢_, ⊎-elim}
 use lib.Dec.{eqb, leb}
 use lib.ListN.{length, getD}
 use borrow.Author.Tests.{eqb-true, eq-eqb, ne-eqb, leb-false, not-false}
-use Rattle.sequences.specs.Pick.{pick, pick-true, pick-false, both, one-of}
-use Rattle.meaning.specs.Scene.{Scene, edgeCount, triangleCount, edgeEnd, corner, countsAs}
+use Rattle.sequences.specs.Pick.{pick-true, pick-false, both, one-of}
+use Rattle.meaning.specs.Scene.{Scene, edgeCount, edgeEnd, countsAs}
 use Rattle.meaning.specs.MeshEdges.{nextCorner, joins, bareSide, JoinedTo}
 use Rattle.answers.specs.Below.{or-left, or-rest}
 use Rattle.clean_demands.specs.Sides.{Between, along, against}

@@ -15,3 +15,9 @@ pub mod Listed
 pub mod Steps
 -- what is told of a series
 pub mod Told
+-- scenes of an edge, a triangle and its sides, and what is computed of them
+pub mod Motions
+-- each hypothesis is needed
+pub mod Needed
+-- of what it is said
+pub mod Shown

@@ -1,13 +1,13 @@
 -- Clean at the start, nothing touched: clean at the end, for a scene or a mesh of any size in which every side of a triangle is an edge. Edges and
 -- triangles that share a vertex are not in it: no word is asked for of them.
-use Prim.Native.Nat.{ℕ, min, max, _+_, _*_, _≤_, _<_}
+use Prim.Native.Nat.{ℕ, _+_, _*_, _<_}
 use native.Mathlib.Omega.{arith}
-use mathlib.Core.Path.{_≡_, refl, sym, _∙_, ap, ap₂, subst}
+use mathlib.Core.Path.{_≡_}
 use mathlib.Core.Logic.{_↔_}
 use mathlib.Core.Bool.{Bool, false, _||_}
-use lib.Dec.{leb, eqb}
+use lib.Dec.{leb}
 use borrow.Author.Tests.{lt-leb, leb-false}
-use Rattle.meaning.specs.Scene.{Scene, Accepted, vertexCount, edgeCount, triangleCount, edgeEnd, corner, countsAs, same, unknownVertex, brokenSeam}
+use Rattle.meaning.specs.Scene.{Scene, Accepted, vertexCount, edgeCount, triangleCount, edgeEnd, corner, same, unknownVertex, brokenSeam}
 use Rattle.meaning.specs.Refusals.{notThere, shares}
 use Rattle.meaning.specs.Pierced.{Pierced, noEdgeOrTriangle, endIsCorner}
 use Rattle.meaning.specs.declared.Frame.{Frame}
@@ -20,8 +20,8 @@ use Rattle.scene_checks.specs.Facts.{known-inside}
 use Rattle.mesh_checks.specs.Meshes.{AcceptedMesh}
 use Rattle.pierced_laws.specs.SomeWeights.{SomeTouches}
 use Rattle.demands.specs.Sewn.{well-sewn}
-use Rattle.clean_demands.specs.Sides.{Between, along, against, SidesOf}
-use Rattle.clean_demands.specs.OnePair.{NothingTouches, stays-pierced}
+use Rattle.clean_demands.specs.Sides.{Between, along, against}
+use Rattle.clean_demands.specs.OnePair.{stays-pierced}
 
 -- ---- what is asked of a scene or a mesh
 

@@ -5,7 +5,7 @@ use Prim.Native.Nat.{ℕ, zero, suc}
 use native.Mathlib.Omega.{arith}
 use mathlib.Core.Path.{_≡_, refl}
 use mathlib.Core.Logic.{_↔_}
-use mathlib.Core.List.{List, [], _∷_, map}
+use mathlib.Core.List.{[], _∷_}
 use Rattle.meaning.specs.Scene.{Scene, startOf, endOf, edgeEnd, corner, before, rising, among, endsOf, cornersOf}
 use Rattle.meaning.specs.Pieces.{Event, movingPoint, movingEdge, movingTriangle, pieceOf, pieceCount}
 use Rattle.meaning.specs.Equations.{Touch}
@@ -20,7 +20,6 @@ use Rattle.theory.specs.Determinants.{front, behind}
 use Rattle.theory.specs.Rearranged.{Rearranged, unmoved, moved, also, rearranged-back, rearranged-before, rearranged-map}
 use Rattle.theory.specs.SamePoints.{touch-rearranged}
 use Rattle.theory.specs.NoCrack.{Sewn}
-use Rattle.theory.specs.Written.{endsWritten, cornersWritten}
 use Rattle.pierced_laws.specs.SomeWeights.{SomeTouches}
 use Rattle.clean_laws.specs.SixCells.{edgeOf, triangleOf, Untouched}
 use Rattle.clean_laws.specs.Clean.{stays-clean}

@@ -3,13 +3,11 @@
 use Prim.Native.Nat.{ℕ, zero, suc, min, max, _≤_}
 use native.Mathlib.Omega.{arith}
 use native.Mathlib.Decide.{decLe}
-use mathlib.Core.Path.{_≡_, refl, sym, _∙_, ap, subst, subst₂}
+use mathlib.Core.Path.{_≡_, refl, sym, ap, subst₂}
 use mathlib.Core.Bool.{Bool, true, false}
-use mathlib.Core.List.{List, [], _∷_}
-use lib.Dec.{ltb}
 use borrow.Author.Tests.{ltb-true, ltb-false, eqb-true}
 use Rattle.meaning.specs.Scene.{Scene, edgeEnd, corner, countsAs, same, before, rising, among, endsOf, cornersOf}
-use Rattle.meaning.specs.Pieces.{Event, movingEdge, pieceOf, pieceCount}
+use Rattle.meaning.specs.Pieces.{movingEdge, pieceOf, pieceCount}
 use Rattle.meaning.specs.Equations.{Touch}
 use Rattle.meaning.specs.declared.Ends.{Ends}
 use Rattle.meaning.specs.declared.Corners.{Corners}

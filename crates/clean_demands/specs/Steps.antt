@@ -4,20 +4,17 @@ use Prim.Native.Nat.{ℕ, _+_, _*_, _/_, _<_}
 use native.Mathlib.Omega.{arith}
 use mathlib.Core.Path.{_≡_, refl, sym, _∙_, ap, subst}
 use mathlib.Core.Logic.{⊎-elim}
-use mathlib.Core.Bool.{Bool, true, false, _||_}
+use mathlib.Core.Bool.{false}
 use mathlib.Core.List.{List, [], _∷_, List·Memᴰ, List·Memᴰ·head, List·Memᴰ·tail, List·Memᴰ·cases-cons}
 use lib.Dec.{leb}
 use lib.IntN.{ℤ, pos}
 use lib.ListN.{length, getD}
 use borrow.Author.Tests.{leb-false}
-use Rattle.whole.specs.Vector.{Vector}
 use Rattle.meaning.specs.Scene.{Scene, sceneOf, startOf, endOf, vertexCount, edgeCount, triangleCount, edgeEnd, corner, countsAs}
-use Rattle.meaning.specs.Motion.{Together}
 use Rattle.meaning.specs.Pierced.{Pierced, noEdgeOrTriangle, endIsCorner}
 use Rattle.meaning.specs.Refusals.{shares}
 use Rattle.meaning.specs.Series.{Series, stepAfter, stepsFrom, lastFrom, stepsOf, goesOn}
 use Rattle.meaning.specs.declared.Frame.the-variants.{Start, End}
-use Rattle.meaning.specs.declared.Kind.the-variants.{PointTriangle}
 use Rattle.answers.specs.Below.{or-left, or-rest}
 use Rattle.series_laws.specs.Longer.{nextSteps, steps-append}
 use Rattle.series_laws.specs.Stepping.{step-at, step-edges, step-triangles, step-seams}

@@ -1,12 +1,10 @@
 -- What is told of a series says it: no hit and no touch in any step. A series that was read from a text has accepted steps.
-use Prim.Native.Nat.{ℕ, _+_}
+use Prim.Native.Nat.{ℕ}
 use native.Mathlib.Omega.{arith}
 use mathlib.Core.Path.{_≡_, sym, _∙_, ap, subst}
 use mathlib.Core.Logic.{⊎-elim}
-use mathlib.Core.List.{List, [], _∷_, List·Memᴰ, List·Memᴰ·cases-cons, List·Memᴰ·not-nil}
+use mathlib.Core.List.{List, [], _∷_, List·Memᴰ·cases-cons, List·Memᴰ·not-nil}
 use Rattle.meaning.specs.Scene.{Scene}
-use Rattle.meaning.specs.List.{pairs}
-use Rattle.meaning.specs.Report.{howMany}
 use Rattle.meaning.specs.Series.{Series, stepsOf, StepsSettled, totalOf, counted, Told, ToldRight}
 use Rattle.meaning.specs.declared.Frame.the-variants.{Start}
 use Rattle.meaning.specs.declared.Settled.{Settled}
