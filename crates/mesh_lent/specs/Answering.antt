@@ -10,13 +10,14 @@ use lib.ListN.{length}
 use borrow.Author.Tests.{eq-eqb, ne-eqb, ltb-false}
 use Rattle.meaning.specs.Scene.{Scene}
 use Rattle.meaning.specs.Refusals.{Check, Answers, sceneSays, numberOf}
+use Rattle.meaning.specs.Mesh.{meshChecks, MeshChecked}
 use Rattle.meaning.specs.declared.Refusal.the-variants.{ShortBuffer}
 use Rattle.meaning.specs.declared.SceneAnswer as SceneAnswers
 use Rattle.meaning.specs.declared.SceneAnswer.{SceneAnswer}
 use Rattle.answers.specs.Answering.{refuses, lets-pass, one-answer}
 use Rattle.answers.specs.Speaking.{scene-says-one}
 use Rattle.scene_seams.specs.Table.{seamsOf}
-use Rattle.mesh_checks.specs.Meshes.{meshChecks, MeshChecked, AcceptedMesh}
+use Rattle.mesh_checks.specs.Meshes.{AcceptedMesh}
 use Rattle.mesh_checks.specs.Checking.{meshStitched, CheckedInto}
 use Rattle.mesh_lent.specs.Blanking.{blankOf}
 
