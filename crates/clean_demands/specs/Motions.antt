@@ -28,7 +28,7 @@ use Rattle.corner_laws.specs.Filled.{slot, next}
 use Rattle.corner_leaf.specs.Answer.{baseIn, judgedIn, turnOf, otherwise, leafOf}
 use Rattle.corner_search.specs.Sixes.{pointSix, edgesSix, sixOf}
 use Rattle.corner_search.specs.Decided.{byLeaf, touching, settledBy, pieceWord, isTouch, pairWord, settled-pair}
-use Rattle.pierced_laws.specs.OneTime.{placeOf}
+use Rattle.meaning.specs.Near.{whereAt}
 use Rattle.pierced_laws.specs.SomeWeights.{SomeTouches, hit-or-touch}
 use Rattle.pierced_laws.specs.Crossing.{crossingOf, pierced-word}
 use Rattle.clean_demands.specs.Sides.{along, against, SidesOf}
@@ -165,5 +165,5 @@ pub record AllComputed : Type 0 where
   pub thirdSide : sevenAnswers thirdSideTouches ≡ false ∷ false ∷ false ∷ false ∷ true ∷ false ∷ true ∷ []
 
 pub all-computed : AllComputed
-unfolding sevenAnswers troubled placeOf someBelow stoodFor pieceCount pieceVerdict joinedBelow joined pointDifferences edgeDifferences startSum endSum volume verdictOf agreeing pairWord isTouch pieceWord settledBy touching byLeaf leafOf otherwise turnOf judgedIn baseIn firstOf skip slot next axis oneWay keep sixOf pointSix edgesSix
+unfolding sevenAnswers troubled whereAt someBelow stoodFor pieceCount pieceVerdict joinedBelow joined pointDifferences edgeDifferences startSum endSum volume verdictOf agreeing pairWord isTouch pieceWord settledBy touching byLeaf leafOf otherwise turnOf judgedIn baseIn firstOf skip slot next axis oneWay keep sixOf pointSix edgesSix
 all-computed = record { near = refl; through = refl; firstEnd = refl; secondEnd = refl; firstSide = refl; secondSide = refl; thirdSide = refl }
