@@ -5,8 +5,8 @@ ghost use Prim.Native.Nat.{_≤_};
 ghost use mathlib.Core.List.{[]};
 ghost use mathlib.Core.Path.{_≡_};
 ghost use lib.ListN.{length};
-ghost use Rattle.meaning.specs.Scene.{sceneIn, sceneAtEntry, edgeCount, triangleCount};
-ghost use Rattle.meaning.specs.MeshRows.{scratchShort, rowsGone};
+ghost use Rattle.meaning.specs.Scene.{sceneOf, sceneAtEntry, edgeCount, triangleCount};
+ghost use Rattle.meaning.specs.MeshRows.{rowCount, scratchShort, rowsGone};
 ghost use Rattle.sequences.specs.Lent.{atEntry, atExit};
 ghost use Rattle.mesh_orders.specs.Told.{partsOnly};
 ghost use Rattle.mesh_asked.specs.Asking.{lentOf, RowsThere, RowsAsked};
@@ -18,6 +18,7 @@ use mesh_orders::wrong_order;
 use mesh_parts::edge_count;
 use mesh_parts::triangle_count;
 use mesh_trees::scratch_room;
+use scene_parts::vertex_count;
 
 // 12: what is lent as scratch is too short.
 fn lent_short(
@@ -38,6 +39,13 @@ fn lent_short(
     let room = parts + 2 * (edge_order.len() + triangle_order.len());
     let short = table_short(positions, seams, table);
     short | (places < room) | (boxes < scratch_room(positions, edges, triangles))
+}
+
+// How many rows the list of a mesh has: one for each vertex and each edge.
+pub fn row_count(positions: &[i32], edges: &[u32]) -> usize
+    ensures { λ r. ⌜ r ≡ rowCount (sceneOf (atEntry positions) (atEntry edges) [] []) ⌝ }
+{
+    vertex_count(positions) + edge_count(edges)
 }
 
 // 5: rows that are not there.
