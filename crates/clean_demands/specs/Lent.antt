@@ -2,7 +2,7 @@
 -- is `JoinedTo` of `meaning/MeshEdges`.
 use Prim.Native.Nat.{ℕ, _+_, _-_, _*_, _%_}
 use native.Mathlib.Omega.{arith}
-use mathlib.Core.Path.{_≡_, ap, _∙_}
+use mathlib.Core.Path.{_≡_, refl, ap, _∙_}
 use mathlib.Core.Bool.{true, false, not, _&&_}
 use mathlib.Core.List.{List}
 use mathlib.Core.Logic.{_≢_, ⊎-elim}
@@ -11,10 +11,13 @@ use lib.ListN.{length, getD}
 use borrow.Author.Tests.{eqb-true, eq-eqb, ne-eqb, leb-false, not-false}
 use Rattle.sequences.specs.Pick.{pick-true, pick-false, both, one-of}
 use Rattle.meaning.specs.Scene.{Scene, edgeCount, edgeEnd, countsAs}
-use Rattle.meaning.specs.MeshEdges.{nextCorner, joins, bareSide, JoinedTo}
+use Rattle.meaning.specs.MeshEdges.{nextCorner, joins, bareSide, JoinedTo, whole, edgesSay, EdgesAre, edgesChecks, EdgesChecked}
+use Rattle.meaning.specs.Refusals.{given}
+use Rattle.meaning.specs.declared.EdgesAnswer.the-variants.{Whole}
 use Rattle.answers.specs.Below.{or-left, or-rest}
+use Rattle.answers.specs.Deciding.{NoneHolds, given-exactly, given-right}
 use Rattle.clean_demands.specs.Sides.{Between, along, against}
-use Rattle.clean_demands.specs.Mesh.{EdgeBetween, SidesAreEdges}
+use Rattle.clean_demands.specs.Mesh.{WellMade, known-and-sewn, EdgeBetween, SidesAreEdges}
 
 -- ---- the next corner around a triangle
 
@@ -52,3 +55,11 @@ module _ (s : Scene) (sides order : List ℕ) where
     second = λ j h. side-there (3 * j + 1) (3 * j + 2) (next-inside (3 * j + 1) (λ e. omega arith) ∙ omega arith) (joined (3 * j + 1) (omega arith));
     third = λ j h. side-there (3 * j + 2) (3 * j + 0) (next-around (3 * j + 2) (omega arith) ∙ omega arith) (joined (3 * j + 2) (omega arith));
   }
+
+  -- as the look at them is answered: all is well with the edges, so no check of the mesh refused it, and every side is an edge
+  pub whole-edges : (table places : ℕ) → EdgesChecked s sides order table places Whole → WellMade s × SidesAreEdges s
+  unfolding edgesSay EdgesAre NoneHolds
+  whole-edges table places told =
+      let passed = given-exactly (EdgesAre s sides order) (edgesChecks s sides order table places) (given whole) told .0 (whole, refl) in
+      let right = given-right (EdgesAre s sides order) (edgesChecks s sides order table places) whole told in
+      (known-and-sewn s (passed .1 .1 .1 .0) (passed .1 .1 .1 .1 .0), sides-are-edges (right .0))

@@ -11,8 +11,14 @@ pub mod Mesh
 pub mod Lent
 -- that nothing is touched, by the list and its words
 pub mod Listed
+-- by the rows of a mesh, listed or near
+pub mod Rows
+-- that a frame is clean, by the rows of its pierced edges
+pub mod Through
 -- a series, from step to step
 pub mod Steps
+-- a drape in one line
+pub mod Drape
 -- what is told of a series
 pub mod Told
 -- scenes of an edge, a triangle and its sides, and what is computed of them

@@ -9,13 +9,14 @@ use mathlib.Core.Bool.{Bool, true, false, true≢false}
 use mathlib.Core.List.{List, [], _∷_, List·Memᴰ, List·Memᴰ·cases-cons, List·Memᴰ·not-nil}
 use mathlib.Core.Logic.{⊎-elim}
 use borrow.Author.Tests.{eq-eqb}
-use Rattle.meaning.specs.Scene.{Scene, edgeEnd, countsAs, same}
+use Rattle.meaning.specs.Scene.{Scene, Accepted, edgeEnd, countsAs, same}
 use Rattle.meaning.specs.Refusals.{notThere, shares}
 use Rattle.meaning.specs.Boxes.{boxesMeet}
 use Rattle.meaning.specs.List.{Pair, pair, pairs}
 use Rattle.meaning.specs.Report.{isOne, howMany}
 use Rattle.meaning.specs.Resting.{PairSettled}
 use Rattle.meaning.specs.SceneWords.{byteOf, AllSettled}
+use Rattle.meaning.specs.declared.Frame.the-variants.{Start, End}
 use Rattle.meaning.specs.declared.Kind.{Kind}
 use Rattle.meaning.specs.declared.Kind.the-variants.{PointTriangle, EdgeEdge}
 use Rattle.meaning.specs.declared.Settled.{Settled}
@@ -24,9 +25,10 @@ use Rattle.theory.specs.Cull.{culled-apart}
 use Rattle.theory.specs.EitherOrder.{piece-either-order, shares-either-order, notThere-either-order}
 use Rattle.answers.specs.Below.{or-left}
 use Rattle.list_pairs.specs.InOrder.{FirstBelow, ToList, list-is}
+use Rattle.mesh_checks.specs.Meshes.{AcceptedMesh}
 use Rattle.pierced_laws.specs.SomeWeights.{SomeTouches}
 use Rattle.clean_demands.specs.Words.{Untroubled, untroubled-touches-not, miss-or-apart}
-use Rattle.clean_demands.specs.Mesh.{NothingTouched}
+use Rattle.clean_demands.specs.Mesh.{scene-well-made, mesh-well-made, SidesAreEdges, NothingTouched, CleanAt, clean-at-the-end}
 
 module _ (s : Scene) where
   touches-either-order : (i j : ℕ) → SomeTouches s EdgeEdge i j → SomeTouches s EdgeEdge j i
@@ -67,6 +69,13 @@ module _ (s : Scene) where
 
   pub nothing-touched : ListUntroubled → NothingTouched s
   nothing-touched l = of-listed (λ p there. untroubled-touches-not s (p .kind) (p .first) (p .second) .0 (l .none p (list-is s .stands p .1 there)))
+
+-- an accepted scene, or mesh, whose sides are edges: clean at the start and no pair of its list hit or touch, so clean at the end
+pub scene-stays-clean : {s : Scene} → Accepted s → SidesAreEdges s → ListUntroubled s → CleanAt s Start → CleanAt s End
+scene-stays-clean {s} accepted sides list = clean-at-the-end (scene-well-made accepted) sides (nothing-touched s list)
+
+pub mesh-stays-clean : {s : Scene} → AcceptedMesh s → SidesAreEdges s → ListUntroubled s → CleanAt s Start → CleanAt s End
+mesh-stays-clean {s} accepted sides list = clean-at-the-end (mesh-well-made accepted) sides (nothing-touched s list)
 
 -- ---- by the words of a list
 

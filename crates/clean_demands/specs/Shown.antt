@@ -17,6 +17,10 @@ use Rattle.meaning.specs.Refusals.{shares}
 use Rattle.meaning.specs.Boxes.{meetOn}
 use Rattle.meaning.specs.List.{pair, pairs}
 use Rattle.meaning.specs.MeshEdges.{JoinedTo}
+use Rattle.meaning.specs.Near.{whereAt, firstSpanAt, secondSpanAt}
+use Rattle.meaning.specs.MeshRows.{rowTest, rowCount, rowsIn}
+use Rattle.meaning.specs.PiercedRows.{AllPierced, yesOf}
+use Rattle.meaning.specs.declared.RowPairs.the-variants.{Near}
 use Rattle.meaning.specs.Pierced.{Pierced, noEdgeOrTriangle, endIsCorner}
 use Rattle.meaning.specs.Report.{isOne, howMany}
 use Rattle.meaning.specs.Series.{Series, stepAfter, stepsFrom, stepsOf}
@@ -34,6 +38,9 @@ use Rattle.clean_demands.specs.Words.{FiveUntroubled, five-touch-nothing
 use Rattle.clean_demands.specs.Mesh.{scene-well-made, SidesAreEdges, CleanAt, clean-at-the-end}
 use Rattle.clean_demands.specs.Lent.{sides-are-edges}
 use Rattle.clean_demands.specs.Listed.{ListUntroubled, words-untroubled, nothing-touched}
+use Rattle.clean_demands.specs.Rows.{stretch-untroubled}
+use Rattle.clean_demands.specs.Through.{stretch-clean}
+use Rattle.clean_demands.specs.Drape.{ToldClean}
 use Rattle.clean_demands.specs.Steps.{UntouchedStep, CleanStep, EachStep, clean-series}
 use Rattle.clean_demands.specs.Motions.{Says, motion, Seven, seven, downTo, comesNear, comesNearer, staysThrough, all-computed}
 
@@ -115,6 +122,22 @@ near-clean-at-start = motion-clean (downTo (pos 6) (pos 3)) Start (near-seven .a
 
 pub near-clean-at-end : CleanAt comesNear End
 near-clean-at-end = clean-at-the-end (scene-well-made (near-accepted .0)) (all-sides (downTo (pos 6) (pos 3))) (nothing-touched comesNear near-untroubled) near-clean-at-start
+
+-- ---- by rows
+
+near-rows : rowsIn Near comesNear 0 (rowCount comesNear) ≡ pair PointTriangle 0 0 ∷ pair PointTriangle 1 0 ∷ pair EdgeEdge 0 2 ∷ []
+unfolding gather rowTest shares meetOn stoodFor whereAt firstSpanAt secondSpanAt
+near-rows = refl
+
+-- its near rows have no hit and no touch, and no row of edges is pierced at the start
+pub near-told : ToldClean Near comesNear
+unfolding gather shares stoodFor whereAt AllPierced yesOf howMany isOne byteOf
+near-told = record {
+  well = scene-well-made (near-accepted .0);
+  sides = all-sides (downTo (pos 6) (pos 3));
+  start = λ i h. stretch-clean Start comesNear 0 4 [] tt refl i (omega arith) h;
+  rows = λ i h. stretch-untroubled Near comesNear 0 (rowCount comesNear) (Miss ∷ Miss ∷ Miss ∷ []) (rw (near-rows, ← near-pairs) (near-missed .0)) refl refl i (omega arith) h;
+}
 
 -- ---- and nearer still: a series of two steps
 
