@@ -25,7 +25,7 @@ pub rows-next : (l : List StepHit) (k : ℕ) (d : StepHit) → k < length l
 unfolding rowsOf
 rows-next l k d h = sym (rows-behind (take k l) (getD l k d ∷ [])) ∙ ap rowsOf (sym (take-next l k d h))
 
-pub number-small : (f : Refusal) → numberOf f ≤ 17
+pub number-small : (f : Refusal) → numberOf f ≤ 18
 unfolding numberOf
 number-small Shape = omega arith
 number-small Coordinate = omega arith

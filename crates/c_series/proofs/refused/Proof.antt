@@ -1,4 +1,4 @@
--- `refused`: no refusal's number is over 17.
+-- `refused`: no refusal's number is over 18.
 use borrow.Author.Needs.{needs}
 use native.Mathlib.Omega.{arith}
 use Rattle.c_series.specs.Rows.{number-small}
