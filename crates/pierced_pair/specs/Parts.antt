@@ -8,11 +8,11 @@ use lib.IntN.{ℤ}
 use lib.ListN.{length}
 use Rattle.whole.specs.Vector.{Vector}
 use Rattle.meaning.specs.Limits.{coordinateLimit}
-use Rattle.meaning.specs.Scene.{Scene, sceneOf, vectorAt, edgeCount, triangleCount, edgeEnd, corner, Accepted}
+use Rattle.meaning.specs.Scene.{Scene, sceneOf, vectorAt, edgeCount, triangleCount, edgeEnd, corner}
 use Rattle.meaning.specs.Pierced.{PiercedIs}
 use Rattle.meaning.specs.declared.Frame.{Frame}
 use Rattle.exact.specs.Places.{Bounded}
-use Rattle.scene_checks.specs.Facts.{accepted-sized, accepted-coordinate, accepted-end, accepted-corner}
+use Rattle.scene_checks.specs.Facts.{Sound}
 use Rattle.scene_seams.specs.Alone.{onlyEdges, onlyTriangles}
 use Rattle.pierced_laws.specs.OneTime.{endPlaces, cornerPlaces, pierced-together}
 use Rattle.pierced_pair.specs.Places.{PlacesTell}
@@ -27,14 +27,14 @@ pub record PartsIn (ps : List ℤ) (es ts : List ℕ) (i j : ℕ) : Type 0 where
   pub ends : (k : ℕ) → k < 2 → edgeEnd (onlyEdges es) i k < length ps / 6
   pub corners : (k : ℕ) → k < 3 → corner (onlyTriangles ts) j k < length ps / 6
 
-pub parts-in : {s : Scene} → Accepted s → (i j : ℕ) → i < edgeCount s → j < triangleCount s → PartsIn (s .positions) (s .edges) (s .triangles) i j
+pub parts-in : {s : Scene} → Sound s → (i j : ℕ) → i < edgeCount s → j < triangleCount s → PartsIn (s .positions) (s .edges) (s .triangles) i j
 parts-in {s} a i j h k = record {
-  bounded = record { at = λ n. record { size = accepted-coordinate a n } };
-  few = let n = accepted-sized a .fewVertices in omega arith;
+  bounded = record { at = λ n. record { size = a .within n } };
+  few = let n = a .few in omega arith;
   edge = h;
   triangle = k;
-  ends = λ n l. accepted-end a i n h l;
-  corners = λ n l. accepted-corner a j n k l;
+  ends = λ n l. a .ends i n h l;
+  corners = λ n l. a .corners j n k l;
 }
 
 -- ---- the five vertices of an edge and a triangle, as code reads them
