@@ -1,8 +1,6 @@
 -- What was asked of meshes by rows, of whatever size.
 -- the refusals, number by number, and when a value is given
 pub mod Refused
--- what is told of edges is one thing
-pub mod Told
 -- demand 1 of each call
 pub mod Demand1
 -- two results are one

@@ -17,7 +17,7 @@ use Rattle.meaning.specs.WholeContacts.{rangeCheck, AllContacts, rowsAfter, row
 use Rattle.meaning.specs.Mesh.{MeshAccepted}
 use Rattle.meaning.specs.MeshRows.{Lent, wrongOrder, rowsGone, rowCount, rowChecks, meshRow, rowsIn, RowsCounted, RowsListed, RowsSettled, RowsContacts}
 use Rattle.meaning.specs.MeshRows.{kept, keptTold, keptSays, RowsKept, ContactsKept}
-use Rattle.meaning.specs.MeshEdges.{whole, edgesSay, EdgesAre, EdgesChecked}
+use Rattle.meaning.specs.MeshEdges.{whole, edgesSay, JoinedTo, RisingTo, EdgesAre, EdgesChecked}
 use Rattle.meaning.specs.declared.EdgesAnswer as EdgesAnswers
 use Rattle.meaning.specs.declared.KeptAnswer as KeptAnswers
 use Rattle.meaning.specs.declared.ListAnswer as ListAnswers
@@ -144,8 +144,14 @@ pub mesh-shown : MeshAccepted oneTooMany 0 SceneAnswers.the-variants.Accepted
 unfolding Answers sceneSays
 mesh-shown = accepted-answers (λ t. Unit {0}) [] (given tt) refl accepted-as-mesh tt
 
+pub joined-shown : JoinedTo oneTooMany [] [] 0
+joined-shown i h = absurd (not-suc-le-zero h)
+
+pub rising-shown : RisingTo oneTooMany [] [] 0
+rising-shown i h = absurd (not-suc-le-zero h)
+
 pub edges-shown : EdgesChecked oneTooMany [] [] 0 0 EdgesAnswers.the-variants.Whole
 unfolding Answers edgesSay EdgesAre someBelow
 edges-shown =
     accepted-answers (EdgesAre oneTooMany [] []) (record { number = 18; holds = false; carries = 0 } ∷ []) (given whole) refl accepted-as-mesh
-    (λ i h. absurd (not-suc-le-zero h), λ i h. absurd (not-suc-le-zero h))
+    (joined-shown, rising-shown)

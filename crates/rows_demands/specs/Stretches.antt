@@ -166,7 +166,9 @@ module _ (w : RowPairs) (s : Scene) where
 pub listed-asked : (s : Scene) (p : Pair) → ToRows Listed s p ↔ ToList s p
 unfolding rowTest
 listed-asked s p = (
-  λ a. let (apart, meets) = tests s (p .kind) (p .first) (p .second) (a .test) in record { there = a .there; ordered = a .ordered; apart = apart; meet = meets },
+  λ a.
+      let (apart, meets) = tests s (p .kind) (p .first) (p .second) (a .test) in
+      record { there = a .there; ordered = a .ordered; apart = apart; meet = meets },
   λ a. record { there = a .there; ordered = a .ordered; test = rw (a .apart, a .meet) },
 )
 
