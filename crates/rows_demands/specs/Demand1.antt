@@ -27,9 +27,9 @@ use Rattle.meaning.specs.declared.Wanted.{Wanted}
 use Rattle.answers.specs.Deciding.{Refuses, carriedBy, NoneHolds, absent, distinct, refused-exactly, number-known, gives-exactly}
 use Rattle.list_words.specs.OneResult.{all-judged-one}
 use Rattle.mesh_checks.specs.Meshes.{AcceptedMesh}
+use Rattle.mesh_edges.specs.Saying.{one-told}
 use Rattle.rows_demands.specs.Refused.{MeshRefusals, lentChecks, mesh-refusals, then-mesh}
 use Rattle.rows_demands.specs.Refused.{CountTable, RoomTable, RangeTable, count-table, room-table, range-table}
-use Rattle.rows_demands.specs.Told.{one-told}
 
 -- a table, and what is the same after a refusal
 pub record AsDemanded {A : Type 0} (Table : Outcome A → Type 0) (Same : Type 0) (o : Outcome A) : Type 0 where

@@ -1,34 +1,30 @@
--- Two results that meet a promise of a call over a mesh are one, refused calls too: the answer, and every lent number but the scratch.
+-- Two results that meet a promise of a call over rows are one, refused calls too: the answer, and every lent number but the scratch. (Of check_mesh and
+-- check_edges: `mesh_lent/Answering.one-accepted`, `mesh_edges/Saying.one-edges-answer`.)
 use Prim.Native.Nat.{ℕ}
 use mathlib.Core.List.{List, map}
-use mathlib.Core.Path.{_≡_, refl, sym, ap, _∙_}
+use mathlib.Core.Path.{_≡_, sym, ap, _∙_}
 use lib.ListN.{length}
 use Rattle.meaning.specs.Scene.{Scene}
-use Rattle.meaning.specs.Refusals.{numberOf, Check, Answers, sceneSays}
+use Rattle.meaning.specs.Refusals.{numberOf, Check, Answers}
 use Rattle.meaning.specs.List.{listSays, leaves}
 use Rattle.meaning.specs.SceneWords.{byteOf}
 use Rattle.meaning.specs.WholeContacts.{wordOf, rowsAfter}
-use Rattle.meaning.specs.Mesh.{MeshAccepted}
 use Rattle.meaning.specs.MeshRows.{Lent, rowsIn, meshEntries, RowsCounted, RowsListed, RowsSettled, RowsContacts}
 use Rattle.meaning.specs.MeshRows.{kept, keptTold, keptSays, RowsKept, ContactsKept}
-use Rattle.meaning.specs.MeshEdges.{edgesSay, EdgesAre, EdgesChecked}
 use Rattle.meaning.specs.declared.EdgesAnswer as EdgesAnswers
-use Rattle.meaning.specs.declared.EdgesAnswer.{EdgesAnswer}
 use Rattle.meaning.specs.declared.KeptAnswer as KeptAnswers
 use Rattle.meaning.specs.declared.KeptAnswer.{KeptAnswer}
 use Rattle.meaning.specs.declared.KeptRows.{KeptRows}
 use Rattle.meaning.specs.declared.ListAnswer.{ListAnswer}
 use Rattle.meaning.specs.declared.RowPairs.{RowPairs}
-use Rattle.meaning.specs.declared.SceneAnswer.{SceneAnswer}
 use Rattle.meaning.specs.declared.Settled.{Settled}
 use Rattle.meaning.specs.declared.Wanted.{Wanted}
 use Rattle.meaning.specs.declared.WholeContact.{WholeContact}
 use Rattle.answers.specs.Answering.{one-answer}
-use Rattle.answers.specs.Speaking.{one-number, scene-says-one}
+use Rattle.answers.specs.Speaking.{one-number}
 use Rattle.list_pairs.specs.Once.{list-says-one}
 use Rattle.list_words.specs.OneResult.{all-judged-one}
 use Rattle.contact_entries.specs.Listed.{contactsOf, all-met-one}
-use Rattle.rows_demands.specs.Told.{one-told}
 
 -- ---- an answer is determined by what it says
 
@@ -42,37 +38,6 @@ kept-says-one (KeptAnswers.the-variants.Refused x m) (KeptAnswers.the-variants.R
     let same : x ≡ y = one-number x y number in
     let carried : m ≡ n = cc in
     λ t. KeptAnswers.the-variants.Refused (same t) (carried t)
-
-pub edges-say-one : (r r′ : EdgesAnswer) → edgesSay r ≡ edgesSay r′ → r ≡ r′
-unfolding edgesSay
-edges-say-one EdgesAnswers.the-variants.Whole EdgesAnswers.the-variants.Whole e = refl
-edges-say-one EdgesAnswers.the-variants.Whole (EdgesAnswers.the-variants.Bare k) e = cc
-edges-say-one EdgesAnswers.the-variants.Whole (EdgesAnswers.the-variants.Twice k) e = cc
-edges-say-one EdgesAnswers.the-variants.Whole (EdgesAnswers.the-variants.Refused y) e = cc
-edges-say-one (EdgesAnswers.the-variants.Bare k) EdgesAnswers.the-variants.Whole e = cc
-edges-say-one (EdgesAnswers.the-variants.Bare k) (EdgesAnswers.the-variants.Bare m) e = ap EdgesAnswers.the-variants.Bare (cc)
-edges-say-one (EdgesAnswers.the-variants.Bare k) (EdgesAnswers.the-variants.Twice m) e = cc
-edges-say-one (EdgesAnswers.the-variants.Bare k) (EdgesAnswers.the-variants.Refused y) e = cc
-edges-say-one (EdgesAnswers.the-variants.Twice k) EdgesAnswers.the-variants.Whole e = cc
-edges-say-one (EdgesAnswers.the-variants.Twice k) (EdgesAnswers.the-variants.Bare m) e = cc
-edges-say-one (EdgesAnswers.the-variants.Twice k) (EdgesAnswers.the-variants.Twice m) e = ap EdgesAnswers.the-variants.Twice (cc)
-edges-say-one (EdgesAnswers.the-variants.Twice k) (EdgesAnswers.the-variants.Refused y) e = cc
-edges-say-one (EdgesAnswers.the-variants.Refused x) EdgesAnswers.the-variants.Whole e = cc
-edges-say-one (EdgesAnswers.the-variants.Refused x) (EdgesAnswers.the-variants.Bare m) e = cc
-edges-say-one (EdgesAnswers.the-variants.Refused x) (EdgesAnswers.the-variants.Twice m) e = cc
-edges-say-one (EdgesAnswers.the-variants.Refused x) (EdgesAnswers.the-variants.Refused y) e =
-    ap EdgesAnswers.the-variants.Refused (one-number x y (cc))
-
--- ---- check_mesh and check_edges
-
-pub one-mesh-answer : (s : Scene) (table : ℕ) (r r′ : SceneAnswer) → MeshAccepted s table r → MeshAccepted s table r′ → r ≡ r′
-one-mesh-answer s table r r′ p q =
-    scene-says-one r r′ (one-answer (λ t. Unit {0}) (λ a b h k. refl) _ (sceneSays r) (sceneSays r′) p q)
-
-pub one-edges-answer : (s : Scene) (sides order : List ℕ) (table places : ℕ) (r r′ : EdgesAnswer)
-    → EdgesChecked s sides order table places r → EdgesChecked s sides order table places r′ → r ≡ r′
-one-edges-answer s sides order table places r r′ p q =
-    edges-say-one r r′ (one-answer (EdgesAre s sides order) (one-told s sides order) _ (edgesSay r) (edgesSay r′) p q)
 
 -- ---- stretches of rows
 
