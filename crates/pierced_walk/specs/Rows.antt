@@ -12,13 +12,13 @@ use Rattle.sequences.specs.Gather.{gather-same}
 use Rattle.meaning.specs.Scene.{Scene, vertexCount, edgeCount, triangleCount}
 use Rattle.meaning.specs.Boxes.{xAxis, yAxis, zAxis}
 use Rattle.meaning.specs.List.{pair}
+use Rattle.meaning.specs.MeshRows.{meshNumber, meshKindPart}
 use Rattle.meaning.specs.Pierced.{PiercedIs, endIsCorner}
 use Rattle.meaning.specs.PiercedRows.{meetAt, mayPierce, throughRow}
 use Rattle.meaning.specs.declared.Frame.{Frame}
 use Rattle.meaning.specs.declared.Kind.the-variants.{PointTriangle}
 use Rattle.scene_checks.specs.Facts.{Sound}
 use Rattle.list_entries.specs.UpTo.{kept}
-use Rattle.mesh_laws.specs.Entries.{meshNumber, meshKindPart}
 use Rattle.mesh_tree.specs.Levels.{nodesAt, firstUnder}
 use Rattle.mesh_walk.specs.Places.{placesFrom, places-start, places-end, Stepped}
 use Rattle.mesh_walk.specs.Steps.{Tree, rowMeets}
