@@ -11,6 +11,7 @@ use lib.ListN.{getD}
 use Rattle.whole.specs.Vector.{volume, axis}
 use Rattle.meaning.specs.Scene.{Scene, sceneOf, stoodFor, someBelow}
 use Rattle.meaning.specs.Pieces.{pieceCount}
+use Rattle.meaning.specs.Near.{whereAt}
 use Rattle.meaning.specs.Pierced.{Pierced}
 use Rattle.meaning.specs.declared.Frame.{Frame}
 use Rattle.meaning.specs.declared.Frame.the-variants.{Start, End}
@@ -28,7 +29,6 @@ use Rattle.corner_laws.specs.Filled.{slot, next}
 use Rattle.corner_leaf.specs.Answer.{baseIn, judgedIn, turnOf, otherwise, leafOf}
 use Rattle.corner_search.specs.Sixes.{pointSix, edgesSix, sixOf}
 use Rattle.corner_search.specs.Decided.{byLeaf, touching, settledBy, pieceWord, isTouch, pairWord, settled-pair}
-use Rattle.pierced_laws.specs.OneTime.{placeOf}
 use Rattle.pierced_laws.specs.SomeWeights.{SomeTouches, hit-or-touch}
 use Rattle.pierced_laws.specs.Crossing.{crossingOf, pierced-word}
 use Rattle.clean_demands.specs.Sides.{along, against, SidesOf}
@@ -183,5 +183,5 @@ pub record AllComputed : Type 0 where
   pub thirdSide : sevenAnswers thirdSideTouches ≡ false ∷ false ∷ false ∷ false ∷ true ∷ false ∷ true ∷ []
 
 pub all-computed : AllComputed
-unfolding sevenAnswers fiveWords troubled placeOf someBelow stoodFor pieceCount pieceVerdict joinedBelow joined pointDifferences edgeDifferences startSum endSum volume verdictOf agreeing pairWord isTouch pieceWord settledBy touching byLeaf leafOf otherwise turnOf judgedIn baseIn firstOf skip slot next axis oneWay keep sixOf pointSix edgesSix
+unfolding sevenAnswers fiveWords troubled whereAt someBelow stoodFor pieceCount pieceVerdict joinedBelow joined pointDifferences edgeDifferences startSum endSum volume verdictOf agreeing pairWord isTouch pieceWord settledBy touching byLeaf leafOf otherwise turnOf judgedIn baseIn firstOf skip slot next axis oneWay keep sixOf pointSix edgesSix
 all-computed = record { near = refl; sewn = refl; through = refl; slides = refl; slideWords = refl; firstEnd = refl; secondEnd = refl; firstSide = refl; secondSide = refl; thirdSide = refl }

@@ -11,6 +11,7 @@ use lib.IntN.{ℤ, pos}
 use lib.ListN.{length, getD}
 use borrow.Author.Tests.{leb-false}
 use Rattle.meaning.specs.Scene.{Scene, sceneOf, startOf, endOf, vertexCount, edgeCount, triangleCount, edgeEnd, corner, countsAs}
+use Rattle.meaning.specs.Near.{whereAt}
 use Rattle.meaning.specs.Pierced.{Pierced, noEdgeOrTriangle, endIsCorner}
 use Rattle.meaning.specs.Refusals.{shares}
 use Rattle.meaning.specs.Series.{Series, stepAfter, stepsFrom, lastFrom, stepsOf, goesOn}
@@ -18,7 +19,7 @@ use Rattle.meaning.specs.declared.Frame.the-variants.{Start, End}
 use Rattle.answers.specs.Below.{or-left, or-rest}
 use Rattle.series_laws.specs.Longer.{nextSteps, steps-append}
 use Rattle.series_laws.specs.Stepping.{step-at, step-edges, step-triangles, step-seams}
-use Rattle.pierced_laws.specs.OneTime.{placeOf, endPlaces, cornerPlaces, pierced-together}
+use Rattle.pierced_laws.specs.OneTime.{endPlaces, cornerPlaces, pierced-together}
 use Rattle.clean_demands.specs.Sides.{Between, along, against}
 use Rattle.clean_demands.specs.Mesh.{WellMade, EdgeBetween, SidesAreEdges, NothingTouched, CleanAt, clean-at-the-end}
 
@@ -74,14 +75,14 @@ module _ {s t : Scene} (on : GoesOn s t) where
 
   -- the end of one step is the start of the next
   module _ (well : WellMade s) where
-    next-place : (v w : ℕ) → v ≡ w → w < vertexCount s → placeOf Start t v ≡ placeOf End s w
-    unfolding placeOf
+    next-place : (v w : ℕ) → v ≡ w → w < vertexCount s → whereAt Start t v ≡ whereAt End s w
+    unfolding whereAt
     next-place v w e h = ap (startOf t) e ∙ on .places w h
 
     next-pierced : (i j : ℕ) → i < edgeCount s → j < triangleCount s → Pierced t Start i j → Pierced s End i j
     next-pierced i j edge triangle p =
-        let end : (k : ℕ) → k < 2 → placeOf Start t (edgeEnd t i k) ≡ placeOf End s (edgeEnd s i k) = λ k l. next-place (edgeEnd t i k) (edgeEnd s i k) (end-stays i k) (well .ends i k edge l) in
-        let at : (k : ℕ) → k < 3 → placeOf Start t (corner t j k) ≡ placeOf End s (corner s j k) = λ k l. next-place (corner t j k) (corner s j k) (corner-stays j k) (well .corners j k triangle l) in
+        let end : (k : ℕ) → k < 2 → whereAt Start t (edgeEnd t i k) ≡ whereAt End s (edgeEnd s i k) = λ k l. next-place (edgeEnd t i k) (edgeEnd s i k) (end-stays i k) (well .ends i k edge l) in
+        let at : (k : ℕ) → k < 3 → whereAt Start t (corner t j k) ≡ whereAt End s (corner s j k) = λ k l. next-place (corner t j k) (corner s j k) (corner-stays j k) (well .corners j k triangle l) in
         let ends : endPlaces t Start i ≡ endPlaces s End i = λ n. end 0 (omega arith) n ∷ end 1 (omega arith) n ∷ [] in
         let corners : cornerPlaces t Start j ≡ cornerPlaces s End j = λ n. at 0 (omega arith) n ∷ at 1 (omega arith) n ∷ at 2 (omega arith) n ∷ [] in
         pierced-together s End i j .1 (rw (ends, corners) at (pierced-together t Start i j .0 p))
