@@ -41,7 +41,7 @@ use Rattle.clean_demands.specs.Lent.{sides-are-edges}
 use Rattle.clean_demands.specs.Listed.{ListUntroubled, words-untroubled, nothing-touched}
 use Rattle.clean_demands.specs.Rows.{stretch-untroubled}
 use Rattle.clean_demands.specs.Through.{stretch-clean}
-use Rattle.clean_demands.specs.Drape.{ToldClean}
+use Rattle.clean_demands.specs.Drape.{ToldClean, ToldStep}
 use Rattle.clean_demands.specs.Steps.{UntouchedStep, CleanStep, EachStep, clean-series}
 use Rattle.clean_demands.specs.Motions.{Says, motion, Seven, seven, downTo, comesNear, comesNearer, sewnSide, staysThrough, all-computed}
 
@@ -139,6 +139,9 @@ near-told = record {
   start = λ i h. stretch-clean Start comesNear 0 4 [] tt refl i (omega arith) h;
   rows = λ i h. stretch-untroubled Near comesNear 0 (rowCount comesNear) (Miss ∷ Miss ∷ Miss ∷ []) (rw (near-rows, ← near-pairs) (near-missed .0)) refl refl i (omega arith) h;
 }
+
+pub near-step : ToldStep Near comesNear
+near-step = record { well = near-told .well; rows = near-told .rows }
 
 -- ---- and nearer still: a series of two steps
 
