@@ -5,12 +5,13 @@ use native.Mathlib.Omega.{arith}
 use mathlib.Core.Path.{_≡_, refl, ap}
 use mathlib.Core.Logic.{_⊎_, inl, inr, ⊎-elim}
 use mathlib.Core.Bool.{Bool, true, false}
-use mathlib.Core.List.{List, [], _∷_}
+use mathlib.Core.List.{List, [], _∷_, _++_}
 use lib.IntN.{ℤ, pos, negsuc}
 use lib.ListN.{getD}
 use Rattle.whole.specs.Vector.{volume, axis}
 use Rattle.meaning.specs.Scene.{Scene, sceneOf, stoodFor, someBelow}
 use Rattle.meaning.specs.Pieces.{pieceCount}
+use Rattle.meaning.specs.Near.{whereAt}
 use Rattle.meaning.specs.Pierced.{Pierced}
 use Rattle.meaning.specs.declared.Frame.{Frame}
 use Rattle.meaning.specs.declared.Frame.the-variants.{Start, End}
@@ -28,7 +29,6 @@ use Rattle.corner_laws.specs.Filled.{slot, next}
 use Rattle.corner_leaf.specs.Answer.{baseIn, judgedIn, turnOf, otherwise, leafOf}
 use Rattle.corner_search.specs.Sixes.{pointSix, edgesSix, sixOf}
 use Rattle.corner_search.specs.Decided.{byLeaf, touching, settledBy, pieceWord, isTouch, pairWord, settled-pair}
-use Rattle.meaning.specs.Near.{whereAt}
 use Rattle.pierced_laws.specs.SomeWeights.{SomeTouches, hit-or-touch}
 use Rattle.pierced_laws.specs.Crossing.{crossingOf, pierced-word}
 use Rattle.clean_demands.specs.Sides.{along, against, SidesOf}
@@ -115,11 +115,26 @@ comesNear = motion (downTo (pos 6) (pos 3))
 abbrev pub comesNearer : Scene
 comesNearer = motion (downTo (pos 3) (pos 2))
 
+-- the same, with a seam: vertex 5 stands for corner 3, and the sides there are edges of vertex 5
+abbrev pub sewnSide : Scene
+sewnSide = sceneOf (downTo (pos 6) (pos 3) ++ (pos 4 ∷ pos 0 ∷ pos 0 ∷ pos 4 ∷ pos 0 ∷ pos 0 ∷ [])) (0 ∷ 1 ∷ 2 ∷ 5 ∷ 4 ∷ 5 ∷ 2 ∷ 4 ∷ []) (2 ∷ 3 ∷ 4 ∷ []) (5 ∷ 3 ∷ [])
+
 -- the triangle (0 0 0) (4 0 0) (0 4 0) at rest, and the edge (1 1 -1) (1 1 1) through it, which goes one along x
 abbrev pub staysThrough : Scene
 staysThrough =
     motion (pos 1 ∷ pos 1 ∷ negsuc 0 ∷ pos 2 ∷ pos 1 ∷ negsuc 0 ∷ pos 1 ∷ pos 1 ∷ pos 1 ∷ pos 2 ∷ pos 1 ∷ pos 1
     ∷ pos 0 ∷ pos 0 ∷ pos 0 ∷ pos 0 ∷ pos 0 ∷ pos 0 ∷ pos 4 ∷ pos 0 ∷ pos 0 ∷ pos 4 ∷ pos 0 ∷ pos 0 ∷ pos 0 ∷ pos 4 ∷ pos 0 ∷ pos 0 ∷ pos 4 ∷ pos 0 ∷ [])
+
+-- ---- one in which it touches and nothing is hit
+
+-- the same triangle, and an edge that slides into it in its plane, from (-3 1 0) (-2 1 0) to (1 1 0) (2 1 0)
+abbrev pub slidesIn : Scene
+slidesIn =
+    motion (negsuc 2 ∷ pos 1 ∷ pos 0 ∷ pos 1 ∷ pos 1 ∷ pos 0 ∷ negsuc 1 ∷ pos 1 ∷ pos 0 ∷ pos 2 ∷ pos 1 ∷ pos 0
+    ∷ pos 0 ∷ pos 0 ∷ pos 0 ∷ pos 0 ∷ pos 0 ∷ pos 0 ∷ pos 4 ∷ pos 0 ∷ pos 0 ∷ pos 4 ∷ pos 0 ∷ pos 0 ∷ pos 0 ∷ pos 4 ∷ pos 0 ∷ pos 0 ∷ pos 4 ∷ pos 0 ∷ [])
+
+unfoldable pub fiveWords : Scene → List Settled
+fiveWords s = pairWord s PointTriangle 0 0 ∷ pairWord s PointTriangle 1 0 ∷ pairWord s EdgeEdge 0 1 ∷ pairWord s EdgeEdge 0 2 ∷ pairWord s EdgeEdge 0 3 ∷ []
 
 -- ---- in each of five it touches once
 
@@ -157,7 +172,10 @@ thirdSideTouches =
 
 pub record AllComputed : Type 0 where
   pub near : sevenAnswers comesNear ≡ false ∷ false ∷ false ∷ false ∷ false ∷ false ∷ false ∷ []
+  pub sewn : sevenAnswers sewnSide ≡ false ∷ false ∷ false ∷ false ∷ false ∷ false ∷ false ∷ []
   pub through : sevenAnswers staysThrough ≡ false ∷ false ∷ false ∷ false ∷ false ∷ true ∷ true ∷ []
+  pub slides : sevenAnswers slidesIn ≡ true ∷ true ∷ false ∷ false ∷ true ∷ false ∷ true ∷ []
+  pub slideWords : fiveWords slidesIn ≡ Touch ∷ Touch ∷ Apart ∷ Apart ∷ Touch ∷ []
   pub firstEnd : sevenAnswers firstEndTouches ≡ true ∷ false ∷ false ∷ false ∷ false ∷ false ∷ true ∷ []
   pub secondEnd : sevenAnswers secondEndTouches ≡ false ∷ true ∷ false ∷ false ∷ false ∷ false ∷ true ∷ []
   pub firstSide : sevenAnswers firstSideTouches ≡ false ∷ false ∷ true ∷ false ∷ false ∷ false ∷ true ∷ []
@@ -165,5 +183,5 @@ pub record AllComputed : Type 0 where
   pub thirdSide : sevenAnswers thirdSideTouches ≡ false ∷ false ∷ false ∷ false ∷ true ∷ false ∷ true ∷ []
 
 pub all-computed : AllComputed
-unfolding sevenAnswers troubled whereAt someBelow stoodFor pieceCount pieceVerdict joinedBelow joined pointDifferences edgeDifferences startSum endSum volume verdictOf agreeing pairWord isTouch pieceWord settledBy touching byLeaf leafOf otherwise turnOf judgedIn baseIn firstOf skip slot next axis oneWay keep sixOf pointSix edgesSix
-all-computed = record { near = refl; through = refl; firstEnd = refl; secondEnd = refl; firstSide = refl; secondSide = refl; thirdSide = refl }
+unfolding sevenAnswers fiveWords troubled whereAt someBelow stoodFor pieceCount pieceVerdict joinedBelow joined pointDifferences edgeDifferences startSum endSum volume verdictOf agreeing pairWord isTouch pieceWord settledBy touching byLeaf leafOf otherwise turnOf judgedIn baseIn firstOf skip slot next axis oneWay keep sixOf pointSix edgesSix
+all-computed = record { near = refl; sewn = refl; through = refl; slides = refl; slideWords = refl; firstEnd = refl; secondEnd = refl; firstSide = refl; secondSide = refl; thirdSide = refl }

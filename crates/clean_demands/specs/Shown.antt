@@ -5,7 +5,7 @@ use native.Mathlib.Omega.{arith}
 use mathlib.Core.Path.{_≡_, refl, sym, subst}
 use mathlib.Core.Bool.{true, false, true≢false}
 use mathlib.Core.List.{List, [], _∷_, List·Memᴰ·cases-cons, List·Memᴰ·not-nil}
-use mathlib.Core.Logic.{⊎-elim}
+use mathlib.Core.Logic.{_↔_, ⊎-elim}
 use lib.Dec.{leb}
 use lib.IntN.{ℤ, pos}
 use borrow.Author.Tests.{leb-false}
@@ -33,16 +33,17 @@ use Rattle.theory.specs.Reading.{verdictOf, agreeing}
 use Rattle.theory.specs.Computed.{pieceVerdict, joined, joinedBelow, pointDifferences, edgeDifferences, startSum, endSum}
 use Rattle.answers.specs.Below.{or-left, or-rest}
 use Rattle.corner_search.specs.Decided.{settledBy, pairWord, pair-word-is}
-use Rattle.clean_demands.specs.OnePair.{NothingTouches}
+use Rattle.clean_demands.specs.Sides.{along, against, SidesOf}
+use Rattle.clean_demands.specs.OnePair.{NothingTouches, stays-pierced}
 use Rattle.clean_demands.specs.Words.{FiveUntroubled, five-touch-nothing}
 use Rattle.clean_demands.specs.Mesh.{scene-well-made, SidesAreEdges, CleanAt, clean-at-the-end}
 use Rattle.clean_demands.specs.Lent.{sides-are-edges}
 use Rattle.clean_demands.specs.Listed.{ListUntroubled, words-untroubled, nothing-touched}
 use Rattle.clean_demands.specs.Rows.{stretch-untroubled}
 use Rattle.clean_demands.specs.Through.{stretch-clean}
-use Rattle.clean_demands.specs.Drape.{ToldClean}
+use Rattle.clean_demands.specs.Drape.{ToldClean, ToldStep}
 use Rattle.clean_demands.specs.Steps.{UntouchedStep, CleanStep, EachStep, clean-series}
-use Rattle.clean_demands.specs.Motions.{Says, motion, Seven, seven, downTo, comesNear, comesNearer, staysThrough, all-computed}
+use Rattle.clean_demands.specs.Motions.{Says, motion, Seven, seven, downTo, comesNear, comesNearer, sewnSide, staysThrough, all-computed}
 
 -- ---- an edge, a triangle and its sides
 
@@ -139,6 +140,9 @@ near-told = record {
   rows = λ i h. stretch-untroubled Near comesNear 0 (rowCount comesNear) (Miss ∷ Miss ∷ Miss ∷ []) (rw (near-rows, ← near-pairs) (near-missed .0)) refl refl i (omega arith) h;
 }
 
+pub near-step : ToldStep Near comesNear
+near-step = record { well = near-told .well; rows = near-told .rows }
+
 -- ---- and nearer still: a series of two steps
 
 abbrev pub twoSteps : Series
@@ -164,6 +168,23 @@ untouched-steps = subst (EachStep UntouchedStep) (sym two-steps) each
 
 pub clean-steps : EachStep CleanStep (stepsOf twoSteps)
 clean-steps = clean-series twoSteps (all-sides (downTo (pos 6) (pos 3))) untouched-steps near-clean-at-start
+
+-- ---- with a seam: the sides bear another number than the corner, and are edges all the same
+
+pub sewn-accepted : Accepted sewnSide
+unfolding someBelow stoodFor
+sewn-accepted = record { shapely = refl; inRange = refl; known = refl; sewnWell = refl; distinct = refl }
+
+pub sewn-sides : SidesOf sewnSide 0 1 2 3
+unfolding stoodFor
+sewn-sides = record { first = along refl refl; second = against refl refl; third = against refl refl }
+
+pub sewn-alike : Pierced sewnSide Start 0 0 ↔ Pierced sewnSide End 0 0
+unfolding Says
+sewn-alike =
+    let n = seven sewnSide false false false false false false false (all-computed .sewn) in
+    stays-pierced (scene-well-made sewn-accepted .inOnePlace) 0 0 1 2 3 sewn-sides
+    (record { firstEnd = n .firstEnd; secondEnd = n .secondEnd; firstSide = n .firstSide; secondSide = n .secondSide; thirdSide = n .thirdSide })
 
 -- ---- through at the start, and still
 

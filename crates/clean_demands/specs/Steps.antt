@@ -11,6 +11,7 @@ use lib.IntN.{ℤ, pos}
 use lib.ListN.{length, getD}
 use borrow.Author.Tests.{leb-false}
 use Rattle.meaning.specs.Scene.{Scene, sceneOf, startOf, endOf, vertexCount, edgeCount, triangleCount, edgeEnd, corner, countsAs}
+use Rattle.meaning.specs.Near.{whereAt}
 use Rattle.meaning.specs.Pierced.{Pierced, noEdgeOrTriangle, endIsCorner}
 use Rattle.meaning.specs.Refusals.{shares}
 use Rattle.meaning.specs.Series.{Series, stepAfter, stepsFrom, lastFrom, stepsOf, goesOn}
@@ -18,7 +19,6 @@ use Rattle.meaning.specs.declared.Frame.the-variants.{Start, End}
 use Rattle.answers.specs.Below.{or-left, or-rest}
 use Rattle.series_laws.specs.Longer.{nextSteps, steps-append}
 use Rattle.series_laws.specs.Stepping.{step-at, step-edges, step-triangles, step-seams}
-use Rattle.meaning.specs.Near.{whereAt}
 use Rattle.pierced_laws.specs.OneTime.{endPlaces, cornerPlaces, pierced-together}
 use Rattle.clean_demands.specs.Sides.{Between, along, against}
 use Rattle.clean_demands.specs.Mesh.{WellMade, EdgeBetween, SidesAreEdges, NothingTouched, CleanAt, clean-at-the-end}

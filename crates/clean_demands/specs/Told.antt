@@ -6,10 +6,11 @@ use mathlib.Core.Logic.{⊎-elim}
 use mathlib.Core.List.{List, [], _∷_, List·Memᴰ·cases-cons, List·Memᴰ·not-nil}
 use Rattle.meaning.specs.Scene.{Scene}
 use Rattle.meaning.specs.Series.{Series, stepsOf, StepsSettled, totalOf, counted, Told, ToldRight}
+use Rattle.meaning.specs.SeriesText.{HoldsSeries}
 use Rattle.meaning.specs.declared.Frame.the-variants.{Start}
 use Rattle.meaning.specs.declared.Settled.{Settled}
 use Rattle.meaning.specs.declared.Settled.the-variants.{Hit, Touch}
-use Rattle.series_laws.specs.AllAccepted.{EachAccepted}
+use Rattle.series_laws.specs.AllAccepted.{EachAccepted, steps-accepted}
 use Rattle.clean_demands.specs.Mesh.{scene-well-made, SidesAreEdges, NothingTouched, CleanAt}
 use Rattle.clean_demands.specs.Listed.{totals-untroubled}
 use Rattle.clean_demands.specs.Steps.{EachStep, CleanStep, clean-series}
@@ -34,8 +35,13 @@ told-untouched x t right hits touches =
     (none-counted (totalOf Hit (right .words)) (sym (ap (λ (u : Told). u .hits) (right .told)) ∙ hits))
     (none-counted (totalOf Touch (right .words)) (sym (ap (λ (u : Told). u .touches) (right .told)) ∙ touches))
 
--- and whose steps are accepted, as they are where it was read from a text: clean at first, so clean throughout
+-- and whose steps are accepted: clean at first, so clean throughout
 pub told-clean : (x : Series) (t : Told) → EachAccepted (stepsOf x) → SidesAreEdges (x .scene) → ToldRight x t → t .hits ≡ 0 → t .touches ≡ 0
     → CleanAt (x .scene) Start → EachStep CleanStep (stepsOf x)
 told-clean x t accepted sides right hits touches clean =
     clean-series x sides (λ s m. record { well = scene-well-made (accepted s m); nothing = told-untouched x t right hits touches s m }) clean
+
+-- as they are where it was read from a text
+pub read-clean : {text : List ℕ} {x : Series} → HoldsSeries text x → (t : Told) → SidesAreEdges (x .scene) → ToldRight x t → t .hits ≡ 0 → t .touches ≡ 0
+    → CleanAt (x .scene) Start → EachStep CleanStep (stepsOf x)
+read-clean {x = x} holds t = told-clean x t (steps-accepted holds)
