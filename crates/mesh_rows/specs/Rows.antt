@@ -148,10 +148,6 @@ seconds-put ps {o} room e =
       list = wrote-front (entered-wrote (omega (arith, e .counts)) (omega arith) e);
     }
 
--- a bound is the room of a list, which stays as long as it was
-pub entered-room : {most other k m : ℕ} {o o′ ns : List ℕ} → most ≡ other → Entered most o k ns o′ m → Entered other o k ns o′ m
-entered-room e w = rw e at w
-
 pub seconds-as : {ps qs : List Pair} {o o′ : List ℕ} {n : ℕ} → ps ≡ qs → SecondsPut ps o o′ n → SecondsPut qs o o′ n
 seconds-as e p = rw e at p
 

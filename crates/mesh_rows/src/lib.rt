@@ -11,7 +11,6 @@ ghost use Rattle.sequences.specs.Lent.{atEntry, atExit};
 ghost use Rattle.meaning.specs.Scene.{edgeCount, triangleCount};
 ghost use Rattle.meaning.specs.MeshRows.{rowCount, meshRow, rowsIn, meshEntries};
 ghost use Rattle.scene_seams.specs.Alone.{tabledIn, tabledAtEntry};
-ghost use Rattle.list_entries.specs.UpTo.{kept};
 ghost use Rattle.mesh_near.specs.Spanned.{Spanned};
 ghost use Rattle.mesh_trees.specs.Forest.{Forest};
 ghost use Rattle.mesh_entries.specs.Entering.{Entered};
@@ -25,6 +24,7 @@ use mesh_parts::asked::shares_vertex;
 use mesh_parts::edge_count;
 use mesh_parts::triangle_count;
 use mesh_walk::climb;
+use mesh_walk::put_place;
 use mesh_walk::step;
 use scene_parts::vertex_count;
 
@@ -142,7 +142,7 @@ fn walk_row(
     let mut node = start.node;
     let mut k = at;
     while node < levels[2 * level + 1] {
-        let next = step(boxes, levels, parts, top, row, level, node);
+        let next = step(boxes, row, boxes, levels, parts, top, level, node);
         k = enter_found(
             positions,
             edges,
@@ -276,16 +276,6 @@ pub fn walk_rows(
     k
 }
 
-// A place is put down where there is room for it; else the list stays as it is.
-fn put_place(places: &mut [u32], k: usize, place: usize)
-    requires { ⌜ place < 1073741824 ⌝ }
-    ensures { λ _. ⌜ atExit places ≡ kept (length (atEntry places)) k place (atEntry places) ⌝ }
-{
-    if k < places.len() {
-        places[k] = place as u32;
-    }
-}
-
 // A place that was found is put down, and counted, if its pair is listed.
 fn put_found(
     positions: &[i32],
@@ -350,7 +340,7 @@ fn place_row(
     let mut node = start.node;
     let mut k = 0usize;
     while node < levels[2 * level + 1] {
-        let next = step(boxes, levels, parts, top, row, level, node);
+        let next = step(boxes, row, boxes, levels, parts, top, level, node);
         k = put_found(
             positions,
             edges,

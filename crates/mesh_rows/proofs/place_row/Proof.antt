@@ -4,10 +4,10 @@ use Prim.Native.Nat.{_+_, _*_, _-_, _≤_}
 use lib.ListN.{length}
 use Rattle.scene_seams.specs.Alone.{tabled}
 use Rattle.mesh_tree.specs.Levels.{firstUnder}
+use Rattle.mesh_walk.specs.Places.{found-there}
 use Rattle.mesh_walk.specs.Steps.{rowMeets}
-use Rattle.mesh_entries.specs.Entering.{Entering, entering-place, entering-length}
-use Rattle.mesh_rows.specs.Sifting.{found-there}
-use Rattle.mesh_rows.specs.Rows.{partRow, part-row-short, secondOf, secondsOf, leftOf, row-askable, row-starts, row-goes, row-ends, row-few, entered-room, seconds-put}
+use Rattle.mesh_entries.specs.Entering.{Entering, entering-place, entering-length, entered-room}
+use Rattle.mesh_rows.specs.Rows.{partRow, part-row-short, secondOf, secondsOf, leftOf, row-askable, row-starts, row-goes, row-ends, row-few, seconds-put}
 use Rattle.mesh_rows.proofs.place_row.Statement.{statement}
 use Rattle.mesh_rows.proofs.place_row.Tie as tie
 

@@ -1,5 +1,6 @@
 -- `put_found`: a pair that is listed is counted, and one that is not leaves everything as it is.
 use borrow.Author.Needs.{needs}
+use native.Mathlib.Omega.{arith}
 use mathlib.Core.Bool.{_&&_}
 use mathlib.Core.Path.{sym, _∙_}
 use Rattle.sequences.specs.Pick.{both}
@@ -15,7 +16,7 @@ put-place-requires c κs =
     let a = start .args in
     let s = tabled (a .positions .now) (a .edges .now) (a .triangles .now) (a .stands .now) in
     let found = both (a .found) (passes (a .which) s (a .kind) (a .i) (a .j)) (sym (c .before .before .is-listed .ensures) ∙ c .before .if1 .taken) .0 in
-    start .pre .0 found .narrow .secondFew
+    omega (arith, start .pre .0 found .narrow .secondFew)
 
 returns : tie.Need-returns
 returns c =

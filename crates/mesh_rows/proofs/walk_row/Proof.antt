@@ -4,9 +4,9 @@ use Prim.Native.Nat.{_+_, _*_, _-_, _≤_}
 use Rattle.meaning.specs.MeshRows.{meshNumber, meshEntries}
 use Rattle.scene_seams.specs.Alone.{tabled}
 use Rattle.mesh_tree.specs.Levels.{firstUnder}
+use Rattle.mesh_walk.specs.Places.{found-there}
 use Rattle.mesh_walk.specs.Steps.{rowMeets}
 use Rattle.mesh_entries.specs.Entering.{Entering, entering-place, entering-length}
-use Rattle.mesh_rows.specs.Sifting.{found-there}
 use Rattle.mesh_rows.specs.Rows.{partRow, leftOf, row-askable, row-starts, row-goes, row-ends, row-few}
 use Rattle.mesh_rows.proofs.walk_row.Statement.{statement}
 use Rattle.mesh_rows.proofs.walk_row.Tie as tie
