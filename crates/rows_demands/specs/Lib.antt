@@ -9,6 +9,8 @@ pub mod OneResult
 pub mod Stretches
 -- demand 2
 pub mod Demand2
+-- the pairs whose words are asked for; stretches joined
+pub mod Kept
 -- demand 3
 pub mod Demand3
 -- near rows say of hits and touches what all rows say
