@@ -46,7 +46,8 @@ module _ {m : Matrix} {a b : Vector} {s t : Scene} (h : Moves m a b s t) (kind :
         second = λ c n x. second-back m a b (pieceOf s kind i j k) n c (rw e at x);
       }
 
-  contacts-moved : (x : WholeContact) → WholeContactIs s kind i j x ↔ WholeContactIs t kind i j x
+  -- of whatever size: the same word, and of a hit the same piece, k and shares
+  pub contacts-moved : (x : WholeContact) → WholeContactIs s kind i j x ↔ WholeContactIs t kind i j x
   contacts-moved x = (
     whole-contact-carried s t kind i j i j (λ k below. carries-there k) (λ w. moved-keeps-pair-words h kind i j known w .0) x,
     whole-contact-carried t s kind i j i j (λ k below. carries-back k) (λ w. moved-keeps-pair-words h kind i j known w .1) x,

@@ -24,24 +24,28 @@ use Rattle.meaning.specs.declared.Verdict.the-variants.{Hit}
 use Rattle.meaning.specs.declared.Settled.{Settled}
 use Rattle.meaning.specs.declared.Settled.the-variants.{Touch}
 use Rattle.theory.specs.Moved.{Moves, Known, moved-keeps-pieces, moved-keeps-pairs, moved-keeps-words, moved-keeps-pair-words, culled-in-either-hit-in-neither, culled-in-either-meets-in-neither}
-use Rattle.scene_checks.specs.Facts.{accepted-end, accepted-corner}
+use Rattle.scene_checks.specs.Facts.{SoundWithin, accepted-sound}
 use Rattle.list_pairs.specs.InOrder.{are-there}
 
--- in an accepted scene the vertices of a pair that is there are there
-pub vertices-there : {s : Scene} {B : ℕ} → AcceptedWithin B s → (kind : Kind) (i j : ℕ) → notThere s kind i j ≡ false → Known s kind i j
+-- in a scene or a mesh that can be judged, of whatever size, the vertices of a pair that is there are there
+pub vertices-known : {s : Scene} {B : ℕ} → SoundWithin B s → (kind : Kind) (i j : ℕ) → notThere s kind i j ≡ false → Known s kind i j
 unfolding notThere firstPart secondPart
-vertices-there {s} a PointTriangle i j there =
+vertices-known {s} a PointTriangle i j there =
     let (h, k) = are-there (vertexCount s) (triangleCount s) i j there in
     record {
       first = (h, tt);
-      second = (accepted-corner a j 0 k (omega arith), (accepted-corner a j 1 k (omega arith), (accepted-corner a j 2 k (omega arith), tt)));
+      second = (a .corners j 0 k (omega arith), (a .corners j 1 k (omega arith), (a .corners j 2 k (omega arith), tt)));
     }
-vertices-there {s} a EdgeEdge i j there =
+vertices-known {s} a EdgeEdge i j there =
     let (h, k) = are-there (edgeCount s) (edgeCount s) i j there in
     record {
-      first = (accepted-end a i 0 h (omega arith), (accepted-end a i 1 h (omega arith), tt));
-      second = (accepted-end a j 0 k (omega arith), (accepted-end a j 1 k (omega arith), tt));
+      first = (a .ends i 0 h (omega arith), (a .ends i 1 h (omega arith), tt));
+      second = (a .ends j 0 k (omega arith), (a .ends j 1 k (omega arith), tt));
     }
+
+-- so in an accepted scene
+pub vertices-there : {s : Scene} {B : ℕ} → AcceptedWithin B s → (kind : Kind) (i j : ℕ) → notThere s kind i j ≡ false → Known s kind i j
+vertices-there a = vertices-known (accepted-sound a)
 
 -- in both scenes the pair and each of its pieces have the same verdict and the same word; culled in either, it is hit or touch in neither
 pub record KeepsVerdicts (s t : Scene) (kind : Kind) (i j : ℕ) : Type 0 where
@@ -52,11 +56,9 @@ pub record KeepsVerdicts (s t : Scene) (kind : Kind) (i j : ℕ) : Type 0 where
   pub culledInEither : (culled s kind i j ≡ true) ⊎ (culled t kind i j ≡ true) → ¬ PairIs s kind i j Hit × ¬ PairIs t kind i j Hit
   pub touchInNeither : (culled s kind i j ≡ true) ⊎ (culled t kind i j ≡ true) → ¬ PairSettled s kind i j Touch × ¬ PairSettled t kind i j Touch
 
--- 'Show the verdicts once for any bound up to the new one': whatever ranges the two scenes are accepted in, the limit's or a narrower one
-pub demand3 : {m : Matrix} {a b : Vector} {s t : Scene} {B C : ℕ} → Moves m a b s t → AcceptedWithin B s → AcceptedWithin C t
-    → (kind : Kind) (i j : ℕ) → notThere s kind i j ≡ false → shares s kind i j ≡ false → KeepsVerdicts s t kind i j
-demand3 moves accepted also kind i j there apart =
-    let known = vertices-there accepted kind i j there in
+-- of whatever size: what is asked is that the pair's vertices are there
+pub demand3-known : {m : Matrix} {a b : Vector} {s t : Scene} → Moves m a b s t → (kind : Kind) (i j : ℕ) → Known s kind i j → KeepsVerdicts s t kind i j
+demand3-known moves kind i j known =
     record {
       pieces = moved-keeps-pieces moves kind i j known;
       pair = moved-keeps-pairs moves kind i j known;
@@ -65,6 +67,11 @@ demand3 moves accepted also kind i j there apart =
       culledInEither = culled-in-either-hit-in-neither moves kind i j known;
       touchInNeither = λ c. let n = culled-in-either-meets-in-neither moves kind i j known c in (n .0 .1, n .1 .1);
     }
+
+-- 'Show the verdicts once for any bound up to the new one': whatever ranges the two scenes are accepted in, the limit's or a narrower one
+pub demand3 : {m : Matrix} {a b : Vector} {s t : Scene} {B C : ℕ} → Moves m a b s t → AcceptedWithin B s → AcceptedWithin C t
+    → (kind : Kind) (i j : ℕ) → notThere s kind i j ≡ false → shares s kind i j ≡ false → KeepsVerdicts s t kind i j
+demand3 moves accepted also kind i j there apart = demand3-known moves kind i j (vertices-there accepted kind i j there)
 
 -- so in the range that coordinates had at first, where contacts are given
 pub demand3-first-range : {m : Matrix} {a b : Vector} {s t : Scene} → Moves m a b s t → AcceptedWithin contactLimit s → AcceptedWithin contactLimit t

@@ -48,7 +48,7 @@ module _ (s : Scene) (sides order : List ℕ) (table places : ℕ) where
 -- ---- only one answer is right
 
 module _ (s : Scene) (sides order : List ℕ) where
-  one-told : (t t′ : EdgesTold) → EdgesAre s sides order t → EdgesAre s sides order t′ → t ≡ t′
+  pub one-told : (t t′ : EdgesTold) → EdgesAre s sides order t → EdgesAre s sides order t′ → t ≡ t′
   unfolding EdgesAre
   one-told whole whole p q = refl
   one-told whole (bare k) p q = absurd (true≢false (sym (q .2) ∙ p .0 k (q .0)))

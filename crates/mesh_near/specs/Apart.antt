@@ -14,7 +14,6 @@ use Rattle.meaning.specs.Scene.{Scene, edgeEnd, corner}
 use Rattle.meaning.specs.Boxes.{smaller, larger}
 use Rattle.meaning.specs.Near.{whereAt, firstSpanAt, secondSpanAt, far}
 use Rattle.theory.specs.Spans.{Compared, ordered, reversed, compared}
-use Rattle.meaning.specs.declared.Kind.{Kind}
 use Rattle.meaning.specs.declared.Kind.the-variants.{PointTriangle, EdgeEdge}
 
 abbrev pub belowAt : List ℤ → ℕ → ℕ → Bool

@@ -14,4 +14,13 @@ edges-far-at-spec =
     (λ c κs. search needs)
     (λ c κs. search needs)
     (λ c κs. search needs)
-    (λ c. rw (c .below8 .ensures, c .before .below7 .ensures, c .before .before .below6 .ensures, c .before .before .before .below5 .ensures, c .before .before .before .before .below4 .ensures, c .before .before .before .before .before .below3 .ensures, c .before .before .before .before .before .before .below2 .ensures, c .before .before .before .before .before .before .before .below .ensures)))
+    (λ c. rw (
+      c .below8 .ensures,
+      c .before .below7 .ensures,
+      c .before .before .below6 .ensures,
+      c .before .before .before .below5 .ensures,
+      c .before .before .before .before .below4 .ensures,
+      c .before .before .before .before .before .below3 .ensures,
+      c .before .before .before .before .before .before .below2 .ensures,
+      c .before .before .before .before .before .before .before .below .ensures,
+    )))

@@ -70,14 +70,21 @@ returns : tie.Need-returns
 returns c w =
     let x = c .before .before .before .before .before .before .before .before .args in
     let s = sceneOf (now (x .positions)) (now (x .edges)) (now (x .triangles)) w in
-    rw (c .before .before .before .before .enum-told .given .1) (point-far-is s (x .i) (x .j) (c .before .before .before .corner .ensures) (c .before .before .corner2 .ensures) (c .before .corner3 .ensures)
+    rw (c .before .before .before .before .enum-told .given .1) (point-far-is s (x .i) (x .j)
+    (c .before .before .before .corner .ensures)
+    (c .before .before .corner2 .ensures)
+    (c .before .corner3 .ensures)
     (c .point-far .ensures))
 
 returns-2 : tie.Need-returns-2
 returns-2 c w =
     let x = c .before .before .before .before .before .before .before .before .before .args in
     let s = sceneOf (now (x .positions)) (now (x .edges)) (now (x .triangles)) w in
-    rw (c .before .before .before .before .before .enum-told2 .given .1) (edges-far-is s (x .i) (x .j) (c .before .before .before .before .edge-end .ensures) (c .before .before .before .edge-end2 .ensures) (c .before .before .edge-end3 .ensures) (c .before .edge-end4 .ensures)
+    rw (c .before .before .before .before .before .enum-told2 .given .1) (edges-far-is s (x .i) (x .j)
+    (c .before .before .before .before .edge-end .ensures)
+    (c .before .before .before .edge-end2 .ensures)
+    (c .before .before .edge-end3 .ensures)
+    (c .before .edge-end4 .ensures)
     (c .edges-far .ensures))
 
 pub is-far-spec : {M : Type 1} → statement M

@@ -12,8 +12,9 @@ returns-2 c =
 
 returns-3 : tie.Need-returns-3
 returns-3 c =
-    simp (← c .before .before .before .before .point-far-at .ensures, c .before .before .before .if1 .left, ← c .before .before .point-far-at2 .ensures, c .before .if2 .left)
-    (c .point-far-at3 .ensures)
+    let first = c .before .before .before .before .point-far-at in
+    let second = c .before .before .point-far-at2 in
+    simp (← first .ensures, c .before .before .before .if1 .left, ← second .ensures, c .before .if2 .left) (c .point-far-at3 .ensures)
 
 pub point-far-spec : {M : Type 1} → statement M
 point-far-spec =

@@ -12,4 +12,11 @@ point-far-at-spec =
     (λ c κs. search needs)
     (λ c κs. search needs)
     (λ c κs. search needs)
-    (λ c. rw (c .below6 .ensures, c .before .below5 .ensures, c .before .before .below4 .ensures, c .before .before .before .below3 .ensures, c .before .before .before .before .below2 .ensures, c .before .before .before .before .before .below .ensures)))
+    (λ c. rw (
+      c .below6 .ensures,
+      c .before .below5 .ensures,
+      c .before .before .below4 .ensures,
+      c .before .before .before .below3 .ensures,
+      c .before .before .before .before .below2 .ensures,
+      c .before .before .before .before .before .below .ensures,
+    )))

@@ -1,0 +1,17 @@
+-- What was asked of meshes by rows, of whatever size.
+-- the refusals, number by number, and when a value is given
+pub mod Refused
+-- demand 1 of each call
+pub mod Demand1
+-- two results are one
+pub mod OneResult
+-- what a stretch of rows holds
+pub mod Stretches
+-- demand 2
+pub mod Demand2
+-- demand 3
+pub mod Demand3
+-- near rows say of hits and touches what all rows say
+pub mod NearRows
+-- each promise shown of something
+pub mod Shown
