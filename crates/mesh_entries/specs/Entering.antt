@@ -29,6 +29,10 @@ entered-wrote {most} {k} {m} {o} {o′} {ns} fits room w =
 pub entered-length : {most k m : ℕ} {o o′ ns : List ℕ} → Entered most o k ns o′ m → length o′ ≡ length o
 entered-length {most} {k} {m} {o} {o′} {ns} w = ap length (w .list) ∙ enter-length most k ns o
 
+-- a bound is the room of a list, which stays as long as it was
+pub entered-room : {most other k m : ℕ} {o o′ ns : List ℕ} → most ≡ other → Entered most o k ns o′ m → Entered other o k ns o′ m
+entered-room e w = rw e at w
+
 pub entered-none : (most : ℕ) (o : List ℕ) (k : ℕ) → Entered most o k [] o k
 unfolding enterAll
 entered-none most o k = record { counts = omega arith; list = refl }

@@ -7,10 +7,11 @@ use mathlib.Core.Logic.{⊎-elim}
 use mathlib.Core.Path.{_≡_, refl, sym, ap, _∙_}
 use native.Mathlib.Omega.{arith}
 use lib.IntN.{ℤ}
-use lib.ListN.{length}
+use lib.ListN.{length, length-map}
 use Rattle.sequences.specs.Chosen.{one, chosen, chosen-short}
 use Rattle.sequences.specs.Gather.{gather, gather-same, gather-short}
 use Rattle.sequences.specs.Range.{le-or-lt}
+use Rattle.sequences.specs.Wrote.{written, wrote-front}
 use Rattle.meaning.specs.Limits.{partLimit}
 use Rattle.meaning.specs.Scene.{Scene, vertexCount, edgeCount, triangleCount, edgeEnd, corner}
 use Rattle.meaning.specs.Boxes.{boxesMeet}
@@ -27,7 +28,7 @@ use Rattle.mesh_walk.specs.Places.{placesFrom, places-start, places-end, Steppe
 use Rattle.mesh_walk.specs.Steps.{Tree, rowMeets}
 use Rattle.mesh_trees.specs.Forest.{Forest}
 use Rattle.mesh_entries.specs.Telling.{mesh-entries-length}
-use Rattle.mesh_entries.specs.Entering.{Entered, Entering, entering-starts, entering-as, entering-step, entering-ends}
+use Rattle.mesh_entries.specs.Entering.{Entered, entered-wrote, Entering, entering-starts, entering-as, entering-step, entering-ends}
 use Rattle.mesh_rows.specs.Asking.{passes, passes-listed, Askable, askable}
 use Rattle.mesh_rows.specs.Sifting.{sifted, sifted-found, sifted-chosen, map-gather, map-one}
 
@@ -56,9 +57,16 @@ part-row-short w s kind i = omega (arith, chosen-short (rowTest w s kind i) (pai
 abbrev pub entryOf : Kind → ℕ → ℕ → ℕ
 entryOf kind i j = meshNumber (pair kind i j)
 
--- what is left of a row, of the places from one on
-abbrev pub leftOf : RowPairs → Scene → Kind → ℕ → (ℕ → Bool) → ℕ → ℕ → List ℕ
-leftOf w s kind i m n a = sifted (passes w s kind i) (entryOf kind i) (placesFrom m n a)
+-- the second places of pairs
+abbrev pub secondOf : Pair → ℕ
+secondOf p = p .second
+
+abbrev pub secondsOf : List Pair → List ℕ
+secondsOf ps = map secondOf ps
+
+-- what is left of a row, of the places from one on, each pair as one number
+abbrev pub leftOf : (Pair → ℕ) → RowPairs → Scene → Kind → ℕ → (ℕ → Bool) → ℕ → ℕ → List ℕ
+leftOf f w s kind i m n a = sifted (passes w s kind i) (λ j. f (pair kind i j)) (placesFrom m n a)
 
 module _ {s : Scene} {kind : Kind} {i : ℕ} {l : List ℤ} {t : List ℕ} {parts top row from : ℕ} (so : RowTree s kind i l t parts top row from) where
   -- of a part that is found there may be asked
@@ -66,62 +74,82 @@ module _ {s : Scene} {kind : Kind} {i : ℕ} {l : List ℤ} {t : List ℕ} {part
   row-askable j h =
       askable s kind i j (so .there) (omega (arith, so .all)) (so .low) (omega (arith, so .few)) (so .ends) (so .corners)
 
-  module _ (w : RowPairs) where
-    row-listed : chosen (λ j. passes w s kind i j && rowMeets l t row j) (entryOf kind i) from parts
-        ≡ chosen (rowTest w s kind i) (entryOf kind i) from parts
+  module _ (f : Pair → ℕ) (w : RowPairs) where
+    row-listed : chosen (λ j. passes w s kind i j && rowMeets l t row j) (λ j. f (pair kind i j)) from parts
+        ≡ chosen (rowTest w s kind i) (λ j. f (pair kind i j)) from parts
     row-listed =
         gather-same
-        (λ j. one (passes w s kind i j && rowMeets l t row j) (entryOf kind i j))
-        (λ j. one (rowTest w s kind i j) (entryOf kind i j))
+        (λ j. one (passes w s kind i j && rowMeets l t row j) (f (pair kind i j)))
+        (λ j. one (rowTest w s kind i j) (f (pair kind i j)))
         from parts
         (λ j a b.
-        ap (λ (m : Bool). one (passes w s kind i j && m) (entryOf kind i j)) (so .meets j b)
-        ∙ ap (λ (m : Bool). one m (entryOf kind i j)) (passes-listed w s kind i j))
+        ap (λ (m : Bool). one (passes w s kind i j && m) (f (pair kind i j))) (so .meets j b)
+        ∙ ap (λ (m : Bool). one m (f (pair kind i j))) (passes-listed w s kind i j))
 
-    row-entries : chosen (rowTest w s kind i) (entryOf kind i) from parts ≡ meshEntries (partRow w s kind i)
-    row-entries =
+    row-numbers : chosen (rowTest w s kind i) (λ j. f (pair kind i j)) from parts ≡ map f (partRow w s kind i)
+    row-numbers =
         rw (so .all, so .begins)
         (gather-same
-        (λ j. one (rowTest w s kind i j) (entryOf kind i j))
-        (λ j. map meshNumber (one (rowTest w s kind i j) (pair kind i j)))
+        (λ j. one (rowTest w s kind i j) (f (pair kind i j)))
+        (λ j. map f (one (rowTest w s kind i j) (pair kind i j)))
         (secondFrom kind i) (secondCount s kind)
-        (λ j a b. sym (map-one meshNumber (rowTest w s kind i j) (pair kind i j)))
-        ∙ sym (map-gather meshNumber (λ j. one (rowTest w s kind i j) (pair kind i j)) (secondCount s kind) (secondFrom kind i)))
+        (λ j a b. sym (map-one f (rowTest w s kind i j) (pair kind i j)))
+        ∙ sym (map-gather f (λ j. one (rowTest w s kind i j) (pair kind i j)) (secondCount s kind) (secondFrom kind i)))
 
-    pub whole-row : meshEntries (partRow w s kind i) ≡ leftOf w s kind i (rowMeets l t row) parts from
-    whole-row = sym (sifted-chosen (passes w s kind i) (rowMeets l t row) (entryOf kind i) parts from ∙ row-listed ∙ row-entries)
+    pub whole-row : map f (partRow w s kind i) ≡ leftOf f w s kind i (rowMeets l t row) parts from
+    whole-row =
+        sym (sifted-chosen (passes w s kind i) (rowMeets l t row) (λ j. f (pair kind i j)) parts from ∙ row-listed ∙ row-numbers)
 
     -- a walk that has come to a node that has the row's first place as its first part has all of the row before it
     pub row-starts : (most at : ℕ) (o : List ℕ) (v r : ℕ) → firstUnder v r ≡ firstUnder 0 from
-        → Entering most o at (meshEntries (partRow w s kind i)) o at (leftOf w s kind i (rowMeets l t row) parts (firstUnder v r))
+        → Entering most o at (map f (partRow w s kind i)) o at (leftOf f w s kind i (rowMeets l t row) parts (firstUnder v r))
     row-starts most at o v r e =
         entering-as
-        (whole-row ∙ ap (sifted (passes w s kind i) (entryOf kind i)) (places-start (rowMeets l t row) parts from v r e))
-        (entering-starts most o at (meshEntries (partRow w s kind i)))
+        (whole-row ∙ ap (sifted (passes w s kind i) (λ j. f (pair kind i j))) (places-start (rowMeets l t row) parts from v r e))
+        (entering-starts most o at (map f (partRow w s kind i)))
 
-    pub row-few : length (meshEntries (partRow w s kind i)) ≤ partLimit
-    row-few = omega (arith, mesh-entries-length (partRow w s kind i), part-row-short w s kind i, so .all, so .few)
+    pub row-few : length (map f (partRow w s kind i)) ≤ parts
+    row-few = omega (arith, length-map (partRow w s kind i) f, part-row-short w s kind i, so .all)
 
-module _ (w : RowPairs) (s : Scene) (kind : Kind) (i : ℕ) {m : ℕ → Bool} {n v r : ℕ} {most at k : ℕ} {o₀ want o : List ℕ}
-    (so-far : Entering most o₀ at want o k (leftOf w s kind i m n (firstUnder v r))) where
+module _ (f : Pair → ℕ) (w : RowPairs) (s : Scene) (kind : Kind) (i : ℕ) {m : ℕ → Bool} {n v r : ℕ} {most at k : ℕ} {o₀ want o : List ℕ}
+    (so-far : Entering most o₀ at want o k (leftOf f w s kind i m n (firstUnder v r))) where
   -- what a step has found is entered, if it is listed
   pub row-goes : {top v′ r′ k′ : ℕ} {found : Bool} {o′ : List ℕ} → Stepped m n top v r v′ r′ found
-      → Entered most o k (one (found && passes w s kind i r) (entryOf kind i r)) o′ k′
-      → Entering most o₀ at want o′ k′ (leftOf w s kind i m n (firstUnder v′ r′))
+      → Entered most o k (one (found && passes w s kind i r) (f (pair kind i r))) o′ k′
+      → Entering most o₀ at want o′ k′ (leftOf f w s kind i m n (firstUnder v′ r′))
   row-goes {v′ = v′} {r′} {found = found} so e =
       entering-step
       (entering-as
-      (ap (sifted (passes w s kind i) (entryOf kind i)) (so .rest)
-      ∙ sifted-found (passes w s kind i) (entryOf kind i) found r (placesFrom m n (firstUnder v′ r′)))
+      (ap (sifted (passes w s kind i) (λ j. f (pair kind i j))) (so .rest)
+      ∙ sifted-found (passes w s kind i) (λ j. f (pair kind i j)) found r (placesFrom m n (firstUnder v′ r′)))
       so-far)
       e
 
 -- no node is left
-pub row-ends : (w : RowPairs) (s : Scene) (kind : Kind) (i : ℕ) (m : ℕ → Bool) (n v r : ℕ) {most at k : ℕ} {o₀ want o : List ℕ} → nodesAt n v ≤ r
-    → Entering most o₀ at want o k (leftOf w s kind i m n (firstUnder v r)) → Entered most o₀ at want o k
+pub row-ends : (f : Pair → ℕ) (w : RowPairs) (s : Scene) (kind : Kind) (i : ℕ) (m : ℕ → Bool) (n v r : ℕ) {most at k : ℕ} {o₀ want o : List ℕ}
+    → nodesAt n v ≤ r → Entering most o₀ at want o k (leftOf f w s kind i m n (firstUnder v r)) → Entered most o₀ at want o k
 unfolding sifted
-row-ends w s kind i m n v r past so-far =
-    entering-ends (entering-as (ap (sifted (passes w s kind i) (entryOf kind i)) (places-end m n v r past)) so-far)
+row-ends f w s kind i m n v r past so-far =
+    entering-ends (entering-as (ap (sifted (passes w s kind i) (λ j. f (pair kind i j))) (places-end m n v r past)) so-far)
+
+-- ---- the second places of a row
+
+-- of pairs: how many they are, and their second places in front of a list that was o and is o′
+pub record SecondsPut (ps : List Pair) (o o′ : List ℕ) (n : ℕ) : Type 0 where
+  pub count : n ≡ length ps
+  pub list : o′ ≡ written (secondsOf ps) o
+
+-- entered with room for all of them they stand there
+pub seconds-put : (ps : List Pair) {o o′ : List ℕ} {n : ℕ} → length ps ≤ length o → Entered (length o) o 0 (secondsOf ps) o′ n → SecondsPut ps o o′ n
+seconds-put ps {o} room e =
+    let long = length-map ps secondOf in
+    record {
+      count = omega (arith, e .counts);
+      list = wrote-front (entered-wrote (omega (arith, e .counts)) (omega arith) e);
+    }
+
+pub seconds-as : {ps qs : List Pair} {o o′ : List ℕ} {n : ℕ} → ps ≡ qs → SecondsPut ps o o′ n → SecondsPut qs o o′ n
+seconds-as e p = rw e at p
 
 -- ---- the two kinds of rows in a forest
 

@@ -2,16 +2,14 @@
 use Prim.Native.Nat.{ℕ, _+_, _<_}
 use mathlib.Core.Bool.{Bool, true, false, _&&_, and-comm}
 use mathlib.Core.List.{List, [], _∷_, _++_, map}
-use mathlib.Core.List.{List·Memᴰ, List·Memᴰ·head}
-use mathlib.Core.Path.{_≡_, refl, sym, ap, _∙_, subst}
+use mathlib.Core.Path.{_≡_, refl, sym, ap, _∙_}
 use native.Mathlib.Omega.{arith}
 use Rattle.sequences.specs.Chosen.{one, chosen, chosen-none, chosen-first}
 use Rattle.sequences.specs.Gather.{gather, gather-none, gather-first}
 use Rattle.sequences.specs.Mapped.{map-append}
 use Rattle.sequences.specs.Pick.{pick, pick-into}
 use Rattle.sequences.specs.Range.{towards}
-use Rattle.mesh_tree.specs.Levels.{firstUnder}
-use Rattle.mesh_walk.specs.Places.{placesFrom, places-exactly, Stepped}
+use Rattle.mesh_walk.specs.Places.{placesFrom}
 
 unfoldable pub sifted : (ℕ → Bool) → (ℕ → ℕ) → List ℕ → List ℕ
 sifted t g [] = []
@@ -52,11 +50,3 @@ module _ {ℓ κ} {A : Type ℓ} {B : Type κ} (f : A → B) where
   pub map-one : (t : Bool) (a : A) → map f (one t a) ≡ one t (f a)
   map-one true a = refl
   map-one false a = refl
-
--- a step that found a place found one that is there
-pub found-there : {m : ℕ → Bool} {n top v r v′ r′ : ℕ} {found : Bool} → Stepped m n top v r v′ r′ found → found ≡ true → r < n
-found-there {m} {n} {v = v} {r} {v′} {r′} so e =
-    let here : placesFrom m n (firstUnder v r) ≡ r ∷ placesFrom m n (firstUnder v′ r′) = rw e at (so .rest) in
-    let member : List·Memᴰ r (placesFrom m n (firstUnder v r)) =
-    subst (λ (l : List ℕ). List·Memᴰ r l) (sym here) (List·Memᴰ·head refl) in
-    places-exactly m n (firstUnder v r) r .0 member .1

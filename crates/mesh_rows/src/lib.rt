@@ -8,13 +8,14 @@ ghost use mathlib.Core.Path.{_≡_};
 ghost use lib.ListN.{length};
 ghost use Rattle.sequences.specs.Chosen.{one};
 ghost use Rattle.sequences.specs.Lent.{atEntry, atExit};
+ghost use Rattle.meaning.specs.Scene.{edgeCount, triangleCount};
 ghost use Rattle.meaning.specs.MeshRows.{rowCount, meshRow, rowsIn, meshEntries};
 ghost use Rattle.scene_seams.specs.Alone.{tabledIn, tabledAtEntry};
 ghost use Rattle.mesh_near.specs.Spanned.{Spanned};
 ghost use Rattle.mesh_trees.specs.Forest.{Forest};
 ghost use Rattle.mesh_entries.specs.Entering.{Entered};
 ghost use Rattle.mesh_rows.specs.Asking.{leftOut, passes, Askable};
-ghost use Rattle.mesh_rows.specs.Rows.{RowTree, partRow, entryOf};
+ghost use Rattle.mesh_rows.specs.Rows.{RowTree, partRow, entryOf, SecondsPut};
 use meaning::Kind;
 use meaning::RowPairs;
 use mesh_entries::put_below;
@@ -23,6 +24,7 @@ use mesh_parts::asked::shares_vertex;
 use mesh_parts::edge_count;
 use mesh_parts::triangle_count;
 use mesh_walk::climb;
+use mesh_walk::put_place;
 use mesh_walk::step;
 use scene_parts::vertex_count;
 
@@ -140,7 +142,7 @@ fn walk_row(
     let mut node = start.node;
     let mut k = at;
     while node < levels[2 * level + 1] {
-        let next = step(boxes, levels, parts, top, row, level, node);
+        let next = step(boxes, row, boxes, levels, parts, top, level, node);
         k = enter_found(
             positions,
             edges,
@@ -272,4 +274,151 @@ pub fn walk_rows(
         row += 1;
     }
     k
+}
+
+// A place that was found is put down, and counted, if its pair is listed.
+fn put_found(
+    positions: &[i32],
+    edges: &[u32],
+    triangles: &[u32],
+    stands: &[u32],
+    which: RowPairs,
+    kind: Kind,
+    i: usize,
+    j: usize,
+    found: bool,
+    places: &mut [u32],
+    k: usize,
+) -> usize
+    requires { ⌜ (found ≡ true → Askable (tabledIn positions edges triangles stands) kind i j) ⌝ }
+    requires { ⌜ k < 9223372036854775808 ⌝ }
+    ensures { λ r. ⌜ Entered (length (atEntry places)) (atEntry places) k
+        (one (found && passes which (tabledAtEntry positions edges triangles stands) kind i j) j) (atExit places) r ⌝ }
+{
+    if is_listed(
+        positions,
+        edges,
+        triangles,
+        stands,
+        which,
+        kind,
+        i,
+        j,
+        found,
+    ) {
+        put_place(places, k, j);
+        k + 1
+    } else {
+        k
+    }
+}
+
+// The second places of the row of one first part, as `walk_row` finds them.
+fn place_row(
+    positions: &[i32],
+    edges: &[u32],
+    triangles: &[u32],
+    stands: &[u32],
+    boxes: &[i32],
+    levels: &[usize],
+    parts: usize,
+    top: usize,
+    which: RowPairs,
+    kind: Kind,
+    i: usize,
+    row: usize,
+    from: usize,
+    places: &mut [u32],
+) -> usize
+    requires { ⌜ RowTree (tabledIn positions edges triangles stands) kind i (now boxes) (now levels) parts top row from ⌝ }
+    requires { ⌜ parts ≤ length (now places) ⌝ }
+    ensures { λ r. ⌜ SecondsPut (partRow which (tabledAtEntry positions edges triangles stands) kind i) (atEntry places)
+        (atExit places) r ⌝ }
+{
+    let start = climb(0, from, top, false);
+    let mut level = start.level;
+    let mut node = start.node;
+    let mut k = 0usize;
+    while node < levels[2 * level + 1] {
+        let next = step(boxes, row, boxes, levels, parts, top, level, node);
+        k = put_found(
+            positions,
+            edges,
+            triangles,
+            stands,
+            which,
+            kind,
+            i,
+            node,
+            next.found,
+            places,
+            k,
+        );
+        level = next.level;
+        node = next.node;
+    }
+    k
+}
+
+// The second places of the row of a number, in order, in front of a lent list with room for all edges and for all triangles; the rest of it is
+// unchanged. Returned is how many.
+pub fn row_places(
+    positions: &[i32],
+    edges: &[u32],
+    triangles: &[u32],
+    stands: &[u32],
+    boxes: &[i32],
+    edge_levels: &[usize],
+    edge_top: usize,
+    triangle_levels: &[usize],
+    triangle_top: usize,
+    which: RowPairs,
+    row: usize,
+    places: &mut [u32],
+) -> usize
+    requires { ⌜ Forest (tabledIn positions edges triangles stands) (now boxes) (now «edge_levels») (now «triangle_levels»)
+        «edge_top» «triangle_top» × (row < rowCount (tabledIn positions edges triangles stands)) ⌝ }
+    requires { ⌜ (edgeCount (tabledIn positions edges triangles stands) ≤ length (now places))
+        × (triangleCount (tabledIn positions edges triangles stands) ≤ length (now places)) ⌝ }
+    ensures { λ r. ⌜ SecondsPut (meshRow which (tabledAtEntry positions edges triangles stands) row) (atEntry places)
+        (atExit places) r ⌝ }
+{
+    let vertices = vertex_count(positions);
+    if vertices <= row {
+        let i = row - vertices;
+        let from = i + 1;
+        place_row(
+            positions,
+            edges,
+            triangles,
+            stands,
+            boxes,
+            edge_levels,
+            edge_count(edges),
+            edge_top,
+            which,
+            Kind::EdgeEdge,
+            i,
+            row,
+            from,
+            places,
+        )
+    } else {
+        place_row(
+            positions,
+            edges,
+            triangles,
+            stands,
+            boxes,
+            triangle_levels,
+            triangle_count(triangles),
+            triangle_top,
+            which,
+            Kind::PointTriangle,
+            row,
+            row,
+            0,
+            places,
+        )
+    }
 }

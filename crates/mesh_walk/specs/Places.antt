@@ -1,23 +1,21 @@
 -- The places whose part passes a test, in order, from a place on; what a step of a walk over a tree leaves of them.
 use Prim.Native.Nat.{ℕ, zero, suc, _+_, _*_, _-_, _/_, _%_, _≤_, _<_}
 use mathlib.Core.Bool.{Bool, true, false, _&&_, false≢true}
-use mathlib.Core.List.{List, [], _∷_, List·Memᴰ}
+use mathlib.Core.List.{List, [], _∷_, _++_, List·Memᴰ, List·Memᴰ·head}
 use mathlib.Core.Logic.{_↔_, ⊎-elim}
-use mathlib.Core.Path.{_≡_, refl, sym, ap, _∙_}
+use mathlib.Core.Path.{_≡_, refl, sym, ap, _∙_, subst}
 use native.Mathlib.Nat.{not-suc-le-zero, not-le-of-lt}
 use native.Mathlib.Numerals.{add-one}
 use native.Mathlib.Omega.{arith}
 use lib.Dec.{ltb, eqb}
-use lib.ListN.{length, set}
+use lib.ListN.{length}
 use borrow.Author.Tests.{ltb-true, eqb-true}
-use Rattle.sequences.specs.Chosen.{chosen, chosen-none, chosen-left, chosen-took, chosen-short, chosen-members}
-use Rattle.sequences.specs.Counting.{Counting, counting-step, counting-as, counting-ends}
+use Rattle.sequences.specs.Chosen.{one, chosen, chosen-none, chosen-left, chosen-took, chosen-short, chosen-members}
 use Rattle.sequences.specs.Pick.{pick, both}
 use Rattle.sequences.specs.Range.{le-or-lt, towards}
 use Rattle.sequences.specs.Rising.{Rising, rising-chosen}
-use Rattle.sequences.specs.Writing.{Writing, writing-step, writing-room, writing-as, writing-place, writing-ends-front}
-use Rattle.sequences.specs.Wrote.{written}
 use Rattle.mesh_tree.specs.Levels.{nodesAt, firstUnder, under-rises, all-passed, passed-all}
+use Rattle.mesh_entries.specs.Entering.{Entered, Entering, entering-as, entering-step}
 
 -- of the n places those from i on whose part passes the test
 abbrev pub placesFrom : (ℕ → Bool) → ℕ → ℕ → List ℕ
@@ -132,23 +130,6 @@ module _ (m : ℕ → Bool) (n top v r v′ r′ : ℕ) (low : v′ ≤ top) (mo
 pub places-end : (m : ℕ → Bool) (n v r : ℕ) → nodesAt n v ≤ r → placesFrom m n (firstUnder v r) ≡ []
 places-end m n v r h = chosen-none m (λ j. j) (firstUnder v r) n (all-passed n v r h)
 
--- ---- what is found is counted, or entered
-
-pub counting-found : {l rest : List ℕ} {k : ℕ} (found : Bool) (r : ℕ) → Counting l k (pick found (r ∷ rest) rest)
-    → Counting l (pick found (k + 1) k) rest
-counting-found true r c = counting-step c
-counting-found false r c = c
-
-module _ {o₀ want o : List ℕ} {k : ℕ} (rest : List ℕ) where
-  pub found-room : (found : Bool) (r : ℕ) → Writing o₀ want o k (pick found (r ∷ rest) rest) → found ≡ true → k < length o
-  found-room true r w e = writing-room w
-  found-room false r w e = absurd (false≢true e)
-
-  pub writing-found : (found : Bool) (r : ℕ) → Writing o₀ want o k (pick found (r ∷ rest) rest)
-      → Writing o₀ want (pick found (set o k r) o) (pick found (k + 1) k) rest
-  writing-found true r w = writing-step w
-  writing-found false r w = w
-
 -- ---- the loops
 
 -- a walk that starts from the place `from` has all of it before it
@@ -159,25 +140,21 @@ places-start m n from v r e = ap (placesFrom m n) (sym e)
 pub places-few : (m : ℕ → Bool) (n from : ℕ) → length (placesFrom m n from) ≤ n
 places-few m n from = omega (arith, chosen-short m (λ j. j) from n)
 
-module _ {m : ℕ → Bool} {n top v r v′ r′ : ℕ} {found : Bool} (so : Stepped m n top v r v′ r′ found) where
-  pub counting-next : {l : List ℕ} {k k′ : ℕ} → Counting l k (placesFrom m n (firstUnder v r)) → k′ ≡ pick found (k + 1) k
-      → Counting l k′ (placesFrom m n (firstUnder v′ r′))
-  counting-next c e = rw e (counting-found found r (counting-as (so .rest) c))
+-- what a step has found is entered
+found-one : (found : Bool) (r : ℕ) (rest : List ℕ) → pick found (r ∷ rest) rest ≡ one found r ++ rest
+found-one true r rest = refl
+found-one false r rest = refl
 
-  module _ {o₀ want o : List ℕ} {k : ℕ} (w : Writing o₀ want o k (placesFrom m n (firstUnder v r))) where
-    pub next-room : found ≡ true → k < length o
-    next-room e = found-room (placesFrom m n (firstUnder v′ r′)) found r (writing-as (so .rest) w) e
+pub entering-next : {m : ℕ → Bool} {n top v r v′ r′ most from k k′ : ℕ} {found : Bool} {o₀ want o o′ : List ℕ}
+    → Stepped m n top v r v′ r′ found → Entering most o₀ from want o k (placesFrom m n (firstUnder v r))
+    → Entered most o k (one found r) o′ k′ → Entering most o₀ from want o′ k′ (placesFrom m n (firstUnder v′ r′))
+entering-next {m} {n} {r = r} {v′} {r′} {found = found} so w e =
+    entering-step (entering-as (so .rest ∙ found-one found r (placesFrom m n (firstUnder v′ r′))) w) e
 
-    pub writing-next : {o′ : List ℕ} {k′ : ℕ} → o′ ≡ pick found (set o k r) o → k′ ≡ pick found (k + 1) k
-        → Writing o₀ want o′ k′ (placesFrom m n (firstUnder v′ r′))
-    writing-next e f = rw (e, f) (writing-found (placesFrom m n (firstUnder v′ r′)) found r (writing-as (so .rest) w))
-
-module _ (m : ℕ → Bool) (n v r : ℕ) (past : nodesAt n v ≤ r) where
-  pub counting-last : {l : List ℕ} {k : ℕ} → Counting l k (placesFrom m n (firstUnder v r)) → k ≡ length l
-  counting-last c = counting-ends (counting-as (places-end m n v r past) c)
-
-  pub writing-last : {o₀ want o : List ℕ} {k : ℕ} → Writing o₀ want o k (placesFrom m n (firstUnder v r))
-      → (k ≡ length want) × (o ≡ written want o₀)
-  writing-last w =
-      let ended = writing-as (places-end m n v r past) w in
-      (omega (arith, writing-place ended), writing-ends-front ended)
+-- a step that found a place found one that is there
+pub found-there : {m : ℕ → Bool} {n top v r v′ r′ : ℕ} {found : Bool} → Stepped m n top v r v′ r′ found → found ≡ true → r < n
+found-there {m} {n} {v = v} {r} {v′} {r′} so e =
+    let here : placesFrom m n (firstUnder v r) ≡ r ∷ placesFrom m n (firstUnder v′ r′) = rw e at (so .rest) in
+    let member : List·Memᴰ r (placesFrom m n (firstUnder v r)) =
+    subst (λ (l : List ℕ). List·Memᴰ r l) (sym here) (List·Memᴰ·head refl) in
+    places-exactly m n (firstUnder v r) r .0 member .1

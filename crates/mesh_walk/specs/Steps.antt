@@ -12,7 +12,7 @@ use Rattle.list_boxes.specs.Kept.{meetBoxes}
 use Rattle.list_boxes.specs.Storing.{same-box}
 use Rattle.mesh_tree.specs.Levels.{nodesAt, firstUnder, nodeBox, node-same, node-skips}
 use Rattle.mesh_tree.specs.Grown.{levelPlace, nodesUpTo, room-enough, levels-before, Height, Growing, Told, Grown}
-use Rattle.mesh_walk.specs.Places.{placesFrom, Stepped, step-missed, step-down, step-found, down-same}
+use Rattle.mesh_walk.specs.Places.{Stepped, step-missed, step-down, step-found, down-same}
 
 -- the box of the part in place j: level 0 stands where the levels say
 abbrev pub leafBox : List ℤ → List ℕ → ℕ → Box
@@ -27,12 +27,12 @@ pub record Tree (l : List ℤ) (t : List ℕ) (n top : ℕ) : Type 0 where
   pub room : 34 ≤ length t
   pub few : n ≤ 1152921504606846976
 
--- a row's box stands in the list too; which parts it meets, and the places of these from one on
-abbrev pub rowMeets : List ℤ → List ℕ → ℕ → ℕ → Bool
-rowMeets l t row j = meetBoxes (boxAt l row) (leafBox l t j)
+-- which parts a box meets; and where it is a row's, which stands in the list too
+abbrev pub boxMeets : Box → List ℤ → List ℕ → ℕ → Bool
+boxMeets b l t j = meetBoxes b (leafBox l t j)
 
-abbrev pub placesMet : List ℤ → List ℕ → ℕ → ℕ → ℕ → List ℕ
-placesMet l t n row from = placesFrom (rowMeets l t row) n from
+abbrev pub rowMeets : List ℤ → List ℕ → ℕ → ℕ → Bool
+rowMeets l t row j = boxMeets (boxAt l row) l t j
 
 -- ---- a tree that was grown is one
 
@@ -69,25 +69,25 @@ module _ {l l′ : List ℤ} {t t′ : List ℕ} {first n to top : ℕ} (so : Gr
 
 -- ---- a step of the walk
 
-module _ {l : List ℤ} {t : List ℕ} {n top : ℕ} (tree : Tree l t n top) (row v r v′ r′ : ℕ) (at : v ≤ top)
-    (there : r < nodesAt n v) (met : Bool) (made : met ≡ meetBoxes (boxAt l row) (boxAt l (getD t (2 * v) 0 + r))) (low : v′ ≤ top) where
-  node-made : met ≡ meetBoxes (boxAt l row) (nodeBox (leafBox l t) n v r)
-  node-made = made ∙ ap (λ (b : Box). meetBoxes (boxAt l row) b) (tree .nodes v at .at r there)
+module _ {l : List ℤ} {t : List ℕ} {n top : ℕ} (tree : Tree l t n top) (b : Box) (v r v′ r′ : ℕ) (at : v ≤ top)
+    (there : r < nodesAt n v) (met : Bool) (made : met ≡ meetBoxes b (boxAt l (getD t (2 * v) 0 + r))) (low : v′ ≤ top) where
+  node-made : met ≡ meetBoxes b (nodeBox (leafBox l t) n v r)
+  node-made = made ∙ ap (λ (c : Box). meetBoxes b c) (tree .nodes v at .at r there)
 
   pub walk-missed : {found : Bool} → found ≡ false → met ≡ false → firstUnder v′ r′ ≡ firstUnder v (r + 1)
-      → Stepped (rowMeets l t row) n top v r v′ r′ found
+      → Stepped (boxMeets b l t) n top v r v′ r′ found
   walk-missed none e next =
       rw none
-      (step-missed (rowMeets l t row) n top v r v′ r′ low (tree .low) there
-      (λ j a b c. node-skips (boxAt l row) (leafBox l t) n v r (sym node-made ∙ e) j a b c)
+      (step-missed (boxMeets b l t) n top v r v′ r′ low (tree .low) there
+      (λ j low high there. node-skips b (leafBox l t) n v r (sym node-made ∙ e) j low high there)
       next)
 
-  pub walk-down : 0 < v → v′ ≡ v - 1 → r′ ≡ 16 * r → Stepped (rowMeets l t row) n top v r v′ r′ false
+  pub walk-down : 0 < v → v′ ≡ v - 1 → r′ ≡ 16 * r → Stepped (boxMeets b l t) n top v r v′ r′ false
   walk-down high e same =
-      step-down (rowMeets l t row) n top v r v′ r′ low (tree .low) there high e (rw (e, same) (down-same v r high))
+      step-down (boxMeets b l t) n top v r v′ r′ low (tree .low) there high e (rw (e, same) (down-same v r high))
 
   pub walk-found : {found : Bool} → found ≡ true → v ≡ 0 → met ≡ true → firstUnder v′ r′ ≡ firstUnder v (r + 1)
-      → Stepped (rowMeets l t row) n top v r v′ r′ found
+      → Stepped (boxMeets b l t) n top v r v′ r′ found
   unfolding nodeBox
   walk-found one e passes next =
-      rw one (step-found (rowMeets l t row) n top v r v′ r′ low (tree .low) there e (sym (rw e at node-made) ∙ passes) next)
+      rw one (step-found (boxMeets b l t) n top v r v′ r′ low (tree .low) there e (sym (rw e at node-made) ∙ passes) next)

@@ -4,14 +4,17 @@
 ghost use Prim.Native.Nat.{_+_, _*_, _≤_, _<_};
 ghost use mathlib.Core.Bool.{true};
 ghost use mathlib.Core.Path.{_≡_};
-ghost use lib.ListN.{length, set};
+ghost use lib.ListN.{length};
+ghost use Rattle.sequences.specs.Chosen.{one};
 ghost use Rattle.sequences.specs.Lent.{atEntry, atExit};
-ghost use Rattle.sequences.specs.Pick.{pick};
-ghost use Rattle.sequences.specs.Wrote.{written};
+ghost use Rattle.meaning.specs.Boxes.{meet};
+ghost use Rattle.meaning.specs.StoredBoxes.{spanAt, boxAt};
+ghost use Rattle.list_boxes.specs.Kept.{meetBoxes};
+ghost use Rattle.list_entries.specs.UpTo.{kept};
 ghost use Rattle.mesh_tree.specs.Levels.{nodesAt, firstUnder};
-ghost use Rattle.mesh_walk.specs.Places.{Stepped};
-ghost use Rattle.mesh_walk.specs.Steps.{Tree, rowMeets, placesMet};
-use list_boxes::kept::boxes_meet;
+ghost use Rattle.mesh_entries.specs.Entering.{Entered};
+ghost use Rattle.mesh_walk.specs.Places.{placesFrom, Stepped};
+ghost use Rattle.mesh_walk.specs.Steps.{Tree, boxMeets};
 
 // Where a walk stands, and whether its last step found a part.
 pub struct Spot {
@@ -38,23 +41,48 @@ pub fn climb(level: usize, node: usize, top: usize, found: bool) -> Spot
     }
 }
 
-// One node is tested.
+// Whether spans of two lists meet, equal ends included.
+fn spans_meet(own: &[i32], i: usize, boxes: &[i32], j: usize) -> bool
+    requires { ⌜ (i + 3 < length (now own)) × (j + 3 < length (now boxes)) ⌝ }
+    ensures { λ r. ⌜ r ≡ meet (spanAt (atEntry own) i) (spanAt (atEntry boxes) j) ⌝ }
+{
+    (own[i] <= boxes[j + 3]) & (boxes[j] <= own[i + 3])
+}
+
+// Whether boxes of two lists meet on all three axes. The first axis on which they are apart decides.
+pub fn boxes_meet(own: &[i32], a: usize, boxes: &[i32], b: usize) -> bool
+    requires { ⌜ (6 * a + 5 < length (now own)) × (6 * b + 5 < length (now boxes)) ⌝ }
+    ensures { λ r. ⌜ r ≡ meetBoxes (boxAt (atEntry own) a) (boxAt (atEntry boxes) b) ⌝ }
+{
+    let i = 6 * a;
+    let j = 6 * b;
+    if !spans_meet(own, i, boxes, j) {
+        return false;
+    }
+    if !spans_meet(own, i + 1, boxes, j + 1) {
+        return false;
+    }
+    spans_meet(own, i + 2, boxes, j + 2)
+}
+
+// One node is tested by the box `row` of a list, which may be the tree's own.
 pub fn step(
+    own: &[i32],
+    row: usize,
     boxes: &[i32],
     levels: &[usize],
     parts: usize,
     top: usize,
-    row: usize,
     level: usize,
     node: usize,
 ) -> Spot
-    requires { ⌜ Tree (now boxes) (now levels) parts top × (6 * row + 5 < length (now boxes)) × (level ≤ top)
+    requires { ⌜ Tree (now boxes) (now levels) parts top × (6 * row + 5 < length (now own)) × (level ≤ top)
         × (node < nodesAt parts level) ⌝ }
-    ensures { λ r. ⌜ Stepped (rowMeets (atEntry boxes) (atEntry levels) row) parts top level node (r .level) (r .node)
-        (r .found) ⌝ }
+    ensures { λ r. ⌜ Stepped (boxMeets (boxAt (atEntry own) row) (atEntry boxes) (atEntry levels)) parts top level node
+        (r .level) (r .node) (r .found) ⌝ }
 {
     let place = levels[2 * level] + node;
-    if boxes_meet(boxes, row, place) {
+    if boxes_meet(own, row, boxes, place) {
         if 0 < level {
             Spot {
                 level: level - 1,
@@ -69,74 +97,54 @@ pub fn step(
     }
 }
 
-// One more, if a part was found.
-fn counted(count: usize, found: bool) -> usize
-    requires { ⌜ count < 18446744073709551615 ⌝ }
-    ensures { λ r. ⌜ r ≡ pick found (count + 1) count ⌝ }
+// A place is put down where there is room for it; else the list stays as it is.
+pub fn put_place(list: &mut [u32], k: usize, place: usize)
+    requires { ⌜ place < 4294967296 ⌝ }
+    ensures { λ _. ⌜ atExit list ≡ kept (length (atEntry list)) k place (atEntry list) ⌝ }
 {
-    if found { count + 1 } else { count }
-}
-
-// How many parts, from the place `from` on, have a box that meets the row's. The row's box stands in the list too.
-pub fn count_met(
-    boxes: &[i32],
-    levels: &[usize],
-    parts: usize,
-    top: usize,
-    row: usize,
-    from: usize,
-) -> usize
-    requires { ⌜ Tree (now boxes) (now levels) parts top × (6 * row + 5 < length (now boxes)) ⌝ }
-    ensures { λ r. ⌜ r ≡ length (placesMet (atEntry boxes) (atEntry levels) parts row from) ⌝ }
-{
-    let start = climb(0, from, top, false);
-    let mut level = start.level;
-    let mut node = start.node;
-    let mut count = 0usize;
-    while node < levels[2 * level + 1] {
-        let next = step(boxes, levels, parts, top, row, level, node);
-        count = counted(count, next.found);
-        level = next.level;
-        node = next.node;
+    if k < list.len() {
+        list[k] = place as u32;
     }
-    count
 }
 
-// A place is entered, if a part was found.
-fn enter(list: &mut [u64], count: usize, place: usize, found: bool)
-    requires { ⌜ (found ≡ true → count < length (now list)) ⌝ }
-    ensures { λ _. ⌜ atExit list ≡ pick found (set (atEntry list) count place) (atEntry list) ⌝ }
+// A place is put down, and counted, if a part was found.
+fn put_found(list: &mut [u32], k: usize, place: usize, found: bool) -> usize
+    requires { ⌜ (found ≡ true → place < 4294967296) × (k < 18446744073709551615) ⌝ }
+    ensures { λ r. ⌜ Entered (length (atEntry list)) (atEntry list) k (one found place) (atExit list) r ⌝ }
 {
     if found {
-        list[count] = place as u64;
+        put_place(list, k, place);
+        k + 1
+    } else {
+        k
     }
 }
 
-// The same parts' places, in order, in front of a lent list; the rest of it is unchanged. Returned is how many.
+// The places, from `from` on, of the parts whose boxes meet the box `row` of a list, in order, in front of a lent list while it has room; all are
+// counted.
 pub fn find_met(
+    own: &[i32],
+    row: usize,
     boxes: &[i32],
     levels: &[usize],
     parts: usize,
     top: usize,
-    row: usize,
     from: usize,
-    list: &mut [u64],
+    list: &mut [u32],
 ) -> usize
-    requires { ⌜ Tree (now boxes) (now levels) parts top × (6 * row + 5 < length (now boxes))
-        × (parts ≤ length (now list)) ⌝ }
-    ensures { λ r. ⌜ (r ≡ length (placesMet (atEntry boxes) (atEntry levels) parts row from))
-        × (atExit list ≡ written (placesMet (atEntry boxes) (atEntry levels) parts row from) (atEntry list)) ⌝ }
+    requires { ⌜ Tree (now boxes) (now levels) parts top × (6 * row + 5 < length (now own)) × (parts ≤ 4294967296) ⌝ }
+    ensures { λ r. ⌜ Entered (length (atEntry list)) (atEntry list) 0
+        (placesFrom (boxMeets (boxAt (atEntry own) row) (atEntry boxes) (atEntry levels)) parts from) (atExit list) r ⌝ }
 {
     let start = climb(0, from, top, false);
     let mut level = start.level;
     let mut node = start.node;
-    let mut count = 0usize;
+    let mut k = 0usize;
     while node < levels[2 * level + 1] {
-        let next = step(boxes, levels, parts, top, row, level, node);
-        enter(list, count, node, next.found);
-        count = counted(count, next.found);
+        let next = step(own, row, boxes, levels, parts, top, level, node);
+        k = put_found(list, k, node, next.found);
         level = next.level;
         node = next.node;
     }
-    count
+    k
 }

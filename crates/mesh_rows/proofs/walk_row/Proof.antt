@@ -1,12 +1,12 @@
 -- `walk_row`: what is entered, with what is left of the row, is all of it.
 use native.Mathlib.Omega.{arith}
 use Prim.Native.Nat.{_+_, _*_, _-_, _≤_}
-use Rattle.meaning.specs.MeshRows.{meshEntries}
+use Rattle.meaning.specs.MeshRows.{meshNumber, meshEntries}
 use Rattle.scene_seams.specs.Alone.{tabled}
 use Rattle.mesh_tree.specs.Levels.{firstUnder}
+use Rattle.mesh_walk.specs.Places.{found-there}
 use Rattle.mesh_walk.specs.Steps.{rowMeets}
 use Rattle.mesh_entries.specs.Entering.{Entering, entering-place, entering-length}
-use Rattle.mesh_rows.specs.Sifting.{found-there}
 use Rattle.mesh_rows.specs.Rows.{partRow, leftOf, row-askable, row-starts, row-goes, row-ends, row-few}
 use Rattle.mesh_rows.proofs.walk_row.Statement.{statement}
 use Rattle.mesh_rows.proofs.walk_row.Tie as tie
@@ -15,7 +15,7 @@ abbrev Inv-loop : tie.InvT-loop
 Inv-loop positions edges triangles stands boxes levels parts top which kind i row from list₀ most at level₀ node₀ k₀ list level node k =
     (level ≤ top)
     × Entering most list₀ at (meshEntries (partRow which (tabled positions edges triangles stands) kind i)) list k
-    (leftOf which (tabled positions edges triangles stands) kind i (rowMeets boxes levels row) parts (firstUnder level node))
+    (leftOf meshNumber which (tabled positions edges triangles stands) kind i (rowMeets boxes levels row) parts (firstUnder level node))
 
 abbrev μ-loop : tie.MeasureT-loop
 μ-loop positions edges triangles stands boxes levels parts top which kind i row from list₀ most at level₀ node₀ k₀ list level node k =
@@ -29,7 +29,7 @@ loop-holds c =
     let start = c .before .before .before .before .before .before in
     let a = start .args in
     let up = c .climb in
-    (up .ensures .0, row-starts (start .pre .0) (a .which) (a .most) (a .at) (a .list .now) (up .result .level) (up .result .node) (up .ensures .1))
+    (up .ensures .0, row-starts (start .pre .0) meshNumber (a .which) (a .most) (a .at) (a .list .now) (up .result .level) (up .result .node) (up .ensures .1))
 
 mul-if1 : tie.Need-mul-if1 Inv-loop μ-loop
 mul-if1 c = omega (arith, c .loop .inv .0, c .before .before .before .before .before .before .before .pre .0 .tree .low)
@@ -58,7 +58,7 @@ enter-found-requires c κs =
     let inv = c .before .before .before .before .loop .inv in
     let stepped = c .before .step .ensures in (
       λ e. row-askable row _ (found-there stepped e),
-      (omega (arith, start .pre .1, entering-length (inv .1)), omega (arith, start .pre .1, entering-place (inv .1), row-few row (start .args .which))),
+      (omega (arith, start .pre .1, entering-length (inv .1)), omega (arith, start .pre .1, entering-place (inv .1), row .few, row-few row meshNumber (start .args .which))),
     )
 
 loop-less : tie.Need-loop-less Inv-loop μ-loop
@@ -68,7 +68,7 @@ loop-again : tie.Need-loop-again Inv-loop μ-loop
 loop-again c =
     let a = c .before .before .before .before .before .before .before .before .before .before .before .before .before .before .args in
     let stepped = c .before .before .before .before .step .ensures in
-    (stepped .low, row-goes (a .which) (tabled (a .positions .now) (a .edges .now) (a .triangles .now) (a .stands .now)) (a .kind) (a .i) (c .before .before .before .before .before .before .before .loop .inv .1) stepped (c .before .before .enter-found .ensures))
+    (stepped .low, row-goes meshNumber (a .which) (tabled (a .positions .now) (a .edges .now) (a .triangles .now) (a .stands .now)) (a .kind) (a .i) (c .before .before .before .before .before .before .before .loop .inv .1) stepped (c .before .before .enter-found .ensures))
 
 same-length : tie.Need-same-length Inv-loop μ-loop
 same-length c = entering-length (c .before .before .loop .inv .1)
@@ -78,7 +78,7 @@ returns c =
     let start = c .before .before .before .before .before .before .before .before .before in
     let a = start .args in
     let loop = c .before .before .loop in
-    row-ends (a .which) (tabled (a .positions .now) (a .edges .now) (a .triangles .now) (a .stands .now)) (a .kind) (a .i) (rowMeets (a .boxes .now) (a .levels .now) (a .row)) (a .parts) (loop .level) (loop .node)
+    row-ends meshNumber (a .which) (tabled (a .positions .now) (a .edges .now) (a .triangles .now) (a .stands .now)) (a .kind) (a .i) (rowMeets (a .boxes .now) (a .levels .now) (a .row)) (a .parts) (loop .level) (loop .node)
     (omega (arith, c .if1 .left, start .pre .0 .tree .counts (loop .level) (loop .inv .0)))
     (loop .inv .1)
 

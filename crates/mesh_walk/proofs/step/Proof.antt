@@ -3,6 +3,7 @@ use borrow.Author.Needs.{needs}
 use native.Mathlib.Omega.{arith}
 use Prim.Native.Nat.{_-_, _*_}
 use mathlib.Core.Path.{refl}
+use Rattle.meaning.specs.StoredBoxes.{boxAt}
 use Rattle.mesh_tree.specs.Grown.{fewer-nodes}
 use Rattle.mesh_walk.specs.Places.{child-there}
 use Rattle.mesh_walk.specs.Steps.{walk-missed, walk-down, walk-found}
@@ -21,8 +22,8 @@ boxes-meet-requires c κs =
     let start = c .before .before in
     (start .pre .1, omega (arith, start .pre .0 .inside (start .args .level) (start .pre .2), start .pre))
 
-mul-t18 : tie.Need-mul-t18
-mul-t18 c =
+mul-t19 : tie.Need-mul-t19
+mul-t19 c =
     let start = c .before .before .before .before .before in
     let n = start .args .parts in
     let v = start .args .level in
@@ -44,7 +45,7 @@ returns c =
     let v = start .args .level in
     let r = start .args .node in
     let met = c .before .before .boxes-meet in
-    walk-down (start .pre .0) (start .args .row) v r (v - 1) (16 * r) (start .pre .2) (start .pre .3) (met .result) (met .ensures)
+    walk-down (start .pre .0) (boxAt (start .args .own .now) (start .args .row)) v r (v - 1) (16 * r) (start .pre .2) (start .pre .3) (met .result) (met .ensures)
     (omega (arith, start .pre .2))
     (c .if2 .taken)
     refl
@@ -57,7 +58,7 @@ returns-2 c =
     let r = start .args .node in
     let met = c .before .before .before .boxes-meet in
     let up = c .climb in
-    walk-found (start .pre .0) (start .args .row) v r (up .result .level) (up .result .node) (start .pre .2) (start .pre .3) (met .result)
+    walk-found (start .pre .0) (boxAt (start .args .own .now) (start .args .row)) v r (up .result .level) (up .result .node) (start .pre .2) (start .pre .3) (met .result)
     (met .ensures)
     (up .ensures .0)
     (up .ensures .2)
@@ -72,7 +73,7 @@ returns-3 c =
     let r = start .args .node in
     let met = c .before .before .boxes-meet in
     let up = c .climb2 in
-    walk-missed (start .pre .0) (start .args .row) v r (up .result .level) (up .result .node) (start .pre .2) (start .pre .3) (met .result)
+    walk-missed (start .pre .0) (boxAt (start .args .own .now) (start .args .row)) v r (up .result .level) (up .result .node) (start .pre .2) (start .pre .3) (met .result)
     (met .ensures)
     (up .ensures .0)
     (up .ensures .2)
@@ -89,7 +90,7 @@ step-spec =
     add-place
     boxes-meet-requires
     (λ c. search needs)
-    mul-t18
+    mul-t19
     add-climb
     (λ c κs. search needs)
     add-climb-2

@@ -1,0 +1,106 @@
+-- `place_row`: what is put down, with what is left of the row, is all of it.
+use native.Mathlib.Omega.{arith}
+use Prim.Native.Nat.{_+_, _*_, _-_, _≤_}
+use lib.ListN.{length}
+use Rattle.scene_seams.specs.Alone.{tabled}
+use Rattle.mesh_tree.specs.Levels.{firstUnder}
+use Rattle.mesh_walk.specs.Places.{found-there}
+use Rattle.mesh_walk.specs.Steps.{rowMeets}
+use Rattle.mesh_entries.specs.Entering.{Entering, entering-place, entering-length, entered-room}
+use Rattle.mesh_rows.specs.Rows.{partRow, part-row-short, secondOf, secondsOf, leftOf, row-askable, row-starts, row-goes, row-ends, row-few, seconds-put}
+use Rattle.mesh_rows.proofs.place_row.Statement.{statement}
+use Rattle.mesh_rows.proofs.place_row.Tie as tie
+
+abbrev Inv-loop : tie.InvT-loop
+Inv-loop positions edges triangles stands boxes levels parts top which kind i row from places₀ level₀ node₀ k₀ places level node k =
+    (level ≤ top)
+    × Entering (length places₀) places₀ 0 (secondsOf (partRow which (tabled positions edges triangles stands) kind i)) places k
+    (leftOf secondOf which (tabled positions edges triangles stands) kind i (rowMeets boxes levels row) parts (firstUnder level node))
+
+abbrev μ-loop : tie.MeasureT-loop
+μ-loop positions edges triangles stands boxes levels parts top which kind i row from places₀ level₀ node₀ k₀ places level node k =
+    17 * (parts - firstUnder level node) + level
+
+climb-requires : tie.Need-climb-requires Inv-loop μ-loop
+climb-requires c κs = (omega arith, c .before .before .before .before .before .pre .0 .tree .low)
+
+loop-holds : tie.Need-loop-holds Inv-loop μ-loop
+loop-holds c =
+    let start = c .before .before .before .before .before .before in
+    let a = start .args in
+    let up = c .climb in
+    (up .ensures .0, row-starts (start .pre .0) secondOf (a .which) (length (a .places .now)) 0 (a .places .now) (up .result .level) (up .result .node) (up .ensures .1))
+
+mul-if1 : tie.Need-mul-if1 Inv-loop μ-loop
+mul-if1 c = omega (arith, c .loop .inv .0, c .before .before .before .before .before .before .before .pre .0 .tree .low)
+
+add-if1 : tie.Need-add-if1 Inv-loop μ-loop
+add-if1 c = omega (arith, c .loop .inv .0, c .before .before .before .before .before .before .before .pre .0 .tree .low)
+
+mul-if1-2 : tie.Need-mul-if1-2 Inv-loop μ-loop
+mul-if1-2 c = omega (arith, c .loop .inv .0, c .before .before .before .before .before .before .before .pre .0 .tree .low)
+
+shared-slice-read-if1 : tie.Need-shared-slice-read-if1 Inv-loop μ-loop
+shared-slice-read-if1 c =
+    let tree = c .before .before .before .before .before .before .before .before .pre .0 .tree in
+    omega (arith, c .before .loop .inv .0, tree .low, tree .room)
+
+step-requires : tie.Need-step-requires Inv-loop μ-loop
+step-requires c κs =
+    let row = c .before .before .before .before .before .before .before .before .before .pre .0 in
+    let loop = c .before .before .loop in
+    (row .tree, row .inside, loop .inv .0, omega (arith, c .if1 .taken, row .tree .counts (loop .level) (loop .inv .0)))
+
+put-found-requires : tie.Need-put-found-requires Inv-loop μ-loop
+put-found-requires c κs =
+    let start = c .before .before .before .before .before .before .before .before .before .before .before in
+    let row = start .pre .0 in
+    let inv = c .before .before .before .before .loop .inv in
+    let stepped = c .before .step .ensures in (
+      λ e. row-askable row _ (found-there stepped e),
+      omega (arith, entering-place (inv .1), row .few, row-few row secondOf (start .args .which)),
+    )
+
+loop-less : tie.Need-loop-less Inv-loop μ-loop
+loop-less c = c .before .before .before .before .step .ensures .falls
+
+loop-again : tie.Need-loop-again Inv-loop μ-loop
+loop-again c =
+    let a = c .before .before .before .before .before .before .before .before .before .before .before .before .before .before .args in
+    let stepped = c .before .before .before .before .step .ensures in
+    let so-far = c .before .before .before .before .before .before .before .loop .inv .1 in
+    (stepped .low, row-goes secondOf (a .which) (tabled (a .positions .now) (a .edges .now) (a .triangles .now) (a .stands .now)) (a .kind) (a .i) so-far stepped (entered-room (entering-length so-far) (c .before .before .put-found .ensures)))
+
+same-length : tie.Need-same-length Inv-loop μ-loop
+same-length c = entering-length (c .before .before .loop .inv .1)
+
+returns : tie.Need-returns Inv-loop μ-loop
+returns c =
+    let start = c .before .before .before .before .before .before .before .before .before in
+    let a = start .args in
+    let s = tabled (a .positions .now) (a .edges .now) (a .triangles .now) (a .stands .now) in
+    let loop = c .before .before .loop in
+    let row = start .pre .0 in
+    seconds-put (partRow (a .which) s (a .kind) (a .i)) (omega (arith, part-row-short (a .which) s (a .kind) (a .i), row .all, start .pre .1))
+    (row-ends secondOf (a .which) s (a .kind) (a .i) (rowMeets (a .boxes .now) (a .levels .now) (a .row)) (a .parts) (loop .level) (loop .node)
+    (omega (arith, c .if1 .left, row .tree .counts (loop .level) (loop .inv .0)))
+    (loop .inv .1))
+
+pub place-row-spec : {M : Type 1} → statement M
+place-row-spec =
+    tie.close
+    (tie.spec
+    Inv-loop
+    μ-loop
+    climb-requires
+    loop-holds
+    mul-if1
+    add-if1
+    mul-if1-2
+    shared-slice-read-if1
+    step-requires
+    put-found-requires
+    loop-less
+    loop-again
+    same-length
+    returns)
