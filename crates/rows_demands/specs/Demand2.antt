@@ -120,7 +120,8 @@ pub rows-there : {s : Scene} {l : Lent} {rows first end : ℕ} → RowsAsked s l
 rows-there {rows = rows} {first} {end} a =
     (ltb-false end first (or-left (ltb end first) (ltb rows end) (a .there)), ltb-false rows end (or-rest (ltb end first) (ltb rows end) (a .there)))
 
-pub byte-of-word : (s : Scene) (q : Pair) (n : ℕ) → n ≡ byteOf (wordOfPair s q) → (v : Settled) → (n ≡ byteOf v) ↔ PairSettled s (q .kind) (q .first) (q .second) v
+pub byte-of-word : (s : Scene) (q : Pair) (n : ℕ) → n ≡ byteOf (wordOfPair s q)
+    → (v : Settled) → (n ≡ byteOf v) ↔ PairSettled s (q .kind) (q .first) (q .second) v
 byte-of-word s q n is v = (
   λ e. pair-word-is s (q .kind) (q .first) (q .second) v .1 (sym (byte-back v) ∙ ap wordOfByte (sym e ∙ is) ∙ byte-back (wordOfPair s q)),
   λ h. is ∙ ap byteOf (sym (pair-word-is s (q .kind) (q .first) (q .second) v .0 h)),

@@ -15,5 +15,7 @@ pub mod Kept
 pub mod Demand3
 -- near rows say of hits and touches what all rows say
 pub mod NearRows
+-- all rows of a scene say what the calls over scenes say
+pub mod AsScene
 -- each promise shown of something
 pub mod Shown
