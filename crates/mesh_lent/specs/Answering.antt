@@ -9,7 +9,7 @@ use lib.Dec.{eqb, ltb}
 use lib.ListN.{length, length-replicate}
 use borrow.Author.Tests.{ne-eqb, ltb-false, le-ltb}
 use Rattle.meaning.specs.Scene.{Scene, vertexCount}
-use Rattle.meaning.specs.Mesh.{tableRoom, MeshAccepted}
+use Rattle.meaning.specs.Mesh.{meshChecks, MeshChecked, tableRoom, MeshAccepted}
 use Rattle.meaning.specs.Refusals.{sceneSays, numberOf}
 use Rattle.meaning.specs.declared.Refusal.the-variants.{ShortBuffer}
 use Rattle.meaning.specs.declared.SceneAnswer as SceneAnswers
@@ -18,7 +18,7 @@ use Rattle.answers.specs.Answering.{refuses, lets-pass, one-answer}
 use Rattle.answers.specs.Speaking.{scene-says-one}
 use Rattle.scene_seams.specs.Alone.{tabled}
 use Rattle.mesh_seams.specs.Sewing.{MeshBlank}
-use Rattle.mesh_checks.specs.Meshes.{meshChecks, MeshChecked, AcceptedMesh, mesh-accepted}
+use Rattle.mesh_checks.specs.Meshes.{AcceptedMesh, mesh-accepted}
 use Rattle.mesh_checks.specs.Checking.{CheckedInto, one-mesh}
 use Rattle.mesh_lent.specs.Blanking.{blankOf, blank-everywhere}
 
