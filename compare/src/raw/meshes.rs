@@ -10,11 +10,8 @@ use crate::scene::refusal::*;
 use crate::scene::VERTEX_LIMIT;
 
 fn questions(asks: Vec<Ask>) -> Vec<Question> {
-    let asked = |Ask { call, asked, lent }: Ask| Question {
-        call: Call::Mesh(call),
-        asked,
-        lent: Lent { mesh: lent, ..Lent::default() },
-    };
+    let asked =
+        |Ask { call, asked, lent }: Ask| Question { call: Call::Mesh(call), asked, lent: Lent { mesh: lent, ..Lent::default() } };
     asks.into_iter().filter(|ask| exported().contains(&ask.call)).map(asked).collect()
 }
 
@@ -29,8 +26,9 @@ pub fn seeded(seed: u64) -> Vec<Question> {
 // ---- sorts
 
 /// What a call over rows may be refused with, in the order of the checks.
-const CHECKS: [u64; 9] =
-    [LENT_TOO_SHORT, BAD_SHAPE, OUT_OF_RANGE, NO_SUCH_VERTEX, BROKEN_SEAM, VERTEX_TWICE, WRONG_ORDER, NOT_THERE, BEYOND_OLD_RANGE];
+const CHECKS: [u64; 9] = [
+    LENT_TOO_SHORT, BAD_SHAPE, OUT_OF_RANGE, NO_SUCH_VERTEX, BROKEN_SEAM, VERTEX_TWICE, WRONG_ORDER, NOT_THERE, BEYOND_OLD_RANGE,
+];
 const ANSWERED: [&str; 5] =
     ["answered", "answered with seams", "more vertices than a scene has", "vertex numbers beyond 16 bits", "an order lent"];
 const SHORT: [&str; 3] = ["12, table", "12, places", "12, boxes"];
@@ -88,11 +86,13 @@ fn faults(ask: &Ask) -> Vec<u64> {
         Answering::default().answer(&other, Wrong::Nothing).0
     };
     let counts = mesh::Call::Count(RowPairs::Listed);
-    let short = lent.table.len() < lent.table_room() || lent.places.len() < lent.place_room() || lent.boxes.len() < lent.box_room();
+    let short =
+        lent.table.len() < lent.table_room() || lent.places.len() < lent.place_room() || lent.boxes.len() < lent.box_room();
     out.extend(short.then_some(LENT_TOO_SHORT));
     let of_mesh = mended(&|other| other.call = mesh::Call::CheckMesh);
     out.extend((of_mesh > 0).then_some(of_mesh));
-    let rows = [lent.positions.len() / 6 + lent.edges.len() / 2, lent.edges.len() / 2][matches!(ask.call, mesh::Call::Pierced(_)) as usize];
+    let rows = [lent.positions.len() / 6 + lent.edges.len() / 2, lent.edges.len() / 2]
+        [matches!(ask.call, mesh::Call::Pierced(_)) as usize];
     let empty = |other: &mut Ask| {
         let parts = other.lent.clone();
         // no part but those that the orders speak of: edges and triangles over three vertices
@@ -152,7 +152,10 @@ pub fn sorts_of(question: &Question, answer: &Answer) -> Vec<String> {
         add(first == 0 && end == rows as u64 && rows > 0, "all rows");
         add(first == end, "no row");
         // of pierced edges all rows are edges'
-        add((first as usize) < vertices && end as usize > vertices || rows < vertices && end > first, "rows of vertices and of edges");
+        add(
+            (first as usize) < vertices && end as usize > vertices || rows < vertices && end > first,
+            "rows of vertices and of edges",
+        );
     }
     if given == LENT_TOO_SHORT {
         add(lent.table.len() < lent.table_room(), "12, table");
@@ -161,7 +164,10 @@ pub fn sorts_of(question: &Question, answer: &Answer) -> Vec<String> {
     }
     if given > 0 && given != NO_ROOM && lent.positions.len() <= 6 * VERTEX_LIMIT {
         for other in faults(&ask).into_iter().filter(|&other| other != given) {
-            add(given == LENT_TOO_SHORT || other == WRONG_ORDER && [BAD_SHAPE, OUT_OF_RANGE].contains(&given), &format!("{given} before {other}"));
+            add(
+                given == LENT_TOO_SHORT || other == WRONG_ORDER && [BAD_SHAPE, OUT_OF_RANGE].contains(&given),
+                &format!("{given} before {other}"),
+            );
             add(given == WRONG_ORDER && other == NOT_THERE, &format!("{given} before {other}"));
         }
     }
@@ -190,10 +196,26 @@ pub fn sorts_of(question: &Question, answer: &Answer) -> Vec<String> {
 
 /// Those that show in the calls that the library has.
 const SHOWN: [Wrong; 20] = [
-    Wrong::FarWhereEqual, Wrong::FarAtTheStart, Wrong::NearIsListed, Wrong::LastRowTaken, Wrong::FirstRowLeft, Wrong::EdgesBothWays,
-    Wrong::VerticesOnly, Wrong::KindAt62, Wrong::PlacesCutTo16, Wrong::SeamsUnseen, Wrong::WrittenUntilFull, Wrong::NeededNotTold,
-    Wrong::RestCleared, Wrong::TwelveBehindTheMesh, Wrong::OneOfAScene, Wrong::OrdersBehindRows, Wrong::OrderRepeats, Wrong::RowsCut,
-    Wrong::SidesOneWay, Wrong::TwiceUnseen,
+    Wrong::FarWhereEqual,
+    Wrong::FarAtTheStart,
+    Wrong::NearIsListed,
+    Wrong::LastRowTaken,
+    Wrong::FirstRowLeft,
+    Wrong::EdgesBothWays,
+    Wrong::VerticesOnly,
+    Wrong::KindAt62,
+    Wrong::PlacesCutTo16,
+    Wrong::SeamsUnseen,
+    Wrong::WrittenUntilFull,
+    Wrong::NeededNotTold,
+    Wrong::RestCleared,
+    Wrong::TwelveBehindTheMesh,
+    Wrong::OneOfAScene,
+    Wrong::OrdersBehindRows,
+    Wrong::OrderRepeats,
+    Wrong::RowsCut,
+    Wrong::SidesOneWay,
+    Wrong::TwiceUnseen,
 ];
 
 pub fn damages() -> Vec<Damage> {

@@ -15,7 +15,8 @@ const MOST: usize = 12;
 /// Some edges and triangles, the shared ones too; and places just at their bound and beyond.
 pub fn about(random: &mut Random, scene: &Scene) -> Vec<Question> {
     let (edges, triangles) = (scene.edges.len(), scene.triangles.len());
-    let mut asked = vec![[edges, 0], [0, triangles], [edges, triangles]].into_iter().map(|two| two.map(|n| n as u64)).collect::<Vec<_>>();
+    let mut asked =
+        vec![[edges, 0], [0, triangles], [edges, triangles]].into_iter().map(|two| two.map(|n| n as u64)).collect::<Vec<_>>();
     asked.push([beyond(random, edges), 0]);
     asked.push([0, beyond(random, triangles)]);
     if edges > 0 && triangles > 0 {
