@@ -1,9 +1,9 @@
 -- By the time.
 use borrow.Author.Needs.{needs}
 use mathlib.Core.Path.{refl}
-use Rattle.pierced_pair.specs.Parts.{offsetOf}
-use Rattle.pierced_pair.proofs.accepted.place_of.Statement.{statement}
-use Rattle.pierced_pair.proofs.accepted.place_of.Tie as tie
+use Rattle.pierced_pair.specs.Vertices.{offsetOf}
+use Rattle.pierced_pair.proofs.places.place_of.Statement.{statement}
+use Rattle.pierced_pair.proofs.places.place_of.Tie as tie
 
 returns : tie.Need-returns
 unfolding offsetOf
