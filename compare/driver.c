@@ -111,6 +111,12 @@ static uint64_t answer(const struct question *q) {
     case 40:
         return makhnodri_settle_near_rows_slices(ROWS, q->asked[0], q->asked[1], LEND(MESH_LIST), LEND(MESH_WORDS),
             lent(MESH_TOLD));
+    case 41:
+        return makhnodri_contact_rows_slices(ROWS, q->asked[0], q->asked[1], LEND(MESH_LIST), LEND(MESH_WORDS),
+            LEND(MESH_CONTACTS), lent(MESH_TOLD));
+    case 42:
+        return makhnodri_contact_near_rows_slices(ROWS, q->asked[0], q->asked[1], LEND(MESH_LIST), LEND(MESH_WORDS),
+            LEND(MESH_CONTACTS), lent(MESH_TOLD));
     case 47: return makhnodri_pierced_at_start_rows_slices(ROWS, q->asked[0], q->asked[1], LEND(MESH_LIST), lent(MESH_TOLD));
     case 48: return makhnodri_pierced_at_end_rows_slices(ROWS, q->asked[0], q->asked[1], LEND(MESH_LIST), lent(MESH_TOLD));
     }

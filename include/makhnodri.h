@@ -120,6 +120,7 @@ extern "C" {
  *     count_rows, count_near_rows                   2,304
  *     list_rows, list_near_rows                     2,304
  *     settle_rows, settle_near_rows                 3,072
+ *     contact_rows, contact_near_rows               4,096
  *     pierced_at_start_rows, pierced_at_end_rows    3,584
  *
  * ---- An answer ----
@@ -484,6 +485,12 @@ uint32_t makhnodri_settle_rows_slices(MAKHNODRI_ROW_LISTS, size_t first, size_t 
                                      uint8_t *words, size_t words_length, uint64_t told[MAKHNODRI_AT_LEAST(1)]);
 uint32_t makhnodri_settle_near_rows_slices(MAKHNODRI_ROW_LISTS, size_t first, size_t end, uint64_t *list, size_t list_length,
                                      uint8_t *words, size_t words_length, uint64_t told[MAKHNODRI_AT_LEAST(1)]);
+uint32_t makhnodri_contact_rows_slices(MAKHNODRI_ROW_LISTS, size_t first, size_t end, uint64_t *list, size_t list_length,
+                                     uint8_t *words, size_t words_length, uint32_t *contacts, size_t contacts_length,
+                                     uint64_t told[MAKHNODRI_AT_LEAST(1)]);
+uint32_t makhnodri_contact_near_rows_slices(MAKHNODRI_ROW_LISTS, size_t first, size_t end, uint64_t *list, size_t list_length,
+                                     uint8_t *words, size_t words_length, uint32_t *contacts, size_t contacts_length,
+                                     uint64_t told[MAKHNODRI_AT_LEAST(1)]);
 uint32_t makhnodri_pierced_at_start_rows_slices(MAKHNODRI_ROW_LISTS, size_t first, size_t end, uint64_t *list, size_t list_length,
                                      uint64_t told[MAKHNODRI_AT_LEAST(1)]);
 uint32_t makhnodri_pierced_at_end_rows_slices(MAKHNODRI_ROW_LISTS, size_t first, size_t end, uint64_t *list, size_t list_length,
@@ -809,6 +816,24 @@ static inline uint32_t makhnodri_settle_near_rows(const makhnodri_mesh *mesh, ma
                                      uint64_t *list, size_t list_length, uint8_t *words, size_t words_length, uint64_t *count) {
     return makhnodri_settle_near_rows_slices(MAKHNODRI_ROW_LISTS_OF(mesh, scratch), first, end, list, list_length, words,
         words_length, count);
+}
+
+/*
+ * And the contact of each hit: that of entry i begins at contacts[5 * i], as of makhnodri_contact_scene. 16 stands before 7. Room is the smallest
+ * of list_length, words_length and contacts_length / 5, rounded down.
+ */
+static inline uint32_t makhnodri_contact_rows(const makhnodri_mesh *mesh, makhnodri_scratch *scratch, size_t first, size_t end,
+                                     uint64_t *list, size_t list_length, uint8_t *words, size_t words_length, uint32_t *contacts,
+                                     size_t contacts_length, uint64_t *count) {
+    return makhnodri_contact_rows_slices(MAKHNODRI_ROW_LISTS_OF(mesh, scratch), first, end, list, list_length, words, words_length,
+        contacts, contacts_length, count);
+}
+
+static inline uint32_t makhnodri_contact_near_rows(const makhnodri_mesh *mesh, makhnodri_scratch *scratch, size_t first, size_t end,
+                                     uint64_t *list, size_t list_length, uint8_t *words, size_t words_length, uint32_t *contacts,
+                                     size_t contacts_length, uint64_t *count) {
+    return makhnodri_contact_near_rows_slices(MAKHNODRI_ROW_LISTS_OF(mesh, scratch), first, end, list, list_length, words,
+        words_length, contacts, contacts_length, count);
 }
 
 /*

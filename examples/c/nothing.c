@@ -173,6 +173,10 @@ static void hold_meshes(void) {
     hold_mesh("settle_rows", makhnodri_settle_rows_slices(NO_SCENE, NO_HINTS, boxes, 192, 0, 0, NULL, 0, NULL, 0, told), 0);
     hold_mesh("settle_near_rows, no boxes", makhnodri_settle_near_rows_slices(NO_SCENE, NO_HINTS, NULL, 0, 0, 0, NULL, 0, NULL, 0, told), MAKHNODRI_SHORT_BUFFER);
     hold_mesh("settle_near_rows", makhnodri_settle_near_rows_slices(NO_SCENE, NO_HINTS, boxes, 192, 0, 0, NULL, 0, NULL, 0, told), 0);
+    hold_mesh("contact_rows, no boxes", makhnodri_contact_rows_slices(NO_SCENE, NO_HINTS, NULL, 0, 0, 0, NULL, 0, NULL, 0, NULL, 0, told), MAKHNODRI_SHORT_BUFFER);
+    hold_mesh("contact_rows", makhnodri_contact_rows_slices(NO_SCENE, NO_HINTS, boxes, 192, 0, 0, NULL, 0, NULL, 0, NULL, 0, told), 0);
+    hold_mesh("contact_near_rows, no boxes", makhnodri_contact_near_rows_slices(NO_SCENE, NO_HINTS, NULL, 0, 0, 0, NULL, 0, NULL, 0, NULL, 0, told), MAKHNODRI_SHORT_BUFFER);
+    hold_mesh("contact_near_rows", makhnodri_contact_near_rows_slices(NO_SCENE, NO_HINTS, boxes, 192, 0, 0, NULL, 0, NULL, 0, NULL, 0, told), 0);
     hold_mesh("pierced_at_start_rows, no boxes", makhnodri_pierced_at_start_rows_slices(NO_SCENE, NO_HINTS, NULL, 0, 0, 0, NULL, 0, told), MAKHNODRI_SHORT_BUFFER);
     hold_mesh("pierced_at_start_rows", makhnodri_pierced_at_start_rows_slices(NO_SCENE, NO_HINTS, boxes, 192, 0, 0, NULL, 0, told), 0);
     hold_mesh("pierced_at_end_rows, no boxes", makhnodri_pierced_at_end_rows_slices(NO_SCENE, NO_HINTS, NULL, 0, 0, 0, NULL, 0, told), MAKHNODRI_SHORT_BUFFER);
@@ -190,6 +194,8 @@ static void hold_meshes(void) {
     hold_mesh("list_near_rows of a struct", makhnodri_list_near_rows(&mesh, &scratch, 0, 0, NULL, 0, told), 0);
     hold_mesh("settle_rows of a struct", makhnodri_settle_rows(&mesh, &scratch, 0, 0, NULL, 0, NULL, 0, told), 0);
     hold_mesh("settle_near_rows of a struct", makhnodri_settle_near_rows(&mesh, &scratch, 0, 0, NULL, 0, NULL, 0, told), 0);
+    hold_mesh("contact_rows of a struct", makhnodri_contact_rows(&mesh, &scratch, 0, 0, NULL, 0, NULL, 0, NULL, 0, told), 0);
+    hold_mesh("contact_near_rows of a struct", makhnodri_contact_near_rows(&mesh, &scratch, 0, 0, NULL, 0, NULL, 0, NULL, 0, told), 0);
     hold_mesh("pierced_at_start_rows of a struct", makhnodri_pierced_at_start_rows(&mesh, &scratch, 0, 0, NULL, 0, told), 0);
     hold_mesh("pierced_at_end_rows of a struct", makhnodri_pierced_at_end_rows(&mesh, &scratch, 0, 0, NULL, 0, told), 0);
 }

@@ -282,6 +282,12 @@ static void settle_rows(void) {
 static void settle_near_rows(void) {
     makhnodri_settle_near_rows_slices(ROWS, ALL, entries, sizeof entries / sizeof entries[0], words, sizeof words, told_of_a_mesh);
 }
+static void contact_rows(void) {
+    makhnodri_contact_rows_slices(ROWS, ALL, entries, sizeof entries / sizeof entries[0], words, sizeof words, contacts, sizeof contacts / sizeof contacts[0], told_of_a_mesh);
+}
+static void contact_near_rows(void) {
+    makhnodri_contact_near_rows_slices(ROWS, ALL, entries, sizeof entries / sizeof entries[0], words, sizeof words, contacts, sizeof contacts / sizeof contacts[0], told_of_a_mesh);
+}
 static void pierced_at_start_rows(void) {
     makhnodri_pierced_at_start_rows_slices(ROWS, 0, MAKHNODRI_EDGE_LIMIT, entries, sizeof entries / sizeof entries[0], told_of_a_mesh);
 }
@@ -336,6 +342,8 @@ static const struct {
     {"list_near_rows", list_near_rows, 4},
     {"settle_rows", settle_rows, 4},
     {"settle_near_rows", settle_near_rows, 4},
+    {"contact_rows", contact_rows, 4},
+    {"contact_near_rows", contact_near_rows, 4},
     {"pierced_at_start_rows", pierced_at_start_rows, 4},
     {"pierced_at_end_rows", pierced_at_end_rows, 4},
 };

@@ -937,6 +937,20 @@ def settle_near_rows(
     """Their entries and the word of each, words[i] that of entry i, of the near ones."""
 
 
+@_calls_mesh("contact_rows_slices", _TOLD_COUNT, _ROWS, _SCRATCH, *_STRETCH, _Write("list", _UINT64), _WORDS, _CONTACTS, _Fixed("told", _UINT64, 1, optional=True))
+def contact_rows(
+    mesh: Mesh, scratch: Scratch, first: int, end: int, list: WriteableBuffer, words: WriteableBuffer, contacts: WriteableBuffer, told: typing.Optional[WriteableBuffer] = None, /
+) -> int:
+    """And the contact of each hit: that of entry i begins at contacts[5 * i]."""
+
+
+@_calls_mesh("contact_near_rows_slices", _TOLD_COUNT, _ROWS, _SCRATCH, *_STRETCH, _Write("list", _UINT64), _WORDS, _CONTACTS, _Fixed("told", _UINT64, 1, optional=True))
+def contact_near_rows(
+    mesh: Mesh, scratch: Scratch, first: int, end: int, list: WriteableBuffer, words: WriteableBuffer, contacts: WriteableBuffer, told: typing.Optional[WriteableBuffer] = None, /
+) -> int:
+    """And the contact of each hit: that of entry i begins at contacts[5 * i], of the near ones."""
+
+
 @_calls_mesh("pierced_at_start_rows_slices", _TOLD_COUNT, _ROWS, _SCRATCH, *_STRETCH, _Write("list", _UINT64), _Fixed("told", _UINT64, 1, optional=True))
 def pierced_at_start_rows(
     mesh: Mesh, scratch: Scratch, first: int, end: int, list: WriteableBuffer, told: typing.Optional[WriteableBuffer] = None, /

@@ -2,7 +2,7 @@
 
 use crate::answers::settled;
 use crate::answers::Refusal;
-use crate::{raw, Kind, Settled};
+use crate::{raw, Contact, Kind, Settled, CONTACT_LENGTH};
 use std::borrow::Cow;
 use std::error::Error;
 use std::fmt::{self, Display, Formatter};
@@ -288,6 +288,26 @@ impl Mesh<'_> {
         counted(number, told)
     }
 
+    /// And the contact of each hit: that of entry i begins at `contacts[5 * i]`; the numbers of a pair that is not hit stay as they were.
+    pub fn contact_rows(
+        &self,
+        scratch: &mut Scratch,
+        which: RowPairs,
+        rows: Range<usize>,
+        list: &mut [u64],
+        words: &mut [u8],
+        contacts: &mut [u32],
+    ) -> Result<u64, RowsRefusal> {
+        let (a, b, mut told, l) = (rows.start, rows.end, [0; 1], (list.as_mut_ptr(), list.len()));
+        let (w, c) = ((words.as_mut_ptr(), words.len()), (contacts.as_mut_ptr(), contacts.len()));
+        let t = told.as_mut_ptr();
+        let number = match which {
+            RowPairs::Listed => ask_rows!(self, scratch, makhnodri_contact_rows_slices, a, b, l.0, l.1, w.0, w.1, c.0, c.1, t),
+            RowPairs::Near => ask_rows!(self, scratch, makhnodri_contact_near_rows_slices, a, b, l.0, l.1, w.0, w.1, c.0, c.1, t),
+        };
+        counted(number, told)
+    }
+
     /// The edges that are through a triangle at the start: an entry for each such edge and triangle, by edge and then by triangle. Rows are the
     /// edges here.
     pub fn pierced_at_start_rows(
@@ -320,5 +340,25 @@ impl Mesh<'_> {
         let (mut list, mut words) = (vec![0; count], vec![0; count]);
         self.settle_rows(scratch, which, rows, &mut list, &mut words).map_err(RowsRefusal::refusal)?;
         Ok(list.into_iter().map(MeshPair::of_entry).zip(words.into_iter().map(|byte| settled(byte as usize))).collect())
+    }
+}
+
+/// The contacts of a stretch with room of their own.
+impl Mesh<'_> {
+    /// Its pairs with their contacts, in order.
+    pub fn contacts_of_rows(
+        &self,
+        scratch: &mut Scratch,
+        which: RowPairs,
+        rows: Range<usize>,
+    ) -> Result<Vec<(MeshPair, Contact)>, Refusal> {
+        let count = self.count_rows(scratch, which, rows.clone())? as usize;
+        let (mut list, mut words, mut contacts) = (vec![0; count], vec![0; count], vec![0; CONTACT_LENGTH * count]);
+        self.contact_rows(scratch, which, rows, &mut list, &mut words, &mut contacts).map_err(RowsRefusal::refusal)?;
+        let pairs = list.into_iter().map(MeshPair::of_entry).zip(words).zip(contacts.chunks_exact(CONTACT_LENGTH));
+        let one = |((pair, word), row): ((MeshPair, u8), &[u32])| {
+            (pair, Contact::heard(pair.kind, settled(word as usize), row.try_into().expect("five numbers")))
+        };
+        Ok(pairs.map(one).collect())
     }
 }

@@ -14,14 +14,17 @@ use Rattle.meaning.specs.Numbers.{numberFor, Numbered}
 use Rattle.meaning.specs.Pierced.{piercedSays, PiercedDecided}
 use Rattle.meaning.specs.Mesh.{MeshAccepted}
 use Rattle.meaning.specs.MeshEdges.{edgesSay, EdgesChecked}
-use Rattle.meaning.specs.MeshRows.{Lent, rowCount, rowChecks, rowsIn, meshEntries, RowsCounted, RowsListed, RowsSettled}
+use Rattle.meaning.specs.MeshRows.{Lent, rowCount, rowChecks, rowsIn, meshEntries, RowsCounted, RowsListed, RowsSettled, RowsContacts}
 use Rattle.meaning.specs.PiercedRows.{PiercedListed}
 use Rattle.meaning.specs.MeshNumbers.{refusalOf, countLeft, edgesLeft, Left}
 use Rattle.meaning.specs.declared.Frame.{Frame}
 use Rattle.meaning.specs.declared.ListAnswer.{ListAnswer}
 use Rattle.meaning.specs.declared.RowPairs.{RowPairs}
 use Rattle.meaning.specs.declared.SceneAnswer.{SceneAnswer}
+use Rattle.meaning.specs.WholeContacts.{rangeCheck, contactRoom, rowsAfter, wordOf}
+use Rattle.meaning.specs.declared.WholeContact.{WholeContact}
 use Rattle.answers.specs.Answering.{one-answer}
+use Rattle.contact_entries.specs.Listed.{all-met-one}
 use Rattle.list_words.specs.OneResult.{all-judged-one}
 use Rattle.mesh_lent.specs.Answering.{one-accepted}
 use Rattle.mesh_edges.specs.Saying.{one-edges-answer}
@@ -87,6 +90,23 @@ module _ (w : RowPairs) (s : Scene) (l : Lent) (first end : ℕ) (t t′ t″ : 
         one-left p q same,
         p .right .list ∙ ap (λ (a : Outcome ℕ). leaves a (meshEntries (rowsIn w s first end)) o) same ∙ sym (q .right .list),
         p .right .bytes ∙ (λ i. leaves (same i) (map byteOf (words i)) b) ∙ sym (q .right .bytes),
+      )
+
+  pub one-rows-contacts : (o o′ o″ b b′ b″ c c′ c″ : List ℕ) → Left listSays countLeft (RowsContacts w s l first end o o′ b b′ c c′) t t′ r
+      → Left listSays countLeft (RowsContacts w s l first end o o″ b b″ c c″) t t″ r′
+      → ((r ≡ r′) × (t′ ≡ t″)) × (o′ ≡ o″) × (b′ ≡ b″) × (c′ ≡ c″)
+  one-rows-contacts o o′ o″ b b′ b″ c c′ c″ p q =
+      let same : listSays (p .answer) ≡ listSays (q .answer) =
+      one-said (rangeCheck s ∷ roomCheck (contactRoom o b c) (length (rowsIn w s first end)) ∷ []) (listSays (p .answer)) (listSays (q .answer))
+      (p .right .answer)
+      (q .right .answer) in
+      let met : p .right .contacts ≡ q .right .contacts =
+      all-met-one s (rowsIn w s first end) (p .right .contacts) (p .right .right)
+      ∙ sym (all-met-one s (rowsIn w s first end) (q .right .contacts) (q .right .right)) in (
+        one-left p q same,
+        p .right .list ∙ ap (λ (a : Outcome ℕ). leaves a (meshEntries (rowsIn w s first end)) o) same ∙ sym (q .right .list),
+        p .right .bytes ∙ (λ i. leaves (same i) (map (λ (m : WholeContact). byteOf (wordOf m)) (met i)) b) ∙ sym (q .right .bytes),
+        p .right .rows ∙ (λ i. rowsAfter (same i) (met i) c) ∙ sym (q .right .rows),
       )
 
 pub one-pierced-rows : (f : Frame) (s : Scene) (l : Lent) (first end : ℕ) (o o′ o″ t t′ t″ : List ℕ) (r r′ : ℕ)

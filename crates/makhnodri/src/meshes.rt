@@ -8,7 +8,7 @@ ghost use Rattle.meaning.specs.Refusals.{sceneSays};
 ghost use Rattle.meaning.specs.List.{listSays};
 ghost use Rattle.meaning.specs.Mesh.{MeshAccepted};
 ghost use Rattle.meaning.specs.MeshEdges.{edgesSay, EdgesChecked};
-ghost use Rattle.meaning.specs.MeshRows.{lentAtEntry, RowsCounted, RowsListed, RowsSettled};
+ghost use Rattle.meaning.specs.MeshRows.{lentAtEntry, RowsCounted, RowsListed, RowsSettled, RowsContacts};
 ghost use Rattle.meaning.specs.PiercedRows.{PiercedListed};
 ghost use Rattle.meaning.specs.MeshNumbers.{refusalOf, countLeft, edgesLeft, Left};
 ghost use Rattle.meaning.specs.Numbers.{Numbered};
@@ -298,6 +298,92 @@ pub extern "C" fn makhnodri_settle_near_rows_slices(
         end,
         list,
         words,
+    );
+    tell_count(told, answer)
+}
+
+// And the contact of each hit in its row of five numbers.
+#[no_mangle]
+pub extern "C" fn makhnodri_contact_rows_slices(
+    positions: &[i32],
+    edges: &[u32],
+    triangles: &[u32],
+    seams: &[u32],
+    edge_order: &[u32],
+    triangle_order: &[u32],
+    table: &mut [u32],
+    places: &mut [u32],
+    boxes: &mut [i32],
+    first: usize,
+    end: usize,
+    list: &mut [u64],
+    words: &mut [u8],
+    contacts: &mut [u32],
+    told: &mut [u64; 1],
+) -> u32
+    ensures { λ r. ⌜ Left listSays countLeft (RowsContacts Listed (sceneAtEntry positions edges triangles seams)
+        (lentAtEntry «edge_order» «triangle_order» table places boxes) first end (atEntry list) (atExit list) (atEntry words) (atExit words) (atEntry contacts) (atExit contacts))
+        (atEntry told) (atExit told) r ⌝ }
+{
+    let answer = mesh_met::contact_rows(
+        positions,
+        edges,
+        triangles,
+        seams,
+        edge_order,
+        triangle_order,
+        table,
+        places,
+        boxes,
+        RowPairs::Listed,
+        first,
+        end,
+        list,
+        words,
+        contacts,
+    );
+    tell_count(told, answer)
+}
+
+// The same of the near ones.
+#[no_mangle]
+pub extern "C" fn makhnodri_contact_near_rows_slices(
+    positions: &[i32],
+    edges: &[u32],
+    triangles: &[u32],
+    seams: &[u32],
+    edge_order: &[u32],
+    triangle_order: &[u32],
+    table: &mut [u32],
+    places: &mut [u32],
+    boxes: &mut [i32],
+    first: usize,
+    end: usize,
+    list: &mut [u64],
+    words: &mut [u8],
+    contacts: &mut [u32],
+    told: &mut [u64; 1],
+) -> u32
+    ensures { λ r. ⌜ Left listSays countLeft (RowsContacts Near (sceneAtEntry positions edges triangles seams)
+        (lentAtEntry «edge_order» «triangle_order» table places boxes) first end (atEntry list) (atExit list) (atEntry words) (atExit words) (atEntry contacts) (atExit contacts))
+        (atEntry told) (atExit told) r ⌝ }
+{
+    let answer = mesh_met::contact_rows(
+        positions,
+        edges,
+        triangles,
+        seams,
+        edge_order,
+        triangle_order,
+        table,
+        places,
+        boxes,
+        RowPairs::Near,
+        first,
+        end,
+        list,
+        words,
+        contacts,
     );
     tell_count(told, answer)
 }
