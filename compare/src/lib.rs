@@ -35,6 +35,9 @@ pub mod report;
 /// The contacts of hit pairs.
 pub mod contacts;
 
+/// Meshes of any size, by rows.
+pub mod mesh;
+
 /// Claims about pieces, yes or no.
 pub mod claims;
 

@@ -17,13 +17,15 @@ pub struct Slices<'a> {
 
 /// Refusals 1, 2, 3, 15, 4, each over the whole scene before the next.
 pub fn scene(slices: Slices) -> Result<Scene, Refusal> {
+    within(slices, [VERTEX_LIMIT, EDGE_LIMIT, TRIANGLE_LIMIT, SEAM_LIMIT])
+}
+
+/// The same with other sizes: so many vertices, edges, triangles and seams at most.
+pub fn within(slices: Slices, limits: [usize; 4]) -> Result<Scene, Refusal> {
     let Slices { positions, edges, triangles, seams } = slices;
-    let shaped = |length: usize, step: usize, limit: usize| length.is_multiple_of(step) && length / step <= limit;
-    if !shaped(positions.len(), 6, VERTEX_LIMIT)
-        || !shaped(edges.len(), 2, EDGE_LIMIT)
-        || !shaped(triangles.len(), 3, TRIANGLE_LIMIT)
-        || !shaped(seams.len(), 2, SEAM_LIMIT)
-    {
+    let lengths = [positions.len(), edges.len(), triangles.len(), seams.len()];
+    let shaped = |((length, step), limit): ((usize, usize), usize)| length.is_multiple_of(step) && length / step <= limit;
+    if !lengths.into_iter().zip([6, 2, 3, 2]).zip(limits).all(shaped) {
         return Err(Refusal::bare(BAD_SHAPE));
     }
     if !positions.iter().all(|&coordinate| in_range(coordinate)) {

@@ -21,6 +21,8 @@ pub const BROKEN_SEAM: u64 = 15;
 pub const BEYOND_OLD_RANGE: u64 = 16;
 /// Document 02, §8: a stored box that isn't the one worked out.
 pub const STALE_BOX: u64 = 17;
+/// Of a mesh: a lent order that is none, or a certificate of another length.
+pub const WRONG_ORDER: u64 = 18;
 
 /// `third` is the third field of a refused report: the line, the needed count, or 0 where there is neither.
 #[derive(Clone, Copy, Debug, PartialEq, Eq)]

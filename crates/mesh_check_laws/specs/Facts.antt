@@ -6,10 +6,11 @@ use native.Mathlib.Omega.{arith}
 use lib.ListN.{length}
 use borrow.Author.Tests.{ltb-false}
 use Rattle.meaning.specs.Scene.{Scene, vertexCount, edgeCount, triangleCount, seamCount, reachesBeyond}
+use Rattle.meaning.specs.Limits.{partLimit}
 use Rattle.answers.specs.Below.{or-left, or-rest}
 use Rattle.scene_checks.specs.Facts.{none-over, checked-sound}
 pub use Rattle.scene_checks.specs.Facts.{SoundWithin, Sound}
-use Rattle.mesh_checks.specs.Meshes.{partLimit, AcceptedMesh}
+use Rattle.mesh_checks.specs.Meshes.{AcceptedMesh}
 
 -- six numbers to each vertex, two to each edge, three to each triangle, two to each seam, and no more of them than 2^30
 pub record MeshSized (s : Scene) : Type 0 where

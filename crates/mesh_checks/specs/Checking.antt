@@ -6,6 +6,7 @@ use mathlib.Core.Path.{_≡_, ap}
 use native.Mathlib.Omega.{arith}
 use lib.ListN.{length}
 use Rattle.meaning.specs.Scene.{Scene, sceneOf, vertexCount, unknownVertex}
+use Rattle.meaning.specs.Mesh.{meshShape, MeshChecked}
 use Rattle.meaning.specs.declared.SceneAnswer.{SceneAnswer}
 use Rattle.answers.specs.Below.{or-left, or-rest}
 use Rattle.scene_checks.specs.Facts.{none-over, known-inside}
@@ -13,7 +14,7 @@ use Rattle.scene_checks.specs.Ways.{stitchedBy, Way}
 use Rattle.scene_seams.specs.Table.{seamsOf}
 use Rattle.scene_seams.specs.Alone.{tabled}
 use Rattle.mesh_seams.specs.Sewing.{MeshBlank, MeshSewable}
-use Rattle.mesh_checks.specs.Meshes.{meshShape, MeshChecked, AcceptedMesh}
+use Rattle.mesh_checks.specs.Meshes.{AcceptedMesh}
 
 -- the seams are taken into the table once 1, 2 and 3 have passed
 abbrev pub meshStitched : Scene → List ℕ → List ℕ

@@ -8,11 +8,12 @@ use native.Mathlib.Omega.{arith}
 use lib.Dec.{ltb}
 use borrow.Author.Tests.{ltb-false, le-ltb}
 use Rattle.meaning.specs.Scene.{Scene, Accepted, vertexCount, edgeCount, triangleCount, seamCount, uneven, overSize, wrongShape}
-use Rattle.meaning.specs.Limits.{vertexLimit, edgeLimit, triangleLimit, seamLimit}
+use Rattle.meaning.specs.Limits.{vertexLimit, edgeLimit, triangleLimit, seamLimit, partLimit}
 use Rattle.meaning.specs.Refusals.{Check, Answers, SceneChecked, sceneSays, sceneChecks}
+use Rattle.meaning.specs.Mesh.{overMeshSize, meshShape, meshChecks, MeshChecked}
 use Rattle.meaning.specs.declared.SceneAnswer.{SceneAnswer}
 use Rattle.answers.specs.Below.{or-left, or-rest}
-use Rattle.mesh_checks.specs.Meshes.{partLimit, overMeshSize, meshShape, meshChecks, MeshChecked, AcceptedMesh}
+use Rattle.mesh_checks.specs.Meshes.{AcceptedMesh}
 
 -- what is not over a lower limit is not over a higher one
 fewer : (a b n : ℕ) → a ≤ b → ltb a n ≡ false → ltb b n ≡ false

@@ -7,9 +7,9 @@ use native.Mathlib.Omega.{arith}
 use lib.ListN.{length}
 use Rattle.meaning.specs.Scene.{Scene, sceneOf, edgeCount}
 use Rattle.mesh_orders.specs.Orders.{Order, LeadsBack, at}
-use Rattle.mesh_edges.specs.First.{FirstWith}
-use Rattle.mesh_edges.specs.Sides.{EverySide, bareAt, every-side}
-use Rattle.mesh_edges.specs.Ends.{NoneTwice, fallsAt, none-twice}
+use Rattle.meaning.specs.MeshEdges.{whole, bareSide, endsFall, EdgesAre}
+use Rattle.mesh_edges.specs.Sides.{EverySide, every-side}
+use Rattle.mesh_edges.specs.Ends.{NoneTwice, none-twice}
 
 abbrev pub oneTriangle : Scene
 oneTriangle = sceneOf [] (0 ∷ 1 ∷ 2 ∷ 1 ∷ 0 ∷ 2 ∷ []) (0 ∷ 1 ∷ 2 ∷ []) []
@@ -26,17 +26,10 @@ below-two P a b zero h = a
 below-two P a b (suc zero) h = b
 below-two P a b (suc (suc k)) h = absurd (omega arith)
 
--- its sides are edges 0, 1 and 2
-pub sides-shown : EverySide oneTriangle
-sides-shown =
-    every-side oneTriangle (0 ∷ 1 ∷ 2 ∷ [])
-    (record {
-      within = omega arith;
-      before = below-three (λ k. bareAt (oneTriangle .edges) (oneTriangle .triangles) (0 ∷ 1 ∷ 2 ∷ []) k ≡ false) refl refl refl;
-      passes = λ h. absurd (omega arith);
-    })
+-- its sides are edges 0, 1 and 2; edges 0, 2, 1 have rising ends
+abbrev pub itsSides : List ℕ
+itsSides = 0 ∷ 1 ∷ 2 ∷ []
 
--- edges 0, 2, 1 have rising ends
 abbrev pub byEnds : List ℕ
 byEnds = 0 ∷ 2 ∷ 1 ∷ []
 
@@ -50,11 +43,15 @@ ways =
 pub order-shown : Order 3 byEnds
 order-shown = record { whole = refl; inverse = at byEnds; out = ways; home = ways }
 
+pub shown-whole : EdgesAre oneTriangle itsSides byEnds whole
+unfolding EdgesAre
+shown-whole =
+    (below-three (λ k. bareSide oneTriangle itsSides k ≡ false) refl refl refl, below-two (λ k. endsFall oneTriangle byEnds k ≡ false) refl refl)
+
+pub sides-shown : EverySide oneTriangle
+unfolding EdgesAre
+sides-shown = every-side oneTriangle itsSides byEnds (shown-whole .0)
+
 pub none-twice-shown : NoneTwice oneTriangle
-none-twice-shown =
-    none-twice oneTriangle byEnds order-shown
-    (record {
-      within = omega arith;
-      before = below-two (λ k. fallsAt (oneTriangle .edges) byEnds k ≡ false) refl refl;
-      passes = λ h. absurd (omega arith);
-    })
+unfolding EdgesAre
+none-twice-shown = none-twice oneTriangle itsSides byEnds order-shown (shown-whole .1)

@@ -1,17 +1,17 @@
 -- Every side of every triangle is an edge: told by the numbers of the edges, one for each side.
-use Prim.Native.Nat.{ℕ, _+_, _-_, _*_, _/_, _%_, _≤_, _<_}
-use mathlib.Core.Bool.{Bool, true, false, true≢false, not, _&&_, _||_}
+use Prim.Native.Nat.{ℕ, _+_, _-_, _*_, _%_, _≤_, _<_}
+use mathlib.Core.Bool.{Bool, true, false, not, _&&_, _||_}
 use mathlib.Core.List.{List}
 use mathlib.Core.Logic.{_≢_, _⊎_, inl, inr, ⊎-elim}
-use mathlib.Core.Path.{_≡_, refl, sym, _∙_}
+use mathlib.Core.Path.{_≡_, sym, _∙_}
 use native.Mathlib.Decide.{decLt}
 use native.Mathlib.Omega.{arith}
-use lib.Dec.{eqb, ltb}
+use lib.Dec.{eqb, leb}
 use lib.ListN.{length, getD}
-use borrow.Author.Tests.{lt-ltb, le-ltb, ltb-true, eq-eqb, ne-eqb, eqb-true}
+use borrow.Author.Tests.{lt-leb, le-leb, leb-false, not-false, eq-eqb, ne-eqb, eqb-true}
 use Rattle.meaning.specs.Scene.{Scene, edgeCount, triangleCount, edgeEnd, corner}
-use Rattle.sequences.specs.Pick.{pick, pick-true, pick-false, both, one-of}
-use Rattle.mesh_edges.specs.First.{FirstWith}
+use Rattle.meaning.specs.MeshEdges.{nextCorner, joins, bareSide, JoinedTo}
+use Rattle.sequences.specs.Pick.{pick-true, pick-false, both, neither, one-of}
 
 -- edge e has the ends a and b, in either order
 abbrev pub Joins : Scene → (e a b : ℕ) → Type 0
@@ -21,27 +21,12 @@ Joins s e a b = ((edgeEnd s e 0 ≡ a) × (edgeEnd s e 1 ≡ b)) ⊎ ((edgeEnd s
 pub record SideIsEdge (s : Scene) (t k : ℕ) : Type 0 where
   pub edge : ℕ
   pub there : edge < edgeCount s
-  pub joins : Joins s edge (corner s t k) (corner s t ((k + 1) % 3))
+  pub joined : Joins s edge (corner s t k) (corner s t ((k + 1) % 3))
 
 abbrev pub EverySide : Scene → Type 0
 EverySide s = (t k : ℕ) → t < triangleCount s → k < 3 → SideIsEdge s t k
 
 -- ---- as it is computed
-
--- in the list of corners, three to a triangle
-abbrev pub nextCorner : ℕ → ℕ
-nextCorner k = pick (eqb (k % 3) 2) (k - 2) (k + 1)
-
-abbrev pub joinsAt : List ℕ → (e a b : ℕ) → Bool
-joinsAt edges e a b =
-    (eqb (getD edges (2 * e + 0) 0) a && eqb (getD edges (2 * e + 1) 0) b)
-    || (eqb (getD edges (2 * e + 0) 0) b && eqb (getD edges (2 * e + 1) 0) a)
-
-abbrev pub bareAt : List ℕ → List ℕ → List ℕ → ℕ → Bool
-bareAt edges triangles sides k =
-    pick (ltb (getD sides k 0) (length edges / 2))
-    (not (joinsAt edges (getD sides k 0) (getD triangles k 0) (getD triangles (nextCorner k) 0)))
-    true
 
 pub next-at-end : (k : ℕ) → k % 3 ≡ 2 → k - 2 ≡ nextCorner k
 next-at-end k h = sym (pick-true (k - 2) (k + 1) (eq-eqb (k % 3) 2 h))
@@ -57,21 +42,27 @@ next-inside n k whole h = by-corner (decLt (k % 3) 2)
     by-corner (yes e) = let place = next-before k (λ q. omega arith) in omega (arith, place)
     by-corner (no e) = let last : k % 3 ≡ 2 = omega arith in let place = next-at-end k last in omega (arith, place)
 
-pub is-bare : (edges triangles sides : List ℕ) (k edge a b : ℕ) → edge ≡ getD sides k 0 → edge < length edges / 2 → a ≡ getD triangles k 0 → b ≡ getD triangles (nextCorner k) 0 → not (joinsAt edges edge a b) ≡ bareAt edges triangles sides k
-is-bare edges triangles sides k edge a b e h f g =
-    rw (e, f, g)
-    (sym (pick-true (not (joinsAt edges (getD sides k 0) (getD triangles k 0) (getD triangles (nextCorner k) 0))) true (lt-ltb (getD sides k 0) (length edges / 2) (omega (arith, e)))))
+module _ (s : Scene) (sides : List ℕ) (k edge : ℕ) (e : edge ≡ getD sides k 0) where
+  pub is-bare : (a b : ℕ) → edge < edgeCount s → a ≡ getD (s .triangles) k 0 → b ≡ getD (s .triangles) (nextCorner k) 0
+      → not (joins s edge a b) ≡ bareSide s sides k
+  is-bare a b h f g =
+      rw (f, g, e)
+      (sym (false-or (lt-leb (edgeCount s) (getD sides k 0) (omega (arith, e))) (not (joins s (getD sides k 0) (getD (s .triangles) k 0) (getD (s .triangles) (nextCorner k) 0)))))
+    where
+      false-or : {p : Bool} → p ≡ false → (q : Bool) → p || q ≡ q
+      false-or {p} h q = rw h
 
-pub is-no-edge : (edges triangles sides : List ℕ) (k edge : ℕ) → edge ≡ getD sides k 0 → length edges / 2 ≤ edge → true ≡ bareAt edges triangles sides k
-is-no-edge edges triangles sides k edge e h =
-    sym (pick-false (not (joinsAt edges (getD sides k 0) (getD triangles k 0) (getD triangles (nextCorner k) 0))) true (le-ltb (getD sides k 0) (length edges / 2) (omega (arith, e))))
+  pub is-no-edge : edgeCount s ≤ edge → true ≡ bareSide s sides k
+  is-no-edge h =
+      let high : leb (edgeCount s) (getD sides k 0) ≡ true = le-leb (edgeCount s) (getD sides k 0) (omega (arith, e)) in
+      rw high
 
 -- ---- what it says
 
 ends-said : (x y c d : ℕ) → eqb x c && eqb y d ≡ true → (x ≡ c) × (y ≡ d)
 ends-said x y c d q = let w = both (eqb x c) (eqb y d) q in (eqb-true x c (w .0), eqb-true y d (w .1))
 
-pub joins-said : (s : Scene) (e a b : ℕ) → joinsAt (s .edges) e a b ≡ true → Joins s e a b
+pub joins-said : (s : Scene) (e a b : ℕ) → joins s e a b ≡ true → Joins s e a b
 joins-said s e a b h =
     ⊎-elim (λ q. inl (ends-said (edgeEnd s e 0) (edgeEnd s e 1) a b q)) (λ q. inr (ends-said (edgeEnd s e 0) (edgeEnd s e 1) b a (q .1)))
     (one-of (eqb (edgeEnd s e 0) a && eqb (edgeEnd s e 1) b) (eqb (edgeEnd s e 0) b && eqb (edgeEnd s e 1) a) h)
@@ -95,24 +86,17 @@ module _ (s : Scene) (sides : List ℕ) (t k : ℕ) (h : k < 3) where
   lent = getD sides (3 * t + k) 0
 
   abbrev met : Bool
-  met = joinsAt (s .edges) lent (getD (s .triangles) (3 * t + k) 0) (getD (s .triangles) (nextCorner (3 * t + k)) 0)
+  met = joins s lent (getD (s .triangles) (3 * t + k) 0) (getD (s .triangles) (nextCorner (3 * t + k)) 0)
 
-  yes-met : (b : Bool) → not b ≡ false → b ≡ true
-  yes-met true q = refl
-  yes-met false q = absurd (true≢false q)
-
-  by-number : (b : Bool) → ltb lent (edgeCount s) ≡ b → pick b (not met) true ≡ false → SideIsEdge s t k
-  by-number true e q =
+  pub side-is-edge : bareSide s sides (3 * t + k) ≡ false → SideIsEdge s t k
+  side-is-edge q =
+      let (there, met-there) = neither (leb (edgeCount s) lent) (not met) q in
       record {
         edge = lent;
-        there = ltb-true lent (edgeCount s) e;
-        joins = rw (next-around t k h) at (joins-said s lent (corner s t k) (getD (s .triangles) (nextCorner (3 * t + k)) 0) (yes-met met q));
+        there = leb-false (edgeCount s) lent there;
+        joined = rw (next-around t k h) at (joins-said s lent (corner s t k) (getD (s .triangles) (nextCorner (3 * t + k)) 0) (not-false met met-there));
       }
-  by-number false e q = absurd (true≢false q)
-
-  pub side-is-edge : bareAt (s .edges) (s .triangles) sides (3 * t + k) ≡ false → SideIsEdge s t k
-  side-is-edge q = by-number (ltb lent (edgeCount s)) refl q
 
 -- no side is bare: every side is an edge
-pub every-side : (s : Scene) (sides : List ℕ) → FirstWith (length (s .triangles)) (bareAt (s .edges) (s .triangles) sides) (length (s .triangles)) → EverySide s
-every-side s sides f t k h l = side-is-edge s sides t k l (f .before (3 * t + k) (omega arith))
+pub every-side : (s : Scene) (sides order : List ℕ) → JoinedTo s sides order (length (s .triangles)) → EverySide s
+every-side s sides order f t k h l = side-is-edge s sides t k l (f (3 * t + k) (omega arith))

@@ -1,5 +1,5 @@
 -- An entry of a mesh's list is taken apart here and nowhere else: its kind and its two places; and that a list of entries tells its pairs.
-use Prim.Native.Nat.{ℕ, _/_, _%_, _≤_, _<_}
+use Prim.Native.Nat.{ℕ, _<_}
 use mathlib.Core.List.{List, List·Memᴰ}
 use mathlib.Core.Path.{_≡_, ap, _∙_}
 use native.Mathlib.Omega.{arith}
@@ -8,9 +8,9 @@ use Rattle.sequences.specs.Mapped.{map-at}
 use Rattle.sequences.specs.Rising.{at-place}
 use Rattle.sequences.specs.Wrote.{written, written-in-front}
 use Rattle.meaning.specs.List.{Pair}
+use Rattle.meaning.specs.MeshRows.{meshNumber, meshEntries}
 use Rattle.meaning.specs.declared.Kind.{Kind}
-use Rattle.meaning.specs.declared.Kind.the-variants.{PointTriangle, EdgeEdge}
-use Rattle.mesh_laws.specs.Entries.{meshKindPart, meshNumber, meshEntries, meshPairOf, mesh-number-back, Within}
+use Rattle.mesh_laws.specs.Entries.{meshPairOf, mesh-number-back, Within}
 
 abbrev pub meshKindOf : ℕ → Kind
 meshKindOf n = (meshPairOf n) .kind
@@ -20,11 +20,6 @@ meshFirstOf n = (meshPairOf n) .first
 
 abbrev pub meshSecondOf : ℕ → ℕ
 meshSecondOf n = (meshPairOf n) .second
-
-pub kind-small : (kind : Kind) → meshKindPart kind ≤ 9_223_372_036_854_775_808
-unfolding meshKindPart
-kind-small PointTriangle = omega arith
-kind-small EdgeEdge = omega arith
 
 pub mesh-entries-length : (ps : List Pair) → length (meshEntries ps) ≡ length ps
 mesh-entries-length ps = length-map ps meshNumber

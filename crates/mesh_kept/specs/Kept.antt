@@ -14,10 +14,10 @@ use Rattle.sequences.specs.Range.{towards}
 use Rattle.meaning.specs.Scene.{Scene}
 use Rattle.meaning.specs.List.{Pair}
 use Rattle.meaning.specs.SceneWords.{byteOf}
+use Rattle.meaning.specs.MeshRows.{meshNumber, meshEntries}
 use Rattle.meaning.specs.declared.Settled.{Settled}
 use Rattle.meaning.specs.declared.Settled.the-variants.{Hit, Miss, Touch, Apart}
 use Rattle.list_words.specs.Listed.{wordOfPair, bytesOf, bytes-length, bytes-at, noPair}
-use Rattle.mesh_laws.specs.Entries.{meshNumber, meshEntries}
 use Rattle.mesh_kept.specs.declared.Wanted.{Wanted}
 
 -- is the word asked for, and is the byte one of a word that is

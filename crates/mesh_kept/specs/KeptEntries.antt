@@ -9,8 +9,8 @@ use Rattle.sequences.specs.Pick.{pick}
 use Rattle.sequences.specs.Wrote.{Wrote}
 use Rattle.meaning.specs.Scene.{Scene}
 use Rattle.meaning.specs.List.{Pair}
+use Rattle.meaning.specs.MeshRows.{meshEntries}
 use Rattle.list_words.specs.Listed.{wordOfPair, bytesOf}
-use Rattle.mesh_laws.specs.Entries.{meshEntries}
 use Rattle.mesh_words.specs.Asked.{Entered, entered-count}
 use Rattle.mesh_kept.specs.declared.Wanted.{Wanted}
 use Rattle.mesh_kept.specs.Kept.{wantsWord, wantedIn, keptPairs, kept-bytes, kept-entries}

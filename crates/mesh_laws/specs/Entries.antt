@@ -13,31 +13,21 @@ use Rattle.sequences.specs.Gather.{gather, gather-from}
 use Rattle.sequences.specs.Mapped.{map-rising}
 use Rattle.sequences.specs.Pick.{pick}
 use Rattle.sequences.specs.Rising.{Rising, rising-append, rising-gather, rising-chosen}
+use Rattle.meaning.specs.Limits.{partLimit}
 use Rattle.meaning.specs.Scene.{Scene, vertexCount, edgeCount, triangleCount}
-use Rattle.meaning.specs.Boxes.{listed}
-use Rattle.meaning.specs.List.{Pair, pair, pairs, pairsOfVertex, pairsOfEdge}
+use Rattle.meaning.specs.List.{Pair, pair, pairs}
+use Rattle.meaning.specs.MeshRows.{rowTest, rowCount, vertexRow, edgeRow, rowsIn, meshKindPart, meshNumber, meshEntries}
 use Rattle.meaning.specs.declared.Kind.{Kind}
 use Rattle.meaning.specs.declared.Kind.the-variants.{PointTriangle, EdgeEdge}
-
-unfoldable pub meshKindPart : Kind → ℕ
-meshKindPart PointTriangle = 0
-meshKindPart EdgeEdge = 9_223_372_036_854_775_808
-
-unfoldable pub meshNumber : Pair → ℕ
-meshNumber p = meshKindPart (p .kind) + 4_294_967_296 * p .first + p .second
-
-pub kind-part-is : meshKindPart EdgeEdge ≡ 2 ^ 63
-unfolding meshKindPart
-kind-part-is = refl
-
-abbrev pub meshEntries : List Pair → List ℕ
-meshEntries ps = map meshNumber ps
+use Rattle.meaning.specs.declared.RowPairs.{RowPairs}
+use Rattle.meaning.specs.declared.RowPairs.the-variants.{Listed}
+use Rattle.mesh_laws.specs.Rows.{rows-in-turn, all-rows}
 
 -- at most 2^30 parts of each kind
 pub record MeshSized (s : Scene) : Type 0 where
-  pub fewVertices : vertexCount s ≤ 1_073_741_824
-  pub fewEdges : edgeCount s ≤ 1_073_741_824
-  pub fewTriangles : triangleCount s ≤ 1_073_741_824
+  pub fewVertices : vertexCount s ≤ partLimit
+  pub fewEdges : edgeCount s ≤ partLimit
+  pub fewTriangles : triangleCount s ≤ partLimit
 
 -- ---- a number and its pair
 
@@ -50,15 +40,23 @@ abbrev pub meshPairOf : ℕ → Pair
 meshPairOf n =
     pair (pick (ltb n 9_223_372_036_854_775_808) PointTriangle EdgeEdge) (n / 4_294_967_296 % 2_147_483_648) (n % 4_294_967_296)
 
-kind-small : (kind : Kind) → meshKindPart kind ≤ 9_223_372_036_854_775_808
+-- the numbers as a machine has them
+pub kind-part-is : meshKindPart EdgeEdge ≡ 9_223_372_036_854_775_808
+unfolding meshKindPart
+kind-part-is = refl
+
+pub mesh-number-is : (p : Pair) → meshNumber p ≡ meshKindPart (p .kind) + 4_294_967_296 * p .first + p .second
+unfolding meshNumber
+mesh-number-is p = refl
+
+pub kind-small : (kind : Kind) → meshKindPart kind ≤ 9_223_372_036_854_775_808
 unfolding meshKindPart
 kind-small PointTriangle = omega arith
-kind-small EdgeEdge = omega arith
+kind-small EdgeEdge = omega (arith, kind-part-is)
 
 -- it has 64 bits
 pub mesh-number-small : (p : Pair) → Within p → meshNumber p < 18_446_744_073_709_551_616
-unfolding meshNumber
-mesh-number-small p h = omega (arith, kind-small (p .kind), h .firstFew, h .secondFew)
+mesh-number-small p h = omega (arith, mesh-number-is p, kind-small (p .kind), h .firstFew, h .secondFew)
 
 own-pair : (kind : Kind) (i j : ℕ) → i < 1_073_741_824 → j < 1_073_741_824 → meshPairOf (meshNumber (pair kind i j)) ≡ pair kind i j
 unfolding meshNumber meshKindPart
@@ -89,49 +87,52 @@ abbrev pub below : Pair → Pair → Type 0
 below p q = meshNumber p < meshNumber q
 
 along : (kind : Kind) (i j k : ℕ) → j < k → below (pair kind i j) (pair kind i k)
-unfolding meshNumber
-along kind i j k h = omega arith
+along kind i j k h = omega (arith, mesh-number-is (pair kind i j), mesh-number-is (pair kind i k))
 
 down : (kind : Kind) (i k j l : ℕ) → i < k → j < 1_073_741_824 → below (pair kind i j) (pair kind k l)
-unfolding meshNumber
-down kind i k j l h few = omega arith
+down kind i k j l h few = omega (arith, mesh-number-is (pair kind i j), mesh-number-is (pair kind k l))
 
 points-first : (i j k l : ℕ) → i < 1_073_741_824 → j < 1_073_741_824 → below (pair PointTriangle i j) (pair EdgeEdge k l)
-unfolding meshNumber meshKindPart
-points-first i j k l h few = omega arith
+unfolding meshKindPart
+points-first i j k l h few =
+    omega (arith, mesh-number-is (pair PointTriangle i j), mesh-number-is (pair EdgeEdge k l), kind-part-is)
 
-module _ (s : Scene) (sized : MeshSized s) where
-  points-rise : Rising below (gather (pairsOfVertex s) 0 (vertexCount s))
+module _ (w : RowPairs) (s : Scene) (sized : MeshSized s) where
+  points-rise : Rising below (gather (vertexRow w s) 0 (vertexCount s))
   points-rise =
-      rising-gather below (pairsOfVertex s) (vertexCount s)
-      (λ i. rising-chosen below (listed s PointTriangle i) (pair PointTriangle i) 0 (triangleCount s) (along PointTriangle i))
+      rising-gather below (vertexRow w s) (vertexCount s)
+      (λ i. rising-chosen below (rowTest w s PointTriangle i) (pair PointTriangle i) 0 (triangleCount s) (along PointTriangle i))
       (λ i k a b lt p q.
-      let (j, _, few, _, e) = chosen-members (listed s PointTriangle i) (pair PointTriangle i) 0 (triangleCount s) a .0 p in
-      let (l, _, _, _, e′) = chosen-members (listed s PointTriangle k) (pair PointTriangle k) 0 (triangleCount s) b .0 q in
+      let (j, _, few, _, e) = chosen-members (rowTest w s PointTriangle i) (pair PointTriangle i) 0 (triangleCount s) a .0 p in
+      let (l, _, _, _, e′) = chosen-members (rowTest w s PointTriangle k) (pair PointTriangle k) 0 (triangleCount s) b .0 q in
       rw (e, e′) (down PointTriangle i k j l lt (omega (arith, sized .fewTriangles))))
       0
 
-  edges-rise : Rising below (gather (pairsOfEdge s) 0 (edgeCount s))
+  edges-rise : Rising below (gather (edgeRow w s) 0 (edgeCount s))
   edges-rise =
-      rising-gather below (pairsOfEdge s) (edgeCount s)
-      (λ i. rising-chosen below (listed s EdgeEdge i) (pair EdgeEdge i) (i + 1) (edgeCount s) (along EdgeEdge i))
+      rising-gather below (edgeRow w s) (edgeCount s)
+      (λ i. rising-chosen below (rowTest w s EdgeEdge i) (pair EdgeEdge i) (i + 1) (edgeCount s) (along EdgeEdge i))
       (λ i k a b lt p q.
-      let (j, _, few, _, e) = chosen-members (listed s EdgeEdge i) (pair EdgeEdge i) (i + 1) (edgeCount s) a .0 p in
-      let (l, _, _, _, e′) = chosen-members (listed s EdgeEdge k) (pair EdgeEdge k) (k + 1) (edgeCount s) b .0 q in
+      let (j, _, few, _, e) = chosen-members (rowTest w s EdgeEdge i) (pair EdgeEdge i) (i + 1) (edgeCount s) a .0 p in
+      let (l, _, _, _, e′) = chosen-members (rowTest w s EdgeEdge k) (pair EdgeEdge k) (k + 1) (edgeCount s) b .0 q in
       rw (e, e′) (down EdgeEdge i k j l lt (omega (arith, sized .fewEdges))))
       0
 
-  pub pairs-rise : Rising below (pairs s)
-  unfolding pairs
-  pairs-rise =
-      rising-append below (gather (pairsOfVertex s) 0 (vertexCount s)) (gather (pairsOfEdge s) 0 (edgeCount s)) points-rise edges-rise
+  pub rows-rise : Rising below (rowsIn w s 0 (rowCount s))
+  rows-rise =
+      rw (rows-in-turn w s)
+      (rising-append below (gather (vertexRow w s) 0 (vertexCount s)) (gather (edgeRow w s) 0 (edgeCount s)) points-rise edges-rise
       (λ a b p q.
-      let (i, _, first, m) = gather-from (pairsOfVertex s) (vertexCount s) 0 p in
-      let (k, _, _, m′) = gather-from (pairsOfEdge s) (edgeCount s) 0 q in
-      let (j, _, few, _, e) = chosen-members (listed s PointTriangle i) (pair PointTriangle i) 0 (triangleCount s) a .0 m in
-      let (l, _, _, _, e′) = chosen-members (listed s EdgeEdge k) (pair EdgeEdge k) (k + 1) (edgeCount s) b .0 m′ in
-      rw (e, e′) (points-first i j k l (omega (arith, sized .fewVertices)) (omega (arith, sized .fewTriangles))))
+      let (i, _, first, m) = gather-from (vertexRow w s) (vertexCount s) 0 p in
+      let (k, _, _, m′) = gather-from (edgeRow w s) (edgeCount s) 0 q in
+      let (j, _, few, _, e) = chosen-members (rowTest w s PointTriangle i) (pair PointTriangle i) 0 (triangleCount s) a .0 m in
+      let (l, _, _, _, e′) = chosen-members (rowTest w s EdgeEdge k) (pair EdgeEdge k) (k + 1) (edgeCount s) b .0 m′ in
+      rw (e, e′) (points-first i j k l (omega (arith, sized .fewVertices)) (omega (arith, sized .fewTriangles)))))
 
-  -- the numbers of the list rise
-  pub entries-rise : Rising _<_ (meshEntries (pairs s))
-  entries-rise = map-rising meshNumber below _<_ (pairs s) (λ a b p q h. h) pairs-rise
+  -- the numbers of all rows rise
+  pub entries-rise : Rising _<_ (meshEntries (rowsIn w s 0 (rowCount s)))
+  entries-rise = map-rising meshNumber below _<_ (rowsIn w s 0 (rowCount s)) (λ a b p q h. h) rows-rise
+
+-- and so do those of the list
+pub list-rises : (s : Scene) → MeshSized s → Rising _<_ (meshEntries (pairs s))
+list-rises s sized = rw (all-rows s) at (entries-rise Listed s sized)

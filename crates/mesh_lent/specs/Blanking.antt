@@ -39,9 +39,12 @@ blanked-all {t₀} {t} {k} b h =
     (λ i l. b .zeros i (omega arith) ∙ sym (getD-replicate (length t₀) i 0 0 (omega (arith, b .long))))
 
 -- such a list is a table without seams
-pub blank-lent : (n : ℕ) (w t : List ℕ) → n ≤ length t → MeshBlank n w (blankOf t)
-blank-lent n w t h = record { none = λ v. by-place v (decLt v (length t)); room = λ more. omega (arith, length-replicate {A = ℕ} (length t) 0) }
+pub blank-everywhere : (t : List ℕ) (v : ℕ) → getD (blankOf t) v 0 ≡ 0
+blank-everywhere t v = by-place (decLt v (length t))
   where
-    by-place : (v : ℕ) → Dec (v < length t) → getD (blankOf t) v 0 ≡ 0
-    by-place v (yes l) = getD-replicate (length t) v 0 0 l
-    by-place v (no l) = List·getD-eq-default (blankOf t) 0 {n = v} (omega (arith, length-replicate {A = ℕ} (length t) 0))
+    by-place : Dec (v < length t) → getD (blankOf t) v 0 ≡ 0
+    by-place (yes l) = getD-replicate (length t) v 0 0 l
+    by-place (no l) = List·getD-eq-default (blankOf t) 0 {n = v} (omega (arith, length-replicate {A = ℕ} (length t) 0))
+
+pub blank-lent : (n : ℕ) (w t : List ℕ) → n ≤ length t → MeshBlank n w (blankOf t)
+blank-lent n w t h = record { none = blank-everywhere t; room = λ more. omega (arith, length-replicate {A = ℕ} (length t) 0) }

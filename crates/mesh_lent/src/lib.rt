@@ -1,11 +1,13 @@
 // A lent mesh with the list that is lent for its table of seams, whatever stood in it: 12 where it is too short, then the five checks.
 
+ghost use Prim.Native.Nat.{_≤_};
 ghost use mathlib.Core.Path.{_≡_};
 ghost use lib.ListN.{length};
-ghost use Rattle.meaning.specs.Scene.{sceneAtEntry};
+ghost use Rattle.meaning.specs.Scene.{sceneIn, sceneAtEntry};
+ghost use Rattle.meaning.specs.Mesh.{tableRoom, MeshAccepted};
 ghost use Rattle.sequences.specs.Lent.{atEntry, atExit};
 ghost use Rattle.mesh_lent.specs.Blanking.{blankOf};
-ghost use Rattle.mesh_lent.specs.Answering.{tableShort, MeshAnswered};
+ghost use Rattle.mesh_lent.specs.Answering.{tableShort, MeshSewn};
 use meaning::Refusal;
 use meaning::SceneAnswer;
 use mesh_checks::check_mesh_into;
@@ -28,8 +30,23 @@ pub fn table_short(positions: &[i32], seams: &[u32], table: &[u32]) -> bool
     (seams.len() != 0) & (table.len() < positions.len() / 6)
 }
 
-// May this mesh be used? A mesh without seams needs no table, and leaves the lent list as it was. After a refusal with 12 the list is as it was;
-// else it is blanked before it is used, so that what stood in it has no part in the answer.
+// The five checks over a list that is long enough. It is blanked before it is used, so that what stood in it has no part in the answer; where the mesh is
+// accepted, its seams stand there afterwards.
+pub fn check_over(
+    positions: &[i32],
+    edges: &[u32],
+    triangles: &[u32],
+    seams: &[u32],
+    table: &mut [u32],
+) -> SceneAnswer
+    requires { ⌜ tableRoom (sceneIn positions edges triangles seams) ≤ length (now table) ⌝ }
+    ensures { λ r. ⌜ MeshSewn (sceneAtEntry positions edges triangles seams) (atExit table) r ⌝ }
+{
+    blank(table);
+    check_mesh_into(positions, edges, triangles, seams, table)
+}
+
+// May this mesh be used? A mesh without seams needs no table. What stands in the lent list afterwards is of no account.
 pub fn check_mesh(
     positions: &[i32],
     edges: &[u32],
@@ -37,15 +54,10 @@ pub fn check_mesh(
     seams: &[u32],
     table: &mut [u32],
 ) -> SceneAnswer
-    ensures { λ r. ⌜ MeshAnswered (sceneAtEntry positions edges triangles seams) (atEntry table) (atExit table) r ⌝ }
+    ensures { λ r. ⌜ MeshAccepted (sceneAtEntry positions edges triangles seams) (length (atEntry table)) r ⌝ }
 {
     if table_short(positions, seams, table) {
         return SceneAnswer::Refused(Refusal::ShortBuffer);
     }
-    if seams.len() == 0 {
-        let mut none = [0u32; 0];
-        return check_mesh_into(positions, edges, triangles, seams, &mut none);
-    }
-    blank(table);
-    check_mesh_into(positions, edges, triangles, seams, table)
+    check_over(positions, edges, triangles, seams, table)
 }

@@ -1,4 +1,2 @@
--- What the calls over rows of a mesh promise, and that it leaves nothing open.
-pub mod Asked
+-- A stretch of rows, counted and listed: what each way out of the calls gives.
 pub mod Answering
-pub mod Once

@@ -1,7 +1,7 @@
 -- An order of n parts is a list of n numbers that leads to every part, each once: there is a way back. A loop makes the only list that can be the
 -- way back, and two more look whether it is.
 use Prim.Native.Nat.{ℕ, zero, suc, _+_, _≤_, _<_}
-use mathlib.Core.Bool.{Bool, true, false, true≢false, not, _||_}
+use mathlib.Core.Bool.{Bool, true, false, true≢false, not}
 use mathlib.Core.List.{List}
 use mathlib.Core.Path.{_≡_, refl, sym, ap, _∙_}
 use native.Mathlib.Decide.{decLt}
@@ -12,7 +12,7 @@ use lib.ListN.{length, getD, set, length-set}
 use lib.Seq.{getD-set-same, getD-set-other}
 use borrow.Author.Tests.{lt-ltb, le-ltb, ltb-true, ltb-false, eq-eqb, eqb-true}
 use Rattle.meaning.specs.Scene.{someBelow}
-use Rattle.answers.specs.Below.{or-left, or-rest, none-passes, none-below}
+use Rattle.answers.specs.Below.{none-passes, none-below}
 use Rattle.sequences.specs.Pick.{pick, pick-true, pick-false}
 
 abbrev pub at : List ℕ → ℕ → ℕ
@@ -87,7 +87,7 @@ pub placing-long : {order t₀ t : List ℕ} {k : ℕ} → Placing order t₀ t 
 placing-long {order} {t₀} {t} {k} p = ap length (p .made) ∙ places-long order t₀ k
 
 -- in an order no number is met again, so that each keeps its place
-keeps : {n : ℕ} {order : List ℕ} → Order n order → (t : List ℕ) → n ≤ length t → (k : ℕ) → k ≤ n → (i : ℕ) → i < k → at (placesAfter order t k) (at order i) ≡ i
+pub keeps : {n : ℕ} {order : List ℕ} → Order n order → (t : List ℕ) → n ≤ length t → (k : ℕ) → k ≤ n → (i : ℕ) → i < k → at (placesAfter order t k) (at order i) ≡ i
 unfolding placesAfter
 keeps {n} {order} o t room zero few i h = absurd (omega arith)
 keeps {n} {order} o t room (suc k) few i h =
@@ -151,57 +151,3 @@ none-astray there back n h =
 pub leads-back : (there back : List ℕ) (n : ℕ) → LeadsBack n (at there) (at back) → someBelow n (astrayAt there back n) ≡ false
 leads-back there back n b =
     none-below (astrayAt there back n) n (λ k l. is-not-astray there back n k (b .inside k l) (b .returns k l))
-
--- ---- what is told
-
--- of an order l, a list that was t and is t′, and the answer r
-pub record OrderTold (l t t′ : List ℕ) (r : Bool) : Type 0 where
-  pub made : t′ ≡ placesAfter l t (length l)
-  pub out : r ≡ true → LeadsBack (length l) (at l) (at t′)
-  pub home : r ≡ true → LeadsBack (length l) (at t′) (at l)
-  pub none : r ≡ false → Order (length l) l → ⊥
-
--- yes only of an order
-pub told-order : {l t t′ : List ℕ} {r : Bool} → OrderTold l t t′ r → r ≡ true → Order (length l) l
-told-order {l} {t} {t′} told e = record { whole = refl; inverse = at t′; out = told .out e; home = told .home e }
-
-module _ (l t : List ℕ) (room : length l ≤ length t) where
-  abbrev pub made′ : List ℕ
-  made′ = placesAfter l t (length l)
-
-  order-out : Order (length l) l → LeadsBack (length l) (at l) (at made′)
-  order-out o = record { inside = o .out .inside; returns = keeps o t room (length l) (omega arith) }
-
-  order-home : Order (length l) l → LeadsBack (length l) (at made′) (at l)
-  order-home o = record { inside = λ j h. rw (way j h) (o .home .inside j h); returns = λ j h. rw (way j h) (o .home .returns j h) }
-    where
-      way : (j : ℕ) → j < length l → at made′ j ≡ o .inverse j
-      way j h =
-          ap (at made′) (sym (o .home .returns j h)) ∙ keeps o t room (length l) (omega arith) (o .inverse j) (o .home .inside j h)
-
-  pub tells : (out home : Bool) → out ≡ someBelow (length l) (astrayAt l made′ (length l)) → home ≡ someBelow (length l) (astrayAt made′ l (length l)) → OrderTold l t made′ (not (out || home))
-  tells out home e f =
-      record {
-        made = refl;
-        out = λ yes. none-astray l made′ (length l) (sym e ∙ or-left out home (quiet (out || home) yes));
-        home = λ yes. none-astray made′ l (length l) (sym f ∙ or-rest out home (quiet (out || home) yes));
-        none = λ no o. loud (e ∙ leads-back l made′ (length l) (order-out o)) (f ∙ leads-back made′ l (length l) (order-home o)) no;
-      }
-    where
-      quiet : (b : Bool) → not b ≡ true → b ≡ false
-      quiet true h = absurd (true≢false (sym h))
-      quiet false h = refl
-
-      loud : out ≡ false → home ≡ false → not (out || home) ≡ false → ⊥
-      loud p q h = true≢false (rw (p, q) at h)
-
--- ---- only one answer is right, and it is said of something
-
-pub one-told : {l t t′ t″ : List ℕ} (r r′ : Bool) → OrderTold l t t′ r → OrderTold l t t″ r′ → (r ≡ r′) × (t′ ≡ t″)
-one-told {l} {t} {t′} {t″} r r′ p q = (same r r′ p q, p .made ∙ sym (q .made))
-  where
-    same : (r r′ : Bool) → OrderTold l t t′ r → OrderTold l t t″ r′ → r ≡ r′
-    same true true p q = refl
-    same true false p q = absurd (q .none refl (told-order p refl))
-    same false true p q = absurd (p .none refl (told-order q refl))
-    same false false p q = refl

@@ -4,9 +4,13 @@
 ghost use Prim.Native.Nat.{_≤_, _<_};
 ghost use mathlib.Core.Path.{_≡_};
 ghost use lib.ListN.{length};
-ghost use Rattle.meaning.specs.Scene.{someBelow};
+ghost use Rattle.meaning.specs.Scene.{someBelow, edgeCount, triangleCount};
 ghost use Rattle.sequences.specs.Lent.{atEntry, atExit};
-ghost use Rattle.mesh_orders.specs.Orders.{placed, placesAfter, astrayAt, OrderTold};
+ghost use Rattle.meaning.specs.MeshRows.{wrongOrder};
+ghost use Rattle.mesh_orders.specs.Orders.{placed, placesAfter, astrayAt};
+ghost use Rattle.mesh_orders.specs.Told.{OrderTold, wrongFor, partsOnly, ordersOnly};
+use mesh_parts::edge_count;
+use mesh_parts::triangle_count;
 use mesh_seams::wide;
 
 // Where number k of the order leads, the inverse leads back to k. A number that no part has is passed by.
@@ -68,4 +72,37 @@ pub fn is_order(order: &[u32], inverse: &mut [u32]) -> bool
     let out = some_astray(order, inverse, count);
     let home = some_astray(inverse, order, count);
     !(out | home)
+}
+
+// A list that was lent as an order of so many parts is not empty, and no such order. What stands in the other list afterwards is of no account.
+pub fn wrong_for(count: usize, order: &[u32], places: &mut [u32]) -> bool
+    requires { ⌜ (length (now order) ≤ length (now places)) × (count ≤ 1073741824) ⌝ }
+    ensures { λ r. ⌜ (r ≡ wrongFor count (atEntry order)) × (length (atExit places) ≡ length (atEntry places)) ⌝ }
+{
+    if order.len() == 0 {
+        return false;
+    }
+    if order.len() != count {
+        return true;
+    }
+    !is_order(order, places)
+}
+
+// 18: an order of the edges or one of the triangles was lent that is none.
+pub fn wrong_order(
+    edges: &[u32],
+    triangles: &[u32],
+    edge_order: &[u32],
+    triangle_order: &[u32],
+    places: &mut [u32],
+) -> bool
+    requires { ⌜ (length (now «edge_order») ≤ length (now places)) × (length (now «triangle_order») ≤ length (now places)) ⌝ }
+    requires { ⌜ (edgeCount (partsOnly (now edges) (now triangles)) ≤ 1073741824)
+        × (triangleCount (partsOnly (now edges) (now triangles)) ≤ 1073741824) ⌝ }
+    ensures { λ r. ⌜ (r ≡ wrongOrder (partsOnly (atEntry edges) (atEntry triangles)) (ordersOnly (atEntry «edge_order») (atEntry «triangle_order»)))
+        × (length (atExit places) ≡ length (atEntry places)) ⌝ }
+{
+    let edge = wrong_for(edge_count(edges), edge_order, places);
+    let triangle = wrong_for(triangle_count(triangles), triangle_order, places);
+    edge | triangle
 }

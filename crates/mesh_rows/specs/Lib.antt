@@ -1,3 +1,4 @@
--- A row of a mesh's list: the places that a walk finds, sifted by what shares no vertex, are the row.
+-- A row of a mesh's list: what is asked of a pair, and that the places that a walk finds, sifted by this, are the row.
+pub mod Asking
 pub mod Sifting
 pub mod Rows

@@ -1,35 +1,34 @@
 -- What one row of a mesh's list goes by: a tree over the parts of the other kind, and the row's own box. The places that a walk finds in it, sifted by
--- what shares no vertex, are the row's pairs.
+-- what else is asked of a pair, are the row's pairs.
 use Prim.Native.Nat.{ℕ, _+_, _*_, _-_, _≤_, _<_}
-use mathlib.Core.Bool.{Bool, true, false, not, _&&_, _||_}
-use mathlib.Core.List.{List, _++_, map}
+use mathlib.Core.Bool.{Bool, true, false, _&&_}
+use mathlib.Core.List.{List, map}
 use mathlib.Core.Logic.{⊎-elim}
 use mathlib.Core.Path.{_≡_, refl, sym, ap, _∙_}
 use native.Mathlib.Omega.{arith}
-use lib.Dec.{leb}
 use lib.IntN.{ℤ}
-use lib.ListN.{length, getD}
-use borrow.Author.Tests.{lt-leb}
-use Rattle.sequences.specs.Chosen.{one, chosen}
+use lib.ListN.{length}
+use Rattle.sequences.specs.Chosen.{one, chosen, chosen-short}
 use Rattle.sequences.specs.Gather.{gather, gather-same, gather-short}
 use Rattle.sequences.specs.Range.{le-or-lt}
-use Rattle.meaning.specs.Scene.{Scene, vertexCount, edgeCount, triangleCount}
-use Rattle.meaning.specs.Boxes.{boxesMeet, listed}
-use Rattle.meaning.specs.Refusals.{shares, notThere}
-use Rattle.meaning.specs.List.{Pair, pair, pairsOfVertex, pairsOfEdge}
+use Rattle.meaning.specs.Limits.{partLimit}
+use Rattle.meaning.specs.Scene.{Scene, vertexCount, edgeCount, triangleCount, edgeEnd, corner}
+use Rattle.meaning.specs.Boxes.{boxesMeet}
+use Rattle.meaning.specs.List.{Pair, pair}
+use Rattle.meaning.specs.MeshRows.{rowTest, rowCount, meshRow, rowsIn, meshNumber, meshEntries}
 use Rattle.meaning.specs.declared.Kind.{Kind}
 use Rattle.meaning.specs.declared.Kind.the-variants.{PointTriangle, EdgeEdge}
+use Rattle.meaning.specs.declared.RowPairs.{RowPairs}
 use Rattle.list_candidates.specs.Meeting.{meets-pt, meets-ee}
-use Rattle.list_candidates.specs.Rows.{firstCount, secondCount, secondFrom, rowOf, row-short}
-use Rattle.mesh_laws.specs.Entries.{meshNumber, meshEntries}
-use Rattle.mesh_laws.specs.Rows.{rowCount, meshRow, rowsIn, vertex-row, edge-row}
+use Rattle.list_candidates.specs.Rows.{firstCount, secondCount, secondFrom}
+use Rattle.mesh_laws.specs.Rows.{vertex-row, edge-row}
 use Rattle.mesh_tree.specs.Levels.{nodesAt, firstUnder}
 use Rattle.mesh_walk.specs.Places.{placesFrom, places-start, places-end, Stepped}
-use Rattle.mesh_walk.specs.Steps.{Tree, rowMeets, placesMet}
-use Rattle.mesh_checks.specs.Meshes.{partLimit}
+use Rattle.mesh_walk.specs.Steps.{Tree, rowMeets}
 use Rattle.mesh_trees.specs.Forest.{Forest}
 use Rattle.mesh_entries.specs.Telling.{mesh-entries-length}
 use Rattle.mesh_entries.specs.Entering.{Entered, Entering, entering-starts, entering-as, entering-step, entering-ends}
+use Rattle.mesh_rows.specs.Asking.{passes, passes-listed, Askable, askable}
 use Rattle.mesh_rows.specs.Sifting.{sifted, sifted-found, sifted-chosen, map-gather, map-one}
 
 -- the row of a first part: the tree over the second parts has the levels t in the list l, and box `row` of it is the first part's
@@ -42,86 +41,87 @@ pub record RowTree (s : Scene) (kind : Kind) (i : ℕ) (l : List ℤ) (t : List 
   pub meets : (j : ℕ) → j < parts → rowMeets l t row j ≡ boxesMeet s kind i j
   pub few : parts ≤ partLimit
   pub low : i < partLimit
+  pub ends : (m k : ℕ) → m < edgeCount s → k < 2 → edgeEnd s m k < vertexCount s
+  pub corners : (m k : ℕ) → m < triangleCount s → k < 3 → corner s m k < vertexCount s
 
--- a pair of parts that are there
-pub both-there : (s : Scene) (kind : Kind) (i j : ℕ) → i < firstCount s kind → j < secondCount s kind → notThere s kind i j ≡ false
-unfolding notThere firstCount secondCount
-both-there s PointTriangle i j h k = rw (lt-leb (vertexCount s) i h, lt-leb (triangleCount s) j k)
-both-there s EdgeEdge i j h k = rw (lt-leb (edgeCount s) i h, lt-leb (edgeCount s) j k)
+-- its pairs
+abbrev pub partRow : RowPairs → Scene → Kind → ℕ → List Pair
+partRow w s kind i = chosen (rowTest w s kind i) (pair kind i) (secondFrom kind i) (secondCount s kind)
+
+pub part-row-short : (w : RowPairs) (s : Scene) (kind : Kind) (i : ℕ) → length (partRow w s kind i) ≤ secondCount s kind
+part-row-short w s kind i = omega (arith, chosen-short (rowTest w s kind i) (pair kind i) (secondFrom kind i) (secondCount s kind))
 
 -- ---- a walk's places are the row
-
-abbrev pub apart : Scene → Kind → ℕ → ℕ → Bool
-apart s kind i j = not (shares s kind i j)
 
 abbrev pub entryOf : Kind → ℕ → ℕ → ℕ
 entryOf kind i j = meshNumber (pair kind i j)
 
 -- what is left of a row, of the places from one on
-abbrev pub leftOf : Scene → Kind → ℕ → (ℕ → Bool) → ℕ → ℕ → List ℕ
-leftOf s kind i m n a = sifted (apart s kind i) (entryOf kind i) (placesFrom m n a)
+abbrev pub leftOf : RowPairs → Scene → Kind → ℕ → (ℕ → Bool) → ℕ → ℕ → List ℕ
+leftOf w s kind i m n a = sifted (passes w s kind i) (entryOf kind i) (placesFrom m n a)
 
 module _ {s : Scene} {kind : Kind} {i : ℕ} {l : List ℤ} {t : List ℕ} {parts top row from : ℕ} (so : RowTree s kind i l t parts top row from) where
-  row-listed : chosen (λ j. apart s kind i j && rowMeets l t row j) (entryOf kind i) from parts ≡ chosen (listed s kind i) (entryOf kind i) from parts
-  row-listed =
-      gather-same
-      (λ j. one (apart s kind i j && rowMeets l t row j) (entryOf kind i j))
-      (λ j. one (listed s kind i j) (entryOf kind i j))
-      from parts
-      (λ j a b. ap (λ (m : Bool). one (apart s kind i j && m) (entryOf kind i j)) (so .meets j b))
+  -- of a part that is found there may be asked
+  pub row-askable : (j : ℕ) → j < parts → Askable s kind i j
+  row-askable j h =
+      askable s kind i j (so .there) (omega (arith, so .all)) (so .low) (omega (arith, so .few)) (so .ends) (so .corners)
 
-  row-entries : chosen (listed s kind i) (entryOf kind i) from parts ≡ meshEntries (rowOf s kind i)
-  row-entries =
-      rw (so .all, so .begins)
-      (gather-same
-      (λ j. one (listed s kind i j) (entryOf kind i j))
-      (λ j. map meshNumber (one (listed s kind i j) (pair kind i j)))
-      (secondFrom kind i) (secondCount s kind)
-      (λ j a b. sym (map-one meshNumber (listed s kind i j) (pair kind i j)))
-      ∙ sym (map-gather meshNumber (λ j. one (listed s kind i j) (pair kind i j)) (secondCount s kind) (secondFrom kind i)))
+  module _ (w : RowPairs) where
+    row-listed : chosen (λ j. passes w s kind i j && rowMeets l t row j) (entryOf kind i) from parts
+        ≡ chosen (rowTest w s kind i) (entryOf kind i) from parts
+    row-listed =
+        gather-same
+        (λ j. one (passes w s kind i j && rowMeets l t row j) (entryOf kind i j))
+        (λ j. one (rowTest w s kind i j) (entryOf kind i j))
+        from parts
+        (λ j a b.
+        ap (λ (m : Bool). one (passes w s kind i j && m) (entryOf kind i j)) (so .meets j b)
+        ∙ ap (λ (m : Bool). one m (entryOf kind i j)) (passes-listed w s kind i j))
 
-  pub whole-row : meshEntries (rowOf s kind i) ≡ leftOf s kind i (rowMeets l t row) parts from
-  whole-row = sym (sifted-chosen (apart s kind i) (rowMeets l t row) (entryOf kind i) parts from ∙ row-listed ∙ row-entries)
+    row-entries : chosen (rowTest w s kind i) (entryOf kind i) from parts ≡ meshEntries (partRow w s kind i)
+    row-entries =
+        rw (so .all, so .begins)
+        (gather-same
+        (λ j. one (rowTest w s kind i j) (entryOf kind i j))
+        (λ j. map meshNumber (one (rowTest w s kind i j) (pair kind i j)))
+        (secondFrom kind i) (secondCount s kind)
+        (λ j a b. sym (map-one meshNumber (rowTest w s kind i j) (pair kind i j)))
+        ∙ sym (map-gather meshNumber (λ j. one (rowTest w s kind i j) (pair kind i j)) (secondCount s kind) (secondFrom kind i)))
 
-  -- a walk that has come to a node that has the row's first place as its first part has all of the row before it
-  pub row-starts : (most at : ℕ) (o : List ℕ) (v r : ℕ) → firstUnder v r ≡ firstUnder 0 from
-      → Entering most o at (meshEntries (rowOf s kind i)) o at (leftOf s kind i (rowMeets l t row) parts (firstUnder v r))
-  row-starts most at o v r e =
-      entering-as
-      (whole-row ∙ ap (sifted (apart s kind i) (entryOf kind i)) (places-start (rowMeets l t row) parts from v r e))
-      (entering-starts most o at (meshEntries (rowOf s kind i)))
+    pub whole-row : meshEntries (partRow w s kind i) ≡ leftOf w s kind i (rowMeets l t row) parts from
+    whole-row = sym (sifted-chosen (passes w s kind i) (rowMeets l t row) (entryOf kind i) parts from ∙ row-listed ∙ row-entries)
 
-  pub row-few : length (meshEntries (rowOf s kind i)) ≤ partLimit
-  row-few = omega (arith, mesh-entries-length (rowOf s kind i), row-short s kind i, so .all, so .few)
+    -- a walk that has come to a node that has the row's first place as its first part has all of the row before it
+    pub row-starts : (most at : ℕ) (o : List ℕ) (v r : ℕ) → firstUnder v r ≡ firstUnder 0 from
+        → Entering most o at (meshEntries (partRow w s kind i)) o at (leftOf w s kind i (rowMeets l t row) parts (firstUnder v r))
+    row-starts most at o v r e =
+        entering-as
+        (whole-row ∙ ap (sifted (passes w s kind i) (entryOf kind i)) (places-start (rowMeets l t row) parts from v r e))
+        (entering-starts most o at (meshEntries (partRow w s kind i)))
 
-module _ (s : Scene) (kind : Kind) (i : ℕ) {m : ℕ → Bool} {n v r : ℕ} {most at k : ℕ} {o₀ want o : List ℕ}
-    (w : Entering most o₀ at want o k (leftOf s kind i m n (firstUnder v r))) where
+    pub row-few : length (meshEntries (partRow w s kind i)) ≤ partLimit
+    row-few = omega (arith, mesh-entries-length (partRow w s kind i), part-row-short w s kind i, so .all, so .few)
+
+module _ (w : RowPairs) (s : Scene) (kind : Kind) (i : ℕ) {m : ℕ → Bool} {n v r : ℕ} {most at k : ℕ} {o₀ want o : List ℕ}
+    (so-far : Entering most o₀ at want o k (leftOf w s kind i m n (firstUnder v r))) where
   -- what a step has found is entered, if it is listed
   pub row-goes : {top v′ r′ k′ : ℕ} {found : Bool} {o′ : List ℕ} → Stepped m n top v r v′ r′ found
-      → Entered most o k (one (found && apart s kind i r) (entryOf kind i r)) o′ k′
-      → Entering most o₀ at want o′ k′ (leftOf s kind i m n (firstUnder v′ r′))
+      → Entered most o k (one (found && passes w s kind i r) (entryOf kind i r)) o′ k′
+      → Entering most o₀ at want o′ k′ (leftOf w s kind i m n (firstUnder v′ r′))
   row-goes {v′ = v′} {r′} {found = found} so e =
       entering-step
       (entering-as
-      (ap (sifted (apart s kind i) (entryOf kind i)) (so .rest)
-      ∙ sifted-found (apart s kind i) (entryOf kind i) found r (placesFrom m n (firstUnder v′ r′)))
-      w)
+      (ap (sifted (passes w s kind i) (entryOf kind i)) (so .rest)
+      ∙ sifted-found (passes w s kind i) (entryOf kind i) found r (placesFrom m n (firstUnder v′ r′)))
+      so-far)
       e
 
 -- no node is left
-pub row-ends : (s : Scene) (kind : Kind) (i : ℕ) (m : ℕ → Bool) (n v r : ℕ) {most at k : ℕ} {o₀ want o : List ℕ} → nodesAt n v ≤ r
-    → Entering most o₀ at want o k (leftOf s kind i m n (firstUnder v r)) → Entered most o₀ at want o k
+pub row-ends : (w : RowPairs) (s : Scene) (kind : Kind) (i : ℕ) (m : ℕ → Bool) (n v r : ℕ) {most at k : ℕ} {o₀ want o : List ℕ} → nodesAt n v ≤ r
+    → Entering most o₀ at want o k (leftOf w s kind i m n (firstUnder v r)) → Entered most o₀ at want o k
 unfolding sifted
-row-ends s kind i m n v r past w =
-    entering-ends (entering-as (ap (sifted (apart s kind i) (entryOf kind i)) (places-end m n v r past)) w)
-
--- a part that was found is listed unless it shares a vertex
-module _ (s : Scene) (kind : Kind) (i j : ℕ) {found : Bool} where
-  pub found-apart : {shared : Bool} → found ≡ true → shared ≡ shares s kind i j → not shared ≡ found && apart s kind i j
-  found-apart e p = rw (e, ← p)
-
-  pub not-found : found ≡ false → false ≡ found && apart s kind i j
-  not-found e = rw e
+row-ends w s kind i m n v r past so-far =
+    entering-ends (entering-as (ap (sifted (passes w s kind i) (entryOf kind i)) (places-end m n v r past)) so-far)
 
 -- ---- the two kinds of rows in a forest
 
@@ -138,6 +138,8 @@ module _ {s : Scene} {l : List ℤ} {e t : List ℕ} {edgeTop triangleTop : ℕ}
         meets = λ j q. meets-pt (so .boxed) v j refl refl (ap (λ (p : ℕ). p + j) (so .trianglesFrom)) h q;
         few = so .fewTriangles;
         low = omega (arith, so .fewVertices);
+        ends = so .ends;
+        corners = so .corners;
       })
 
   pub edge-tree : (i row n from : ℕ) → i < edgeCount s → row ≡ vertexCount s + i → n ≡ edgeCount s → from ≡ i + 1
@@ -153,45 +155,49 @@ module _ {s : Scene} {l : List ℤ} {e t : List ℕ} {edgeTop triangleTop : ℕ}
         meets = λ j q. meets-ee (so .boxed) i j refl p (ap (λ (f : ℕ). f + j) (so .edgesFrom)) h q;
         few = so .fewEdges;
         low = omega (arith, so .fewEdges);
+        ends = so .ends;
+        corners = so .corners;
       })
 
 -- the row of a number is that of a vertex, or of an edge
-pub vertex-row-of : (s : Scene) (v : ℕ) → v < vertexCount s → rowOf s PointTriangle v ≡ meshRow s v
-unfolding secondCount secondFrom
-vertex-row-of s v h = sym (vertex-row s v h)
+module _ (w : RowPairs) (s : Scene) where
+  pub vertex-row-of : (v : ℕ) → v < vertexCount s → partRow w s PointTriangle v ≡ meshRow w s v
+  unfolding secondCount secondFrom
+  vertex-row-of v h = sym (vertex-row w s v h)
 
-pub edge-row-of : (s : Scene) (i row : ℕ) → row ≡ vertexCount s + i → rowOf s EdgeEdge i ≡ meshRow s row
-unfolding secondCount secondFrom
-edge-row-of s i row e = sym (ap (meshRow s) e ∙ edge-row s i)
+  pub edge-row-of : (i row : ℕ) → row ≡ vertexCount s + i → partRow w s EdgeEdge i ≡ meshRow w s row
+  unfolding secondCount secondFrom
+  edge-row-of i row e = sym (ap (meshRow w s) e ∙ edge-row w s i)
 
 pub entered-as : {most k m : ℕ} {o o′ ns ms : List ℕ} → ns ≡ ms → Entered most o k ns o′ m → Entered most o k ms o′ m
 entered-as e w = rw e at w
 
 -- ---- a stretch of rows
 
-abbrev pub rowEntries : Scene → ℕ → List ℕ
-rowEntries s i = meshEntries (meshRow s i)
+abbrev pub rowEntries : RowPairs → Scene → ℕ → List ℕ
+rowEntries w s i = meshEntries (meshRow w s i)
 
-pub rows-gathered : (s : Scene) (a b : ℕ) → gather (rowEntries s) a b ≡ meshEntries (rowsIn s a b)
-rows-gathered s a b = sym (map-gather meshNumber (meshRow s) b a)
+pub rows-gathered : (w : RowPairs) (s : Scene) (a b : ℕ) → gather (rowEntries w s) a b ≡ meshEntries (rowsIn w s a b)
+rows-gathered w s a b = sym (map-gather meshNumber (meshRow w s) b a)
 
-module _ {s : Scene} {l : List ℤ} {e t : List ℕ} {edgeTop triangleTop : ℕ} (so : Forest s l e t edgeTop triangleTop) where
-  row-of-few : (kind : Kind) (i : ℕ) → length (rowOf s kind i) ≤ partLimit
+module _ (w : RowPairs) {s : Scene} {l : List ℤ} {e t : List ℕ} {edgeTop triangleTop : ℕ} (so : Forest s l e t edgeTop triangleTop) where
+  row-of-few : (kind : Kind) (i : ℕ) → length (partRow w s kind i) ≤ partLimit
   unfolding secondCount
-  row-of-few PointTriangle i = omega (arith, row-short s PointTriangle i, so .fewTriangles)
-  row-of-few EdgeEdge i = omega (arith, row-short s EdgeEdge i, so .fewEdges)
+  row-of-few PointTriangle i = omega (arith, part-row-short w s PointTriangle i, so .fewTriangles)
+  row-of-few EdgeEdge i = omega (arith, part-row-short w s EdgeEdge i, so .fewEdges)
 
-  row-entries-few : (row : ℕ) → length (rowEntries s row) ≤ partLimit
+  row-entries-few : (row : ℕ) → length (rowEntries w s row) ≤ partLimit
   row-entries-few row =
       ⊎-elim
       (λ past.
-      let place : row ≡ vertexCount s + (row - vertexCount s) = omega arith in
-      omega (arith, mesh-entries-length (meshRow s row), row-of-few EdgeEdge (row - vertexCount s), ap length (edge-row-of s (row - vertexCount s) row place)))
-      (λ low. omega (arith, mesh-entries-length (meshRow s row), row-of-few PointTriangle row, ap length (vertex-row-of s row low)))
+      let i = row - vertexCount s in
+      let place : row ≡ vertexCount s + i = omega arith in
+      omega (arith, mesh-entries-length (meshRow w s row), row-of-few EdgeEdge i, ap length (edge-row-of w s i row place)))
+      (λ low. omega (arith, mesh-entries-length (meshRow w s row), row-of-few PointTriangle row, ap length (vertex-row-of w s row low)))
       (le-or-lt (vertexCount s) row)
 
   -- a stretch of rows has fewer than 2^62 pairs
-  pub rows-few : (a b : ℕ) → b ≤ rowCount s → length (gather (rowEntries s) a b) < 4611686018427387904
+  pub rows-few : (a b : ℕ) → b ≤ rowCount s → length (gather (rowEntries w s) a b) < 4611686018427387904
   rows-few a b h =
-      let short = gather-short (rowEntries s) partLimit a b (λ j p q. row-entries-few j) in
+      let short = gather-short (rowEntries w s) partLimit a b (λ j p q. row-entries-few j) in
       omega (arith, so .fewVertices, so .fewEdges)

@@ -1,5 +1,6 @@
-// Rows of a mesh's list: the parts whose boxes meet the row's are found by the walk over a tree, those that share a vertex are left out, and what is left
-// is counted and entered. One walk a row does both: an entry is stored while its place is below a bound, and all are counted.
+// Rows of a mesh's list: the parts whose boxes meet the row's are found by the walk over a tree, those that share a vertex are left out, and from near
+// rows the far ones, and what is left is counted and entered. One walk a row does both: an entry is stored while its place is below a bound, and all are
+// counted.
 
 ghost use Prim.Native.Nat.{_+_, _≤_, _<_};
 ghost use mathlib.Core.Bool.{true, _&&_};
@@ -7,15 +8,17 @@ ghost use mathlib.Core.Path.{_≡_};
 ghost use lib.ListN.{length};
 ghost use Rattle.sequences.specs.Chosen.{one};
 ghost use Rattle.sequences.specs.Lent.{atEntry, atExit};
+ghost use Rattle.meaning.specs.MeshRows.{rowCount, meshRow, rowsIn, meshEntries};
 ghost use Rattle.scene_seams.specs.Alone.{tabledIn, tabledAtEntry};
-ghost use Rattle.list_candidates.specs.Rows.{firstCount, secondCount, rowOf};
-ghost use Rattle.mesh_laws.specs.Entries.{meshEntries};
-ghost use Rattle.mesh_laws.specs.Rows.{rowCount, meshRow, rowsIn};
+ghost use Rattle.mesh_near.specs.Spanned.{Spanned};
 ghost use Rattle.mesh_trees.specs.Forest.{Forest};
 ghost use Rattle.mesh_entries.specs.Entering.{Entered};
-ghost use Rattle.mesh_rows.specs.Rows.{RowTree, apart, entryOf};
+ghost use Rattle.mesh_rows.specs.Asking.{leftOut, passes, Askable};
+ghost use Rattle.mesh_rows.specs.Rows.{RowTree, partRow, entryOf};
 use meaning::Kind;
+use meaning::RowPairs;
 use mesh_entries::put_below;
+use mesh_near::is_far;
 use mesh_parts::asked::shares_vertex;
 use mesh_parts::edge_count;
 use mesh_parts::triangle_count;
@@ -23,23 +26,47 @@ use mesh_walk::climb;
 use mesh_walk::step;
 use scene_parts::vertex_count;
 
-// Whether a part was found, and shares no vertex with the row's.
+// Whether a pair is left out of such rows for being far.
+fn left_out(
+    positions: &[i32],
+    edges: &[u32],
+    triangles: &[u32],
+    stands: &[u32],
+    which: RowPairs,
+    kind: Kind,
+    i: usize,
+    j: usize,
+) -> bool
+    requires { ⌜ Spanned (now positions) (now edges) (now triangles) kind i j ⌝ }
+    ensures { λ r. ⌜ r ≡ leftOut which (tabledAtEntry positions edges triangles stands) kind i j ⌝ }
+{
+    match which {
+        RowPairs::Listed => false,
+        RowPairs::Near => is_far(positions, edges, triangles, kind, i, j),
+    }
+}
+
+// Whether a part was found, shares no vertex with the row's, and is not left out. Most that share one are found, so that is asked first.
 fn is_listed(
     positions: &[i32],
     edges: &[u32],
     triangles: &[u32],
     stands: &[u32],
+    which: RowPairs,
     kind: Kind,
     i: usize,
     j: usize,
     found: bool,
 ) -> bool
-    requires { ⌜ (i < firstCount (tabledIn positions edges triangles stands) kind)
-        × (found ≡ true → j < secondCount (tabledIn positions edges triangles stands) kind) ⌝ }
-    ensures { λ r. ⌜ r ≡ found && apart (tabledAtEntry positions edges triangles stands) kind i j ⌝ }
+    requires { ⌜ (found ≡ true → Askable (tabledIn positions edges triangles stands) kind i j) ⌝ }
+    ensures { λ r. ⌜ r ≡ found && passes which (tabledAtEntry positions edges triangles stands) kind i j ⌝ }
 {
     if found {
-        !shares_vertex(positions, edges, triangles, stands, kind, i, j)
+        if shares_vertex(positions, edges, triangles, stands, kind, i, j) {
+            false
+        } else {
+            !left_out(positions, edges, triangles, stands, which, kind, i, j)
+        }
     } else {
         false
     }
@@ -51,6 +78,7 @@ fn enter_found(
     edges: &[u32],
     triangles: &[u32],
     stands: &[u32],
+    which: RowPairs,
     kind: Kind,
     i: usize,
     j: usize,
@@ -59,14 +87,23 @@ fn enter_found(
     most: usize,
     k: usize,
 ) -> usize
-    requires { ⌜ (i < firstCount (tabledIn positions edges triangles stands) kind) × (i < 1073741824)
-        × (found ≡ true → j < secondCount (tabledIn positions edges triangles stands) kind)
-        × (found ≡ true → j < 1073741824) ⌝ }
+    requires { ⌜ (found ≡ true → Askable (tabledIn positions edges triangles stands) kind i j) ⌝ }
     requires { ⌜ (most ≤ length (now list)) × (k < 9223372036854775808) ⌝ }
     ensures { λ r. ⌜ Entered most (atEntry list) k
-        (one (found && apart (tabledAtEntry positions edges triangles stands) kind i j) (entryOf kind i j)) (atExit list) r ⌝ }
+        (one (found && passes which (tabledAtEntry positions edges triangles stands) kind i j) (entryOf kind i j))
+        (atExit list) r ⌝ }
 {
-    if is_listed(positions, edges, triangles, stands, kind, i, j, found) {
+    if is_listed(
+        positions,
+        edges,
+        triangles,
+        stands,
+        which,
+        kind,
+        i,
+        j,
+        found,
+    ) {
         put_below(list, most, k, kind, i, j);
         k + 1
     } else {
@@ -84,6 +121,7 @@ fn walk_row(
     levels: &[usize],
     parts: usize,
     top: usize,
+    which: RowPairs,
     kind: Kind,
     i: usize,
     row: usize,
@@ -95,7 +133,7 @@ fn walk_row(
     requires { ⌜ RowTree (tabledIn positions edges triangles stands) kind i (now boxes) (now levels) parts top row from ⌝ }
     requires { ⌜ (most ≤ length (now list)) × (at < 4611686018427387904) ⌝ }
     ensures { λ r. ⌜ Entered most (atEntry list) at
-        (meshEntries (rowOf (tabledAtEntry positions edges triangles stands) kind i)) (atExit list) r ⌝ }
+        (meshEntries (partRow which (tabledAtEntry positions edges triangles stands) kind i)) (atExit list) r ⌝ }
 {
     let start = climb(0, from, top, false);
     let mut level = start.level;
@@ -108,6 +146,7 @@ fn walk_row(
             edges,
             triangles,
             stands,
+            which,
             kind,
             i,
             node,
@@ -133,6 +172,7 @@ fn walk_numbered(
     edge_top: usize,
     triangle_levels: &[usize],
     triangle_top: usize,
+    which: RowPairs,
     row: usize,
     list: &mut [u64],
     most: usize,
@@ -142,7 +182,7 @@ fn walk_numbered(
         «edge_top» «triangle_top» × (row < rowCount (tabledIn positions edges triangles stands)) ⌝ }
     requires { ⌜ (most ≤ length (now list)) × (at < 4611686018427387904) ⌝ }
     ensures { λ r. ⌜ Entered most (atEntry list) at
-        (meshEntries (meshRow (tabledAtEntry positions edges triangles stands) row)) (atExit list) r ⌝ }
+        (meshEntries (meshRow which (tabledAtEntry positions edges triangles stands) row)) (atExit list) r ⌝ }
 {
     let vertices = vertex_count(positions);
     if row < vertices {
@@ -155,6 +195,7 @@ fn walk_numbered(
             triangle_levels,
             triangle_count(triangles),
             triangle_top,
+            which,
             Kind::PointTriangle,
             row,
             row,
@@ -174,6 +215,7 @@ fn walk_numbered(
             edge_levels,
             edge_count(edges),
             edge_top,
+            which,
             Kind::EdgeEdge,
             i,
             row,
@@ -196,6 +238,7 @@ pub fn walk_rows(
     edge_top: usize,
     triangle_levels: &[usize],
     triangle_top: usize,
+    which: RowPairs,
     first: usize,
     end: usize,
     list: &mut [u64],
@@ -205,7 +248,7 @@ pub fn walk_rows(
         «edge_top» «triangle_top» × (first ≤ end) × (end ≤ rowCount (tabledIn positions edges triangles stands)) ⌝ }
     requires { ⌜ most ≤ length (now list) ⌝ }
     ensures { λ r. ⌜ Entered most (atEntry list) 0
-        (meshEntries (rowsIn (tabledAtEntry positions edges triangles stands) first end)) (atExit list) r ⌝ }
+        (meshEntries (rowsIn which (tabledAtEntry positions edges triangles stands) first end)) (atExit list) r ⌝ }
 {
     let mut k = 0;
     let mut row = first;
@@ -220,6 +263,7 @@ pub fn walk_rows(
             edge_top,
             triangle_levels,
             triangle_top,
+            which,
             row,
             list,
             most,

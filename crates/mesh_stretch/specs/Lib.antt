@@ -1,3 +1,2 @@
--- A stretch of rows in the scratch of a mesh: the scratch afterwards, and the list of the stretch where there is room for it.
-pub mod Prepared
+-- A stretch of rows in the scratch of a mesh: its count, and its list where there is room for it.
 pub mod Stretching

@@ -5,15 +5,15 @@ ghost use Prim.Native.Nat.{_≤_};
 ghost use mathlib.Core.Path.{_≡_};
 ghost use lib.ListN.{length};
 ghost use Rattle.sequences.specs.Lent.{atEntry, atExit};
+ghost use Rattle.meaning.specs.MeshRows.{rowCount};
 ghost use Rattle.scene_seams.specs.Alone.{tabledIn, tabledAtEntry};
-ghost use Rattle.mesh_laws.specs.Rows.{rowCount};
 ghost use Rattle.mesh_trees.specs.Planting.{Plantable};
 ghost use Rattle.mesh_trees.specs.Forest.{Forest};
-ghost use Rattle.mesh_stretch.specs.Prepared.{Prepared};
 ghost use Rattle.mesh_stretch.specs.Stretching.{IsRowCount, StretchListed};
 use meaning::ListAnswer;
 use meaning::Made;
 use meaning::Refusal;
+use meaning::RowPairs;
 use mesh_rows::walk_rows;
 use mesh_trees::plant;
 
@@ -31,12 +31,13 @@ fn count_grown(
     edge_top: usize,
     triangle_levels: &[usize],
     triangle_top: usize,
+    which: RowPairs,
     first: usize,
     end: usize,
 ) -> usize
     requires { ⌜ Forest (tabledIn positions edges triangles stands) (now boxes) (now «edge_levels») (now «triangle_levels»)
         «edge_top» «triangle_top» × (first ≤ end) × (end ≤ rowCount (tabledIn positions edges triangles stands)) ⌝ }
-    ensures { λ r. ⌜ IsRowCount (tabledAtEntry positions edges triangles stands) first end r ⌝ }
+    ensures { λ r. ⌜ IsRowCount which (tabledAtEntry positions edges triangles stands) first end r ⌝ }
 {
     let mut none = [0u64; 0];
     walk_rows(
@@ -49,6 +50,7 @@ fn count_grown(
         edge_top,
         triangle_levels,
         triangle_top,
+        which,
         first,
         end,
         &mut none,
@@ -67,6 +69,7 @@ fn list_grown(
     edge_top: usize,
     triangle_levels: &[usize],
     triangle_top: usize,
+    which: RowPairs,
     first: usize,
     end: usize,
     list: &mut [u64],
@@ -75,7 +78,7 @@ fn list_grown(
     requires { ⌜ Forest (tabledIn positions edges triangles stands) (now boxes) (now «edge_levels») (now «triangle_levels»)
         «edge_top» «triangle_top» × (first ≤ end) × (end ≤ rowCount (tabledIn positions edges triangles stands)) ⌝ }
     requires { ⌜ room ≤ length (now list) ⌝ }
-    ensures { λ r. ⌜ StretchListed (tabledAtEntry positions edges triangles stands) first end room (atEntry list)
+    ensures { λ r. ⌜ StretchListed which (tabledAtEntry positions edges triangles stands) first end room (atEntry list)
         (atExit list) r ⌝ }
 {
     let count = count_grown(
@@ -88,6 +91,7 @@ fn list_grown(
         edge_top,
         triangle_levels,
         triangle_top,
+        which,
         first,
         end,
     );
@@ -104,6 +108,7 @@ fn list_grown(
         edge_top,
         triangle_levels,
         triangle_top,
+        which,
         first,
         end,
         list,
@@ -119,13 +124,13 @@ pub fn count_stretch(
     triangles: &[u32],
     stands: &[u32],
     boxes: &mut [i32],
+    which: RowPairs,
     first: usize,
     end: usize,
 ) -> usize
     requires { ⌜ Plantable (tabledIn positions edges triangles stands) (now boxes) × (first ≤ end)
         × (end ≤ rowCount (tabledIn positions edges triangles stands)) ⌝ }
-    ensures { λ r. ⌜ IsRowCount (tabledAtEntry positions edges triangles stands) first end r
-        × Prepared (tabledAtEntry positions edges triangles stands) (atEntry boxes) (atExit boxes) ⌝ }
+    ensures { λ r. ⌜ IsRowCount which (tabledAtEntry positions edges triangles stands) first end r ⌝ }
 {
     let mut edge_levels = [0usize; LEVEL_NUMBERS];
     let mut triangle_levels = [0usize; LEVEL_NUMBERS];
@@ -147,6 +152,7 @@ pub fn count_stretch(
         tops.edges,
         &triangle_levels,
         tops.triangles,
+        which,
         first,
         end,
     )
@@ -159,6 +165,7 @@ pub fn list_stretch(
     triangles: &[u32],
     stands: &[u32],
     boxes: &mut [i32],
+    which: RowPairs,
     first: usize,
     end: usize,
     list: &mut [u64],
@@ -167,8 +174,8 @@ pub fn list_stretch(
     requires { ⌜ Plantable (tabledIn positions edges triangles stands) (now boxes) × (first ≤ end)
         × (end ≤ rowCount (tabledIn positions edges triangles stands)) ⌝ }
     requires { ⌜ room ≤ length (now list) ⌝ }
-    ensures { λ r. ⌜ StretchListed (tabledAtEntry positions edges triangles stands) first end room (atEntry list)
-        (atExit list) r × Prepared (tabledAtEntry positions edges triangles stands) (atEntry boxes) (atExit boxes) ⌝ }
+    ensures { λ r. ⌜ StretchListed which (tabledAtEntry positions edges triangles stands) first end room (atEntry list)
+        (atExit list) r ⌝ }
 {
     let mut edge_levels = [0usize; LEVEL_NUMBERS];
     let mut triangle_levels = [0usize; LEVEL_NUMBERS];
@@ -190,6 +197,7 @@ pub fn list_stretch(
         tops.edges,
         &triangle_levels,
         tops.triangles,
+        which,
         first,
         end,
         list,

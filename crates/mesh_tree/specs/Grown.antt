@@ -16,6 +16,7 @@ use Rattle.sequences.specs.Pick.{both, not-both}
 use Rattle.sequences.specs.Range.{le-or-lt}
 use Rattle.meaning.specs.Runs.{runsOf, runFrom, runTo}
 use Rattle.meaning.specs.StoredBoxes.{Box, boxAt, BoxesStand}
+use Rattle.meaning.specs.MeshRows.{treeRoom}
 use Rattle.list_boxes.specs.Storing.{same-box}
 use Rattle.list_runs.specs.Joined.{joint-same}
 use Rattle.list_runs.specs.Filled.{RunsFilling, RunsFilled, run-inside}
@@ -30,10 +31,6 @@ nodesUpTo n (suc v) = nodesUpTo n v + nodesAt n (suc v)
 unfoldable pub levelPlace : ℕ → ℕ → ℕ → ℕ → ℕ
 levelPlace first to n zero = first
 levelPlace first to n (suc v) = to + nodesUpTo n v
-
--- there is room for the levels above n parts: 15 nodes in 16 stand for one less below, and a level has one that is not full
-abbrev pub treeRoom : ℕ → ℕ
-treeRoom n = n / 15 + 16
 
 -- how high a tree is grown: while a level has more than one node, and never above level 16
 pub record Height (n top : ℕ) : Type 0 where
@@ -121,7 +118,7 @@ module _ {l l₁ l₂ : List ℤ} (first n to v : ℕ) (apart : first + n ≤ to
         same = runs .same ∙ so .same;
       })
 
--- ---- how much room it takes
+-- ---- how much room it takes: 15 nodes in 16 stand for one less below, and a level has one that is not full
 
 -- a level and all above the parts: fifteen times their nodes
 pub few-nodes : (n v : ℕ) → 15 * nodesUpTo n v + nodesAt n v ≤ n + 15 * v

@@ -4,8 +4,9 @@
 ghost use Prim.Native.Nat.{_+_, _*_, _≤_, _<_};
 ghost use mathlib.Core.Path.{_≡_};
 ghost use lib.ListN.{length};
-ghost use Rattle.mesh_tree.specs.Grown.{treeRoom, withLevel, Grown};
+ghost use Rattle.mesh_tree.specs.Grown.{withLevel, Grown};
 ghost use Rattle.sequences.specs.Lent.{atEntry, atExit};
+ghost use Rattle.meaning.specs.MeshRows.{treeRoom};
 use list_runs::fill_runs;
 use list_runs::runs_of;
 

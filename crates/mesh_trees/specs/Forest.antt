@@ -1,18 +1,21 @@
--- What a row of the list goes by: the boxes of all parts and the two trees stand in the scratch, and the lists of levels tell where.
+-- What a row of the list goes by: the boxes of all parts and the two trees stand in the scratch, the lists of levels tell where, and every vertex
+-- number is known.
 use Prim.Native.Nat.{ℕ, _+_, _*_, _≤_, _<_}
 use mathlib.Core.List.{List}
 use mathlib.Core.Path.{_≡_, sym, ap, _∙_}
 use native.Mathlib.Omega.{arith}
 use lib.IntN.{ℤ, pos}
 use lib.ListN.{length, getD}
-use Rattle.meaning.specs.Scene.{Scene, vertexCount, edgeCount, triangleCount}
+use Rattle.meaning.specs.Scene.{Scene, vertexCount, edgeCount, triangleCount, edgeEnd, corner}
 use Rattle.meaning.specs.StoredBoxes.{boxAt, Boxed}
+use Rattle.meaning.specs.Limits.{partLimit}
+use Rattle.meaning.specs.MeshRows.{treeRoom, boxRoom}
+use Rattle.scene_checks.specs.Facts.{known-inside}
 use Rattle.list_boxes.specs.Storing.{same-box}
 use Rattle.mesh_tree.specs.Levels.{nodesAt, node-same}
-use Rattle.mesh_tree.specs.Grown.{levelPlace, treeRoom, room-enough, levels-before, Grown}
+use Rattle.mesh_tree.specs.Grown.{levelPlace, room-enough, levels-before, Grown}
 use Rattle.mesh_walk.specs.Steps.{leafBox, Tree, grown-tree}
-use Rattle.mesh_checks.specs.Meshes.{partLimit}
-use Rattle.mesh_trees.specs.Scratch.{edgeNodes, triangleNodes, scratchRoom}
+use Rattle.mesh_trees.specs.Scratch.{edgeNodes, triangleNodes}
 use Rattle.mesh_trees.specs.Planting.{Plantable, Planted}
 
 pub record Forest (s : Scene) (l : List ℤ) (e t : List ℕ) (edgeTop triangleTop : ℕ) : Type 0 where
@@ -24,6 +27,8 @@ pub record Forest (s : Scene) (l : List ℤ) (e t : List ℕ) (edgeTop triangleT
   pub fewVertices : vertexCount s ≤ partLimit
   pub fewEdges : edgeCount s ≤ partLimit
   pub fewTriangles : triangleCount s ≤ partLimit
+  pub ends : (m k : ℕ) → m < edgeCount s → k < 2 → edgeEnd s m k < vertexCount s
+  pub corners : (m k : ℕ) → m < triangleCount s → k < 3 → corner s m k < vertexCount s
 
 -- lists that have the same boxes up to a bound
 pub record SameUpTo (l l′ : List ℤ) (bound : ℕ) : Type 0 where
@@ -101,4 +106,6 @@ planted-forest {s} can long wide p =
       fewVertices = can .fewVertices;
       fewEdges = can .fewEdges;
       fewTriangles = can .fewTriangles;
+      ends = λ m k h l. known-inside (vertexCount s) (s .edges) (can .drawable .ends) (2 * m + k) (omega arith);
+      corners = λ m k h l. known-inside (vertexCount s) (s .triangles) (can .drawable .corners) (3 * m + k) (omega arith);
     }

@@ -9,13 +9,15 @@ use lib.IntN.{ℤ}
 use lib.ListN.{length}
 use Rattle.meaning.specs.Scene.{Scene, vertexCount, edgeCount, triangleCount}
 use Rattle.meaning.specs.StoredBoxes.{Filled}
+use Rattle.meaning.specs.Limits.{partLimit}
+use Rattle.meaning.specs.MeshRows.{treeRoom, boxRoom}
 use Rattle.list_boxes.specs.Once.{one-filling}
-use Rattle.mesh_tree.specs.Grown.{treeRoom, Grown}
+use Rattle.mesh_tree.specs.Grown.{Grown}
 use Rattle.mesh_tree.specs.Once.{one-height, one-growing, one-telling}
-use Rattle.mesh_checks.specs.Meshes.{partLimit, AcceptedMesh}
+use Rattle.mesh_checks.specs.Meshes.{AcceptedMesh}
 use Rattle.mesh_check_laws.specs.Facts.{mesh-sized}
 use Rattle.mesh_boxes.specs.Drawing.{Drawable, mesh-drawable}
-use Rattle.mesh_trees.specs.Scratch.{edgeNodes, triangleNodes, scratchRoom}
+use Rattle.mesh_trees.specs.Scratch.{edgeNodes, triangleNodes}
 
 -- a mesh whose boxes can be worked out, no larger than a mesh may be, and scratch with room for its trees
 pub record Plantable (s : Scene) (l : List ℤ) : Type 0 where
@@ -23,9 +25,9 @@ pub record Plantable (s : Scene) (l : List ℤ) : Type 0 where
   pub fewVertices : vertexCount s ≤ partLimit
   pub fewEdges : edgeCount s ≤ partLimit
   pub fewTriangles : triangleCount s ≤ partLimit
-  pub room : scratchRoom s ≤ length l
+  pub room : boxRoom s ≤ length l
 
-pub mesh-plantable : {s : Scene} (l : List ℤ) → AcceptedMesh s → scratchRoom s ≤ length l → Plantable s l
+pub mesh-plantable : {s : Scene} (l : List ℤ) → AcceptedMesh s → boxRoom s ≤ length l → Plantable s l
 mesh-plantable {s} l a h =
     let sized = mesh-sized a in
     record {

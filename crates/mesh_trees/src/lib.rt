@@ -3,10 +3,10 @@
 ghost use Prim.Native.Nat.{ℕ, _≤_};
 ghost use mathlib.Core.List.{List};
 ghost use mathlib.Core.Path.{_≡_};
+ghost use lib.Dec.{ltb};
 ghost use lib.ListN.{length};
 ghost use Rattle.meaning.specs.Scene.{sceneOf, unsewnIn, unsewnAtEntry};
-ghost use Rattle.mesh_tree.specs.Grown.{treeRoom};
-ghost use Rattle.mesh_trees.specs.Scratch.{scratchRoom, scratchShort};
+ghost use Rattle.meaning.specs.MeshRows.{treeRoom, boxRoom};
 ghost use Rattle.mesh_trees.specs.Planting.{Plantable, Planted};
 ghost use Rattle.sequences.specs.Lent.{atEntry, atExit};
 use mesh_boxes::fill;
@@ -25,7 +25,7 @@ fn tree_room(parts: usize) -> usize
 
 // How many numbers the scratch of a mesh needs.
 pub fn scratch_room(positions: &[i32], edges: &[u32], triangles: &[u32]) -> usize
-    ensures { λ r. ⌜ r ≡ scratchRoom (unsewnAtEntry positions edges triangles) ⌝ }
+    ensures { λ r. ⌜ r ≡ boxRoom (unsewnAtEntry positions edges triangles) ⌝ }
 {
     let sides = edge_count(edges);
     let faces = triangle_count(triangles);
@@ -35,7 +35,7 @@ pub fn scratch_room(positions: &[i32], edges: &[u32], triangles: &[u32]) -> usiz
 
 // 12: the scratch is too short.
 pub fn scratch_short(positions: &[i32], edges: &[u32], triangles: &[u32], boxes: &[i32]) -> bool
-    ensures { λ r. ⌜ r ≡ scratchShort (unsewnAtEntry positions edges triangles) (atEntry boxes) ⌝ }
+    ensures { λ r. ⌜ r ≡ ltb (length (atEntry boxes)) (boxRoom (unsewnAtEntry positions edges triangles)) ⌝ }
 {
     boxes.len() < scratch_room(positions, edges, triangles)
 }

@@ -7,10 +7,11 @@ use native.Mathlib.Omega.{arith}
 use lib.IntN.{ℤ}
 use lib.ListN.{length, getD}
 use Rattle.meaning.specs.StoredBoxes.{Box, boxAt, BoxesStand}
+use Rattle.meaning.specs.MeshRows.{treeRoom}
 use Rattle.list_boxes.specs.Kept.{meetBoxes}
 use Rattle.list_boxes.specs.Storing.{same-box}
 use Rattle.mesh_tree.specs.Levels.{nodesAt, firstUnder, nodeBox, node-same, node-skips}
-use Rattle.mesh_tree.specs.Grown.{levelPlace, nodesUpTo, treeRoom, room-enough, levels-before, Height, Growing, Told, Grown}
+use Rattle.mesh_tree.specs.Grown.{levelPlace, nodesUpTo, room-enough, levels-before, Height, Growing, Told, Grown}
 use Rattle.mesh_walk.specs.Places.{placesFrom, Stepped, step-missed, step-down, step-found, down-same}
 
 -- the box of the part in place j: level 0 stands where the levels say

@@ -14,10 +14,11 @@ use Rattle.meaning.specs.Refusals.{notThere}
 use Rattle.meaning.specs.Resting.{PairSettled}
 use Rattle.meaning.specs.List.{Pair}
 use Rattle.meaning.specs.SceneWords.{byteOf}
+use Rattle.meaning.specs.MeshRows.{meshNumber, meshEntries}
 use Rattle.meaning.specs.declared.Settled.{Settled}
 use Rattle.corner_search.specs.Decided.{pair-word-is}
 use Rattle.list_words.specs.Listed.{wordOfPair, bytesOf, bytes-length, bytes-at, noPair}
-use Rattle.mesh_laws.specs.Entries.{meshNumber, meshEntries, meshPairOf, Within, mesh-number-back}
+use Rattle.mesh_laws.specs.Entries.{meshPairOf, Within, mesh-number-back}
 
 -- the pair of an entry, and those of the first n entries
 abbrev pub meshPairAt : List ℕ → ℕ → Pair

@@ -11,20 +11,24 @@ use Rattle.meaning.specs.Scene.{Scene}
 use Rattle.meaning.specs.Refusals.{notThere}
 use Rattle.meaning.specs.List.{Pair, pair, pairs}
 use Rattle.meaning.specs.SceneWords.{byteOf}
+use Rattle.meaning.specs.MeshRows.{rowCount, meshRow, rowsIn, meshEntries}
 use Rattle.meaning.specs.declared.Kind.{Kind}
 use Rattle.meaning.specs.declared.Kind.the-variants.{PointTriangle, EdgeEdge}
+use Rattle.meaning.specs.declared.RowPairs.{RowPairs}
+use Rattle.meaning.specs.declared.RowPairs.the-variants.{Listed}
 use Rattle.scene_parts.specs.There.{pt-there, ee-there}
 use Rattle.list_pairs.specs.InOrder.{list-is}
 use Rattle.list_words.specs.Listed.{wordOfPair, wordsOf, bytesOf}
-use Rattle.mesh_laws.specs.Rows.{rowCount, meshRow, rowsIn, all-rows, stretches-joined}
-use Rattle.mesh_laws.specs.Entries.{MeshSized, Within, meshEntries}
+use Rattle.mesh_laws.specs.Rows.{all-rows, stretches-joined}
+use Rattle.mesh_laws.specs.Near.{rows-listed}
+use Rattle.mesh_laws.specs.Entries.{MeshSized, Within}
 use Rattle.mesh_words.specs.Asked.{PairThere, Entered}
 
 module _ (s : Scene) where
-  pub rows-listed : (a b : ℕ) → b ≤ rowCount s → (p : Pair) → List·Memᴰ p (rowsIn s a b) → List·Memᴰ p (pairs s)
-  rows-listed a b h p m =
-      let (j, low, high, row) = gather-from (meshRow s) b a m in
-      subst (List·Memᴰ p) (all-rows s) (gather-has (meshRow s) (rowCount s) j (omega arith) row 0 (omega arith))
+  pub rows-of-list : (w : RowPairs) (a b : ℕ) → b ≤ rowCount s → (p : Pair) → List·Memᴰ p (rowsIn w s a b) → List·Memᴰ p (pairs s)
+  rows-of-list w a b h p m =
+      let (j, low, high, row) = gather-from (meshRow Listed s) b a (rows-listed s w a b p m) in
+      subst (List·Memᴰ p) (all-rows s) (gather-has (meshRow Listed s) (rowCount s) j (omega arith) row 0 (omega arith))
 
   -- a pair of a mesh has narrow places
   there-within : MeshSized s → (kind : Kind) (i j : ℕ) → notThere s kind i j ≡ false → Within (pair kind i j)
@@ -43,16 +47,17 @@ module _ (s : Scene) where
       record { stand = stand; room = room; narrow = λ p m. there-within few (p .kind) (p .first) (p .second) (there p m); there = there }
 
   -- so do those of the rows of a stretch
-  pub rows-entered : MeshSized s → (a b n : ℕ) (l : List ℕ) → b ≤ rowCount s → n ≤ length l → take n l ≡ meshEntries (rowsIn s a b)
-      → Entered s n l (rowsIn s a b)
-  rows-entered few a b n l h room stand = listed-entered few n l (rowsIn s a b) (rows-listed a b h) room stand
+  pub rows-entered : (w : RowPairs) → MeshSized s → (a b n : ℕ) (l : List ℕ) → b ≤ rowCount s → n ≤ length l
+      → take n l ≡ meshEntries (rowsIn w s a b) → Entered s n l (rowsIn w s a b)
+  rows-entered w few a b n l h room stand = listed-entered few n l (rowsIn w s a b) (rows-of-list w a b h) room stand
 
-  -- the words of all rows are those of the list, and the words of neighbouring stretches joined are those of the stretch
-  pub rows-bytes : bytesOf s (rowsIn s 0 (rowCount s)) ≡ bytesOf s (pairs s)
+  -- the words of all rows of listed pairs are those of the list, and the words of neighbouring stretches joined are those of the stretch
+  pub rows-bytes : bytesOf s (rowsIn Listed s 0 (rowCount s)) ≡ bytesOf s (pairs s)
   rows-bytes = ap (bytesOf s) (all-rows s)
 
-  pub bytes-joined : (a b c : ℕ) → a ≤ b → b ≤ c → bytesOf s (rowsIn s a b) ++ bytesOf s (rowsIn s b c) ≡ bytesOf s (rowsIn s a c)
-  bytes-joined a b c h k =
-      sym (map-append byteOf (wordsOf s (rowsIn s a b)) (wordsOf s (rowsIn s b c)))
-      ∙ ap (map byteOf) (sym (map-append (wordOfPair s) (rowsIn s a b) (rowsIn s b c)))
-      ∙ ap (bytesOf s) (stretches-joined s a b c h k)
+  pub bytes-joined : (w : RowPairs) (a b c : ℕ) → a ≤ b → b ≤ c
+      → bytesOf s (rowsIn w s a b) ++ bytesOf s (rowsIn w s b c) ≡ bytesOf s (rowsIn w s a c)
+  bytes-joined w a b c h k =
+      sym (map-append byteOf (wordsOf s (rowsIn w s a b)) (wordsOf s (rowsIn w s b c)))
+      ∙ ap (map byteOf) (sym (map-append (wordOfPair s) (rowsIn w s a b) (rowsIn w s b c)))
+      ∙ ap (bytesOf s) (stretches-joined w s a b c h k)

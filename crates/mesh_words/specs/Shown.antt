@@ -7,8 +7,9 @@ use lib.ListN.{replicate}
 use Rattle.meaning.specs.Scene.{Scene, sceneOf}
 use Rattle.meaning.specs.Refusals.{notThere}
 use Rattle.meaning.specs.List.{Pair, pair}
+use Rattle.meaning.specs.MeshRows.{meshNumber, meshKindPart}
 use Rattle.meaning.specs.declared.Kind.the-variants.{PointTriangle}
-use Rattle.mesh_laws.specs.Entries.{meshNumber, meshKindPart, Within}
+use Rattle.mesh_laws.specs.Entries.{Within}
 use Rattle.mesh_words.specs.Asked.{PairThere, Entered}
 
 abbrev one : Scene

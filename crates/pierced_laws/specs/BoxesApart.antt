@@ -9,6 +9,8 @@ use Rattle.whole.specs.Vector.{Vector}
 use Rattle.meaning.specs.Scene.{Scene, edgeEnd, corner}
 use Rattle.meaning.specs.Boxes.{Span, Axis, xAxis, yAxis, zAxis, joint, meet, edgeSpan, triangleSpan}
 use Rattle.meaning.specs.Motion.{Together}
+use Rattle.meaning.specs.Near.{whereAt, vertexSpanAt, edgeSpanAt, triangleSpanAt}
+use Rattle.meaning.specs.PiercedRows.{meetAt}
 use Rattle.meaning.specs.Pierced.{Pierced}
 use Rattle.meaning.specs.declared.Frame.{Frame}
 use Rattle.meaning.specs.declared.Frame.the-variants.{Start, End}
@@ -16,7 +18,7 @@ use Rattle.theory.specs.Bounds.{Every}
 use Rattle.theory.specs.Spans.{Holds, joint-left, joint-right, not-meeting, Boxed, boxed-apart}
 use Rattle.theory.specs.Inside.{HoldsVertex, edge-in-its-box, triangle-in-its-box}
 use Rattle.theory.specs.Cull.{SomeAxis, onX, onY, onZ}
-use Rattle.pierced_laws.specs.OneTime.{placeOf, endPlaces, cornerPlaces, pierced-together}
+use Rattle.pierced_laws.specs.OneTime.{endPlaces, cornerPlaces, pierced-together}
 
 -- places that on some axis lie in two spans that stand apart
 pub places-apart : (a b : List Vector) → SomeAxis (λ x. Boxed x a b) → ¬ Together a b
@@ -35,40 +37,30 @@ on-some-axis {P} test h = go (test xAxis) (test yAxis) (test zAxis) refl refl re
     go true true true e f g k = absurd (true≢false k)
 
 module _ (s : Scene) (f : Frame) where
-  -- the box of a vertex at that time is its place, and a part's is the joint box of its vertices
-  abbrev pub spotSpan : Axis → ℕ → Span
-  spotSpan x v = record { low = x (placeOf f s v); high = x (placeOf f s v) }
-
-  abbrev pub edgeSpanAt : Axis → ℕ → Span
-  edgeSpanAt x i = joint (spotSpan x (edgeEnd s i 0)) (spotSpan x (edgeEnd s i 1))
-
-  abbrev pub triangleSpanAt : Axis → ℕ → Span
-  triangleSpanAt x j = joint (joint (spotSpan x (corner s j 0)) (spotSpan x (corner s j 1))) (spotSpan x (corner s j 2))
-
-  in-its-spot : (x : Axis) (v : ℕ) → Holds (spotSpan x v) (x (placeOf f s v))
+  in-its-spot : (x : Axis) (v : ℕ) → Holds (vertexSpanAt f s x v) (x (whereAt f s v))
   in-its-spot x v = record { low = ≤ℤ-refl _; high = ≤ℤ-refl _ }
 
-  ends-in : (x : Axis) (i : ℕ) → Every (λ p. Holds (edgeSpanAt x i) (x p)) (endPlaces s f i)
+  ends-in : (x : Axis) (i : ℕ) → Every (λ p. Holds (edgeSpanAt f s x i) (x p)) (endPlaces s f i)
   ends-in x i =
-      let a = spotSpan x (edgeEnd s i 0) in
-      let b = spotSpan x (edgeEnd s i 1) in
+      let a = vertexSpanAt f s x (edgeEnd s i 0) in
+      let b = vertexSpanAt f s x (edgeEnd s i 1) in
       (joint-left a b _ (in-its-spot x _), (joint-right a b _ (in-its-spot x _), tt))
 
-  corners-in : (x : Axis) (j : ℕ) → Every (λ p. Holds (triangleSpanAt x j) (x p)) (cornerPlaces s f j)
+  corners-in : (x : Axis) (j : ℕ) → Every (λ p. Holds (triangleSpanAt f s x j) (x p)) (cornerPlaces s f j)
   corners-in x j =
-      let a = spotSpan x (corner s j 0) in
-      let b = spotSpan x (corner s j 1) in
-      let c = spotSpan x (corner s j 2) in (
+      let a = vertexSpanAt f s x (corner s j 0) in
+      let b = vertexSpanAt f s x (corner s j 1) in
+      let c = vertexSpanAt f s x (corner s j 2) in (
         joint-left (joint a b) c _ (joint-left a b _ (in-its-spot x _)),
         (joint-left (joint a b) c _ (joint-right a b _ (in-its-spot x _)), (joint-right (joint a b) c _ (in-its-spot x _), tt)),
       )
 
   -- what a swept box holds at both times it holds at that one
-  swept : {x : Axis} {p : Span} {v : ℕ} → HoldsVertex s x p v → Holds p (x (placeOf f s v))
-  unfolding placeOf
+  swept : {x : Axis} {p : Span} {v : ℕ} → HoldsVertex s x p v → Holds p (x (whereAt f s v))
+  unfolding whereAt
   swept {x} {p} {v} h = go f
     where
-      go : (f : Frame) → Holds p (x (placeOf f s v))
+      go : (f : Frame) → Holds p (x (whereAt f s v))
       go Start = h .starts
       go End = h .ends
 
@@ -83,15 +75,12 @@ module _ (s : Scene) (f : Frame) where
 
     -- the boxes of that time meet on every axis
     abbrev pub boxesMeetAt : Bool
-    boxesMeetAt = on xAxis && on yAxis && on zAxis
-      where
-        on : Axis → Bool
-        on x = meet (edgeSpanAt x i) (triangleSpanAt x j)
+    boxesMeetAt = meetAt f s i j xAxis && meetAt f s i j yAxis && meetAt f s i j zAxis
 
     pub boxes-apart : boxesMeetAt ≡ false → ¬ Pierced s f i j
     boxes-apart h =
-        not-pierced (on-some-axis (λ x. meet (edgeSpanAt x i) (triangleSpanAt x j))
-        (λ x m. spans-apart x (edgeSpanAt x i) (triangleSpanAt x j) m (ends-in x i) (corners-in x j)) h)
+        not-pierced (on-some-axis (λ x. meet (edgeSpanAt f s x i) (triangleSpanAt f s x j))
+        (λ x m. spans-apart x (edgeSpanAt f s x i) (triangleSpanAt f s x j) m (ends-in x i) (corners-in x j)) h)
 
     -- and so of the swept boxes
     pub swept-apart : (meet (edgeSpan s xAxis i) (triangleSpan s xAxis j) && meet (edgeSpan s yAxis i) (triangleSpan s yAxis j) && meet (edgeSpan s zAxis i) (triangleSpan s zAxis j)) ≡ false

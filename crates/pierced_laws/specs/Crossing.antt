@@ -19,6 +19,7 @@ use Rattle.meaning.specs.Motion.{Together}
 use Rattle.meaning.specs.Pierced.{Pierced}
 use Rattle.meaning.specs.Resting.{PairSettled}
 use Rattle.meaning.specs.Text.{coordinates}
+use Rattle.meaning.specs.Near.{whereAt}
 use Rattle.meaning.specs.declared.Corners.{Corners}
 use Rattle.meaning.specs.declared.Frame.{Frame}
 use Rattle.meaning.specs.declared.Kind.the-variants.{PointTriangle}
@@ -26,7 +27,7 @@ use Rattle.meaning.specs.declared.Settled.{Settled}
 use Rattle.meaning.specs.declared.Settled as Words
 use Rattle.theory.specs.Solved.{weights-there}
 use Rattle.corner_laws.specs.AtRest.{Still, still-alike}
-use Rattle.pierced_laws.specs.OneTime.{placeOf, pierced-together}
+use Rattle.pierced_laws.specs.OneTime.{pierced-together}
 use Rattle.pierced_laws.specs.SomeWeights.{SomeTouches, hit-or-touch}
 
 -- ---- the weights of a piece of a resting triangle, each corner's two taken together
@@ -220,7 +221,7 @@ module _ (p q a b c : Vector) where
 module _ (s : Scene) (f : Frame) (i j : ℕ) where
   -- the point goes from the first end of edge i to the second, and the triangle rests where triangle j stands at that time
   abbrev pub crossingOf : Scene
-  crossingOf = crossing (placeOf f s (edgeEnd s i 0)) (placeOf f s (edgeEnd s i 1)) (placeOf f s (corner s j 0)) (placeOf f s (corner s j 1)) (placeOf f s (corner s j 2))
+  crossingOf = crossing (whereAt f s (edgeEnd s i 0)) (whereAt f s (edgeEnd s i 1)) (whereAt f s (corner s j 0)) (whereAt f s (corner s j 1)) (whereAt f s (corner s j 2))
 
   pub pierced-crossing : Pierced s f i j ↔ SomeTouches crossingOf PointTriangle 0 0
   pierced-crossing =

@@ -10,6 +10,7 @@ use Rattle.meaning.specs.Scene.{Scene, sceneOf, vertexCount, edgeCount, triangl
 use Rattle.meaning.specs.Pieces.{Event}
 use Rattle.meaning.specs.Equations.{Touch}
 use Rattle.meaning.specs.Pierced.{standsAt, Pierced}
+use Rattle.meaning.specs.Near.{whereAt}
 use Rattle.meaning.specs.declared.Frame.{Frame}
 use Rattle.meaning.specs.declared.Frame.the-variants.{Start, End}
 use Rattle.theory.specs.Bounds.{Every}
@@ -22,7 +23,7 @@ use Rattle.theory.specs.Moved.{Moves, follows}
 use Rattle.theory.specs.NoCrack.{Sewn}
 use Rattle.theory.specs.Rational.{RationalTouch, touch-rational}
 use Rattle.corner_laws.specs.AtRest.{Still}
-use Rattle.pierced_laws.specs.OneTime.{placeOf, endPlaces, cornerPlaces, pierced-together}
+use Rattle.pierced_laws.specs.OneTime.{endPlaces, cornerPlaces, pierced-together}
 
 -- the points of the two parts at that time
 abbrev pub endsAt : Scene → Frame → ℕ → List Event
@@ -84,8 +85,8 @@ module _ {s t : Scene} (h : Rewritten s t) (f : Frame) (i j : ℕ) (edge : i < e
 -- ---- a frame that is given as start and as end is pierced at both or at neither
 
 module _ (s : Scene) (still : (v : ℕ) → Still (s .positions) v) (i j : ℕ) where
-  one-place : (v : ℕ) → placeOf End s v ≡ placeOf Start s v
-  unfolding placeOf
+  one-place : (v : ℕ) → whereAt End s v ≡ whereAt Start s v
+  unfolding whereAt
   one-place v = still v .place
 
   pub one-frame : Pierced s Start i j ↔ Pierced s End i j

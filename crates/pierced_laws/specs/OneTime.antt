@@ -6,10 +6,11 @@ use mathlib.Core.List.{List, [], _∷_, map}
 use Prim.Native.Nat.{ℕ}
 use lib.IntN.{ℤ, pos, _*ℤ_}
 use Rattle.whole.specs.Vector.{Vector}
-use Rattle.meaning.specs.Scene.{Scene, startOf, endOf, edgeEnd, corner}
+use Rattle.meaning.specs.Scene.{Scene, edgeEnd, corner}
 use Rattle.meaning.specs.Pieces.{Event}
 use Rattle.meaning.specs.Equations.{one, xOf, yOf, zOf, timeOf, total, Touch}
 use Rattle.meaning.specs.Motion.{Together}
+use Rattle.meaning.specs.Near.{whereAt}
 use Rattle.meaning.specs.Pierced.{standsAt, Pierced}
 use Rattle.meaning.specs.declared.Frame.{Frame}
 use Rattle.meaning.specs.declared.Frame.the-variants.{Start, End}
@@ -62,25 +63,20 @@ module _ (t : ℤ) (a b : List Vector) where
 
 -- ---- of an edge and a triangle
 
--- where vertex v is at that time
-unfoldable pub placeOf : Frame → Scene → ℕ → Vector
-placeOf Start s v = startOf s v
-placeOf End s v = endOf s v
-
 unfoldable timeAt : Frame → ℤ
 timeAt Start = pos 0
 timeAt End = pos 1
 
 -- the places of the edge's ends and of the triangle's corners at that time
 abbrev pub endPlaces : Scene → Frame → ℕ → List Vector
-endPlaces s f i = placeOf f s (edgeEnd s i 0) ∷ placeOf f s (edgeEnd s i 1) ∷ []
+endPlaces s f i = whereAt f s (edgeEnd s i 0) ∷ whereAt f s (edgeEnd s i 1) ∷ []
 
 abbrev pub cornerPlaces : Scene → Frame → ℕ → List Vector
-cornerPlaces s f j = placeOf f s (corner s j 0) ∷ placeOf f s (corner s j 1) ∷ placeOf f s (corner s j 2) ∷ []
+cornerPlaces s f j = whereAt f s (corner s j 0) ∷ whereAt f s (corner s j 1) ∷ whereAt f s (corner s j 2) ∷ []
 
 module _ (s : Scene) (f : Frame) (i j : ℕ) where
-  stands : (f : Frame) (v : ℕ) → standing (timeAt f) (placeOf f s v) ≡ standsAt f (s .positions) v
-  unfolding placeOf timeAt standsAt
+  stands : (f : Frame) (v : ℕ) → standing (timeAt f) (whereAt f s v) ≡ standsAt f (s .positions) v
+  unfolding whereAt timeAt standsAt
   stands Start v = refl
   stands End v = refl
 

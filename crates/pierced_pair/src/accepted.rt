@@ -8,26 +8,15 @@ ghost use Rattle.meaning.specs.Scene.{sceneOf, Accepted, edgeCount, triangleCou
 ghost use Rattle.meaning.specs.Refusals.{Answers};
 ghost use Rattle.meaning.specs.Pierced.{endIsCorner, piercedAsked, PiercedIs, piercedSays};
 ghost use Rattle.scene_seams.specs.Alone.{onlyEdges, onlyTriangles, tabled, tabledIn, tabledAtEntry};
-ghost use Rattle.pierced_pair.specs.Parts.{offsetOf, vertexNumbers, PartsIn};
+ghost use Rattle.pierced_pair.specs.Parts.{PartsIn};
 ghost use Rattle.sequences.specs.Lent.{atEntry};
-use super::places::in_common;
+use super::places::vertices_in_common;
 use meaning::Frame;
 use meaning::PiercedAnswer;
 use meaning::Refusal;
 use scene_parts::shares_pt;
 use scene_parts::written::corner;
 use scene_parts::written::edge_end;
-
-// Where the first coordinate of vertex v stands in the positions, at the start or at the end.
-pub fn place_of(frame: Frame, v: usize) -> usize
-    requires { ⌜ v < vertexNumbers ⌝ }
-    ensures { λ r. ⌜ r ≡ offsetOf frame v ⌝ }
-{
-    match frame {
-        Frame::Start => 6 * v,
-        Frame::End => 6 * v + 3,
-    }
-}
 
 // Is edge i through triangle j at that time? Ends and corners are taken as they are written: no seam and no order changes the answer.
 pub fn pierced(
@@ -42,12 +31,12 @@ pub fn pierced(
     ensures { λ r. ⌜ ((w : List ℕ)
         → PiercedIs (sceneOf (atEntry positions) (atEntry edges) (atEntry triangles) w) frame i j r) ⌝ }
 {
-    let a = place_of(frame, edge_end(edges, i, 0));
-    let b = place_of(frame, edge_end(edges, i, 1));
-    let c = place_of(frame, corner(triangles, j, 0));
-    let d = place_of(frame, corner(triangles, j, 1));
-    let e = place_of(frame, corner(triangles, j, 2));
-    in_common(positions, a, b, c, d, e)
+    let p = edge_end(edges, i, 0);
+    let q = edge_end(edges, i, 1);
+    let a = corner(triangles, j, 0);
+    let b = corner(triangles, j, 1);
+    let c = corner(triangles, j, 2);
+    vertices_in_common(positions, frame, p, q, a, b, c)
 }
 
 // 6: an end of edge i is a corner of triangle j, by the vertices stood for.

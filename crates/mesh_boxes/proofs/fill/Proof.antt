@@ -1,47 +1,20 @@
--- `fill`: there is room for a box of each part, and ends and corners are vertices.
+-- `fill`: edges and triangles are joined from swept boxes of the vertices.
 use borrow.Author.Needs.{needs}
-use native.Mathlib.Omega.{arith}
-use Rattle.list_boxes.specs.Filling.{kept-then}
+use Rattle.meaning.specs.Scene.{sceneOf}
+use Rattle.mesh_boxes.specs.Joining.{filled-as, swept-filled}
 use Rattle.mesh_boxes.proofs.fill.Statement.{statement}
 use Rattle.mesh_boxes.proofs.fill.Tie as tie
-
-fill-vertices-requires : tie.Need-fill-vertices-requires
-fill-vertices-requires c κs =
-    let start = c .before .before .before in
-    omega (arith, start .pre .room)
-
-fill-edges-requires : tie.Need-fill-edges-requires
-fill-edges-requires c κs =
-    let start = c .before .before .before .before .before .before in
-    let filled = c .before .before .fill-vertices .ensures in
-    (start .pre .ends, (omega (arith, start .pre .room, filled .1 .same), filled .0))
-
-fill-triangles-requires : tie.Need-fill-triangles-requires
-fill-triangles-requires c κs =
-    let start = c .before .before .before .before .before .before .before .before .before in
-    let filled = c .before .before .fill-edges .ensures in
-    let before = c .before .before .before .before .before .fill-vertices .ensures in (
-      start .pre .corners,
-      (omega (arith, start .pre .room, filled .2 .same, before .1 .same), (filled .0, filled .1)),
-    )
 
 returns : tie.Need-returns
 returns c =
     λ w.
-    let filled = c .before .fill-triangles .ensures w in
-    record {
-      boxed = filled .boxed;
-      kept =
-          kept-then (kept-then (c .before .before .before .before .before .before .before .fill-vertices .ensures .1) (c .before .before .before .before .fill-edges .ensures .2) (omega arith)) (filled .kept)
-          (omega arith);
-    }
+    let start = c .before .before .before .before .before .before .before .before in
+    let a = start .args in
+    let vertices = c .before .before .before .before .fill-vertices .ensures in
+    let can = start .pre in
+    swept-filled (filled-as {s = sceneOf (a .positions .now) (a .edges .now) (a .triangles .now) w}
+    (record { ends = can .ends; corners = can .corners; room = can .room })
+    (vertices .0) (vertices .1) (c .before .join-parts .ensures w))
 
 pub fill-spec : {M : Type 1} → statement M
-fill-spec =
-    tie.close
-    (tie.spec
-    fill-vertices-requires
-    fill-edges-requires
-    fill-triangles-requires
-    (λ c. search needs)
-    returns)
+fill-spec = tie.close (tie.spec (λ c κs. search needs) (λ c κs. search needs) (λ c. search needs) returns)

@@ -1,20 +1,22 @@
--- `store_edge`: the ends are vertices, whose boxes stand in the list.
+-- `store_edge`: the ends are vertices, whose boxes stand in front.
 use borrow.Author.Needs.{needs}
 use native.Mathlib.Omega.{arith}
-use Rattle.list_boxes.specs.Parts.{end-known, edge-stored}
+use mathlib.Core.List.{[]}
+use Rattle.meaning.specs.Scene.{sceneOf}
+use Rattle.mesh_boxes.specs.Joining.{end-inside, edge-joined}
 use Rattle.mesh_boxes.proofs.store_edge.Statement.{statement}
 use Rattle.mesh_boxes.proofs.store_edge.Tie as tie
 
 store-joint-box-requires : tie.Need-store-joint-box-requires
 store-joint-box-requires c κs =
     let start = c .before .before .before .before .before in
-    let known = end-known (start .pre .1) (start .args .j) (start .pre .0) in
-    omega (arith, known 0 (omega arith), known 1 (omega arith))
+    let known = end-inside (sceneOf (start .args .positions .now) (start .args .edges .now) [] []) (start .pre .1 .known) (start .args .j) (start .pre .0) in
+    omega (arith, known 0 (omega arith), known 1 (omega arith), start .pre .1)
 
 returns : tie.Need-returns
 returns c =
     let start = c .before .before .before .before .before .before .before in
-    edge-stored (start .pre .1) (start .args .j) (start .pre .0)
+    edge-joined (sceneOf (start .args .positions .now) (start .args .edges .now) [] []) _ _ (start .args .j)
     (omega (arith, c .before .before .before .before .before .vertex-count .ensures))
     (c .before .before .before .edge-end .ensures)
     (c .before .before .edge-end2 .ensures)

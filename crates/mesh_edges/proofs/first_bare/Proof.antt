@@ -3,12 +3,13 @@ use native.Mathlib.Omega.{arith}
 use lib.ListN.{length}
 use borrow.Author.Needs.{needs}
 use Rattle.mesh_edges.specs.First.{FirstFrom, from-starts, from-goes, from-ends}
-use Rattle.mesh_edges.specs.Sides.{bareAt}
+use Rattle.meaning.specs.MeshEdges.{bareSide}
+use Rattle.mesh_orders.specs.Told.{partsOnly}
 use Rattle.mesh_edges.proofs.first_bare.Statement.{statement}
 use Rattle.mesh_edges.proofs.first_bare.Tie as tie
 
 abbrev Inv-loop : tie.InvT-loop
-Inv-loop edges triangles sides count first₀ k₀ first k = FirstFrom (length triangles) (bareAt edges triangles sides) first k
+Inv-loop edges triangles sides count first₀ k₀ first k = FirstFrom (length triangles) (bareSide (partsOnly edges triangles) sides) first k
 
 abbrev μ-loop : tie.MeasureT-loop
 μ-loop edges triangles sides count first₀ k₀ first k = k

@@ -4,12 +4,13 @@ use native.Mathlib.Omega.{arith}
 use lib.ListN.{length}
 use borrow.Author.Needs.{needs}
 use Rattle.mesh_edges.specs.First.{FirstFrom, from-starts, from-goes, from-ends}
-use Rattle.mesh_edges.specs.Ends.{fallsAt}
+use Rattle.meaning.specs.MeshEdges.{endsFall}
+use Rattle.scene_seams.specs.Alone.{onlyEdges}
 use Rattle.mesh_edges.proofs.first_fall.Statement.{statement}
 use Rattle.mesh_edges.proofs.first_fall.Tie as tie
 
 abbrev Inv-loop : tie.InvT-loop
-Inv-loop edges order count first₀ k₀ first k = FirstFrom (length order - 1) (fallsAt edges order) first k
+Inv-loop edges order count first₀ k₀ first k = FirstFrom (length order - 1) (endsFall (onlyEdges edges) order) first k
 
 abbrev μ-loop : tie.MeasureT-loop
 μ-loop edges order count first₀ k₀ first k = k

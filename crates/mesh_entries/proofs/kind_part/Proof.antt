@@ -1,6 +1,6 @@
 -- `kind_part`: by the kind.
 use borrow.Author.Needs.{needs}
-use Rattle.mesh_laws.specs.Entries.{meshKindPart}
+use Rattle.meaning.specs.MeshRows.{meshKindPart}
 use Rattle.mesh_entries.proofs.kind_part.Statement.{statement}
 use Rattle.mesh_entries.proofs.kind_part.Tie as tie
 

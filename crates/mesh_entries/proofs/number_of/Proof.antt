@@ -1,8 +1,8 @@
 -- `number_of`: the kind's part is at most 2^63, so that the sum has 64 bits.
 use borrow.Author.Needs.{needs}
 use native.Mathlib.Omega.{arith}
-use Rattle.mesh_laws.specs.Entries.{meshNumber}
-use Rattle.mesh_entries.specs.Telling.{kind-small}
+use Rattle.meaning.specs.List.{pair}
+use Rattle.mesh_laws.specs.Entries.{kind-small, mesh-number-is}
 use Rattle.mesh_entries.proofs.number_of.Statement.{statement}
 use Rattle.mesh_entries.proofs.number_of.Tie as tie
 
@@ -13,8 +13,9 @@ add-result-2 : tie.Need-add-result-2
 add-result-2 c = omega (arith, c .kind-part .ensures, kind-small (c .before .args .kind), c .before .pre)
 
 returns : tie.Need-returns
-unfolding meshNumber
-returns c = omega (arith, c .kind-part .ensures, c .before .pre)
+returns c =
+    let a = c .before .args in
+    omega (arith, c .kind-part .ensures, c .before .pre, mesh-number-is (pair (a .kind) (a .first) (a .second)))
 
 pub number-of-spec : {M : Type 1} → statement M
 number-of-spec =

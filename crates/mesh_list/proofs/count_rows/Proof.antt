@@ -1,64 +1,48 @@
--- `count_rows`: each return is right by the tests that led to it.
+-- `count_rows`: a refusal of what comes first is passed on, and the rows of an accepted mesh are counted, by the table of its seams.
 use borrow.Author.Needs.{needs}
-use mathlib.Core.Path.{sym, _∙_}
+use mathlib.Core.Path.{refl}
+use lib.ListN.{length}
+use denote.Ref.{now}
 use Rattle.meaning.specs.Scene.{sceneIn}
-use Rattle.mesh_lent.specs.Blanking.{blank-lent}
-use Rattle.mesh_lent.specs.Answering.{has-room}
-use Rattle.mesh_list.specs.Answering.{short-counted, scratch-long, table-long, counted-without, counted-with}
+use Rattle.mesh_asked.specs.Asking.{lentOf}
+use Rattle.mesh_list.specs.Answering.{by-count, open-plantable, open-rows, not-counted, counted}
 use Rattle.mesh_list.proofs.count_rows.Statement.{statement}
 use Rattle.mesh_list.proofs.count_rows.Tie as tie
 
+count-stretch-requires : tie.Need-count-stretch-requires
+count-stretch-requires c κs =
+    let a = c .before .before .before .before .before .before .before .before .before .before .before .before .before .before .before .before .before .before .before .args in
+    let asked = by-count {s = sceneIn (a .positions) (a .edges) (a .triangles) (a .seams)} (c .before .before .before .before .before .before .before .before .before .before .before .row-count .ensures) (c .before .before .before .before .before .before .before .before .ask-rows .ensures) in
+    let there = open-rows asked (c .before .before .enum-told .given .1) in
+    (open-plantable asked (c .before .before .enum-told .given .1) (now (a .boxes)) refl, there .0, there .1)
+
 returns : tie.Need-returns
 returns c =
-    let a = c .before .before .before .before .before .before .before .before .args in
-    short-counted (sceneIn (a .positions) (a .edges) (a .triangles) (a .seams)) (a .table .now) (a .boxes .now) (a .first) (a .end) (sym (c .before .lent-short .ensures) ∙ c .if1 .taken)
-
-count-into-requires : tie.Need-count-into-requires
-count-into-requires c κs =
-    let a = c .before .before .before .before .before .before .before .before .before .before .before .args in
-    let long = sym (c .before .before .before .before .lent-short .ensures) ∙ c .before .before .before .if1 .left in
-    (search needs, scratch-long (sceneIn (a .positions) (a .edges) (a .triangles) (a .seams)) (a .table .now) (a .boxes .now) (a .first) (a .end) long)
+    let a = c .before .before .before .before .before .before .before .before .before .before .before .before .before .before .before .before .before .before .args in
+    let s = sceneIn (a .positions) (a .edges) (a .triangles) (a .seams) in
+    let l = lentOf (now (a .edge-order)) (now (a .triangle-order)) (length (now (a .table))) (length (now (a .places))) (length (now (a .boxes))) in
+    not-counted (a .which) s l (a .first) (a .end) (by-count {s = s} (c .before .before .before .before .before .before .before .before .before .before .row-count .ensures) (c .before .before .before .before .before .before .before .ask-rows .ensures)) _ (c .before .why .given .1)
 
 returns-2 : tie.Need-returns-2
 returns-2 c =
-    let a = c .before .before .before .before .before .before .before .before .before .before .before .before .before .before .args in
-    let long = sym (c .before .before .before .before .before .before .before .lent-short .ensures) ∙ c .before .before .before .before .before .before .if1 .left in
-    counted-without (sceneIn (a .positions) (a .edges) (a .triangles) (a .seams)) (a .table .now) (a .boxes .now) (a .first) (a .end) long (c .before .before .count-into .ensures .0) (c .before .before .before .before .before .if2 .taken)
-
-count-into-requires-2 : tie.Need-count-into-requires-2
-count-into-requires-2 c κs =
-    let a = c .before .before .before .before .before .before .before .before .before .before .before .before .before .before .before .args in
+    let a = c .before .before .before .before .before .before .before .before .before .before .before .before .before .before .before .before .before .before .before .before .before .args in
     let s = sceneIn (a .positions) (a .edges) (a .triangles) (a .seams) in
-    let long = sym (c .before .before .before .before .before .before .before .before .lent-short .ensures) ∙ c .before .before .before .before .before .before .before .if1 .left in (
-      rw (c .before .before .before .before .blank .ensures)
-          (blank-lent _ _ (a .table .now)
-          (has-room s (a .table .now) (table-long s (a .table .now) (a .boxes .now) (a .first) (a .end) long) (c .before .before .before .before .before .before .if2 .left))),
-      scratch-long s (a .table .now) (a .boxes .now) (a .first) (a .end) long,
-    )
-
-returns-3 : tie.Need-returns-3
-returns-3 c =
-    let a = c .before .before .before .before .before .before .before .before .before .before .before .before .before .before .before .before .before .before .before .args in
-    let long = sym (c .before .before .before .before .before .before .before .before .before .before .before .before .lent-short .ensures) ∙ c .before .before .before .before .before .before .before .before .before .before .before .if1 .left in
-    let made = c .before .before .before .count-into2 .ensures in
-    counted-with (sceneIn (a .positions) (a .edges) (a .triangles) (a .seams)) (a .table .now) (a .boxes .now) (a .first) (a .end) long (made .0) (c .before .before .before .before .before .before .before .before .before .before .if2 .left)
-    (rw (c .before .before .before .before .before .before .before .before .blank .ensures) at (made .1))
+    let l = lentOf (now (a .edge-order)) (now (a .triangle-order)) (length (now (a .table))) (length (now (a .places))) (length (now (a .boxes))) in
+    counted (a .which) s l (a .first) (a .end) (by-count {s = s} (c .before .before .before .before .before .before .before .before .before .before .before .before .before .row-count .ensures) (c .before .before .before .before .before .before .before .before .before .before .ask-rows .ensures)) (c .before .before .before .before .enum-told .given .1) _ (c .before .count-stretch .ensures)
 
 pub count-rows-spec : {M : Type 1} → statement M
 count-rows-spec =
     tie.close
     (tie.spec
     (λ c κs. search needs)
+    (λ c κs. search needs)
+    (λ c. search needs)
+    (λ c. search needs)
+    count-stretch-requires
     (λ c. search needs)
     (λ c. search needs)
     returns
     (λ c. search needs)
-    count-into-requires
     (λ c. search needs)
     (λ c. search needs)
-    returns-2
-    (λ c κs. search needs)
-    count-into-requires-2
-    (λ c. search needs)
-    (λ c. search needs)
-    returns-3)
+    returns-2)

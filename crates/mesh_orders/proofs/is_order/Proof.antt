@@ -4,7 +4,8 @@ use mathlib.Core.Path.{_∙_, ap}
 use lib.ListN.{length}
 use borrow.Author.Needs.{needs}
 use denote.Ref.{now}
-use Rattle.mesh_orders.specs.Orders.{places-long, tells}
+use Rattle.mesh_orders.specs.Orders.{places-long}
+use Rattle.mesh_orders.specs.Told.{tells}
 use Rattle.mesh_orders.proofs.is_order.Statement.{statement}
 use Rattle.mesh_orders.proofs.is_order.Tie as tie
 

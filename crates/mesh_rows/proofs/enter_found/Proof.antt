@@ -5,7 +5,8 @@ use mathlib.Core.Path.{sym, _∙_}
 use Rattle.sequences.specs.Pick.{both}
 use Rattle.scene_seams.specs.Alone.{tabled}
 use Rattle.mesh_entries.specs.Entering.{entered-if, entered-else}
-use Rattle.mesh_rows.specs.Rows.{apart, entryOf}
+use Rattle.mesh_rows.specs.Asking.{passes}
+use Rattle.mesh_rows.specs.Rows.{entryOf}
 use Rattle.mesh_rows.proofs.enter_found.Statement.{statement}
 use Rattle.mesh_rows.proofs.enter_found.Tie as tie
 
@@ -14,14 +15,15 @@ put-below-requires c κs =
     let start = c .before .before .before .before .before .before .before in
     let a = start .args in
     let s = tabled (a .positions .now) (a .edges .now) (a .triangles .now) (a .stands .now) in
-    let found = both (a .found) (apart s (a .kind) (a .i) (a .j)) (sym (c .before .before .is-listed .ensures) ∙ c .before .if1 .taken) .0 in
-    (start .pre .1 .0, start .pre .0 .1, start .pre .0 .3 found)
+    let found = both (a .found) (passes (a .which) s (a .kind) (a .i) (a .j)) (sym (c .before .before .is-listed .ensures) ∙ c .before .if1 .taken) .0 in
+    let narrow = start .pre .0 found .narrow in
+    (start .pre .1 .0, narrow .firstFew, narrow .secondFew)
 
 returns : tie.Need-returns
 returns c =
     let a = c .before .before .before .before .before .before .before .before .before .before .args in
     let s = tabled (a .positions .now) (a .edges .now) (a .triangles .now) (a .stands .now) in
-    entered-if (a .found && apart s (a .kind) (a .i) (a .j)) (entryOf (a .kind) (a .i) (a .j)) (c .before .before .before .before .before .is-listed .ensures)
+    entered-if (a .found && passes (a .which) s (a .kind) (a .i) (a .j)) (entryOf (a .kind) (a .i) (a .j)) (c .before .before .before .before .before .is-listed .ensures)
     (c .before .before .before .before .if1 .taken)
     (c .before .before .put-below .ensures)
 
@@ -29,7 +31,7 @@ returns-2 : tie.Need-returns-2
 returns-2 c =
     let a = c .before .before .before .before .before .before .args in
     let s = tabled (a .positions .now) (a .edges .now) (a .triangles .now) (a .stands .now) in
-    entered-else (a .found && apart s (a .kind) (a .i) (a .j)) (entryOf (a .kind) (a .i) (a .j)) (c .before .is-listed .ensures) (c .if1 .left)
+    entered-else (a .found && passes (a .which) s (a .kind) (a .i) (a .j)) (entryOf (a .kind) (a .i) (a .j)) (c .before .is-listed .ensures) (c .if1 .left)
 
 pub enter-found-spec : {M : Type 1} → statement M
 enter-found-spec =

@@ -2,8 +2,8 @@
 use borrow.Author.Needs.{needs}
 use native.Mathlib.Omega.{arith}
 use mathlib.Core.Path.{refl, ap}
+use Rattle.meaning.specs.MeshRows.{meshEntries}
 use Rattle.scene_seams.specs.Alone.{tabled}
-use Rattle.mesh_laws.specs.Entries.{meshEntries}
 use Rattle.mesh_rows.specs.Rows.{vertex-tree, edge-tree, vertex-row-of, edge-row-of, entered-as}
 use Rattle.mesh_rows.proofs.walk_numbered.Statement.{statement}
 use Rattle.mesh_rows.proofs.walk_numbered.Tie as tie
@@ -27,13 +27,13 @@ walk-row-requires-2 c κs =
 returns : tie.Need-returns
 returns c =
     let a = c .before .before .before .before .before .before .before .before .before .before .before .before .before .args in
-    entered-as (ap meshEntries (vertex-row-of (tabled (a .positions .now) (a .edges .now) (a .triangles .now) (a .stands .now)) (a .row) (omega (arith, c .before .before .before .before .before .if1 .taken, c .before .before .before .before .before .before .vertex-count .ensures))))
+    entered-as (ap meshEntries (vertex-row-of (a .which) (tabled (a .positions .now) (a .edges .now) (a .triangles .now) (a .stands .now)) (a .row) (omega (arith, c .before .before .before .before .before .if1 .taken, c .before .before .before .before .before .before .vertex-count .ensures))))
     (c .before .before .walk-row .ensures)
 
 returns-2 : tie.Need-returns-2
 returns-2 c =
     let a = c .before .before .before .before .before .before .before .before .before .before .before .before .before .args in
-    entered-as (ap meshEntries (edge-row-of (tabled (a .positions .now) (a .edges .now) (a .triangles .now) (a .stands .now)) _ (a .row) (omega (arith, c .before .before .before .before .before .if1 .left, c .before .before .before .before .before .before .vertex-count .ensures))))
+    entered-as (ap meshEntries (edge-row-of (a .which) (tabled (a .positions .now) (a .edges .now) (a .triangles .now) (a .stands .now)) _ (a .row) (omega (arith, c .before .before .before .before .before .if1 .left, c .before .before .before .before .before .before .vertex-count .ensures))))
     (c .before .before .walk-row2 .ensures)
 
 pub walk-numbered-spec : {M : Type 1} → statement M

@@ -1,25 +1,24 @@
 -- `walk_row`: what is entered, with what is left of the row, is all of it.
 use native.Mathlib.Omega.{arith}
 use Prim.Native.Nat.{_+_, _*_, _-_, _≤_}
+use Rattle.meaning.specs.MeshRows.{meshEntries}
 use Rattle.scene_seams.specs.Alone.{tabled}
-use Rattle.list_candidates.specs.Rows.{rowOf}
-use Rattle.mesh_laws.specs.Entries.{meshEntries}
 use Rattle.mesh_tree.specs.Levels.{firstUnder}
 use Rattle.mesh_walk.specs.Steps.{rowMeets}
 use Rattle.mesh_entries.specs.Entering.{Entering, entering-place, entering-length}
 use Rattle.mesh_rows.specs.Sifting.{found-there}
-use Rattle.mesh_rows.specs.Rows.{leftOf, row-starts, row-goes, row-ends, row-few}
+use Rattle.mesh_rows.specs.Rows.{partRow, leftOf, row-askable, row-starts, row-goes, row-ends, row-few}
 use Rattle.mesh_rows.proofs.walk_row.Statement.{statement}
 use Rattle.mesh_rows.proofs.walk_row.Tie as tie
 
 abbrev Inv-loop : tie.InvT-loop
-Inv-loop positions edges triangles stands boxes levels parts top kind i row from list₀ most at level₀ node₀ k₀ list level node k =
+Inv-loop positions edges triangles stands boxes levels parts top which kind i row from list₀ most at level₀ node₀ k₀ list level node k =
     (level ≤ top)
-    × Entering most list₀ at (meshEntries (rowOf (tabled positions edges triangles stands) kind i)) list k
-    (leftOf (tabled positions edges triangles stands) kind i (rowMeets boxes levels row) parts (firstUnder level node))
+    × Entering most list₀ at (meshEntries (partRow which (tabled positions edges triangles stands) kind i)) list k
+    (leftOf which (tabled positions edges triangles stands) kind i (rowMeets boxes levels row) parts (firstUnder level node))
 
 abbrev μ-loop : tie.MeasureT-loop
-μ-loop positions edges triangles stands boxes levels parts top kind i row from list₀ most at level₀ node₀ k₀ list level node k =
+μ-loop positions edges triangles stands boxes levels parts top which kind i row from list₀ most at level₀ node₀ k₀ list level node k =
     17 * (parts - firstUnder level node) + level
 
 climb-requires : tie.Need-climb-requires Inv-loop μ-loop
@@ -30,7 +29,7 @@ loop-holds c =
     let start = c .before .before .before .before .before .before in
     let a = start .args in
     let up = c .climb in
-    (up .ensures .0, row-starts (start .pre .0) (a .most) (a .at) (a .list .now) (up .result .level) (up .result .node) (up .ensures .1))
+    (up .ensures .0, row-starts (start .pre .0) (a .which) (a .most) (a .at) (a .list .now) (up .result .level) (up .result .node) (up .ensures .1))
 
 mul-if1 : tie.Need-mul-if1 Inv-loop μ-loop
 mul-if1 c = omega (arith, c .loop .inv .0, c .before .before .before .before .before .before .before .pre .0 .tree .low)
@@ -58,8 +57,8 @@ enter-found-requires c κs =
     let row = start .pre .0 in
     let inv = c .before .before .before .before .loop .inv in
     let stepped = c .before .step .ensures in (
-      (row .there, row .low, λ e. omega (arith, found-there stepped e, row .all), λ e. omega (arith, found-there stepped e, row .few)),
-      (omega (arith, start .pre .1, entering-length (inv .1)), omega (arith, start .pre .1, entering-place (inv .1), row-few row)),
+      λ e. row-askable row _ (found-there stepped e),
+      (omega (arith, start .pre .1, entering-length (inv .1)), omega (arith, start .pre .1, entering-place (inv .1), row-few row (start .args .which))),
     )
 
 loop-less : tie.Need-loop-less Inv-loop μ-loop
@@ -69,7 +68,7 @@ loop-again : tie.Need-loop-again Inv-loop μ-loop
 loop-again c =
     let a = c .before .before .before .before .before .before .before .before .before .before .before .before .before .before .args in
     let stepped = c .before .before .before .before .step .ensures in
-    (stepped .low, row-goes (tabled (a .positions .now) (a .edges .now) (a .triangles .now) (a .stands .now)) (a .kind) (a .i) (c .before .before .before .before .before .before .before .loop .inv .1) stepped (c .before .before .enter-found .ensures))
+    (stepped .low, row-goes (a .which) (tabled (a .positions .now) (a .edges .now) (a .triangles .now) (a .stands .now)) (a .kind) (a .i) (c .before .before .before .before .before .before .before .loop .inv .1) stepped (c .before .before .enter-found .ensures))
 
 same-length : tie.Need-same-length Inv-loop μ-loop
 same-length c = entering-length (c .before .before .loop .inv .1)
@@ -79,7 +78,7 @@ returns c =
     let start = c .before .before .before .before .before .before .before .before .before in
     let a = start .args in
     let loop = c .before .before .loop in
-    row-ends (tabled (a .positions .now) (a .edges .now) (a .triangles .now) (a .stands .now)) (a .kind) (a .i) (rowMeets (a .boxes .now) (a .levels .now) (a .row)) (a .parts) (loop .level) (loop .node)
+    row-ends (a .which) (tabled (a .positions .now) (a .edges .now) (a .triangles .now) (a .stands .now)) (a .kind) (a .i) (rowMeets (a .boxes .now) (a .levels .now) (a .row)) (a .parts) (loop .level) (loop .node)
     (omega (arith, c .if1 .left, start .pre .0 .tree .counts (loop .level) (loop .inv .0)))
     (loop .inv .1)
 

@@ -3,7 +3,6 @@ use borrow.Author.Needs.{needs}
 use native.Mathlib.Omega.{arith}
 use Rattle.scene_seams.specs.Table.{seamsOf}
 use Rattle.mesh_trees.specs.Forest.{planted-forest}
-use Rattle.mesh_stretch.specs.Prepared.{planted-prepared}
 use Rattle.mesh_stretch.proofs.count_stretch.Statement.{statement}
 use Rattle.mesh_stretch.proofs.count_stretch.Tie as tie
 
@@ -11,11 +10,6 @@ count-grown-requires : tie.Need-count-grown-requires
 count-grown-requires c κs =
     let start = c .before .before .before .before .before .before .before .before .before .before .before .before .before in
     (planted-forest (start .pre .0) (omega arith) (omega arith) (c .before .before .before .before .before .before .plant .ensures (seamsOf (start .args .stands .now))), start .pre .1, start .pre .2)
-
-returns : tie.Need-returns
-returns c =
-    let start = c .before .before .before .before .before .before .before .before .before .before .before .before .before .before in
-    (c .count-grown .ensures, planted-prepared (c .before .before .before .before .before .before .before .plant .ensures (seamsOf (start .args .stands .now))))
 
 pub count-stretch-spec : {M : Type 1} → statement M
 count-stretch-spec =
@@ -28,4 +22,4 @@ count-stretch-spec =
     (λ c. search needs)
     count-grown-requires
     (λ c. search needs)
-    returns)
+    (λ c. search needs))

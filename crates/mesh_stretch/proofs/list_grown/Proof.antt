@@ -1,8 +1,8 @@
 -- `list_grown`: counted, and entered where there is room.
 use borrow.Author.Needs.{needs}
 use native.Mathlib.Omega.{arith}
+use Rattle.meaning.specs.MeshRows.{rowsIn}
 use Rattle.scene_seams.specs.Alone.{tabled}
-use Rattle.mesh_laws.specs.Rows.{rowsIn}
 use Rattle.mesh_stretch.specs.Stretching.{stretch-refused, stretch-listed, walked-list}
 use Rattle.mesh_stretch.proofs.list_grown.Statement.{statement}
 use Rattle.mesh_stretch.proofs.list_grown.Tie as tie
@@ -10,7 +10,7 @@ use Rattle.mesh_stretch.proofs.list_grown.Tie as tie
 returns : tie.Need-returns
 returns c =
     let a = c .before .before .before .before .before .before .before .before .args in
-    stretch-refused (tabled (a .positions .now) (a .edges .now) (a .triangles .now) (a .stands .now)) (a .first) (a .end) (a .room) (c .before .count-grown .ensures) (a .list .now) (c .if1 .taken)
+    stretch-refused (a .which) (tabled (a .positions .now) (a .edges .now) (a .triangles .now) (a .stands .now)) (a .first) (a .end) (a .room) (c .before .count-grown .ensures) (a .list .now) (c .if1 .taken)
 
 returns-2 : tie.Need-returns-2
 returns-2 c =
@@ -19,8 +19,8 @@ returns-2 c =
     let s = tabled (a .positions .now) (a .edges .now) (a .triangles .now) (a .stands .now) in
     let counted = c .before .before .before .before .before .count-grown .ensures in
     let fits = c .before .before .before .before .if1 .left in
-    stretch-listed s (a .first) (a .end) (a .room) counted (a .list .now) fits
-    (walked-list (rowsIn s (a .first) (a .end)) (omega arith) (start .pre .1) (c .before .before .walk-rows .ensures))
+    stretch-listed (a .which) s (a .first) (a .end) (a .room) counted (a .list .now) fits
+    (walked-list (rowsIn (a .which) s (a .first) (a .end)) (omega arith) (start .pre .1) (c .before .before .walk-rows .ensures))
 
 pub list-grown-spec : {M : Type 1} → statement M
 list-grown-spec = tie.close (tie.spec (λ c κs. search needs) returns (λ c κs. search needs) (λ c. search needs) returns-2)

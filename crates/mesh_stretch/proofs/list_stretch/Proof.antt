@@ -3,7 +3,6 @@ use borrow.Author.Needs.{needs}
 use native.Mathlib.Omega.{arith}
 use Rattle.scene_seams.specs.Table.{seamsOf}
 use Rattle.mesh_trees.specs.Forest.{planted-forest}
-use Rattle.mesh_stretch.specs.Prepared.{planted-prepared}
 use Rattle.mesh_stretch.proofs.list_stretch.Statement.{statement}
 use Rattle.mesh_stretch.proofs.list_stretch.Tie as tie
 
@@ -13,11 +12,6 @@ list-grown-requires c κs =
       (planted-forest (start .pre .0 .0) (omega arith) (omega arith) (c .before .before .before .before .before .before .before .plant .ensures (seamsOf (start .args .stands .now))), start .pre .0 .1, start .pre .0 .2),
       start .pre .1,
     )
-
-returns : tie.Need-returns
-returns c =
-    let start = c .before .before .before .before .before .before .before .before .before .before .before .before .before .before .before .before .before .before in
-    (c .before .before .list-grown .ensures, planted-prepared (c .before .before .before .before .before .before .before .before .before .before .plant .ensures (seamsOf (start .args .stands .now))))
 
 pub list-stretch-spec : {M : Type 1} → statement M
 list-stretch-spec =
@@ -31,4 +25,4 @@ list-stretch-spec =
     list-grown-requires
     (λ c. search needs)
     (λ c. search needs)
-    returns)
+    (λ c. search needs))

@@ -1,6 +1,7 @@
 -- 5, then 6, then what is told.
 use Rattle.meaning.specs.Scene.{Scene}
 use Rattle.scene_seams.specs.Table.{seamsOf}
+use Rattle.scene_checks.specs.Facts.{accepted-sound}
 use Rattle.scene_seams.specs.Alone.{tabled}
 use Rattle.pierced_pair.specs.Parts.{parts-in}
 use Rattle.pierced_pair.specs.Asked.{parts-there, five-first, then-six, then-pierced, then-clear}
@@ -30,7 +31,7 @@ pierced-requires c κs =
     let a = c .before .before .before .before .before .before .args in
     let s : Scene = tabled (a .positions .now) (a .edges .now) (a .triangles .now) (a .stands .now) in
     let there = parts-there s (a .frame) (a .edge) (a .triangle) (c .before .before .if1 .left) in
-    parts-in {s = s} (c .before .before .before .before .before .before .pre) (a .edge) (a .triangle) (there .0) (there .1)
+    parts-in {s = s} (accepted-sound (c .before .before .before .before .before .before .pre)) (a .edge) (a .triangle) (there .0) (there .1)
 
 returns-3 : tie.Need-returns-3
 returns-3 c =

@@ -1,0 +1,2 @@
+-- What C hears of a call over a mesh.
+pub mod Telling

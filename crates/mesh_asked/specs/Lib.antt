@@ -1,0 +1,2 @@
+-- Rows of a mesh are asked for: the checks that come first.
+pub mod Asking

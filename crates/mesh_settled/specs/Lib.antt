@@ -1,0 +1,2 @@
+-- A stretch of rows, listed and judged.
+pub mod Settling

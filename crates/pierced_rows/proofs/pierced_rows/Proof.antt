@@ -1,0 +1,51 @@
+-- `pierced_rows`: a refusal of what comes first is passed on, and the rows of an accepted mesh are listed, by the table of its seams.
+use borrow.Author.Needs.{needs}
+use native.Mathlib.Omega.{arith}
+use mathlib.Core.Path.{refl}
+use lib.ListN.{length}
+use denote.Ref.{now}
+use Rattle.meaning.specs.Scene.{sceneIn}
+use Rattle.mesh_asked.specs.Asking.{lentOf}
+use Rattle.mesh_list.specs.Answering.{open-plantable, open-rows}
+use Rattle.pierced_rows.specs.Answering.{by-edges, open-sound, not-listed, listed}
+use Rattle.pierced_rows.proofs.pierced_rows.Statement.{statement}
+use Rattle.pierced_rows.proofs.pierced_rows.Tie as tie
+
+list-through-requires : tie.Need-list-through-requires
+list-through-requires c κs =
+    let a = c .before .before .before .before .before .before .before .before .before .before .before .before .before .before .before .before .before .before .before .before .before .args in
+    let asked = by-edges {s = sceneIn (a .positions) (a .edges) (a .triangles) (a .seams)} (c .before .before .before .before .before .before .before .before .before .before .before .before .edge-count .ensures) (c .before .before .before .before .before .before .before .before .before .ask-rows .ensures) in
+    let there = open-rows asked (c .before .before .before .enum-told .given .1) in
+    ((open-plantable asked (c .before .before .before .enum-told .given .1) (now (a .boxes)) refl, open-sound asked (c .before .before .before .enum-told .given .1), there .0, there .1), omega arith)
+
+returns : tie.Need-returns
+returns c =
+    let a = c .before .before .before .before .before .before .before .before .before .before .before .before .before .before .before .before .before .before .before .args in
+    let s = sceneIn (a .positions) (a .edges) (a .triangles) (a .seams) in
+    let l = lentOf (now (a .edge-order)) (now (a .triangle-order)) (length (now (a .table))) (length (now (a .places))) (length (now (a .boxes))) in
+    not-listed (a .frame) s l (a .first) (a .end) (by-edges {s = s} (c .before .before .before .before .before .before .before .before .before .before .edge-count .ensures) (c .before .before .before .before .before .before .before .ask-rows .ensures)) (now (a .list)) _ (c .before .why .given .1)
+
+returns-2 : tie.Need-returns-2
+returns-2 c =
+    let a = c .before .before .before .before .before .before .before .before .before .before .before .before .before .before .before .before .before .before .before .before .before .before .before .before .before .args in
+    let s = sceneIn (a .positions) (a .edges) (a .triangles) (a .seams) in
+    let l = lentOf (now (a .edge-order)) (now (a .triangle-order)) (length (now (a .table))) (length (now (a .places))) (length (now (a .boxes))) in
+    listed (a .frame) s l (a .first) (a .end) (by-edges {s = s} (c .before .before .before .before .before .before .before .before .before .before .before .before .before .before .before .before .edge-count .ensures) (c .before .before .before .before .before .before .before .before .before .before .before .before .before .ask-rows .ensures)) (c .before .before .before .before .before .before .before .enum-told .given .1) (c .before .before .before .list-through .ensures)
+
+pub pierced-rows-spec : {M : Type 1} → statement M
+pierced-rows-spec =
+    tie.close
+    (tie.spec
+    (λ c κs. search needs)
+    (λ c κs. search needs)
+    (λ c. search needs)
+    (λ c. search needs)
+    list-through-requires
+    (λ c. search needs)
+    (λ c. search needs)
+    returns
+    (λ c. search needs)
+    (λ c. search needs)
+    (λ c. search needs)
+    (λ c. search needs)
+    returns-2)

@@ -1,0 +1,1 @@
+// Edges through triangles, row by row: theorems alone.
