@@ -1,26 +1,22 @@
 //! What the program asks of the library about a mesh, a stretch of rows at a time: the words and contacts of its pairs, and which edges are through a
-//! triangle. How pairs are found and asked for is known here and below, and nowhere else.
+//! triangle. The list is the library's own, of a mesh of any size; so is the check that the edges are those of the faces. How pairs are asked for is known
+//! here and below, and nowhere else.
 
-use crate::boxes;
-use crate::candidates::Finder;
+use crate::boxes::{of_parts, of_vertices};
 use crate::choice::Choice;
 use crate::fault::Fault;
 use crate::judging::{Packed, TOGETHER};
 use crate::mesh::Mesh;
+use crate::order;
 use crate::pairs::Pair;
 use crate::piercing::{Piercing, Through};
-use crate::report::{Row, Tally};
-use makhnodri::{OwnRefusal, Settled};
+use crate::report::{place, Row, Tally};
+use makhnodri::{EdgesFound, MeshPair, OwnRefusal, RowsRefusal, Scratch, Settled};
+use std::fmt::Display;
 use std::ops::Range;
+use std::sync::Mutex;
 
-/// Which pairs of a row: all that are listed, or the near ones of these. A pair is far where on one axis one part lies strictly below the other at the
-/// start and at the end; it is never hit and never touches.
-#[derive(Clone, Copy, Debug, Default, PartialEq, Eq)]
-pub enum Which {
-    #[default]
-    Listed,
-    Near,
-}
+pub use makhnodri::RowPairs as Which;
 
 /// What is asked of each stretch.
 #[derive(Clone, Copy)]
@@ -47,39 +43,108 @@ pub struct Answer {
     pub left: u64,
 }
 
-/// A mesh that can be asked of.
+/// A mesh that the library takes, and whose edges it found to be whole.
 pub struct Judge<'a> {
     mesh: &'a Mesh,
-    finder: Finder<'a>,
+    asked: makhnodri::Mesh<'a>,
+    /// What threads work in that wait for a stretch.
+    waiting: Mutex<Vec<Room>>,
 }
+
+/// What a thread works in.
+#[derive(Default)]
+struct Room {
+    scratch: Scratch,
+    list: Vec<u64>,
+    packed: Packed,
+}
+
+/// Rows that are asked for at once: each call makes boxes and trees anew, which takes as long as some rows of the list.
+const STRETCHES: usize = 24;
+const FEWEST: usize = 512;
 
 impl<'a> Judge<'a> {
     pub fn new(mesh: &'a Mesh) -> Result<Judge<'a>, Fault> {
-        Ok(Judge { mesh, finder: Finder::new(mesh) })
+        let vertices = of_vertices(mesh);
+        let edge_order = order::lent(&of_parts(&vertices, &mesh.edges));
+        let triangle_order = order::lent(&of_parts(&vertices, &mesh.triangles));
+        let (positions, edges, triangles) =
+            (mesh.positions.as_flattened(), mesh.edges.as_flattened(), mesh.triangles.as_flattened());
+        let seams: Vec<u32> = mesh.sewn().flatten().collect();
+        let asked = makhnodri::Mesh::new(positions, edges, triangles).sewn(seams).ordered(edge_order, triangle_order);
+        let mut room = Room::default();
+        whole_edges(mesh, &asked, &mut room.scratch)?;
+        Ok(Judge { mesh, asked, waiting: Mutex::new(vec![room]) })
     }
 
     /// A row holds the pairs with the same first part: one for each vertex, then one for each edge. The rows in turn are the list.
     pub fn rows(&self) -> usize {
-        self.finder.rows()
+        self.asked.row_count()
+    }
+
+    /// How many rows are well asked for in one piece.
+    pub fn length(&self) -> usize {
+        self.rows().div_ceil(STRETCHES).max(FEWEST)
     }
 
     pub fn asked(&self, rows: Range<usize>, question: &Question) -> Result<Answer, Fault> {
-        let mut pairs = self.finder.in_rows(rows);
-        if question.which == Which::Near {
-            pairs.retain(|&pair| boxes::is_near(self.mesh, pair));
-        }
-        let found = pairs.len();
-        if let Some(choice) = question.choice {
-            pairs.retain(|&pair| choice.keeps(pair));
-        }
+        let mut room = self.waiting().pop().unwrap_or_default();
+        let answer = self.answered(rows, question, &mut room);
+        self.waiting().push(room);
+        answer
+    }
+
+    fn waiting(&self) -> std::sync::MutexGuard<'_, Vec<Room>> {
+        self.waiting.lock().expect("nobody panics who holds it")
+    }
+
+    fn answered(&self, rows: Range<usize>, question: &Question, room: &mut Room) -> Result<Answer, Fault> {
+        let found = self.listed(rows, question.which, room)?;
+        let pair = |&entry: &u64| {
+            let MeshPair { kind, first, second } = MeshPair::of_entry(entry);
+            Pair { kind, first, second }
+        };
+        let keeps = |pair: &Pair| question.choice.is_none_or(|choice| choice.keeps(*pair));
+        let pairs: Vec<Pair> = room.list[..found].iter().map(pair).filter(keeps).collect();
         let mut answer = Answer { left: (found - pairs.len()) as u64, ..Answer::default() };
-        let mut packed = Packed::default();
         for some in pairs.chunks(TOGETHER) {
-            answer.ask(self.mesh, some, question, &mut packed).map_err(|refusal| refused(some, refusal))?;
+            answer.ask(self.mesh, some, question, &mut room.packed).map_err(|refusal| refused(some, refusal))?;
         }
         all_judged(pairs.len() as u64, answer.tally.listed())?;
         Ok(answer)
     }
+
+    /// The entries of these rows, in front of the list; it grows to what is needed.
+    fn listed(&self, rows: Range<usize>, which: Which, room: &mut Room) -> Result<usize, Fault> {
+        loop {
+            match self.asked.list_rows(&mut room.scratch, which, rows.clone(), &mut room.list) {
+                Ok(count) => return Ok(count as usize),
+                Err(RowsRefusal::NoRoom { needed }) if needed as usize > room.list.len() => room.list.resize(needed as usize, 0),
+                Err(refusal) => return Err(unlisted(refusal)),
+            }
+        }
+    }
+}
+
+/// An edge that is dropped drops all its pairs, so the library looks at them: each side of each face is an edge, and none stands twice.
+fn whole_edges(mesh: &Mesh, asked: &makhnodri::Mesh, scratch: &mut Scratch) -> Result<(), Fault> {
+    asked.check_mesh(scratch).map_err(unlisted)?;
+    if mesh.sides.is_empty() {
+        return Ok(());
+    }
+    match asked.check_edges(scratch, &mesh.sides, &mesh.order).map_err(unlisted)? {
+        EdgesFound::Whole => Ok(()),
+        EdgesFound::Bare { side } => {
+            Err(Fault::new(format!("side {side} of the faces has no edge: this is a fault of the program")))
+        }
+        EdgesFound::Twice { place } => {
+            Err(Fault::new(format!("edge {place} by its ends stands twice: this is a fault of the program")))
+        }
+    }
+}
+
+fn unlisted(refusal: impl Display) -> Fault {
+    Fault::new(format!("the library refused the mesh ({refusal}): this is a fault of the program"))
 }
 
 impl Answer {
@@ -100,7 +165,7 @@ impl Answer {
 
     fn takes(&mut self, pair: Pair, word: Settled, question: &Question) -> bool {
         self.tally.add(word);
-        let wanted = question.wanted[crate::report::place(word)];
+        let wanted = question.wanted[place(word)];
         if wanted {
             self.told.push((pair, word));
         }

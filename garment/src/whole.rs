@@ -15,17 +15,6 @@ use makhnodri::Settled;
 use std::io::{self, Write};
 use std::ops::Range;
 
-/// Rows that are judged in one piece: enough of them that handing over costs nothing beside, few enough that all cores end together.
-const ROWS: usize = 512;
-
-fn pieces(rows: usize) -> usize {
-    rows.div_ceil(ROWS)
-}
-
-fn rows_of(piece: usize, rows: usize) -> Range<usize> {
-    stretch(piece, ROWS, rows)
-}
-
 /// What is asked beside the words, or the contacts, of all listed pairs.
 #[derive(Default)]
 pub struct Beside {
@@ -77,10 +66,11 @@ pub fn report(mesh: &Mesh, about: &About, form: &Form, threads: usize, bar: &mut
 /// The same of what is asked beside it too.
 pub fn told(asked: &Asked, threads: usize, bar: &mut Bar, out: impl Write) -> Result<Told, Fault> {
     let judge = Judge::new(asked.mesh)?;
-    let (rows, count) = (judge.rows(), pieces(judge.rows()));
+    let (rows, length) = (judge.rows(), judge.length());
+    let count = rows.div_ceil(length);
     let mut writer = Writer::begin(asked.form, asked.about, out).map_err(unwritten)?;
     let mut told = Told::default();
-    let work = |piece| judged(asked, &judge, rows_of(piece, rows));
+    let work = |piece| judged(asked, &judge, stretch(piece, length, rows));
     in_order(count, threads, work, |piece, judged| {
         let judged = judged?;
         told.join(judged.told);

@@ -5,4 +5,5 @@ pub mod cloth;
 pub mod dressed;
 pub mod exact;
 pub mod former;
+pub mod grid;
 pub mod ways;

@@ -3,7 +3,6 @@
 //! Times by parts are the processor's, so that what else runs on the machine is not in them.
 
 use compare::ways::cubic::{self, Moving};
-use garment::candidates::Finder;
 use garment::edges;
 use garment::judge::{AtStart, Judge, Question, Which};
 use garment::judging::{settle, Packed, TOGETHER};
@@ -17,6 +16,7 @@ use garment::work::{all_cores, stretch};
 use garment_check::clocks::{run, taken, Run};
 use garment_check::cloth::{cloth, drape, obj as cloth_text, Kind as ClothKind, KINDS};
 use garment_check::former;
+use garment_check::grid::Finder;
 use garment_check::ways::{made, mesh_of};
 use makhnodri::COORDINATE_LIMIT;
 use std::hint::black_box;
