@@ -9,7 +9,6 @@ use crate::judging::{Packed, TOGETHER};
 use crate::mesh::Mesh;
 use crate::order;
 use crate::pairs::Pair;
-use crate::piercing::{Piercing, Through};
 use crate::report::{place, Row, Tally};
 use makhnodri::{EdgesFound, MeshPair, OwnRefusal, RowsRefusal, Scratch, Settled};
 use std::fmt::Display;
@@ -56,6 +55,7 @@ pub struct Judge<'a> {
 struct Room {
     scratch: Scratch,
     list: Vec<u64>,
+    words: Vec<u8>,
     packed: Packed,
 }
 
@@ -99,31 +99,50 @@ impl<'a> Judge<'a> {
     }
 
     fn answered(&self, rows: Range<usize>, question: &Question, room: &mut Room) -> Result<Answer, Fault> {
-        let found = self.listed(rows, question.which, room)?;
-        let pair = |&entry: &u64| {
+        let found = self.settled(rows, question.which, room)?;
+        let mut answer = Answer::default();
+        for (&entry, &byte) in room.list[..found].iter().zip(&room.words) {
             let MeshPair { kind, first, second } = MeshPair::of_entry(entry);
-            Pair { kind, first, second }
-        };
-        let keeps = |pair: &Pair| question.choice.is_none_or(|choice| choice.keeps(*pair));
-        let pairs: Vec<Pair> = room.list[..found].iter().map(pair).filter(keeps).collect();
-        let mut answer = Answer { left: (found - pairs.len()) as u64, ..Answer::default() };
-        for some in pairs.chunks(TOGETHER) {
-            answer.ask(self.mesh, some, question, &mut room.packed).map_err(|refusal| refused(some, refusal))?;
+            let word = Settled::of_byte(byte).expect("the library writes words alone");
+            answer.take(Pair { kind, first, second }, word, question);
         }
-        all_judged(pairs.len() as u64, answer.tally.listed())?;
+        if question.contacts {
+            answer.contacts = contacts_of(self.mesh, &answer.told, &mut room.packed)?;
+        }
         Ok(answer)
     }
 
-    /// The entries of these rows, in front of the list; it grows to what is needed.
-    fn listed(&self, rows: Range<usize>, which: Which, room: &mut Room) -> Result<usize, Fault> {
+    /// The entries of these rows and their words, in front of the room's lists, which grow to what is needed; and how many there are.
+    fn settled(&self, rows: Range<usize>, which: Which, room: &mut Room) -> Result<usize, Fault> {
         loop {
-            match self.asked.list_rows(&mut room.scratch, which, rows.clone(), &mut room.list) {
+            match self.asked.settle_rows(&mut room.scratch, which, rows.clone(), &mut room.list, &mut room.words) {
                 Ok(count) => return Ok(count as usize),
-                Err(RowsRefusal::NoRoom { needed }) if needed as usize > room.list.len() => room.list.resize(needed as usize, 0),
+                Err(RowsRefusal::NoRoom { needed }) if needed as usize > room.list.len() => room.grow(needed as usize),
                 Err(refusal) => return Err(unlisted(refusal)),
             }
         }
     }
+}
+
+impl Room {
+    /// A little more than is needed, since the next stretch is like this one.
+    fn grow(&mut self, needed: usize) {
+        let length = needed + needed / 4;
+        self.list.resize(length, 0);
+        self.words.resize(length, 0);
+    }
+}
+
+/// The contact of each hit, in its place; of any other word nothing that counts. The range of the mesh was seen to before.
+fn contacts_of(mesh: &Mesh, told: &[(Pair, Settled)], packed: &mut Packed) -> Result<Vec<Row>, Fault> {
+    let hits: Vec<Pair> = told.iter().filter(|(_, word)| *word == Settled::Hit).map(|&(pair, _)| pair).collect();
+    let mut rows = Vec::with_capacity(hits.len());
+    for some in hits.chunks(TOGETHER) {
+        rows.extend(packed.contact(mesh, some).map_err(|refusal| refused(some, refusal))?.map(|(_, row)| row));
+    }
+    let mut rows = rows.into_iter();
+    let of_word = |word: Settled| if word == Settled::Hit { rows.next().unwrap_or_default() } else { Row::default() };
+    Ok(told.iter().map(|&(_, word)| word).map(of_word).collect())
 }
 
 /// An edge that is dropped drops all its pairs, so the library looks at them: each side of each face is an edge, and none stands twice.
@@ -148,88 +167,60 @@ fn unlisted(refusal: impl Display) -> Fault {
 }
 
 impl Answer {
-    fn ask(&mut self, mesh: &Mesh, some: &[Pair], question: &Question, packed: &mut Packed) -> Result<(), OwnRefusal> {
-        if question.contacts {
-            for (&pair, (word, row)) in some.iter().zip(packed.contact(mesh, some)?) {
-                if self.takes(pair, word, question) {
-                    self.contacts.push(row);
-                }
-            }
-        } else {
-            for (&pair, word) in some.iter().zip(packed.settle(mesh, some)?) {
-                self.takes(pair, word, question);
-            }
+    fn take(&mut self, pair: Pair, word: Settled, question: &Question) {
+        if question.choice.is_some_and(|choice| !choice.keeps(pair)) {
+            self.left += 1;
+            return;
         }
-        Ok(())
-    }
-
-    fn takes(&mut self, pair: Pair, word: Settled, question: &Question) -> bool {
         self.tally.add(word);
-        let wanted = question.wanted[place(word)];
-        if wanted {
+        if question.wanted[place(word)] {
             self.told.push((pair, word));
         }
-        wanted
     }
 }
 
-/// A mesh at the start, of which it is asked which edges are through a triangle.
-pub struct AtStart<'a> {
-    mesh: &'a Mesh,
-    piercing: Piercing<'a>,
+/// An edge and a triangle.
+#[derive(Clone, Copy, Debug, PartialEq, Eq, PartialOrd, Ord)]
+pub struct Through {
+    pub edge: u32,
+    pub triangle: u32,
 }
 
-impl<'a> AtStart<'a> {
-    pub fn new(mesh: &'a Mesh) -> Result<AtStart<'a>, Fault> {
-        Ok(AtStart { mesh, piercing: Piercing::new(mesh) })
-    }
-
+/// Which edges are through a triangle at the start.
+impl Judge<'_> {
     /// One row for each edge.
-    pub fn rows(&self) -> usize {
+    pub fn edge_rows(&self) -> usize {
         self.mesh.edges.len()
     }
 
     /// Every edge of these rows with each triangle that it is through and shares no vertex with, in rising order; without those that are left out.
     pub fn pierced(&self, rows: Range<usize>, choice: Option<&Choice>) -> Result<Vec<Through>, Fault> {
-        let mut asked = self.piercing.in_rows(rows);
-        if let Some(choice) = choice {
-            asked.retain(|&through| choice.keeps_through(through));
-        }
-        let mut packed = Packed::default();
-        let mut pierced = Vec::new();
-        for some in asked.chunks(TOGETHER) {
-            let words = packed.pierced(self.mesh, some).map_err(|refusal| unpierced(some, refusal))?;
-            pierced.extend(some.iter().zip(words).filter(|(_, is)| *is).map(|(&through, _)| through));
-        }
-        Ok(pierced)
+        let mut room = self.waiting().pop().unwrap_or_default();
+        let found = self.listed_through(rows, &mut room);
+        let through = |&entry: &u64| Through { edge: (entry >> 32) as u32, triangle: entry as u32 };
+        let keeps = |through: &Through| choice.is_none_or(|choice| choice.keeps_through(*through));
+        let pierced = found.map(|count| room.list[..count].iter().map(through).filter(keeps).collect());
+        self.waiting().push(room);
+        pierced
     }
-}
 
-fn all_judged(found: u64, judged: u64) -> Result<(), Fault> {
-    if found == judged {
-        return Ok(());
+    fn listed_through(&self, rows: Range<usize>, room: &mut Room) -> Result<usize, Fault> {
+        loop {
+            match self.asked.pierced_at_start_rows(&mut room.scratch, rows.clone(), &mut room.list) {
+                Ok(count) => return Ok(count as usize),
+                Err(RowsRefusal::NoRoom { needed }) if needed as usize > room.list.len() => room.grow(needed as usize),
+                Err(refusal) => return Err(unlisted(refusal)),
+            }
+        }
     }
-    Err(Fault::new(format!("{found} pairs were found and {judged} judged: this is a fault of the program")))
 }
 
 /// Pairs that were asked for in one call, by the first of them, or the one among them that is at fault.
 fn refused(pairs: &[Pair], refusal: OwnRefusal) -> Fault {
-    let (at, what) = at_fault(&refusal);
-    let Pair { kind, first, second } = pairs[at];
-    Fault::new(format!("{kind} {first} {second}: the library refused {what} ({refusal}): this is a fault of the program"))
-}
-
-fn unpierced(asked: &[Through], refusal: OwnRefusal) -> Fault {
-    let (at, what) = at_fault(&refusal);
-    let Through { edge, triangle } = asked[at];
-    Fault::new(format!(
-        "edge {edge} and triangle {triangle}: the library refused {what} ({refusal}): this is a fault of the program"
-    ))
-}
-
-fn at_fault(refusal: &OwnRefusal) -> (usize, &'static str) {
-    match refusal {
+    let (at, what) = match refusal {
         OwnRefusal::Entry { number, .. } => (number - 1, "the pair"),
         _ => (0, "this pair and those behind it"),
-    }
+    };
+    let Pair { kind, first, second } = pairs[at];
+    Fault::new(format!("{kind} {first} {second}: the library refused {what} ({refusal}): this is a fault of the program"))
 }

@@ -15,7 +15,6 @@
 
 pub mod before;
 pub mod boxes;
-pub mod cells;
 pub mod choice;
 pub mod clean;
 pub mod command;
@@ -33,7 +32,6 @@ pub mod names;
 pub mod obj;
 pub mod order;
 pub mod pairs;
-pub mod piercing;
 pub mod plain;
 pub mod progress;
 pub mod report;

@@ -60,17 +60,16 @@ pub struct Judged {
 /// Writes the report, and hands back its totals.
 pub fn report(mesh: &Mesh, about: &About, form: &Form, threads: usize, bar: &mut Bar, out: impl Write) -> Result<Tally, Fault> {
     let asked = Asked { mesh, about, form, which: Which::Listed, beside: &Beside::default() };
-    told(&asked, threads, bar, out).map(|told| told.tally)
+    told(&asked, &Judge::new(mesh)?, threads, bar, out).map(|told| told.tally)
 }
 
 /// The same of what is asked beside it too.
-pub fn told(asked: &Asked, threads: usize, bar: &mut Bar, out: impl Write) -> Result<Told, Fault> {
-    let judge = Judge::new(asked.mesh)?;
+pub fn told(asked: &Asked, judge: &Judge, threads: usize, bar: &mut Bar, out: impl Write) -> Result<Told, Fault> {
     let (rows, length) = (judge.rows(), judge.length());
     let count = rows.div_ceil(length);
     let mut writer = Writer::begin(asked.form, asked.about, out).map_err(unwritten)?;
     let mut told = Told::default();
-    let work = |piece| judged(asked, &judge, stretch(piece, length, rows));
+    let work = |piece| judged(asked, judge, stretch(piece, length, rows));
     in_order(count, threads, work, |piece, judged| {
         let judged = judged?;
         told.join(judged.told);

@@ -1,8 +1,8 @@
 //! Every pair whose swept boxes meet and that shares no vertex, each once, in the order of the list, by a grid: as the program found them before the library
 //! listed a mesh of any size. What it lists is held to it, and timed beside it.
 
+use crate::cells::Cells;
 use garment::boxes::{of_parts, of_vertices, Swept};
-use garment::cells::Cells;
 use garment::mesh::Mesh;
 use garment::pairs::{Kind, Pair};
 use std::ops::Range;

@@ -4,7 +4,7 @@
 
 use compare::ways::cubic::{self, Moving};
 use garment::edges;
-use garment::judge::{AtStart, Judge, Question, Which};
+use garment::judge::{Judge, Question, Which};
 use garment::judging::{settle, Packed, TOGETHER};
 use garment::mesh::{self, Mesh};
 use garment::obj;
@@ -70,10 +70,7 @@ fn both_lists(name: &str, mesh: &Mesh) {
         (0..pieces).map(answer).sum::<u64>()
     };
     let [listed, near] = in_turns(|| asked(Which::Listed), || asked(Which::Near));
-    let (piercing, _) = shortest(|| {
-        let start = AtStart::new(mesh).expect("a mesh");
-        start.pierced(0..start.rows(), None).expect("decided").len()
-    });
+    let (piercing, _) = shortest(|| judge.pierced(0..judge.edge_rows(), None).expect("decided").len());
     println!(
         "  {name:<16}{:>12}{:>12}{:>10.1}{:>10.1}{:>7.3}{:>10.1}",
         asked(Which::Listed),
