@@ -105,6 +105,14 @@ static uint64_t answer(const struct question *q) {
     case 36: return makhnodri_count_near_rows_slices(ROWS, q->asked[0], q->asked[1], lent(MESH_TOLD));
     case 37: return makhnodri_list_rows_slices(ROWS, q->asked[0], q->asked[1], LEND(MESH_LIST), lent(MESH_TOLD));
     case 38: return makhnodri_list_near_rows_slices(ROWS, q->asked[0], q->asked[1], LEND(MESH_LIST), lent(MESH_TOLD));
+    case 39:
+        return makhnodri_settle_rows_slices(ROWS, q->asked[0], q->asked[1], LEND(MESH_LIST), LEND(MESH_WORDS),
+            lent(MESH_TOLD));
+    case 40:
+        return makhnodri_settle_near_rows_slices(ROWS, q->asked[0], q->asked[1], LEND(MESH_LIST), LEND(MESH_WORDS),
+            lent(MESH_TOLD));
+    case 47: return makhnodri_pierced_at_start_rows_slices(ROWS, q->asked[0], q->asked[1], LEND(MESH_LIST), lent(MESH_TOLD));
+    case 48: return makhnodri_pierced_at_end_rows_slices(ROWS, q->asked[0], q->asked[1], LEND(MESH_LIST), lent(MESH_TOLD));
     }
     give_up("no such call");
     return 0;

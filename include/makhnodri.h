@@ -115,6 +115,12 @@ extern "C" {
  *     count_stored     54,272      list_stored                 87,296
  *     settle_stored    88,320      read_boxed                  24,064
  *     import_scene     48,128      tell_series                176,384
+ *     pierced_at_start, pierced_at_end              3,328
+ *     check_mesh          512      check_edges                    768
+ *     count_rows, count_near_rows                   2,304
+ *     list_rows, list_near_rows                     2,304
+ *     settle_rows, settle_near_rows                 3,072
+ *     pierced_at_start_rows, pierced_at_end_rows    3,584
  *
  * ---- An answer ----
  *
@@ -474,6 +480,14 @@ uint32_t makhnodri_list_rows_slices(MAKHNODRI_ROW_LISTS, size_t first, size_t en
                                      uint64_t told[MAKHNODRI_AT_LEAST(1)]);
 uint32_t makhnodri_list_near_rows_slices(MAKHNODRI_ROW_LISTS, size_t first, size_t end, uint64_t *list, size_t list_length,
                                      uint64_t told[MAKHNODRI_AT_LEAST(1)]);
+uint32_t makhnodri_settle_rows_slices(MAKHNODRI_ROW_LISTS, size_t first, size_t end, uint64_t *list, size_t list_length,
+                                     uint8_t *words, size_t words_length, uint64_t told[MAKHNODRI_AT_LEAST(1)]);
+uint32_t makhnodri_settle_near_rows_slices(MAKHNODRI_ROW_LISTS, size_t first, size_t end, uint64_t *list, size_t list_length,
+                                     uint8_t *words, size_t words_length, uint64_t told[MAKHNODRI_AT_LEAST(1)]);
+uint32_t makhnodri_pierced_at_start_rows_slices(MAKHNODRI_ROW_LISTS, size_t first, size_t end, uint64_t *list, size_t list_length,
+                                     uint64_t told[MAKHNODRI_AT_LEAST(1)]);
+uint32_t makhnodri_pierced_at_end_rows_slices(MAKHNODRI_ROW_LISTS, size_t first, size_t end, uint64_t *list, size_t list_length,
+                                     uint64_t told[MAKHNODRI_AT_LEAST(1)]);
 
 /* the lists of a struct, as the plain functions take them; of a scene that keeps its boxes, those too */
 #define MAKHNODRI_LISTS_OF(scene)                                                                                                 \
@@ -782,6 +796,34 @@ static inline uint32_t makhnodri_list_rows(const makhnodri_mesh *mesh, makhnodri
 static inline uint32_t makhnodri_list_near_rows(const makhnodri_mesh *mesh, makhnodri_scratch *scratch, size_t first, size_t end,
                                      uint64_t *list, size_t list_length, uint64_t *count) {
     return makhnodri_list_near_rows_slices(MAKHNODRI_ROW_LISTS_OF(mesh, scratch), first, end, list, list_length, count);
+}
+
+/* And the word of each, words[i] that of entry i. Room is the smaller of list_length and words_length. */
+static inline uint32_t makhnodri_settle_rows(const makhnodri_mesh *mesh, makhnodri_scratch *scratch, size_t first, size_t end,
+                                     uint64_t *list, size_t list_length, uint8_t *words, size_t words_length, uint64_t *count) {
+    return makhnodri_settle_rows_slices(MAKHNODRI_ROW_LISTS_OF(mesh, scratch), first, end, list, list_length, words, words_length,
+        count);
+}
+
+static inline uint32_t makhnodri_settle_near_rows(const makhnodri_mesh *mesh, makhnodri_scratch *scratch, size_t first, size_t end,
+                                     uint64_t *list, size_t list_length, uint8_t *words, size_t words_length, uint64_t *count) {
+    return makhnodri_settle_near_rows_slices(MAKHNODRI_ROW_LISTS_OF(mesh, scratch), first, end, list, list_length, words,
+        words_length, count);
+}
+
+/*
+ * The edges from first up to and without end that are through a triangle at the start: an entry for each such edge and triangle, by edge
+ * and then by triangle, in front of list. Rows are the edges here. Into *count goes how many; or 7, and how many need room.
+ */
+static inline uint32_t makhnodri_pierced_at_start_rows(const makhnodri_mesh *mesh, makhnodri_scratch *scratch, size_t first,
+                                     size_t end, uint64_t *list, size_t list_length, uint64_t *count) {
+    return makhnodri_pierced_at_start_rows_slices(MAKHNODRI_ROW_LISTS_OF(mesh, scratch), first, end, list, list_length, count);
+}
+
+/* The same at the end. */
+static inline uint32_t makhnodri_pierced_at_end_rows(const makhnodri_mesh *mesh, makhnodri_scratch *scratch, size_t first,
+                                     size_t end, uint64_t *list, size_t list_length, uint64_t *count) {
+    return makhnodri_pierced_at_end_rows_slices(MAKHNODRI_ROW_LISTS_OF(mesh, scratch), first, end, list, list_length, count);
 }
 
 /* ---- Texts ---- */

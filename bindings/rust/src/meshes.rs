@@ -1,7 +1,8 @@
 //! Meshes of any size: the list by rows, a stretch at a time.
 
+use crate::answers::settled;
 use crate::answers::Refusal;
-use crate::{raw, Kind};
+use crate::{raw, Kind, Settled};
 use std::borrow::Cow;
 use std::error::Error;
 use std::fmt::{self, Display, Formatter};
@@ -263,5 +264,61 @@ impl Mesh<'_> {
             RowPairs::Near => ask_rows!(self, scratch, makhnodri_list_near_rows_slices, a, b, l.0, l.1, told.as_mut_ptr()),
         };
         counted(number, told)
+    }
+
+    /// And the word of each, `words[i]` that of entry i.
+    pub fn settle_rows(
+        &self,
+        scratch: &mut Scratch,
+        which: RowPairs,
+        rows: Range<usize>,
+        list: &mut [u64],
+        words: &mut [u8],
+    ) -> Result<u64, RowsRefusal> {
+        let (a, b, mut told) = (rows.start, rows.end, [0; 1]);
+        let (l, w) = ((list.as_mut_ptr(), list.len()), (words.as_mut_ptr(), words.len()));
+        let number = match which {
+            RowPairs::Listed => {
+                ask_rows!(self, scratch, makhnodri_settle_rows_slices, a, b, l.0, l.1, w.0, w.1, told.as_mut_ptr())
+            }
+            RowPairs::Near => {
+                ask_rows!(self, scratch, makhnodri_settle_near_rows_slices, a, b, l.0, l.1, w.0, w.1, told.as_mut_ptr())
+            }
+        };
+        counted(number, told)
+    }
+
+    /// The edges that are through a triangle at the start: an entry for each such edge and triangle, by edge and then by triangle. Rows are the
+    /// edges here.
+    pub fn pierced_at_start_rows(
+        &self,
+        scratch: &mut Scratch,
+        edges: Range<usize>,
+        list: &mut [u64],
+    ) -> Result<u64, RowsRefusal> {
+        let (a, b, mut told, l) = (edges.start, edges.end, [0; 1], (list.as_mut_ptr(), list.len()));
+        counted(ask_rows!(self, scratch, makhnodri_pierced_at_start_rows_slices, a, b, l.0, l.1, told.as_mut_ptr()), told)
+    }
+
+    /// The same at the end.
+    pub fn pierced_at_end_rows(&self, scratch: &mut Scratch, edges: Range<usize>, list: &mut [u64]) -> Result<u64, RowsRefusal> {
+        let (a, b, mut told, l) = (edges.start, edges.end, [0; 1], (list.as_mut_ptr(), list.len()));
+        counted(ask_rows!(self, scratch, makhnodri_pierced_at_end_rows_slices, a, b, l.0, l.1, told.as_mut_ptr()), told)
+    }
+}
+
+/// The stretch with room of its own.
+impl Mesh<'_> {
+    /// Its pairs with their words, in order.
+    pub fn settled_rows(
+        &self,
+        scratch: &mut Scratch,
+        which: RowPairs,
+        rows: Range<usize>,
+    ) -> Result<Vec<(MeshPair, Settled)>, Refusal> {
+        let count = self.count_rows(scratch, which, rows.clone())? as usize;
+        let (mut list, mut words) = (vec![0; count], vec![0; count]);
+        self.settle_rows(scratch, which, rows, &mut list, &mut words).map_err(RowsRefusal::refusal)?;
+        Ok(list.into_iter().map(MeshPair::of_entry).zip(words.into_iter().map(|byte| settled(byte as usize))).collect())
     }
 }

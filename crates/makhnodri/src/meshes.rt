@@ -8,13 +8,16 @@ ghost use Rattle.meaning.specs.Refusals.{sceneSays};
 ghost use Rattle.meaning.specs.List.{listSays};
 ghost use Rattle.meaning.specs.Mesh.{MeshAccepted};
 ghost use Rattle.meaning.specs.MeshEdges.{edgesSay, EdgesChecked};
-ghost use Rattle.meaning.specs.MeshRows.{lentAtEntry, RowsCounted, RowsListed};
+ghost use Rattle.meaning.specs.MeshRows.{lentAtEntry, RowsCounted, RowsListed, RowsSettled};
+ghost use Rattle.meaning.specs.PiercedRows.{PiercedListed};
 ghost use Rattle.meaning.specs.MeshNumbers.{refusalOf, countLeft, edgesLeft, Left};
 ghost use Rattle.meaning.specs.Numbers.{Numbered};
 ghost use Rattle.meaning.specs.declared.RowPairs.the-variants.{Listed, Near};
+ghost use Rattle.meaning.specs.declared.Frame.the-variants.{Start, End};
 use c_meshes::tell_count;
 use c_meshes::tell_edges;
 use c_meshes::tell_scene;
+use meaning::Frame;
 use meaning::RowPairs;
 
 // ---- a mesh
@@ -210,6 +213,166 @@ pub extern "C" fn makhnodri_list_near_rows_slices(
         places,
         boxes,
         RowPairs::Near,
+        first,
+        end,
+        list,
+    );
+    tell_count(told, answer)
+}
+
+// Their entries, and the word of each as a byte.
+#[no_mangle]
+pub extern "C" fn makhnodri_settle_rows_slices(
+    positions: &[i32],
+    edges: &[u32],
+    triangles: &[u32],
+    seams: &[u32],
+    edge_order: &[u32],
+    triangle_order: &[u32],
+    table: &mut [u32],
+    places: &mut [u32],
+    boxes: &mut [i32],
+    first: usize,
+    end: usize,
+    list: &mut [u64],
+    words: &mut [u8],
+    told: &mut [u64; 1],
+) -> u32
+    ensures { λ r. ⌜ Left listSays countLeft (RowsSettled Listed (sceneAtEntry positions edges triangles seams)
+        (lentAtEntry «edge_order» «triangle_order» table places boxes) first end (atEntry list) (atExit list) (atEntry words) (atExit words))
+        (atEntry told) (atExit told) r ⌝ }
+{
+    let answer = mesh_settled::settle_rows(
+        positions,
+        edges,
+        triangles,
+        seams,
+        edge_order,
+        triangle_order,
+        table,
+        places,
+        boxes,
+        RowPairs::Listed,
+        first,
+        end,
+        list,
+        words,
+    );
+    tell_count(told, answer)
+}
+
+// Those of the near ones.
+#[no_mangle]
+pub extern "C" fn makhnodri_settle_near_rows_slices(
+    positions: &[i32],
+    edges: &[u32],
+    triangles: &[u32],
+    seams: &[u32],
+    edge_order: &[u32],
+    triangle_order: &[u32],
+    table: &mut [u32],
+    places: &mut [u32],
+    boxes: &mut [i32],
+    first: usize,
+    end: usize,
+    list: &mut [u64],
+    words: &mut [u8],
+    told: &mut [u64; 1],
+) -> u32
+    ensures { λ r. ⌜ Left listSays countLeft (RowsSettled Near (sceneAtEntry positions edges triangles seams)
+        (lentAtEntry «edge_order» «triangle_order» table places boxes) first end (atEntry list) (atExit list) (atEntry words) (atExit words))
+        (atEntry told) (atExit told) r ⌝ }
+{
+    let answer = mesh_settled::settle_rows(
+        positions,
+        edges,
+        triangles,
+        seams,
+        edge_order,
+        triangle_order,
+        table,
+        places,
+        boxes,
+        RowPairs::Near,
+        first,
+        end,
+        list,
+        words,
+    );
+    tell_count(told, answer)
+}
+
+// The edges from one up to another that are through a triangle at the start, each with each such triangle.
+#[no_mangle]
+pub extern "C" fn makhnodri_pierced_at_start_rows_slices(
+    positions: &[i32],
+    edges: &[u32],
+    triangles: &[u32],
+    seams: &[u32],
+    edge_order: &[u32],
+    triangle_order: &[u32],
+    table: &mut [u32],
+    places: &mut [u32],
+    boxes: &mut [i32],
+    first: usize,
+    end: usize,
+    list: &mut [u64],
+    told: &mut [u64; 1],
+) -> u32
+    ensures { λ r. ⌜ Left listSays countLeft (PiercedListed Start (sceneAtEntry positions edges triangles seams)
+        (lentAtEntry «edge_order» «triangle_order» table places boxes) first end (atEntry list) (atExit list))
+        (atEntry told) (atExit told) r ⌝ }
+{
+    let answer = pierced_rows::pierced_rows(
+        positions,
+        edges,
+        triangles,
+        seams,
+        edge_order,
+        triangle_order,
+        table,
+        places,
+        boxes,
+        Frame::Start,
+        first,
+        end,
+        list,
+    );
+    tell_count(told, answer)
+}
+
+// The same at the end.
+#[no_mangle]
+pub extern "C" fn makhnodri_pierced_at_end_rows_slices(
+    positions: &[i32],
+    edges: &[u32],
+    triangles: &[u32],
+    seams: &[u32],
+    edge_order: &[u32],
+    triangle_order: &[u32],
+    table: &mut [u32],
+    places: &mut [u32],
+    boxes: &mut [i32],
+    first: usize,
+    end: usize,
+    list: &mut [u64],
+    told: &mut [u64; 1],
+) -> u32
+    ensures { λ r. ⌜ Left listSays countLeft (PiercedListed End (sceneAtEntry positions edges triangles seams)
+        (lentAtEntry «edge_order» «triangle_order» table places boxes) first end (atEntry list) (atExit list))
+        (atEntry told) (atExit told) r ⌝ }
+{
+    let answer = pierced_rows::pierced_rows(
+        positions,
+        edges,
+        triangles,
+        seams,
+        edge_order,
+        triangle_order,
+        table,
+        places,
+        boxes,
+        Frame::End,
         first,
         end,
         list,
