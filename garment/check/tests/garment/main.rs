@@ -4,6 +4,7 @@ mod before;
 mod choice;
 mod clean;
 mod contacts;
+mod drapes;
 mod in_order;
 mod larger;
 mod mark;
