@@ -3,6 +3,7 @@
 use compare::making::spring::Springs;
 use garment::clean::at_start;
 use garment::fault::Fault;
+use garment::judge::Judge;
 use garment::mesh::Mesh;
 use garment::obj;
 use garment::report::Form;
@@ -72,7 +73,9 @@ fn the_frame_behind_the_first_hit_is_the_first_that_is_pierced() {
         }
         let (_folder, names) = Folder::new(&format!("springs-{seed}"), &frames, &faces);
         let (log, meshes) = series(&names, 2).expect("a series");
-        let own = |mesh: &Mesh| at_start(mesh, None, 1, &mut no_bar(), |_| Ok(())).expect("decided").count as usize;
+        let own = |mesh: &Mesh| {
+            at_start(&Judge::new(mesh).expect("a mesh"), None, 1, &mut no_bar(), |_| Ok(())).expect("decided").count as usize
+        };
         let pierced: Vec<usize> = meshes.iter().map(pierced_in).collect();
         assert_eq!(meshes.iter().map(own).collect::<Vec<usize>>(), pierced, "seed {seed}");
         let first = pierced.iter().position(|&count| count > 0).expect("it goes through itself");
