@@ -1,9 +1,9 @@
 //! Which pairs are judged, where not all are: none within a body, or only those between two names.
 
+use crate::judge::Through;
 use crate::mesh::Mesh;
 use crate::names::{Names, OfParts};
 use crate::pairs::Pair;
-use crate::piercing::Through;
 
 /// How many of the faces that have a part are of a name.
 #[derive(Clone, Copy, Debug, PartialEq, Eq)]

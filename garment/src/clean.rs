@@ -2,16 +2,11 @@
 
 use crate::choice::Choice;
 use crate::fault::Fault;
-use crate::judge::AtStart;
-use crate::mesh::Mesh;
-use crate::piercing::Through;
+use crate::judge::{Judge, Through};
 use crate::progress::Bar;
 use crate::report::{About, Form};
 use crate::work::{in_order, stretch};
 use std::io::Write;
-
-/// Rows that are asked for in one piece.
-const ROWS: usize = 2_048;
 
 /// How many edges are through a triangle, each with each counted, and the first of them.
 #[derive(Clone, Copy, Debug, Default, PartialEq, Eq)]
@@ -47,27 +42,23 @@ impl Pierced {
 
 /// All that are through each other, in rising order, a piece at a time.
 pub fn at_start(
-    mesh: &Mesh,
+    judge: &Judge,
     choice: Option<&Choice>,
     threads: usize,
     bar: &mut Bar,
     mut take: impl FnMut(&[Through]) -> Result<(), Fault>,
 ) -> Result<Pierced, Fault> {
-    let asked = AtStart::new(mesh)?;
-    let (rows, count) = (asked.rows(), asked.rows().div_ceil(ROWS));
+    let (rows, length) = (judge.edge_rows(), judge.length());
+    let count = rows.div_ceil(length);
     let mut pierced = Pierced::default();
-    in_order(
-        count,
-        threads,
-        |piece| asked.pierced(stretch(piece, ROWS, rows), choice),
-        |piece, found| {
-            let found = found?;
-            pierced.add(&found);
-            take(&found)?;
-            bar.draw(piece + 1, count, pierced.count);
-            Ok(())
-        },
-    )?;
+    let work = |piece| judge.pierced(stretch(piece, length, rows), choice);
+    in_order(count, threads, work, |piece, found| {
+        let found = found?;
+        pierced.add(&found);
+        take(&found)?;
+        bar.draw(piece + 1, count, pierced.count);
+        Ok(())
+    })?;
     Ok(pierced)
 }
 
@@ -75,13 +66,13 @@ pub fn at_start(
 pub fn write(found: &[Through], about: &About, form: &Form, out: &mut impl Write) -> std::io::Result<()> {
     if !form.json {
         let lines: String = found.iter().map(|Through { edge, triangle }| format!("pierced\t{edge}\t{triangle}\n")).collect();
-        return write!(out, "{lines}total\t{}\n", found.len());
+        return writeln!(out, "{lines}total\t{}", found.len());
     }
     let line = |Through { edge, triangle }: &Through| format!("{{\"edge\":{edge},\"triangle\":{triangle}}}");
     let lines: Vec<String> = found.iter().map(line).collect();
-    write!(
+    writeln!(
         out,
-        "{{\"mesh\":{},\n\"pierced\":[\n{}\n],\n\"total\":{{\"pierced\":{}}}}}\n",
+        "{{\"mesh\":{},\n\"pierced\":[\n{}\n],\n\"total\":{{\"pierced\":{}}}}}",
         about.json(),
         lines.join(",\n"),
         found.len()

@@ -4,11 +4,10 @@ use crate::choice::Choice;
 use crate::clean::{self, Pierced};
 use crate::digest::Digest;
 use crate::fault::Fault;
-use crate::judge::Which;
+use crate::judge::{Judge, Through, Which};
 use crate::mesh::{self, Mesh};
 use crate::names::Names;
 use crate::obj::{self, Obj};
-use crate::piercing::Through;
 use crate::progress::Bar;
 use crate::report::{About, Tally};
 use crate::rounding::{onto_grid, too_fine, Grid, Rounded};
@@ -93,12 +92,13 @@ struct Garment {
 fn report(command: &Command, files: &[String; 2], options: &Options) -> Result<Ended, Vec<Fault>> {
     let Garment { mesh, about, names, grid, .. } = read(command, files, options)?;
     let choice = Choice::of(&mesh, &names, &options.body, &options.between);
-    let pierced = start_checked(&mesh, choice.as_ref(), "the start", options).map_err(alone)?;
+    let judge = Judge::new(&mesh).map_err(alone)?;
+    let pierced = start_checked(&judge, choice.as_ref(), "the start", options).map_err(alone)?;
     let whereabouts = options.told_where.then(|| Whereabouts::new(&mesh, names, grid));
     let beside = Beside { choice, whereabouts, marked: options.mark.is_some() };
     let mut bar = Bar::new("judging", !options.quiet);
     let asked = Asked { mesh: &mesh, about: &about, form: &options.form, which: options.which, beside: &beside };
-    let told = whole::told(&asked, options.threads, &mut bar, buffered()).map_err(alone)?;
+    let told = whole::told(&asked, &judge, options.threads, &mut bar, buffered()).map_err(alone)?;
     drop(bar);
     options.note(|| note_of_pairs(options.which, told.tally.listed(), beside.choice.as_ref().map(|_| told.left)));
     if let Some(name) = &options.mark {
@@ -111,9 +111,9 @@ fn report(command: &Command, files: &[String; 2], options: &Options) -> Result<E
 }
 
 /// Whether an edge is through a triangle at the start, said in one line.
-fn start_checked(mesh: &Mesh, choice: Option<&Choice>, what: &str, options: &Options) -> Result<Pierced, Fault> {
+fn start_checked(judge: &Judge, choice: Option<&Choice>, what: &str, options: &Options) -> Result<Pierced, Fault> {
     let mut bar = Bar::new("checking", !options.quiet);
-    let pierced = clean::at_start(mesh, choice, options.threads, &mut bar, |_| Ok(()))?;
+    let pierced = clean::at_start(judge, choice, options.threads, &mut bar, |_| Ok(()))?;
     drop(bar);
     options.note(|| pierced.words(what));
     Ok(pierced)
@@ -131,7 +131,8 @@ fn check(command: &Command, file: &str, options: &Options) -> Result<Ended, Vec<
         found.extend_from_slice(some);
         Ok(())
     };
-    let pierced = clean::at_start(&mesh, choice.as_ref(), options.threads, &mut bar, keep).map_err(alone)?;
+    let judge = Judge::new(&mesh).map_err(alone)?;
+    let pierced = clean::at_start(&judge, choice.as_ref(), options.threads, &mut bar, keep).map_err(alone)?;
     drop(bar);
     let mut out = buffered();
     clean::write(&found, &about, &options.form, &mut out)
@@ -152,7 +153,7 @@ fn series(command: &Command, files: &[String], options: &Options) -> Result<Ende
     drop(bar);
     let limit = makhnodri::COORDINATE_LIMIT;
     let grid = Grid::of(&bounds, options.step, limit).map_err(alone)?;
-    let at_first = grid.frame(&first.places, limit).map_err(|()| alone(too_fine(grid.step, &bounds, limit)))?;
+    let at_first = grid.frame(&first.places, limit).ok_or_else(|| alone(too_fine(grid.step, &bounds, limit)))?;
     let positions = at_first.places.iter().map(|&[x, y, z]| [x, y, z, x, y, z]).collect();
     let mesh = Mesh::new(positions, std::mem::take(&mut first.triangles));
     let about = about(&mesh, grid.step);
@@ -163,7 +164,9 @@ fn series(command: &Command, files: &[String], options: &Options) -> Result<Ende
         format!("{} frames of {} vertices, {} edges, {} triangles", names.len(), about.vertices, about.edges, about.triangles)
     });
     let choice = Choice::of(&mesh, &of_names, &options.body, &options.between);
-    let pierced = start_checked(&mesh, choice.as_ref(), "the first frame", options).map_err(alone)?;
+    let judge = Judge::new(&mesh).map_err(alone)?;
+    let pierced = start_checked(&judge, choice.as_ref(), "the first frame", options).map_err(alone)?;
+    drop(judge);
     let asked = series::Asked {
         mesh: &mesh,
         lines: &first.lines,
@@ -217,10 +220,11 @@ fn rows(command: &Command, share: Share, files: &[String; 2], options: &Options)
     let choice = Choice::of(&mesh, &names, &options.body, &options.between);
     let beside = Beside { choice, ..Beside::default() };
     let asked = Asked { mesh: &mesh, about: &about, form: &options.form, which: options.which, beside: &beside };
-    let pierced = shares::pierced(&mesh, share, beside.choice.as_ref(), options.threads).map_err(alone)?;
+    let judge = Judge::new(&mesh).map_err(alone)?;
+    let pierced = shares::pierced(&judge, share, beside.choice.as_ref(), options.threads).map_err(alone)?;
     let mut bar = Bar::new("judging", !options.quiet);
     let mut out = Counted::new(buffered());
-    let told = shares::told(&asked, share, options.threads, &mut bar, &mut out).map_err(alone)?;
+    let told = shares::told(&asked, &judge, share, options.threads, &mut bar, &mut out).map_err(alone)?;
     drop(bar);
     let (tally, left) = (told.tally, beside.choice.as_ref().map(|_| told.left));
     let (contacts, which, options_kept) = (options.form.contacts, options.which, shares::options_of(&options.kept));

@@ -1,8 +1,9 @@
 //! A whole garment judged: two OBJ exports of any size, start and end, in; one report, in the mesh's own numbers, out.
 //!
 //! As data goes through it: `obj`, `plain` and `fields` read a file, `cutting` cuts its faces into triangles; `rounding` puts all times onto one grid,
-//! `edges` are made of the faces, `seams` finds vertices in one place, `mesh` holds what comes of it. `judge` is asked, a stretch of rows at a time: below
-//! it `boxes`, `cells`, `candidates` and `piercing` find every pair whose boxes meet, each once, and `judging` asks the library, and nothing else does.
+//! `edges` are made of the faces, `seams` finds vertices in one place, `mesh` holds what comes of it. `judge` is asked, a stretch of rows at a time: it has
+//! the library list them, with an `order` along a `curve` where places are bad, and `judging` asks the library for words, and nothing else does. `boxes`,
+//! `cells` and `piercing` find what may be through each other at the start.
 //! `work` does it on all cores; `whole` is the report of two times, which `report` writes down in order, `clean` what is through each other at the start,
 //! `series` the log of many frames. For a farm `shares` has a part of the rows each, and `total` puts them together, by the `digest` of what they are of.
 //! Where only some are asked for, `names` has which parts are an object's or a group's and `choice` leaves the others out; `whereabouts` says where a
@@ -14,8 +15,6 @@
 
 pub mod before;
 pub mod boxes;
-pub mod candidates;
-pub mod cells;
 pub mod choice;
 pub mod clean;
 pub mod command;
@@ -31,8 +30,8 @@ pub mod mark;
 pub mod mesh;
 pub mod names;
 pub mod obj;
+pub mod order;
 pub mod pairs;
-pub mod piercing;
 pub mod plain;
 pub mod progress;
 pub mod report;

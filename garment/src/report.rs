@@ -143,14 +143,18 @@ impl Form {
             return told.for_each(|(pair, word)| self.line(pair, word, out));
         }
         let shown = WORDS.map(|word| self.shown.contains(&word));
-        let mut head = Head::default();
+        let (mut head, mut at) = (Head::default(), out.len());
         for (pair, word) in told {
             let word = place(word);
             if shown[word] {
+                if out.len() - at < LONGEST {
+                    out.resize(at + ROOM, 0);
+                }
                 head.turn_to(pair);
-                head.line(pair.second, word, out);
+                at = head.line(pair.second, word, out, at);
             }
         }
+        out.truncate(at);
     }
 
     /// The same with more fields before its end.
@@ -246,26 +250,14 @@ impl Form {
 
 /// A report is mostly such numbers, so they go past the formatter.
 fn tab_and_number(number: u32, out: &mut Vec<u8>) {
-    let (digits, count) = digits(number);
+    let mut digits = [0; 16];
+    let end = put_number(number, &mut digits, 0);
     out.push(b'\t');
-    out.extend_from_slice(&digits[..count]);
+    out.extend_from_slice(&digits[..end]);
 }
 
-/// The digits of a number from the first on, and how many there are.
-#[inline]
-fn digits(number: u32) -> ([u8; 16], usize) {
-    const EIGHT: u32 = 100_000_000;
-    let mut out = [0; 16];
-    if number < EIGHT {
-        let (bytes, count) = without_zeros(eight_digits(number));
-        out[..8].copy_from_slice(&bytes);
-        return (out, count);
-    }
-    let (high, above) = without_zeros(eight_digits(number / EIGHT));
-    out[..8].copy_from_slice(&high);
-    out[above..above + 8].copy_from_slice(&(eight_digits(number % EIGHT) | ZEROS).to_le_bytes());
-    (out, above + 8)
-}
+/// Numbers below it have eight digits at most.
+const EIGHT: u32 = 100_000_000;
 
 /// The letter 0 in each byte.
 const ZEROS: u64 = 0x3030_3030_3030_3030;
@@ -299,35 +291,52 @@ struct Head {
 /// What ends the line of each word, in the order of `WORDS`, with room behind it.
 const ENDS: [(&[u8; 8], usize); 4] = [(b"\thit\n   ", 5), (b"\tmiss\n  ", 6), (b"\ttouch\n ", 7), (b"\tapart\n ", 7)];
 
+/// Room for any line, and for many.
+const LONGEST: usize = 48;
+const ROOM: usize = 1 << 16;
+
 impl Head {
     #[inline]
     fn turn_to(&mut self, pair: Pair) {
         if self.of == Some((pair.kind, pair.first)) {
             return;
         }
-        let mut letters = Vec::with_capacity(16);
-        letters.extend_from_slice(pair.kind.letters().as_bytes());
-        tab_and_number(pair.first, &mut letters);
-        letters.push(b'\t');
-        self.letters[..letters.len()].copy_from_slice(&letters);
-        (self.of, self.length) = (Some((pair.kind, pair.first)), letters.len());
+        let [a, b] = match pair.kind {
+            Kind::PointTriangle => *b"pt",
+            Kind::EdgeEdge => *b"ee",
+        };
+        let mut letters = [0; 32];
+        [letters[0], letters[1], letters[2]] = [a, b, b'\t'];
+        let end = put_number(pair.first, &mut letters, 3);
+        letters[end] = b'\t';
+        self.letters.copy_from_slice(&letters[..16]);
+        (self.of, self.length) = (Some((pair.kind, pair.first)), end + 1);
     }
 
-    /// Pieces of a fixed length are copied, one over the end of the other, since that takes no call; what is too long is cut off.
+    /// Writes a line, and hands back where it ends. Pieces of a fixed length are copied, one over the end of the other, since that takes no call; nothing
+    /// that was just written is read again.
     #[inline]
-    fn line(&self, second: u32, word: usize, out: &mut Vec<u8>) {
-        let (digits, count) = digits(second);
+    fn line(&self, second: u32, word: usize, out: &mut [u8], at: usize) -> usize {
         let (end, length) = ENDS[word];
-        let mut line = [0; 48];
-        line[..16].copy_from_slice(&self.letters);
-        let mut at = self.length.min(16);
-        line[at..at + 16].copy_from_slice(&digits);
-        at += count.min(16);
-        line[at..at + 8].copy_from_slice(end);
-        let before = out.len();
-        out.extend_from_slice(&line);
-        out.truncate(before + at + length);
+        out[at..at + 16].copy_from_slice(&self.letters);
+        let behind = put_number(second, out, at + self.length);
+        out[behind..behind + 8].copy_from_slice(end);
+        behind + length
     }
+}
+
+/// Writes a number, with anything behind it up to sixteen bytes, and hands back where it ends.
+#[inline]
+fn put_number(number: u32, out: &mut [u8], at: usize) -> usize {
+    if number < EIGHT {
+        let (bytes, count) = without_zeros(eight_digits(number));
+        out[at..at + 8].copy_from_slice(&bytes);
+        return at + count;
+    }
+    let (bytes, count) = without_zeros(eight_digits(number / EIGHT));
+    out[at..at + 8].copy_from_slice(&bytes);
+    out[at + count..at + count + 8].copy_from_slice(&(eight_digits(number % EIGHT) | ZEROS).to_le_bytes());
+    at + count + 8
 }
 
 /// A report as it goes out, part after part.

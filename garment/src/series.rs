@@ -15,9 +15,6 @@ use makhnodri::{Settled, LOG_LIMIT};
 use std::io::Write;
 use std::sync::{Arc, Mutex};
 
-/// Rows that are judged in one piece.
-const ROWS: usize = 4_096;
-
 /// The frames, read through once: they are one mesh, and these are their bounds.
 pub fn bounds(names: &[String], first: &Obj, threads: usize, bar: &mut Bar) -> Result<Bounds, Fault> {
     let from = obj::shown_name(&names[0]);
@@ -75,7 +72,7 @@ impl<'a> Frames<'a> {
     fn read(&self, name: &str) -> Result<Vec<[i32; 3]>, Fault> {
         let changed = || Fault::new(format!("{name} has changed since it was read first"));
         let frame = obj::read_file(name)?;
-        Ok(self.grid.frame(&frame.places, self.limit).map_err(|()| changed())?.places)
+        Ok(self.grid.frame(&frame.places, self.limit).ok_or_else(changed)?.places)
     }
 }
 
@@ -164,11 +161,11 @@ fn step(asked: &Asked, frames: &Frames, at: usize, threads: usize) -> Result<Ste
     let mut step = Step { hits: Vec::new(), tally: Tally::default(), left: 0, moved, sewn: mesh.seams() };
     let judge = Judge::new(&mesh)?;
     let question = Question { which: Which::Near, choice: asked.choice, wanted: [true, false, false, false], contacts: false };
-    let rows = judge.rows();
+    let (rows, length) = (judge.rows(), judge.length());
     in_order(
-        rows.div_ceil(ROWS),
+        rows.div_ceil(length),
         threads,
-        |piece| judge.asked(stretch(piece, ROWS, rows), &question),
+        |piece| judge.asked(stretch(piece, length, rows), &question),
         |_, answer| {
             let answer = answer?;
             let room = LOG_LIMIT - step.hits.len();

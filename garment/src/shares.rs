@@ -10,9 +10,7 @@ use crate::choice::Choice;
 use crate::clean::Pierced;
 use crate::digest::Digest;
 use crate::fault::Fault;
-use crate::judge::{AtStart, Judge, Which};
-use crate::mesh::Mesh;
-use crate::piercing::Through;
+use crate::judge::{Judge, Through, Which};
 use crate::progress::Bar;
 use crate::report::{About, Form, Tally, WORDS};
 use crate::whole::{judged, unwritten, Asked, Told};
@@ -54,34 +52,35 @@ pub fn stretches(rows: usize, shares: usize) -> Vec<Range<usize>> {
 }
 
 /// The lines of a share's rows, and what they told.
-pub fn told<W: Write>(asked: &Asked, share: Share, threads: usize, bar: &mut Bar, out: &mut Counted<W>) -> Result<Told, Fault> {
-    let judge = Judge::new(asked.mesh)?;
+pub fn told<W: Write>(
+    asked: &Asked,
+    judge: &Judge,
+    share: Share,
+    threads: usize,
+    bar: &mut Bar,
+    out: &mut Counted<W>,
+) -> Result<Told, Fault> {
     let own = share.stretches(judge.rows());
     let mut told = Told::default();
-    in_order(
-        own.len(),
-        threads,
-        |piece| judged(asked, &judge, own[piece].clone()),
-        |piece, judged| {
-            let judged = judged?;
-            told.join(judged.told);
-            out.lines(&judged.lines).map_err(unwritten)?;
-            bar.draw(piece + 1, own.len(), told.tally.listed());
-            Ok(())
-        },
-    )?;
+    let work = |piece: usize| judged(asked, judge, own[piece].clone());
+    in_order(own.len(), threads, work, |piece, judged| {
+        let judged = judged?;
+        told.join(judged.told);
+        out.lines(&judged.lines).map_err(unwritten)?;
+        bar.draw(piece + 1, own.len(), told.tally.listed());
+        Ok(())
+    })?;
     Ok(told)
 }
 
 /// The edges of a share that are through a triangle at the start.
-pub fn pierced(mesh: &Mesh, share: Share, choice: Option<&Choice>, threads: usize) -> Result<Pierced, Fault> {
-    let asked = AtStart::new(mesh)?;
-    let own = share.stretches(asked.rows());
+pub fn pierced(judge: &Judge, share: Share, choice: Option<&Choice>, threads: usize) -> Result<Pierced, Fault> {
+    let own = share.stretches(judge.edge_rows());
     let mut pierced = Pierced::default();
     in_order(
         own.len(),
         threads,
-        |piece| asked.pierced(own[piece].clone(), choice),
+        |piece| judge.pierced(own[piece].clone(), choice),
         |_, found| {
             pierced.add(&found?);
             Ok(())

@@ -15,17 +15,6 @@ use makhnodri::Settled;
 use std::io::{self, Write};
 use std::ops::Range;
 
-/// Rows that are judged in one piece: enough of them that handing over costs nothing beside, few enough that all cores end together.
-const ROWS: usize = 512;
-
-fn pieces(rows: usize) -> usize {
-    rows.div_ceil(ROWS)
-}
-
-fn rows_of(piece: usize, rows: usize) -> Range<usize> {
-    stretch(piece, ROWS, rows)
-}
-
 /// What is asked beside the words, or the contacts, of all listed pairs.
 #[derive(Default)]
 pub struct Beside {
@@ -71,16 +60,16 @@ pub struct Judged {
 /// Writes the report, and hands back its totals.
 pub fn report(mesh: &Mesh, about: &About, form: &Form, threads: usize, bar: &mut Bar, out: impl Write) -> Result<Tally, Fault> {
     let asked = Asked { mesh, about, form, which: Which::Listed, beside: &Beside::default() };
-    told(&asked, threads, bar, out).map(|told| told.tally)
+    told(&asked, &Judge::new(mesh)?, threads, bar, out).map(|told| told.tally)
 }
 
 /// The same of what is asked beside it too.
-pub fn told(asked: &Asked, threads: usize, bar: &mut Bar, out: impl Write) -> Result<Told, Fault> {
-    let judge = Judge::new(asked.mesh)?;
-    let (rows, count) = (judge.rows(), pieces(judge.rows()));
+pub fn told(asked: &Asked, judge: &Judge, threads: usize, bar: &mut Bar, out: impl Write) -> Result<Told, Fault> {
+    let (rows, length) = (judge.rows(), judge.length());
+    let count = rows.div_ceil(length);
     let mut writer = Writer::begin(asked.form, asked.about, out).map_err(unwritten)?;
     let mut told = Told::default();
-    let work = |piece| judged(asked, &judge, rows_of(piece, rows));
+    let work = |piece| judged(asked, judge, stretch(piece, length, rows));
     in_order(count, threads, work, |piece, judged| {
         let judged = judged?;
         told.join(judged.told);

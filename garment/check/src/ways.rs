@@ -4,7 +4,7 @@ use crate::cloth::Cloth;
 use compare::numbers::random::Random;
 use compare::scene::Scene as ExactScene;
 use garment::fault::Fault;
-use garment::judge::Which;
+use garment::judge::{Judge, Which};
 use garment::mesh::{self, Mesh};
 use garment::names::Names;
 use garment::obj::{self, Obj};
@@ -54,7 +54,8 @@ pub fn told(mesh: &Mesh, form: &Form, beside: &Beside, threads: usize) -> (Strin
 pub fn told_of(mesh: &Mesh, form: &Form, which: Which, beside: &Beside, threads: usize) -> (String, Told) {
     let (mut out, about) = (Vec::new(), about(mesh));
     let asked = Asked { mesh, about: &about, form, which, beside };
-    let told = whole::told(&asked, threads, &mut no_bar(), &mut out).expect("a report is made");
+    let told =
+        whole::told(&asked, &Judge::new(mesh).expect("a mesh"), threads, &mut no_bar(), &mut out).expect("a report is made");
     (String::from_utf8(out).expect("a report is text"), told)
 }
 

@@ -3,9 +3,8 @@
 //! Times by parts are the processor's, so that what else runs on the machine is not in them.
 
 use compare::ways::cubic::{self, Moving};
-use garment::candidates::Finder;
 use garment::edges;
-use garment::judge::{AtStart, Judge, Question, Which};
+use garment::judge::{Judge, Question, Which};
 use garment::judging::{settle, Packed, TOGETHER};
 use garment::mesh::{self, Mesh};
 use garment::obj;
@@ -17,6 +16,7 @@ use garment::work::{all_cores, stretch};
 use garment_check::clocks::{run, taken, Run};
 use garment_check::cloth::{cloth, drape, obj as cloth_text, Kind as ClothKind, KINDS};
 use garment_check::former;
+use garment_check::grid::Finder;
 use garment_check::ways::{made, mesh_of};
 use makhnodri::COORDINATE_LIMIT;
 use std::hint::black_box;
@@ -70,10 +70,7 @@ fn both_lists(name: &str, mesh: &Mesh) {
         (0..pieces).map(answer).sum::<u64>()
     };
     let [listed, near] = in_turns(|| asked(Which::Listed), || asked(Which::Near));
-    let (piercing, _) = shortest(|| {
-        let start = AtStart::new(mesh).expect("a mesh");
-        start.pierced(0..start.rows(), None).expect("decided").len()
-    });
+    let (piercing, _) = shortest(|| judge.pierced(0..judge.edge_rows(), None).expect("decided").len());
     println!(
         "  {name:<16}{:>12}{:>12}{:>10.1}{:>10.1}{:>7.3}{:>10.1}",
         asked(Which::Listed),

@@ -2,9 +2,8 @@
 
 use compare::numbers::random::Random;
 use garment::clean::{at_start, Pierced};
-use garment::judge::AtStart;
+use garment::judge::{Judge, Through};
 use garment::mesh::Mesh;
-use garment::piercing::Through;
 use garment_check::cloth::{cloth, KINDS};
 use garment_check::ways::{made, no_bar};
 
@@ -39,7 +38,7 @@ fn every(mesh: &Mesh) -> impl Iterator<Item = Through> + '_ {
 
 fn pierced(mesh: &Mesh, threads: usize) -> (Vec<Through>, Pierced) {
     let mut found = Vec::new();
-    let told = at_start(mesh, None, threads, &mut no_bar(), |some| {
+    let told = at_start(&Judge::new(mesh).expect("a mesh"), None, threads, &mut no_bar(), |some| {
         found.extend_from_slice(some);
         Ok(())
     });
@@ -103,9 +102,11 @@ fn clean_and_pierced_cloth() {
     assert!(told.count > 10 && pierced(&mesh, 1).0 == found, "{told:?}");
     let wanted: Vec<Through> = every(&mesh).filter(|&at| by_volumes(&mesh, at) == Some(true)).collect();
     assert_eq!(found.iter().copied().filter(|&at| by_volumes(&mesh, at).is_some()).collect::<Vec<_>>(), wanted);
-    let asked = AtStart::new(&mesh).expect("a mesh");
-    let parts: Vec<Through> =
-        [0..100, 100..101, 101..asked.rows()].into_iter().flat_map(|rows| asked.pierced(rows, None).expect("decided")).collect();
+    let asked = Judge::new(&mesh).expect("a mesh");
+    let parts: Vec<Through> = [0..100, 100..101, 101..asked.edge_rows()]
+        .into_iter()
+        .flat_map(|rows| asked.pierced(rows, None).expect("decided"))
+        .collect();
     assert_eq!(parts, found);
 }
 

@@ -3,6 +3,7 @@
 use compare::making::spring::Springs;
 use garment::clean::at_start;
 use garment::fault::Fault;
+use garment::judge::Judge;
 use garment::mesh::Mesh;
 use garment::obj;
 use garment::report::Form;
@@ -72,12 +73,13 @@ fn the_frame_behind_the_first_hit_is_the_first_that_is_pierced() {
         }
         let (_folder, names) = Folder::new(&format!("springs-{seed}"), &frames, &faces);
         let (log, meshes) = series(&names, 2).expect("a series");
-        let own = |mesh: &Mesh| at_start(mesh, None, 1, &mut no_bar(), |_| Ok(())).expect("decided").count as usize;
-        let first = meshes.iter().position(|mesh| own(mesh) > 0).expect("it goes through itself");
+        let own = |mesh: &Mesh| {
+            at_start(&Judge::new(mesh).expect("a mesh"), None, 1, &mut no_bar(), |_| Ok(())).expect("decided").count as usize
+        };
+        let pierced: Vec<usize> = meshes.iter().map(pierced_in).collect();
+        assert_eq!(meshes.iter().map(own).collect::<Vec<usize>>(), pierced, "seed {seed}");
+        let first = pierced.iter().position(|&count| count > 0).expect("it goes through itself");
         assert!(first > 5, "seed {seed}: frame {first}");
-        for frame in &meshes[first - 1..first + 2] {
-            assert_eq!(own(frame), pierced_in(frame), "seed {seed}");
-        }
         assert_eq!(log.first, first, "seed {seed}");
     }
 }

@@ -1,12 +1,12 @@
 //! Meshes that fit no scene: the independent program finds and decides the same pairs.
 
 use compare::numbers::random::Random;
-use garment::candidates::Finder;
 use garment::judging::settle;
 use garment::mesh::Mesh;
 use garment::report::{Form, WORDS};
 use garment_check::cloth::{cloth, Cloth, KINDS};
 use garment_check::exact;
+use garment_check::grid::Finder;
 use garment_check::ways::{made, mesh_of, report};
 
 /// The whole report of a mesh of two thousand vertices, every two parts tried.

@@ -1,7 +1,6 @@
 //! Near pairs: the listed ones without those that are far, which are neither hit nor touch.
 
 use compare::numbers::random::Random;
-use garment::boxes::is_near;
 use garment::judge::{Judge, Question, Which};
 use garment::mesh::Mesh;
 use garment::pairs::{Kind, Pair};
@@ -57,7 +56,9 @@ fn apart(start: [i32; 3], end: [i32; 3]) -> bool {
     let corner = |a: [i32; 3]| place(a, a);
     let positions = vec![corner([0, 0, 0]), corner([4, 0, 0]), corner([0, 4, 0]), place(start, end)];
     let mesh = Mesh::new(positions, vec![[0, 1, 2]]);
-    !is_near(&mesh, Pair { kind: Kind::PointTriangle, first: 3, second: 0 })
+    let judge = Judge::new(&mesh).expect("a mesh");
+    let question = Question { which: Which::Near, choice: None, wanted: [true; 4], contacts: false };
+    judge.asked(3..4, &question).expect("words").tally.listed() == 0
 }
 
 /// Far at one time is not far at both; on two axes is not on one; below or equal is not below; and over to the other side is through.

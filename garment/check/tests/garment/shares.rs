@@ -2,8 +2,7 @@
 
 use garment::clean::Pierced;
 use garment::digest::Digest;
-use garment::judge::Which;
-use garment::piercing::Through;
+use garment::judge::{Through, Which};
 use garment::report::{About, Tally};
 use garment::shares::{options_of, stretches, Closing, Of, Share};
 

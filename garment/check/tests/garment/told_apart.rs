@@ -3,12 +3,12 @@
 use compare::making::generate;
 use compare::scene::{Scene as ExactScene, REPORT_ROOM};
 use garment::boxes::{of_parts, of_vertices, Swept};
-use garment::cells::{cell_of, cells_of, Cells};
 use garment::judging::{contact, settle, Alone, Packed, TOGETHER};
 use garment::mesh::Mesh;
 use garment::pairs::{Kind, Pair};
 use garment::report::Row;
 use garment::scene_text;
+use garment_check::cells::{cell_of, cells_of, Cells};
 use garment_check::cloth::{cloth, KINDS};
 use garment_check::exact;
 use garment_check::ways::{as_it_is, made, mesh_within};

@@ -1,6 +1,6 @@
 //! Space in cubes with a side of a power of two steps, and which boxes reach into each.
 
-use crate::boxes::Swept;
+use garment::boxes::Swept;
 use makhnodri::COORDINATE_LIMIT;
 
 /// Where cells are counted from, so that no number is negative.

@@ -1,9 +1,10 @@
-//! Every pair whose swept boxes meet and that shares no vertex, each once, in the list's order.
+//! Every pair whose swept boxes meet and that shares no vertex, each once, in the order of the list, by a grid: as the program found them before the library
+//! listed a mesh of any size. What it lists is held to it, and timed beside it.
 
-use crate::boxes::{of_parts, of_vertices, Swept};
 use crate::cells::Cells;
-use crate::mesh::Mesh;
-use crate::pairs::{Kind, Pair};
+use garment::boxes::{of_parts, of_vertices, Swept};
+use garment::mesh::Mesh;
+use garment::pairs::{Kind, Pair};
 use std::ops::Range;
 
 pub struct Finder<'a> {
