@@ -27,11 +27,16 @@ def version():
     return re.search(r'^VERSION = "(.*)"$', (HERE / "makhnodri/__init__.py").read_text(encoding="utf-8"), re.M).group(1)
 
 
+def shared_name():
+    """The name that the module asks for: below 1.0.0 it has the first two numbers of the version, from then on the first."""
+    major, minor, _ = version().split(".")
+    return f"libmakhnodri.so.{major if int(major) > 0 else f'{major}.{minor}'}"
+
+
 def library():
-    """The shared library, by the name that the module asks for."""
     repository = HERE.parents[1] / "target/library" / platform.machine()
     folder = pathlib.Path(os.environ.get("MAKHNODRI_LIBRARY") or repository)
-    found = folder / f"libmakhnodri.so.{version().rpartition('.')[0]}"
+    found = folder / shared_name()
     if not found.exists():
         sys.exit(
             f"makhnodri: {found} is not there. Run `./makhnodri library` in the repository, which proves it and writes target/library; "

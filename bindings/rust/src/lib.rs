@@ -60,6 +60,8 @@
 //! is on where nothing is said, puts libmakhnodri.a into the program. With `default-features = false` the program is linked with libmakhnodri.so,
 //! and finds it at run time where the system looks for libraries: installed there, by `LD_LIBRARY_PATH`, or by an rpath. A build script of a
 //! package that depends on this one is told the folder by `DEP_MAKHNODRI_FOLDER`, so that it can set one.
+//!
+//! No licence is stated: the owner has named none.
 
 #![warn(missing_docs)]
 
