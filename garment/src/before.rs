@@ -36,13 +36,21 @@ fn unsewn(mesh: &Mesh, sewn: bool) -> Option<String> {
 
 /// How far the farthest vertex moves, in lengths of the edge in the middle of all by length, at the start.
 fn move_of(mesh: &Mesh) -> Option<String> {
-    let (vertex, moved) = farthest(mesh)?;
-    let lengths = moved / middle_edge(mesh)?;
+    let (vertex, lengths) = farthest_move(mesh)?;
     let mut words = format!("the farthest move is {lengths:.2} edge lengths, of vertex {vertex}");
     if lengths > FAR {
-        words += ": frames so far apart give contacts that no cloth made, since each vertex goes straight from start to end; take frames between";
+        words += TOO_FAR;
     }
     Some(words)
+}
+
+/// Behind a move that is told.
+pub const TOO_FAR: &str = ": frames so far apart give contacts that no cloth made, since each vertex goes straight from start to end; take frames between";
+
+/// The vertex that moves farthest, and how far, in lengths of the edge in the middle of all.
+pub fn farthest_move(mesh: &Mesh) -> Option<(usize, f64)> {
+    let (vertex, moved) = farthest(mesh)?;
+    Some((vertex, moved / middle_edge(mesh)?))
 }
 
 fn farthest(mesh: &Mesh) -> Option<(usize, f64)> {
@@ -76,6 +84,9 @@ fn length([from, to]: [[i32; 3]; 2]) -> f64 {
 pub fn again(command: &Command, options: &Options, step: f64) -> String {
     let mut words = vec!["garment".to_string()];
     words.extend(command.name().map(str::to_string));
+    if let Command::Rows { share, .. } = command {
+        words.push(format!("{}/{}", share.number, share.of));
+    }
     words.push(format!("--step {step}"));
     words.extend(options.kept.iter().cloned());
     let places = command.places();

@@ -45,21 +45,6 @@ impl<'a> Finder<'a> {
         found
     }
 
-    /// The boxes of a pair's parts.
-    pub fn boxes(&self, pair: Pair) -> [&Swept; 2] {
-        let (first, second) = (pair.first as usize, pair.second as usize);
-        match pair.kind {
-            Kind::PointTriangle => [&self.vertices[first], &self.triangles[second]],
-            Kind::EdgeEdge => [&self.edges[first], &self.edges[second]],
-        }
-    }
-
-    /// The low corner of what they have in common.
-    pub fn meeting(&self, pair: Pair) -> [i32; 3] {
-        let [one, other] = self.boxes(pair);
-        one.meeting(other)
-    }
-
     fn of_vertex(&self, vertex: u32, found: &mut Vec<Pair>) {
         let own = self.mesh.stood(vertex);
         self.triangle_cells.meeting(&self.vertices[vertex as usize], &self.triangles, 0, |triangle| {

@@ -3,6 +3,7 @@
 use crate::mesh::Mesh;
 use crate::names::{Names, OfParts};
 use crate::pairs::Pair;
+use crate::piercing::Through;
 
 /// How many of the faces that have a part are of a name.
 #[derive(Clone, Copy, Debug, PartialEq, Eq)]
@@ -31,15 +32,24 @@ impl Choice {
     }
 
     pub fn keeps(&self, pair: Pair) -> bool {
-        let within = |body: &OfParts<Faces>| body.of_pair(pair) == [Faces::All; 2];
-        !self.body.as_ref().is_some_and(within) && (self.between.is_empty() || self.between.iter().any(|two| joins(two, pair)))
+        self.keeps_both(|of| of.of_pair(pair))
+    }
+
+    pub fn keeps_through(&self, Through { edge, triangle }: Through) -> bool {
+        self.keeps_both(|of| [of.edges[edge as usize], of.triangles[triangle as usize]])
+    }
+
+    /// By the faces of the one part, and of the other.
+    fn keeps_both(&self, faces: impl Fn(&OfParts<Faces>) -> [Faces; 2]) -> bool {
+        let within = |body: &OfParts<Faces>| faces(body) == [Faces::All; 2];
+        let between = || self.between.is_empty() || self.between.iter().any(|two| joins(two.each_ref().map(&faces)));
+        !self.body.as_ref().is_some_and(within) && between()
     }
 }
 
-/// Whether one part of a pair is of the one name, and the other of the other.
-fn joins([one, other]: &[OfParts<Faces>; 2], pair: Pair) -> bool {
-    let some = |of: &OfParts<Faces>| of.of_pair(pair).map(|faces| faces != Faces::None);
-    let ([a, b], [c, d]) = (some(one), some(other));
+/// Whether one part is of the one name, and the other of the other.
+fn joins(faces: [[Faces; 2]; 2]) -> bool {
+    let [[a, b], [c, d]] = faces.map(|both| both.map(|faces| faces != Faces::None));
     (a && d) || (b && c)
 }
 

@@ -1,31 +1,46 @@
 //! What each command does, and the status that it ends with.
 
-use crate::before;
 use crate::choice::Choice;
-use crate::edges;
+use crate::clean::{self, Pierced};
+use crate::digest::Digest;
 use crate::fault::Fault;
-use crate::index::Index;
-use crate::mark;
+use crate::judge::Which;
 use crate::mesh::{self, Mesh};
 use crate::names::Names;
 use crate::obj::{self, Obj};
+use crate::piercing::Through;
 use crate::progress::Bar;
 use crate::report::{About, Tally};
-use crate::rounding::{onto_grid, Grid, Rounded};
+use crate::rounding::{onto_grid, too_fine, Grid, Rounded};
+use crate::series::{self, Frames, Log};
+use crate::shares::{self, Closing, Counted, Of, Share};
 use crate::whereabouts::Whereabouts;
-use crate::whole::{Asked, Beside};
+use crate::whole::{self, Asked, Beside};
 use crate::words::{understood, Command, Options, USAGE};
-use crate::{join, scene_text, split, whole};
+use crate::{before, edges, mark, scene_text, total};
 use makhnodri::Settled;
 use std::ffi::OsString;
 use std::io::{stderr, stdout, BufWriter, Write};
-use std::path::Path;
 use std::thread;
 
 const DONE: u8 = 0;
 const NO_REPORT: u8 = 1;
 const NOT_UNDERSTOOD: u8 = 2;
 const HITS: u8 = 3;
+const PIERCED: u8 = 4;
+
+/// What the status goes by: how many pairs are hit, and how often an edge is through a triangle at the start.
+#[derive(Default)]
+struct Ended {
+    hits: u64,
+    pierced: u64,
+}
+
+impl Ended {
+    fn of(tally: &Tally, pierced: &Pierced) -> Ended {
+        Ended { hits: tally.of(Settled::Hit), pierced: pierced.count }
+    }
+}
 
 /// The status to end with. What went wrong is told on standard error.
 pub fn run(words: impl Iterator<Item = OsString>) -> u8 {
@@ -37,7 +52,8 @@ pub fn run(words: impl Iterator<Item = OsString>) -> u8 {
         }
     };
     match done(&command, &options) {
-        Ok(Some(tally)) if options.no_hits && tally.of(Settled::Hit) > 0 => HITS,
+        Ok(ended) if ended.pierced > 0 => PIERCED,
+        Ok(ended) if options.no_hits && ended.hits > 0 => HITS,
         Ok(_) => DONE,
         Err(faults) => {
             faults.iter().for_each(|fault| tell(&fault.words));
@@ -50,14 +66,17 @@ pub fn run(words: impl Iterator<Item = OsString>) -> u8 {
     }
 }
 
-fn done(command: &Command, options: &Options) -> Result<Option<Tally>, Vec<Fault>> {
+fn done(command: &Command, options: &Options) -> Result<Ended, Vec<Fault>> {
+    let nothing = |()| Ended::default();
     match command {
-        Command::Help => print(USAGE.as_bytes()).map(|()| None).map_err(alone),
-        Command::Version => print(format!("{}\n", makhnodri::VERSION).as_bytes()).map(|()| None).map_err(alone),
-        Command::Report { files } => report(command, files, options).map(Some),
-        Command::Scene { files } => scene(command, files, options).map(|()| None),
-        Command::Split { folder, files } => split_into(command, folder, files, options).map(|()| None),
-        Command::Join { folder } => joined(folder, options).map(Some),
+        Command::Help => print(USAGE.as_bytes()).map(nothing).map_err(alone),
+        Command::Version => print(format!("{}\n", makhnodri::VERSION).as_bytes()).map(nothing).map_err(alone),
+        Command::Report { files } => report(command, files, options),
+        Command::Check { file } => check(command, file, options),
+        Command::Series { files } => series(command, files, options),
+        Command::Rows { share, files } => rows(command, *share, files, options).map(|()| Ended::default()),
+        Command::Total { files } => total(files, options),
+        Command::Scene { files } => scene(command, files, options).map(nothing),
     }
 }
 
@@ -67,25 +86,161 @@ struct Garment {
     about: About,
     names: Names,
     grid: Grid,
+    /// The SHA-256 of each file, parted by commas.
+    digests: String,
 }
 
-fn report(command: &Command, files: &[String; 2], options: &Options) -> Result<Tally, Vec<Fault>> {
-    let Garment { mesh, about, names, grid } = read(command, files, options)?;
+fn report(command: &Command, files: &[String; 2], options: &Options) -> Result<Ended, Vec<Fault>> {
+    let Garment { mesh, about, names, grid, .. } = read(command, files, options)?;
     let choice = Choice::of(&mesh, &names, &options.body, &options.between);
+    let pierced = start_checked(&mesh, choice.as_ref(), "the start", options).map_err(alone)?;
     let whereabouts = options.told_where.then(|| Whereabouts::new(&mesh, names, grid));
     let beside = Beside { choice, whereabouts, marked: options.mark.is_some() };
     let mut bar = Bar::new("judging", !options.quiet);
-    let asked = Asked { mesh: &mesh, about: &about, form: &options.form, beside: &beside };
+    let asked = Asked { mesh: &mesh, about: &about, form: &options.form, which: options.which, beside: &beside };
     let told = whole::told(&asked, options.threads, &mut bar, buffered()).map_err(alone)?;
     drop(bar);
-    options.note(|| note_of_pairs(told.tally.listed(), beside.choice.as_ref().map(|_| told.left)));
+    options.note(|| note_of_pairs(options.which, told.tally.listed(), beside.choice.as_ref().map(|_| told.left)));
     if let Some(name) = &options.mark {
         let time = mark::write(name, &mesh, &grid, &told.marked).map_err(alone)?;
         options.note(|| {
             format!("{name} has the mesh at {time} of 1048576 from start to end, with {} pairs marked", told.marked.len())
         });
     }
-    Ok(told.tally)
+    Ok(Ended::of(&told.tally, &pierced))
+}
+
+/// Whether an edge is through a triangle at the start, said in one line.
+fn start_checked(mesh: &Mesh, choice: Option<&Choice>, what: &str, options: &Options) -> Result<Pierced, Fault> {
+    let mut bar = Bar::new("checking", !options.quiet);
+    let pierced = clean::at_start(mesh, choice, options.threads, &mut bar, |_| Ok(()))?;
+    drop(bar);
+    options.note(|| pierced.words(what));
+    Ok(pierced)
+}
+
+/// One frame: every edge that is through a triangle.
+fn check(command: &Command, file: &str, options: &Options) -> Result<Ended, Vec<Fault>> {
+    let start = obj::read_file(file).map_err(alone)?;
+    let note = note_of_file(obj::shown_name(file), &start);
+    let end = Obj { places: start.places.clone(), ..Obj::default() };
+    let Garment { mesh, about, names, .. } = meshed(command, file, [start, end], note, options)?;
+    let choice = Choice::of(&mesh, &names, &options.body, &options.between);
+    let (mut found, mut bar) = (Vec::new(), Bar::new("checking", !options.quiet));
+    let keep = |some: &[Through]| {
+        found.extend_from_slice(some);
+        Ok(())
+    };
+    let pierced = clean::at_start(&mesh, choice.as_ref(), options.threads, &mut bar, keep).map_err(alone)?;
+    drop(bar);
+    let mut out = buffered();
+    clean::write(&found, &about, &options.form, &mut out)
+        .and_then(|()| out.flush())
+        .map_err(|error| alone(whole::unwritten(error)))?;
+    options.note(|| pierced.words("this frame"));
+    Ok(Ended::of(&Tally::default(), &pierced))
+}
+
+/// Many frames: the log of the first hits, and the totals over all steps.
+fn series(command: &Command, files: &[String], options: &Options) -> Result<Ended, Vec<Fault>> {
+    let names = frame_names(files)?;
+    let mut first = obj::read_file(&names[0]).map_err(alone)?;
+    let of_names = std::mem::take(&mut first.names);
+    options.all_known(&of_names)?;
+    let mut bar = Bar::new("reading", !options.quiet);
+    let bounds = series::bounds(&names, &first, options.threads, &mut bar).map_err(alone)?;
+    drop(bar);
+    let limit = makhnodri::COORDINATE_LIMIT;
+    let grid = Grid::of(&bounds, options.step, limit).map_err(alone)?;
+    let at_first = grid.frame(&first.places, limit).map_err(|()| alone(too_fine(grid.step, &bounds, limit)))?;
+    let positions = at_first.places.iter().map(|&[x, y, z]| [x, y, z, x, y, z]).collect();
+    let mesh = Mesh::new(positions, std::mem::take(&mut first.triangles));
+    let about = about(&mesh, grid.step);
+    let how = if options.step.is_none() { "chosen from all frames" } else { "given" };
+    options
+        .note(|| format!("a step is {} ({how}); the same grid again: {}", grid.step, before::again(command, options, grid.step)));
+    options.note(|| {
+        format!("{} frames of {} vertices, {} edges, {} triangles", names.len(), about.vertices, about.edges, about.triangles)
+    });
+    let choice = Choice::of(&mesh, &of_names, &options.body, &options.between);
+    let pierced = start_checked(&mesh, choice.as_ref(), "the first frame", options).map_err(alone)?;
+    let asked = series::Asked {
+        mesh: &mesh,
+        lines: &first.lines,
+        choice: choice.as_ref(),
+        sewn: options.seams,
+        threads: options.threads,
+    };
+    let mut bar = Bar::new("judging", !options.quiet);
+    let log = series::judged(&asked, &Frames::new(&names, grid, limit), &mut bar).map_err(alone)?;
+    drop(bar);
+    let mut out = buffered();
+    let written = series::write(&log, &about, names.len(), choice.is_some(), &options.form, &mut out);
+    written.and_then(|()| out.flush()).map_err(|error| alone(whole::unwritten(error)))?;
+    options.note(|| note_of_series(&log, about.triangles == 0));
+    Ok(Ended::of(&log.tally, &pierced))
+}
+
+/// The frames as they are named, or as a list on standard input names them, a line each.
+fn frame_names(files: &[String]) -> Result<Vec<String>, Vec<Fault>> {
+    if files != [obj::STANDARD_INPUT] {
+        return Ok(files.to_vec());
+    }
+    let list = String::from_utf8(obj::bytes_of(obj::STANDARD_INPUT).map_err(alone)?);
+    let list = list.map_err(|_| alone(Fault::misunderstood("the list of frames on standard input is no UTF-8")))?;
+    let names: Vec<String> = list.lines().filter(|line| !line.is_empty()).map(str::to_string).collect();
+    if names.len() < 2 {
+        return Err(alone(Fault::misunderstood(format!(
+            "series wants two frames or more, and the list on standard input has {}",
+            names.len()
+        ))));
+    }
+    Ok(names)
+}
+
+fn note_of_series(log: &Log, empty: bool) -> String {
+    if empty {
+        return "there are no faces, and so no pair: this speaks of no cloth; export the faces too".to_string();
+    }
+    let (lengths, step) = log.farthest;
+    let moved = match step {
+        0 => "nothing moves: this speaks of no drape".to_string(),
+        _ => format!("the farthest move is {lengths:.2} edge lengths, in step {step}"),
+    };
+    let far = if lengths > before::FAR { before::TOO_FAR } else { "" };
+    format!("{} near pairs judged; {moved}{far}", log.tally.listed())
+}
+
+/// One share of the rows, with its closing line.
+fn rows(command: &Command, share: Share, files: &[String; 2], options: &Options) -> Result<(), Vec<Fault>> {
+    let Garment { mesh, about, names, digests, .. } = read(command, files, options)?;
+    let choice = Choice::of(&mesh, &names, &options.body, &options.between);
+    let beside = Beside { choice, ..Beside::default() };
+    let asked = Asked { mesh: &mesh, about: &about, form: &options.form, which: options.which, beside: &beside };
+    let pierced = shares::pierced(&mesh, share, beside.choice.as_ref(), options.threads).map_err(alone)?;
+    let mut bar = Bar::new("judging", !options.quiet);
+    let mut out = Counted::new(buffered());
+    let told = shares::told(&asked, share, options.threads, &mut bar, &mut out).map_err(alone)?;
+    drop(bar);
+    let (tally, left) = (told.tally, beside.choice.as_ref().map(|_| told.left));
+    let (contacts, which, options_kept) = (options.form.contacts, options.which, shares::options_of(&options.kept));
+    let of = Of { contacts, which, options: options_kept, files: digests, about: about.clone() };
+    out.close(|lines, digest| Closing { share, lines, digest, tally, left, pierced, of })
+        .map_err(|error| alone(whole::unwritten(error)))?;
+    options.note(|| format!("{} pairs of share {} of {}", tally.listed(), share.number, share.of));
+    Ok(())
+}
+
+/// All shares together.
+fn total(files: &[String], options: &Options) -> Result<Ended, Vec<Fault>> {
+    let whole = total::checked(files).map_err(|mut faults| {
+        faults.push(Fault::new("nothing is printed"));
+        faults
+    })?;
+    options.note(|| format!("a step is {}, that of the {} shares", whole.step(), whole.count()));
+    let told = whole.write(options.form.json, buffered()).map_err(alone)?;
+    options.note(|| told.pierced.words("the start"));
+    Ok(Ended::of(&told.tally, &told.pierced))
 }
 
 fn scene(command: &Command, files: &[String; 2], options: &Options) -> Result<(), Vec<Fault>> {
@@ -93,38 +248,20 @@ fn scene(command: &Command, files: &[String; 2], options: &Options) -> Result<()
     print(scene_text::of_mesh(&garment.mesh).as_bytes()).map_err(alone)
 }
 
-fn split_into(command: &Command, folder: &str, files: &[String; 2], options: &Options) -> Result<(), Vec<Fault>> {
-    let Garment { mesh, about, .. } = read(command, files, options)?;
-    let mut bar = Bar::new("finding", !options.quiet);
-    let index = split::split(&mesh, about, options.form.contacts, Path::new(folder), options.threads, &mut bar).map_err(alone)?;
-    drop(bar);
-    options.note(|| format!("{} pairs in {} parts", index.pairs(), index.parts.len()));
-    Ok(())
-}
-
-fn joined(folder: &str, options: &Options) -> Result<Tally, Vec<Fault>> {
-    let nothing = |mut faults: Vec<Fault>| {
-        faults.push(Fault::new("nothing is joined"));
-        faults
-    };
-    let of_split = |index: &Index| options.note(|| format!("a step is {}, that of the split", index.about.step));
-    let (tally, parts) = if options.form.contacts {
-        let (index, hits) = join::gather_contacts(Path::new(folder)).map_err(nothing)?;
-        of_split(&index);
-        (join::write_contacts(&index, &hits, &options.form, buffered()).map_err(alone)?, index.parts.len())
-    } else {
-        let (index, words) = join::gather(Path::new(folder)).map_err(nothing)?;
-        of_split(&index);
-        (join::write(&index, &words, &options.form, buffered()).map_err(alone)?, index.parts.len())
-    };
-    options.note(|| format!("{} pairs of {parts} parts", tally.listed()));
-    Ok(tally)
-}
-
 /// The mesh of two files, start first; what is wrong with either is told, and what is to be known before its report is read.
 fn read(command: &Command, files: &[String; 2], options: &Options) -> Result<Garment, Vec<Fault>> {
-    let ([mut start, end], of_file) = all_read(files, options)?;
-    let from = obj::shown_name(&files[0]);
+    let (both, note, digests) = all_read(files, options, matches!(command, Command::Rows { .. }))?;
+    let mut garment = meshed(command, &files[0], both, note, options)?;
+    garment.digests = digests;
+    if !options.quiet {
+        before::of_mesh(&garment.mesh, options.seams).iter().for_each(|words| tell(words));
+    }
+    Ok(garment)
+}
+
+/// Two times put onto one grid; the file is that of the first.
+fn meshed(command: &Command, file: &str, both: [Obj; 2], of_file: String, options: &Options) -> Result<Garment, Vec<Fault>> {
+    let [mut start, end] = both;
     let names = std::mem::take(&mut start.names);
     options.all_known(&names)?;
     let (rounded, edges) = thread::scope(|scope| {
@@ -134,38 +271,36 @@ fn read(command: &Command, files: &[String; 2], options: &Options) -> Result<Gar
     });
     let rounded = rounded.map_err(|fault| alone(options.of_range(fault)))?;
     let (grid, of_steps) = (Grid { step: rounded.step, middle: rounded.middle }, note_of_steps(&rounded, options.step.is_none()));
-    let mesh = mesh::join_with(from, &mut start, &end, rounded, edges, options.seams).map_err(alone)?;
+    let mesh = mesh::join_with(obj::shown_name(file), &mut start, &end, rounded, edges, options.seams).map_err(alone)?;
     let about = about(&mesh, grid.step);
     options.note(|| format!("{of_steps}; the same grid again: {}", before::again(command, options, grid.step)));
     options.note(|| format!("{} vertices, {} edges, {} triangles{of_file}", about.vertices, about.edges, about.triangles));
     if options.seams {
         options.note(|| format!("{} vertices stand for another in their place", about.seams));
     }
-    if !options.quiet {
-        before::of_mesh(&mesh, options.seams).iter().for_each(|words| tell(words));
-    }
-    Ok(Garment { mesh, about, names, grid })
+    Ok(Garment { mesh, about, names, grid, digests: String::new() })
 }
 
-/// Start and end, with the body's own files behind the cloth's where there are any, and what is to be noted of them.
-fn all_read(files: &[String; 2], options: &Options) -> Result<([Obj; 2], String), Vec<Fault>> {
-    let (mut both, mut note) = same_read(files)?;
+/// Start and end, with the body's own files behind the cloth's where there are any; what is to be noted of them, and their digests where they are wanted.
+fn all_read(files: &[String; 2], options: &Options, digested: bool) -> Result<([Obj; 2], String, String), Vec<Fault>> {
+    let (mut both, mut note, mut digests) = same_read(files, digested)?;
     if let Some(files) = &options.body_files {
-        let (body, more) = same_read(files)?;
+        let (body, more, of_body) = same_read(files, digested)?;
         note += &more;
+        digests = format!("{digests},{of_body}");
         for ((file, cloth), body) in files.iter().zip(&mut both).zip(body) {
             cloth.join_body(obj::shown_name(file), body).map_err(alone)?;
         }
     }
-    Ok((both, note))
+    Ok((both, note, digests))
 }
 
-fn same_read(files: &[String; 2]) -> Result<([Obj; 2], String), Vec<Fault>> {
-    let [start, end] = both_read(files)?;
+fn same_read(files: &[String; 2], digested: bool) -> Result<([Obj; 2], String, String), Vec<Fault>> {
+    let [(start, one), (end, other)] = both_read(files, digested)?;
     let [from, to] = files.each_ref().map(|name| obj::shown_name(name));
     mesh::same_faces([from, to], &start, &end).map_err(alone)?;
     let note = note_of_file(from, &start);
-    Ok(([start, end], note))
+    Ok(([start, end], note, format!("{one},{other}")))
 }
 
 fn about(mesh: &Mesh, step: f64) -> About {
@@ -179,13 +314,21 @@ fn about(mesh: &Mesh, step: f64) -> About {
     }
 }
 
-fn both_read(files: &[String; 2]) -> Result<[Obj; 2], Vec<Fault>> {
+/// What a file has, and its digest.
+type Read = (Obj, String);
+
+fn both_read(files: &[String; 2], digested: bool) -> Result<[Read; 2], Vec<Fault>> {
+    let read = |name: &String| {
+        let bytes = obj::bytes_of(name)?;
+        let digest = if digested { Digest::of(&bytes) } else { String::new() };
+        Ok((obj::of_bytes(obj::shown_name(name), &bytes)?, digest))
+    };
     let [from, to] = files;
     let (start, end) = thread::scope(|scope| {
-        let end = scope.spawn(|| obj::read_file(to));
-        (obj::read_file(from), end.join())
+        let end = scope.spawn(|| read(to));
+        (read(from), end.join().unwrap_or_else(|panic| std::panic::resume_unwind(panic)))
     });
-    match (start, end.unwrap_or_else(|panic| std::panic::resume_unwind(panic))) {
+    match (start, end) {
         (Ok(start), Ok(end)) => Ok([start, end]),
         (start, end) => Err([start.err(), end.err()].into_iter().flatten().collect()),
     }
@@ -203,12 +346,13 @@ fn note_of_file(name: &str, obj: &Obj) -> String {
     note
 }
 
-fn note_of_pairs(judged: u64, left: Option<u64>) -> String {
+fn note_of_pairs(which: Which, judged: u64, left: Option<u64>) -> String {
+    let near = if which == Which::Near { "near " } else { "" };
     let Some(left) = left else {
-        return format!("{judged} pairs found, and as many judged");
+        return format!("{judged} {near}pairs found, and as many judged");
     };
     let none = if judged == 0 { ": this report speaks of no pair" } else { "" };
-    format!("{} pairs found: {judged} judged, {left} left out by --body, --body-files or --between{none}", judged + left)
+    format!("{} {near}pairs found: {judged} judged, {left} left out by --body, --body-files or --between{none}", judged + left)
 }
 
 fn note_of_steps(rounded: &Rounded, chosen: bool) -> String {

@@ -12,6 +12,7 @@
 
 use crate::mesh::Mesh;
 use crate::pairs::{Kind, Pair};
+use crate::piercing::Through;
 use crate::report::Row;
 use makhnodri::{Contact, OwnRefusal, Refusal, Scene, Settled, Verdict, CONTACT_LENGTH, VERTEX_LIMIT};
 
@@ -60,6 +61,24 @@ impl Packed {
         let contacts = self.contacts.as_flattened_mut();
         let count = scene.contact_list(&self.list[..pairs.len()], &mut self.words, contacts)?;
         Ok(self.words[..count].iter().zip(self.contacts).map(|(&byte, row)| (word_of(byte), row)))
+    }
+
+    /// Whether each of at most `TOGETHER` edges is through its triangle at the start: a point that goes from one end of the edge to the other, against the
+    /// triangle at rest, is then hit or touches, and else not (crates/pierced_laws). They share no vertex.
+    pub fn pierced(&mut self, mesh: &Mesh, asked: &[Through]) -> Result<impl Iterator<Item = bool> + '_, OwnRefusal> {
+        assert!(asked.len() <= TOGETHER, "more pairs than a scene has room for");
+        let start = |vertex: u32| mesh.positions[vertex as usize];
+        for ((&Through { edge, triangle }, at), before) in asked.iter().zip(0..).zip((0..).step_by(4)) {
+            let ([from, to], corners) = (mesh.ends(edge).map(start), mesh.corners(triangle).map(start));
+            let resting = |[x, y, z, ..]: [i32; 6]| [x, y, z, x, y, z];
+            let [a, b, c] = corners.map(resting);
+            self.positions[at] = [[from[0], from[1], from[2], to[0], to[1], to[2]], a, b, c];
+            self.triangles[at] = [before + 1, before + 2, before + 3];
+            self.list[at] = entry_of(Kind::PointTriangle, before as usize, at);
+        }
+        let scene = scene_of(&self.positions[..asked.len()], &[], &self.triangles[..asked.len()]);
+        let count = scene.settle_list(&self.list[..asked.len()], &mut self.words)?;
+        Ok(self.words[..count].iter().map(|&byte| matches!(word_of(byte), Settled::Hit | Settled::Touch)))
     }
 
     /// Each pair alone, behind those before it, and its entry in the numbers of the scene. Hands back how many pairs are of edges, and how many of

@@ -1,9 +1,10 @@
 //! A whole garment judged: two OBJ exports of any size, start and end, in; one report, in the mesh's own numbers, out.
 //!
-//! As data goes through it: `obj`, `plain` and `fields` read a file, `cutting` cuts its faces into triangles; `rounding` puts start and end onto
-//! the grid, `edges` are made of the faces, `seams` finds vertices in one place, `mesh` holds what comes of it; `boxes`, `cells` and `candidates` find every pair whose
-//! swept boxes meet, each once; `judging` asks the library, and nothing else does; `work` does it on all cores, and `report` writes it
-//! down in order. For a farm `curve` and `packing` fill scenes, `split` writes them and `join` puts their reports together by the `index`.
+//! As data goes through it: `obj`, `plain` and `fields` read a file, `cutting` cuts its faces into triangles; `rounding` puts all times onto one grid,
+//! `edges` are made of the faces, `seams` finds vertices in one place, `mesh` holds what comes of it. `judge` is asked, a stretch of rows at a time: below
+//! it `boxes`, `cells`, `candidates` and `piercing` find every pair whose boxes meet, each once, and `judging` asks the library, and nothing else does.
+//! `work` does it on all cores; `whole` is the report of two times, which `report` writes down in order, `clean` what is through each other at the start,
+//! `series` the log of many frames. For a farm `shares` has a part of the rows each, and `total` puts them together, by the `digest` of what they are of.
 //! Where only some are asked for, `names` has which parts are an object's or a group's and `choice` leaves the others out; `whereabouts` says where a
 //! pair is, and `mark` writes a mesh that shows it.
 //! `words` understands the command line, and `command` does what it says; what a report's lines cannot show is said `before` it.
@@ -16,28 +17,31 @@ pub mod boxes;
 pub mod candidates;
 pub mod cells;
 pub mod choice;
+pub mod clean;
 pub mod command;
 pub mod curve;
 pub mod cutting;
+pub mod digest;
 pub mod edges;
 pub mod fault;
 pub mod fields;
-pub mod index;
-pub mod join;
+pub mod judge;
 pub mod judging;
 pub mod mark;
 pub mod mesh;
 pub mod names;
 pub mod obj;
-pub mod packing;
 pub mod pairs;
+pub mod piercing;
 pub mod plain;
 pub mod progress;
 pub mod report;
 pub mod rounding;
 pub mod scene_text;
 pub mod seams;
-pub mod split;
+pub mod series;
+pub mod shares;
+pub mod total;
 pub mod whereabouts;
 pub mod whole;
 pub mod words;

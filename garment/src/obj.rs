@@ -51,20 +51,29 @@ pub fn shown_name(name: &str) -> &str {
 }
 
 pub fn read_file(name: &str) -> Result<Obj, Fault> {
+    of_bytes(shown_name(name), &bytes_of(name)?)
+}
+
+/// All of a file, or of standard input.
+pub fn bytes_of(name: &str) -> Result<Vec<u8>, Fault> {
+    let told = |error: io::Error| Fault::of_file(shown_name(name), &error);
     if name == STANDARD_INPUT {
-        return read(shown_name(name), io::stdin().lock());
+        return all_of(io::stdin().lock()).map_err(told);
     }
-    let file = File::open(name).map_err(|error| Fault::of_file(name, &error))?;
-    read(name, file)
+    File::open(name).and_then(all_of).map_err(told)
 }
 
-/// All of a file at once: its lines are then looked at where they stand, and none is copied.
-pub fn read(name: &str, mut input: impl Read) -> Result<Obj, Fault> {
+fn all_of(mut input: impl Read) -> io::Result<Vec<u8>> {
     let mut bytes = Vec::new();
-    input.read_to_end(&mut bytes).map_err(|error| Fault::of_file(name, &error))?;
-    of_bytes(name, &bytes)
+    input.read_to_end(&mut bytes)?;
+    Ok(bytes)
 }
 
+pub fn read(name: &str, input: impl Read) -> Result<Obj, Fault> {
+    of_bytes(name, &all_of(input).map_err(|error| Fault::of_file(name, &error))?)
+}
+
+/// All of a file at once: its lines are looked at where they stand, and none is copied.
 pub fn of_bytes(name: &str, bytes: &[u8]) -> Result<Obj, Fault> {
     let mut lines =
         Lines { bytes: bytes.strip_prefix(b"\xef\xbb\xbf").unwrap_or(bytes), joined: Vec::new(), at: 0, first: 0, last: 0 };

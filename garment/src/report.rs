@@ -13,7 +13,8 @@ pub fn word_of(letters: &[u8]) -> Option<Settled> {
     WORDS.into_iter().find(|word| word.word().as_bytes() == letters)
 }
 
-fn place(word: Settled) -> usize {
+/// Its place among them.
+pub fn place(word: Settled) -> usize {
     match word {
         Settled::Hit => 0,
         Settled::Miss => 1,
@@ -35,6 +36,13 @@ impl Tally {
     /// Of lines of contacts, which tell hits alone.
     pub fn of_hits(listed: u64, hits: u64) -> Tally {
         Tally { counts: [hits, 0, 0, 0], not_hit: listed.saturating_sub(hits) }
+    }
+
+    /// Of the five counts of a line of totals; nothing where the others are more than the first.
+    pub fn of_counts([listed, hit, miss, touch, apart]: [u64; 5]) -> Option<Tally> {
+        let counts = [hit, miss, touch, apart];
+        let told = counts.iter().try_fold(0u64, |sum, &count| sum.checked_add(count))?;
+        Some(Tally { counts, not_hit: listed.checked_sub(told)? })
     }
 
     pub fn add(&mut self, word: Settled) {
@@ -76,6 +84,13 @@ pub struct About {
     pub step: f64,
 }
 
+impl About {
+    pub fn json(&self) -> String {
+        let About { vertices, edges, triangles, seams, step } = self;
+        format!("{{\"vertices\":{vertices},\"edges\":{edges},\"triangles\":{triangles},\"seams\":{seams},\"step\":{step:e}}}")
+    }
+}
+
 /// The totals of the pairs of which one part has the one names and the other the other.
 #[derive(Clone, Debug, PartialEq, Eq)]
 pub struct Sum {
@@ -89,6 +104,8 @@ pub struct Sums {
     pub by_names: Option<Vec<Sum>>,
     /// How many pairs were left out.
     pub left: Option<u64>,
+    /// Whether pairs and totals are the near ones alone.
+    pub near: bool,
 }
 
 /// How a report is written down: parted by tabs or as JSON; a word for each pair, and the lines of which words, or the contact of each hit. The
@@ -111,11 +128,8 @@ impl Form {
         if !self.json {
             return String::new();
         }
-        let About { vertices, edges, triangles, seams, step } = about;
         let lines = if self.contacts { "contacts" } else { "pairs" };
-        format!(
-            "{{\"mesh\":{{\"vertices\":{vertices},\"edges\":{edges},\"triangles\":{triangles},\"seams\":{seams},\"step\":{step:e}}},\n\"{lines}\":["
-        )
+        format!("{{\"mesh\":{},\n\"{lines}\":[", about.json())
     }
 
     /// The line of a pair, behind what is there. In JSON a comma stands before it; the writer leaves out the first.
@@ -190,12 +204,13 @@ impl Form {
 
     /// The same, with what stands before the totals.
     pub fn foot_with(&self, sums: &Sums, tally: Tally) -> String {
-        let Sums { by_names, left } = sums;
+        let Sums { by_names, left, near } = sums;
         let counts = self.counts(tally);
         if self.json {
             let rows = by_names.as_ref().map_or(String::new(), |rows| self.json_sums(rows));
             let left = left.map_or(String::new(), |left| format!("\"left\":{left},\n"));
-            return format!("\n],\n{rows}{left}\"total\":{{{counts}}}}}\n");
+            let of = if *near { "\"of\":\"near\",\n" } else { "" };
+            return format!("\n],\n{rows}{left}{of}\"total\":{{{counts}}}}}\n");
         }
         let row = |Sum { names, tally }: &Sum| {
             let [one, other] = names.each_ref().map(|names| plain_names(names.iter().map(String::as_str)));
@@ -203,11 +218,12 @@ impl Form {
         };
         let rows: String = by_names.iter().flatten().map(row).collect();
         let left = left.map_or(String::new(), |left| format!("left\t{left}\n"));
-        format!("{rows}{left}total\t{counts}\n")
+        let of = if *near { "of\tnear\n" } else { "" };
+        format!("{rows}{left}{of}total\t{counts}\n")
     }
 
     /// The counts of the totals: all five, or of contacts the first two.
-    fn counts(&self, tally: Tally) -> String {
+    pub fn counts(&self, tally: Tally) -> String {
         const NAMES: [&str; 5] = ["listed", "hit", "miss", "touch", "apart"];
         let [hit, miss, touch, apart] = tally.counts;
         let shown = if self.contacts { 2 } else { 5 };

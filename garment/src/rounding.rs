@@ -3,6 +3,8 @@
 use crate::fault::Fault;
 use crate::seams;
 use makhnodri::CONTACT_UNIT;
+use std::panic::resume_unwind;
+use std::thread;
 
 pub type Place = [f64; 3];
 
@@ -30,6 +32,28 @@ pub struct Grid {
 }
 
 impl Grid {
+    /// The step that is wanted, or the least with which all fits; and its middle.
+    pub fn of(bounds: &Bounds, wanted: Option<f64>, limit: i32) -> Result<Grid, Fault> {
+        let step = match wanted {
+            Some(step) => step,
+            None => least_step(bounds, limit)?,
+        };
+        Ok(Grid { step, middle: middle(bounds, step)? })
+    }
+
+    /// All places of one time on the grid; nothing where one is beyond the limit.
+    pub fn frame(&self, places: &[Place], limit: i32) -> Result<Frame, ()> {
+        let mut out = Frame { places: Vec::with_capacity(places.len()), moved: 0, farthest: 0.0 };
+        for place in places {
+            let mut number = [0; 3];
+            for axis in 0..3 {
+                number[axis] = out.coordinate(place[axis], self.step, self.middle[axis], limit)?;
+            }
+            out.places.push(number);
+        }
+        Ok(out)
+    }
+
     /// A place that is given in 2^20ths of a step, in the files' unit, rounded to a hundredth of a step or finer.
     pub fn written(&self, place: [i64; 3]) -> [String; 3] {
         let decimals = (2.0 - self.step.log10()).ceil().max(0.0) as usize;
@@ -56,27 +80,28 @@ const COUNTED: f64 = (1u64 << 53) as f64;
 /// Each coordinate becomes the whole number of steps nearest to it, less the middle's. The middle is a whole number of steps too, so what
 /// lies on the grid stays on it, and another middle shifts all places alike. No coordinate may come out larger in size than `limit`.
 pub fn onto_grid(start: &[Place], end: &[Place], wanted: Option<f64>, limit: i32) -> Result<Rounded, Fault> {
-    let bounds = bounds(start, end);
-    let step = match wanted {
-        Some(step) => step,
-        None => least_step(&bounds, limit)?,
-    };
-    let middle = middle(&bounds, step)?;
-    let least = least_step_for(widest(&bounds), limit);
-    let mut out = Rounded { positions: Vec::with_capacity(start.len()), step, middle, moved: 0, farthest: 0.0, fallen: 0, least };
-    let too_fine = |()| too_fine(step, &bounds, limit);
-    for (from, to) in start.iter().zip(end) {
-        let mut position = [0; 6];
-        for axis in 0..3 {
-            position[axis] = out.coordinate(from[axis], middle[axis], limit).map_err(too_fine)?;
-            position[axis + 3] = out.coordinate(to[axis], middle[axis], limit).map_err(too_fine)?;
-        }
-        out.positions.push(position);
-    }
-    if out.moved > 0 {
-        out.fallen = fallen(start, end, &out.positions);
-    }
-    Ok(out)
+    let bounds = Bounds::of(start).with(&Bounds::of(end));
+    let grid = Grid::of(&bounds, wanted, limit)?;
+    let (from, to) = thread::scope(|scope| {
+        let to = scope.spawn(|| grid.frame(end, limit));
+        (grid.frame(start, limit), to.join().unwrap_or_else(|panic| resume_unwind(panic)))
+    });
+    let (from, to) = from.and_then(|from| to.map(|to| (from, to))).map_err(|()| too_fine(grid.step, &bounds, limit))?;
+    let positions: Vec<[i32; 6]> =
+        from.places.iter().zip(&to.places).map(|(&[a, b, c], &[d, e, f])| [a, b, c, d, e, f]).collect();
+    let (moved, farthest) = (from.moved + to.moved, from.farthest.max(to.farthest));
+    let fallen = if moved > 0 { fallen(start, end, &positions) } else { 0 };
+    let least = least_step_for(bounds.widest(), limit);
+    Ok(Rounded { positions, step: grid.step, middle: grid.middle, moved, farthest, fallen, least })
+}
+
+/// One time on the grid.
+#[derive(Debug, PartialEq)]
+pub struct Frame {
+    pub places: Vec<[i32; 3]>,
+    /// How many coordinates did not lie on the grid, and how far the farthest of them was moved, in steps.
+    pub moved: u64,
+    pub farthest: f64,
 }
 
 fn fallen(start: &[Place], end: &[Place], positions: &[[i32; 6]]) -> u64 {
@@ -85,9 +110,9 @@ fn fallen(start: &[Place], end: &[Place], positions: &[[i32; 6]]) -> u64 {
     lowest.iter().enumerate().filter(|&(vertex, &lowest)| apart(vertex, lowest as usize)).count() as u64
 }
 
-impl Rounded {
-    fn coordinate(&mut self, value: f64, middle: i64, limit: i32) -> Result<i32, ()> {
-        let steps = value / self.step;
+impl Frame {
+    fn coordinate(&mut self, value: f64, step: f64, middle: i64, limit: i32) -> Result<i32, ()> {
+        let steps = value / step;
         let nearest = steps.round();
         let off = (steps - nearest).abs();
         self.moved += (off > ON_THE_GRID) as u64;
@@ -100,22 +125,34 @@ impl Rounded {
     }
 }
 
-/// The smallest and the largest coordinate of each axis, over start and end; nothing where there is no vertex.
-type Bounds = [Option<(f64, f64)>; 3];
+/// The smallest and the largest coordinate of each axis; nothing where there is no vertex.
+#[derive(Clone, Copy, Debug, Default, PartialEq)]
+pub struct Bounds([Option<(f64, f64)>; 3]);
 
-fn bounds(start: &[Place], end: &[Place]) -> Bounds {
-    let mut bounds: Bounds = [None; 3];
-    for place in start.iter().chain(end) {
-        for (bound, &value) in bounds.iter_mut().zip(place) {
-            let (low, high) = bound.unwrap_or((value, value));
-            *bound = Some((low.min(value), high.max(value)));
+impl Bounds {
+    pub fn of(places: &[Place]) -> Bounds {
+        let mut bounds = Bounds::default();
+        for place in places {
+            for (bound, &value) in bounds.0.iter_mut().zip(place) {
+                let (low, high) = bound.unwrap_or((value, value));
+                *bound = Some((low.min(value), high.max(value)));
+            }
         }
+        bounds
     }
-    bounds
-}
 
-fn widest(bounds: &Bounds) -> f64 {
-    bounds.iter().flatten().map(|(low, high)| high - low).fold(0.0, f64::max)
+    /// Of both.
+    pub fn with(&self, other: &Bounds) -> Bounds {
+        let both = |axis: usize| match (self.0[axis], other.0[axis]) {
+            (Some((a, b)), Some((c, d))) => Some((a.min(c), b.max(d))),
+            (one, other) => one.or(other),
+        };
+        Bounds([0, 1, 2].map(both))
+    }
+
+    fn widest(&self) -> f64 {
+        self.0.iter().flatten().map(|(low, high)| high - low).fold(0.0, f64::max)
+    }
 }
 
 /// The smallest of 1, 2, 5, 10, 20 and so on, up and down the powers of ten, with which the mesh fits: decimals of an export then mostly lie
@@ -141,13 +178,13 @@ pub fn parting_step(length: f64) -> Option<f64> {
 }
 
 fn least_step(bounds: &Bounds, limit: i32) -> Result<f64, Fault> {
-    least_step_for(widest(bounds), limit)
+    least_step_for(bounds.widest(), limit)
         .ok_or_else(|| Fault::new("the vertices are too far apart, or too near each other, for a step to be chosen"))
 }
 
 fn middle(bounds: &Bounds, step: f64) -> Result<[i64; 3], Fault> {
     let mut middle = [0; 3];
-    for (at, bound) in middle.iter_mut().zip(bounds) {
+    for (at, bound) in middle.iter_mut().zip(bounds.0) {
         let (low, high) = bound.unwrap_or((0.0, 0.0));
         if (low / step).abs() >= COUNTED || (high / step).abs() >= COUNTED {
             return Err(Fault::new(format!(
@@ -160,8 +197,8 @@ fn middle(bounds: &Bounds, step: f64) -> Result<[i64; 3], Fault> {
     Ok(middle)
 }
 
-fn too_fine(step: f64, bounds: &Bounds, limit: i32) -> Fault {
-    let width = widest(bounds);
+pub fn too_fine(step: f64, bounds: &Bounds, limit: i32) -> Fault {
+    let width = bounds.widest();
     let room = 2 * limit;
     let fitting = least_step_for(width, limit).map_or(String::new(), |least| format!("; {least} is enough"));
     Fault::new(format!("the mesh is {width} wide, and the room is {room} steps of {step}: take a larger --step{fitting}"))

@@ -9,10 +9,6 @@ pub fn vertex_line(position: &[i32; 6]) -> String {
     format!("v\t{a}\t{b}\t{c}\t{d}\t{e}\t{f}\n")
 }
 
-/// No `e` and no `t` line of a scene within its sizes is longer: vertex numbers have three digits at most.
-pub const LONGEST_EDGE_LINE: usize = 10;
-pub const LONGEST_TRIANGLE_LINE: usize = 14;
-
 pub fn scene<'a>(
     positions: impl Iterator<Item = &'a [i32; 6]>,
     edges: impl Iterator<Item = [u32; 2]>,

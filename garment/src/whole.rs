@@ -1,17 +1,17 @@
 //! The whole garment in one process: pairs found, judged and written down, row by row.
 
-use crate::candidates::Finder;
+use crate::boxes;
 use crate::choice::Choice;
 use crate::fault::Fault;
-use crate::judging::{Packed, TOGETHER};
+use crate::judge::{Answer, Judge, Question, Which};
 use crate::mark::Marked;
 use crate::mesh::Mesh;
 use crate::pairs::Pair;
 use crate::progress::Bar;
-use crate::report::{About, Form, Row, Sums, Tally, Writer};
+use crate::report::{About, Form, Row, Sums, Tally, Writer, WORDS};
 use crate::whereabouts::{self, ByNames, Time, Whereabouts};
-use crate::work::in_order;
-use makhnodri::{OwnRefusal, Settled};
+use crate::work::{in_order, stretch};
+use makhnodri::Settled;
 use std::io::{self, Write};
 use std::ops::Range;
 
@@ -23,7 +23,7 @@ fn pieces(rows: usize) -> usize {
 }
 
 fn rows_of(piece: usize, rows: usize) -> Range<usize> {
-    piece * ROWS..rows.min((piece + 1) * ROWS)
+    stretch(piece, ROWS, rows)
 }
 
 /// What is asked beside the words, or the contacts, of all listed pairs.
@@ -39,6 +39,7 @@ pub struct Asked<'a> {
     pub mesh: &'a Mesh,
     pub about: &'a About,
     pub form: &'a Form,
+    pub which: Which,
     pub beside: &'a Beside,
 }
 
@@ -52,7 +53,7 @@ pub struct Told {
 }
 
 impl Told {
-    fn join(&mut self, other: Told) {
+    pub fn join(&mut self, other: Told) {
         self.tally.join(other.tally);
         self.left += other.left;
         self.marked.extend(other.marked);
@@ -60,79 +61,52 @@ impl Told {
     }
 }
 
-/// What comes of a piece: its lines, and two counts that must agree, of the pairs found and of the words that were given.
+/// What comes of a piece: its lines, and what they told.
 #[derive(Default)]
-struct Judged {
-    lines: Vec<u8>,
-    found: u64,
-    told: Told,
+pub struct Judged {
+    pub lines: Vec<u8>,
+    pub told: Told,
 }
 
 /// Writes the report, and hands back its totals.
 pub fn report(mesh: &Mesh, about: &About, form: &Form, threads: usize, bar: &mut Bar, out: impl Write) -> Result<Tally, Fault> {
-    let asked = Asked { mesh, about, form, beside: &Beside::default() };
+    let asked = Asked { mesh, about, form, which: Which::Listed, beside: &Beside::default() };
     told(&asked, threads, bar, out).map(|told| told.tally)
 }
 
 /// The same of what is asked beside it too.
 pub fn told(asked: &Asked, threads: usize, bar: &mut Bar, out: impl Write) -> Result<Told, Fault> {
-    let finder = Finder::new(asked.mesh);
-    let (rows, count) = (finder.rows(), pieces(finder.rows()));
+    let judge = Judge::new(asked.mesh)?;
+    let (rows, count) = (judge.rows(), pieces(judge.rows()));
     let mut writer = Writer::begin(asked.form, asked.about, out).map_err(unwritten)?;
-    let (mut found, mut told) = (0, Told::default());
-    let judge = |piece| judged(asked, &finder, rows_of(piece, rows));
-    in_order(count, threads, judge, |piece, judged| {
+    let mut told = Told::default();
+    let work = |piece| judged(asked, &judge, rows_of(piece, rows));
+    in_order(count, threads, work, |piece, judged| {
         let judged = judged?;
-        found += judged.found;
         told.join(judged.told);
         bar.make_room();
         writer.lines(&judged.lines).map_err(unwritten)?;
         if bar.follows_lines() {
             writer.flush().map_err(unwritten)?;
         }
-        bar.draw(piece + 1, count, found);
+        bar.draw(piece + 1, count, told.tally.listed());
         Ok(())
     })?;
-    all_judged(found, told.tally.listed())?;
     bar.make_room();
     writer.end_with(&asked.sums(&told), told.tally).map_err(unwritten)?;
     Ok(told)
 }
 
-fn all_judged(found: u64, judged: u64) -> Result<(), Fault> {
-    if found == judged {
-        return Ok(());
-    }
-    Err(Fault::new(format!("{found} pairs were found and {judged} judged: this is a fault of the program")))
-}
-
-fn judged(asked: &Asked, finder: &Finder, rows: Range<usize>) -> Result<Judged, Fault> {
-    let Asked { mesh, form, beside, .. } = asked;
-    let (pairs, left) = chosen(finder.in_rows(rows), beside);
-    let (mut judged, mut packed) = (Judged { found: pairs.len() as u64, ..Judged::default() }, Packed::default());
-    judged.told.left = left;
-    for some in pairs.chunks(TOGETHER) {
-        if asked.wants_contacts() {
-            for (&pair, (word, row)) in some.iter().zip(packed.contact(mesh, some).map_err(|refusal| refused(some, refusal))?) {
-                judged.contact(asked, finder, pair, word, row);
-            }
-        } else {
-            let words = packed.settle(mesh, some).map_err(|refusal| refused(some, refusal))?;
-            let tally = &mut judged.told.tally;
-            form.lines(some.iter().copied().zip(words.inspect(|&word| tally.add(word))), &mut judged.lines);
-        }
+/// The lines of a stretch of rows, and what they told.
+pub fn judged(asked: &Asked, judge: &Judge, rows: Range<usize>) -> Result<Judged, Fault> {
+    let Answer { told, contacts, tally, left } = judge.asked(rows, &asked.question())?;
+    let mut judged = Judged { lines: Vec::new(), told: Told { tally, left, ..Told::default() } };
+    if asked.wants_contacts() {
+        told.into_iter().zip(contacts).for_each(|((pair, word), row)| judged.contact(asked, pair, word, row));
+    } else {
+        asked.form.lines(told.into_iter(), &mut judged.lines);
     }
     Ok(judged)
-}
-
-/// The pairs that are judged, and how many are left out.
-fn chosen(mut pairs: Vec<Pair>, beside: &Beside) -> (Vec<Pair>, u64) {
-    let found = pairs.len();
-    if let Some(choice) = &beside.choice {
-        pairs.retain(|&pair| choice.keeps(pair));
-    }
-    let left = found - pairs.len();
-    (pairs, left as u64)
 }
 
 impl Asked<'_> {
@@ -141,10 +115,19 @@ impl Asked<'_> {
         self.form.contacts || self.beside.marked || self.beside.whereabouts.is_some()
     }
 
-    fn sums(&self, told: &Told) -> Sums {
+    /// Pairs of the words that have a line are handed back, those that are marked, and all where there are totals by names.
+    fn question(&self) -> Question<'_> {
+        let named = self.beside.whereabouts.is_some();
+        let marked = |word: Settled| self.beside.marked && matches!(word, Settled::Hit | Settled::Touch);
+        let wanted = WORDS.map(|word| named || marked(word) || self.shows(word));
+        Question { which: self.which, choice: self.beside.choice.as_ref(), wanted, contacts: self.wants_contacts() }
+    }
+
+    pub fn sums(&self, told: &Told) -> Sums {
         Sums {
             by_names: self.beside.whereabouts.as_ref().map(|whereabouts| whereabouts.sums(&told.by_names)),
             left: self.beside.choice.as_ref().map(|_| told.left),
+            near: self.which == Which::Near,
         }
     }
 
@@ -158,9 +141,9 @@ impl Asked<'_> {
     }
 
     /// What the line of a pair has before its end.
-    fn tail(&self, whereabouts: &Whereabouts, finder: &Finder, pair: Pair, word: Settled, row: Row) -> String {
-        let (hit, [one, other]) = (word == Settled::Hit, finder.boxes(pair));
-        let place = if hit { whereabouts::of_hit(self.mesh, pair, row) } else { whereabouts::between(one, other) };
+    fn tail(&self, whereabouts: &Whereabouts, pair: Pair, word: Settled, row: Row) -> String {
+        let (hit, [one, other]) = (word == Settled::Hit, boxes::of_pair(self.mesh, pair));
+        let place = if hit { whereabouts::of_hit(self.mesh, pair, row) } else { whereabouts::between(&one, &other) };
         let time = if self.form.contacts { Time::InLine } else { Time::Told(hit.then_some(row[1])) };
         whereabouts.tail(self.mesh, pair, place, time, self.form.json)
     }
@@ -168,15 +151,14 @@ impl Asked<'_> {
 
 impl Judged {
     /// A pair with its word and, where it is hit, its contact.
-    fn contact(&mut self, asked: &Asked, finder: &Finder, pair: Pair, word: Settled, row: Row) {
-        self.told.tally.add(word);
+    fn contact(&mut self, asked: &Asked, pair: Pair, word: Settled, row: Row) {
         self.told.marked.extend(Marked::of(pair, word, row[1]).filter(|_| asked.beside.marked));
         let whereabouts = asked.beside.whereabouts.as_ref();
         if let Some(whereabouts) = whereabouts {
             self.told.by_names.entry(whereabouts.sets(pair)).or_default().add(word);
         }
         if asked.shows(word) {
-            let tail = whereabouts.map_or(String::new(), |told| asked.tail(told, finder, pair, word, row));
+            let tail = whereabouts.map_or(String::new(), |told| asked.tail(told, pair, word, row));
             if asked.form.contacts {
                 asked.form.contact_with(pair, row, &tail, &mut self.lines);
             } else {
@@ -184,30 +166,6 @@ impl Judged {
             }
         }
     }
-}
-
-/// Every pair of the list, in its order.
-pub fn listed(finder: &Finder, threads: usize, bar: &mut Bar) -> Vec<Pair> {
-    let (rows, count) = (finder.rows(), pieces(finder.rows()));
-    let mut pairs = Vec::new();
-    let find = |piece| finder.in_rows(rows_of(piece, rows));
-    let gathered = in_order(count, threads, find, |piece, found| {
-        pairs.extend(found);
-        bar.draw(piece + 1, count, pairs.len() as u64);
-        Ok::<(), std::convert::Infallible>(())
-    });
-    let Ok(()) = gathered;
-    pairs
-}
-
-/// Pairs that were asked for in one call, by the first of them, or the one among them that is at fault.
-fn refused(pairs: &[Pair], refusal: OwnRefusal) -> Fault {
-    let (at, what) = match refusal {
-        OwnRefusal::Entry { number, .. } => (number - 1, "the pair"),
-        _ => (0, "this pair and those behind it"),
-    };
-    let Pair { kind, first, second } = pairs[at];
-    Fault::new(format!("{kind} {first} {second}: the library refused {what} ({refusal}): this is a fault of the program"))
 }
 
 pub fn unwritten(error: io::Error) -> Fault {

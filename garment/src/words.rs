@@ -1,9 +1,11 @@
 //! The words of the command line, understood.
 
 use crate::before::quoted;
+use crate::judge::Which;
 use crate::mark;
 use crate::obj;
 use crate::report::{word_of, Form};
+use crate::shares::Share;
 use crate::work;
 use makhnodri::Settled;
 use std::ffi::OsString;
@@ -16,6 +18,8 @@ pub struct Options {
     pub step: Option<f64>,
     pub seams: bool,
     pub form: Form,
+    /// All listed pairs, or the near ones.
+    pub which: Which,
     pub no_hits: bool,
     pub threads: usize,
     pub quiet: bool,
@@ -36,8 +40,10 @@ pub struct Options {
 #[derive(Debug, PartialEq)]
 pub enum Command {
     Report { files: [String; 2] },
-    Split { folder: String, files: [String; 2] },
-    Join { folder: String },
+    Check { file: String },
+    Series { files: Vec<String> },
+    Rows { share: Share, files: [String; 2] },
+    Total { files: Vec<String> },
     Scene { files: [String; 2] },
     Help,
     Version,
@@ -75,19 +81,23 @@ impl Command {
     /// The word that it is called by; the report has none.
     pub fn name(&self) -> Option<&'static str> {
         match self {
-            Command::Split { .. } => Some("split"),
-            Command::Join { .. } => Some("join"),
+            Command::Check { .. } => Some("check"),
+            Command::Series { .. } => Some("series"),
+            Command::Rows { .. } => Some("rows"),
+            Command::Total { .. } => Some("total"),
             Command::Scene { .. } => Some("scene"),
             Command::Report { .. } | Command::Help | Command::Version => None,
         }
     }
 
-    /// The folder and the files that it is given.
+    /// The files that it is given.
     pub fn places(&self) -> Vec<&str> {
         match self {
-            Command::Report { files } | Command::Scene { files } => files.iter().map(String::as_str).collect(),
-            Command::Split { folder, files: [start, end] } => vec![folder, start, end],
-            Command::Join { folder } => vec![folder],
+            Command::Report { files } | Command::Scene { files } | Command::Rows { files, .. } => {
+                files.iter().map(String::as_str).collect()
+            }
+            Command::Series { files } | Command::Total { files } => files.iter().map(String::as_str).collect(),
+            Command::Check { file } => vec![file],
             Command::Help | Command::Version => Vec::new(),
         }
     }
@@ -96,8 +106,15 @@ impl Command {
     fn takes(&self, option: &str) -> bool {
         let taken: &[&str] = match self {
             Command::Report { .. } => return true,
-            Command::Split { .. } => &["--step", "--seams", "--contacts", "--threads", "--quiet"],
-            Command::Join { .. } => &["--contacts", "--json", "--only", "--no-hits", "--quiet"],
+            Command::Check { .. } => &["--step", "--seams", "--json", "--body", "--between", "--threads", "--quiet"],
+            Command::Series { .. } => {
+                &["--step", "--seams", "--json", "--body", "--between", "--no-hits", "--threads", "--quiet"]
+            }
+            Command::Rows { .. } => &[
+                "--step", "--seams", "--contacts", "--near", "--only", "--body", "--body-files", "--between", "--threads",
+                "--quiet",
+            ],
+            Command::Total { .. } => &["--json", "--no-hits", "--quiet"],
             Command::Scene { .. } => &["--step", "--seams", "--body-files", "--quiet"],
             Command::Help | Command::Version => &[],
         };
@@ -105,28 +122,41 @@ impl Command {
     }
 }
 
+/// The commands that are called by a word.
+const NAMED: [&str; 5] = ["check", "series", "rows", "total", "scene"];
+
 fn command_of(mut plain: Vec<String>) -> Result<Command, String> {
-    let named = ["split", "join", "scene"].into_iter().find(|name| plain.first().is_some_and(|first| first == name));
+    let named = NAMED.into_iter().find(|name| plain.first().is_some_and(|first| first == name));
     if named.is_some() {
         plain.remove(0);
     }
-    let wants =
-        |what: &str, plain: &[String]| format!("{} wants {what}, and here are {}", named.unwrap_or("garment"), plain.len());
+    let name = named.unwrap_or("garment");
     match named {
-        Some("split") => match <[String; 3]>::try_from(plain) {
-            Ok([folder, start, end]) => Ok(Command::Split { folder, files: [start, end] }),
-            Err(plain) => Err(wants("a folder and two files", &plain)),
+        Some("scene") => exactly("two files", name, plain).map(|files| Command::Scene { files }),
+        Some("check") => exactly("a file", name, plain).map(|[file]| Command::Check { file }),
+        Some("rows") => {
+            let [share, start, end] = exactly("a share, as 3/8, and two files", name, plain)?;
+            let share = Share::understood(&share)
+                .ok_or_else(|| format!("rows does not take {share:?} for a share; the third of eight is 3/8"))?;
+            Ok(Command::Rows { share, files: [start, end] })
+        }
+        Some("series") => match &plain[..] {
+            [list] if list == obj::STANDARD_INPUT => Ok(Command::Series { files: plain }),
+            [] | [_] => Err(wants("two files or more, or - for a list of them on standard input", name, &plain)),
+            _ => Ok(Command::Series { files: plain }),
         },
-        Some("join") => match <[String; 1]>::try_from(plain) {
-            Ok([folder]) => Ok(Command::Join { folder }),
-            Err(plain) => Err(wants("a folder", &plain)),
-        },
-        _ => match <[String; 2]>::try_from(plain) {
-            Ok(files) if named.is_some() => Ok(Command::Scene { files }),
-            Ok(files) => Ok(Command::Report { files }),
-            Err(plain) => Err(wants("two files", &plain)),
-        },
+        Some(_) if plain.is_empty() => Err(wants("the files of all shares", name, &plain)),
+        Some(_) => Ok(Command::Total { files: plain }),
+        None => exactly("two files", name, plain).map(|files| Command::Report { files }),
     }
+}
+
+fn wants(what: &str, name: &str, plain: &[String]) -> String {
+    format!("{name} wants {what}, and here are {}", plain.len())
+}
+
+fn exactly<const N: usize>(what: &str, name: &str, plain: Vec<String>) -> Result<[String; N], String> {
+    <[String; N]>::try_from(plain).map_err(|plain| wants(what, name, &plain))
 }
 
 /// The options that a value follows.
@@ -144,6 +174,7 @@ impl Options {
             step: None,
             seams: false,
             form: Form::default(),
+            which: Which::Listed,
             no_hits: false,
             threads: work::all_cores(),
             quiet: false,
@@ -223,6 +254,7 @@ impl Options {
             "--body" => self.body.push(value.to_string()),
             "--where" => self.told_where = true,
             "--seams" => self.seams = true,
+            "--near" => self.which = Which::Near,
             "--contacts" => self.form.contacts = true,
             "--json" => self.form.json = true,
             "--no-hits" => self.no_hits = true,

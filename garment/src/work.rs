@@ -2,6 +2,7 @@
 
 use std::collections::BTreeMap;
 use std::num::NonZero;
+use std::ops::Range;
 use std::panic::{catch_unwind, resume_unwind, AssertUnwindSafe};
 use std::sync::mpsc::{channel, Receiver, Sender};
 use std::sync::Mutex;
@@ -12,6 +13,11 @@ const AHEAD: usize = 4;
 
 pub fn all_cores() -> usize {
     thread::available_parallelism().map_or(1, NonZero::get)
+}
+
+/// The rows of a piece, each of so many but for the last.
+pub fn stretch(piece: usize, length: usize, rows: usize) -> Range<usize> {
+    piece * length..rows.min((piece + 1) * length)
 }
 
 /// Does pieces 0 up to `count`, and takes the result of each in this order, on this thread. Where the taking fails, no more is begun.

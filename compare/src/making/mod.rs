@@ -6,4 +6,5 @@ pub mod generate;
 pub mod kept;
 pub mod parts;
 pub mod sewing;
+pub mod spring;
 pub mod still;

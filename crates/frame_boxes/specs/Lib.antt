@@ -1,3 +1,4 @@
--- The boxes of a mesh at one time, and what a row over its triangles goes by.
+-- The boxes of a mesh at one time, what a row over its triangles goes by, and that nothing is left open.
 pub mod Spots
 pub mod Grove
+pub mod Once

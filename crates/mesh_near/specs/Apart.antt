@@ -1,5 +1,5 @@
--- Far as code tests it: each vertex of one part against each of the other, at both times, axis by axis. It is `far` of the boxes: below the smaller of two
--- is below both, and the larger of two is below what both are below.
+-- Far as code tests it, axis by axis: a point against each corner, and the ends of edges by their larger and smaller numbers. It is `far` of the boxes: below
+-- the smaller of two is below both, and the larger of two is below what both are below.
 use Prim.Native.Nat.{ℕ, _+_, _*_}
 use mathlib.Core.Bool.{Bool, true, false, cond, _&&_, _||_, and-comm, and-false}
 use mathlib.Core.List.{List}
@@ -23,10 +23,13 @@ abbrev pub pointFarAt : List ℤ → (p a b c : ℕ) → Bool
 pointFarAt l p a b c =
     (belowAt l p a && belowAt l p b && belowAt l p c) || (belowAt l a p && belowAt l b p && belowAt l c p)
 
+-- one edge below another, at one time
+abbrev pub edgeUnder : List ℤ → (a b c d : ℕ) → Bool
+edgeUnder l a b c d = ltZ (larger (getD l a (pos 0)) (getD l b (pos 0))) (smaller (getD l c (pos 0)) (getD l d (pos 0)))
+
 abbrev pub edgesFarAt : List ℤ → (a b c d : ℕ) → Bool
 edgesFarAt l a b c d =
-    (belowAt l a c && belowAt l a d && belowAt l b c && belowAt l b d)
-    || (belowAt l c a && belowAt l c b && belowAt l d a && belowAt l d b)
+    (edgeUnder l a b c d && edgeUnder l (a + 3) (b + 3) (c + 3) (d + 3)) || (edgeUnder l c d a b && edgeUnder l (c + 3) (d + 3) (a + 3) (b + 3))
 
 abbrev pub pointFar : List ℤ → (v a b c : ℕ) → Bool
 pointFar l v a b c =
@@ -76,11 +79,6 @@ both-times true true x y = refl
 both-times true false x y = and-false x
 both-times false b x y = refl
 
-grouped : (a b c d : Bool) → a && b && c && d ≡ (a && b) && (c && d)
-grouped true true c d = refl
-grouped true false c d = refl
-grouped false b c d = refl
-
 abbrev both : (x y x′ y′ : ℤ) → Bool
 both x y x′ y′ = ltZ x y && ltZ x′ y′
 
@@ -102,18 +100,6 @@ module _ (p a b c p′ a′ b′ c′ : ℤ) where
       ∙ sym (λ i. (larger-below p (larger a b) c ∙ ap (λ (t : Bool). t && ltZ c p) (larger-below p a b)) i
       && (larger-below p′ (larger a′ b′) c′ ∙ ap (λ (t : Bool). t && ltZ c′ p′) (larger-below p′ a′ b′)) i)
 
-two-under-two : (a b c d : ℤ) → ltZ (larger a b) (smaller c d) ≡ (ltZ a c && ltZ a d) && (ltZ b c && ltZ b d)
-two-under-two a b c d =
-    larger-below (smaller c d) a b ∙ λ i. below-smaller a c d i && below-smaller b c d i
-
-under-edge : (a b c d a′ b′ c′ d′ : ℤ) → both a c a′ c′ && both a d a′ d′ && both b c b′ c′ && both b d b′ d′
-    ≡ ltZ (larger a b) (smaller c d) && ltZ (larger a′ b′) (smaller c′ d′)
-under-edge a b c d a′ b′ c′ d′ =
-    grouped (both a c a′ c′) (both a d a′ d′) (both b c b′ c′) (both b d b′ d′)
-    ∙ (λ i. both-times (ltZ a c) (ltZ a d) (ltZ a′ c′) (ltZ a′ d′) i && both-times (ltZ b c) (ltZ b d) (ltZ b′ c′) (ltZ b′ d′) i)
-    ∙ both-times (ltZ a c && ltZ a d) (ltZ b c && ltZ b d) (ltZ a′ c′ && ltZ a′ d′) (ltZ b′ c′ && ltZ b′ d′)
-    ∙ sym (λ i. two-under-two a b c d i && two-under-two a′ b′ c′ d′ i)
-
 -- the tests at places of a list, where the end values have the places p′, a′ and so on
 module _ (l : List ℤ) where
   abbrev at : ℕ → ℤ
@@ -131,9 +117,7 @@ module _ (l : List ℤ) where
       → edgesFarAt l a b c d
       ≡ (ltZ (larger (at a) (at b)) (smaller (at c) (at d)) && ltZ (larger (at a′) (at b′)) (smaller (at c′) (at d′)))
       || (ltZ (larger (at c) (at d)) (smaller (at a) (at b)) && ltZ (larger (at c′) (at d′)) (smaller (at a′) (at b′)))
-  edges-on a b c d a′ b′ c′ d′ e f g h =
-      rw (e, f, g, h) (λ i. under-edge (at a) (at b) (at c) (at d) (at a′) (at b′) (at c′) (at d′) i
-      || under-edge (at c) (at d) (at a) (at b) (at c′) (at d′) (at a′) (at b′) i)
+  edges-on a b c d a′ b′ c′ d′ e f g h = rw (e, f, g, h) refl
 
 -- the y of an end stands where its x does and one behind, and its z
 y-end : (v : ℕ) → 6 * v + 1 + 3 ≡ 6 * v + 3 + 1

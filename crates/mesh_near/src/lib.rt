@@ -1,14 +1,17 @@
-// Whether a pair of a mesh is far: on one axis one part lies strictly below the other at the start and at the end, so that they never meet. Each vertex of
-// one part is compared with each of the other, without a branch; the first axis on which they are apart decides.
+// Whether a pair of a mesh is far: on one axis one part lies strictly below the other at the start and at the end, so that they never meet. A point is
+// compared with each corner on all axes, without a branch; of edges the ends are put in order first, and the first axis on which they are apart decides.
 
 ghost use Prim.Native.Nat.{ℕ, _+_, _/_, _<_};
 ghost use mathlib.Core.List.{List};
 ghost use mathlib.Core.Path.{_≡_};
-ghost use lib.ListN.{length};
+ghost use lib.IntN.{pos};
+ghost use lib.ListN.{length, getD};
+ghost use lib.Signed.{leZ};
+ghost use Rattle.meaning.specs.Boxes.{smaller, larger};
 ghost use Rattle.meaning.specs.Scene.{sceneOf};
 ghost use Rattle.meaning.specs.Near.{far};
 ghost use Rattle.sequences.specs.Lent.{atEntry};
-ghost use Rattle.mesh_near.specs.Apart.{belowAt, pointFarAt, edgesFarAt, pointFar, edgesFar};
+ghost use Rattle.mesh_near.specs.Apart.{belowAt, pointFarAt, edgeUnder, edgesFarAt, pointFar, edgesFar};
 ghost use Rattle.mesh_near.specs.Spanned.{Spanned};
 use meaning::Kind;
 use mesh_parts::corner;
@@ -32,20 +35,52 @@ fn point_far_at(positions: &[i32], p: usize, a: usize, b: usize, c: usize) -> bo
         | (below(positions, a, p) & below(positions, b, p) & below(positions, c, p))
 }
 
+fn at_most(positions: &[i32], i: usize, j: usize) -> bool
+    requires { ⌜ (i < length (now positions)) × (j < length (now positions)) ⌝ }
+    ensures { λ r. ⌜ r ≡ leZ (getD (atEntry positions) i (pos 0)) (getD (atEntry positions) j (pos 0)) ⌝ }
+{
+    positions[i] <= positions[j]
+}
+
+fn lower(positions: &[i32], i: usize, j: usize) -> i32
+    requires { ⌜ (i < length (now positions)) × (j < length (now positions)) ⌝ }
+    ensures { λ r. ⌜ r ≡ smaller (getD (atEntry positions) i (pos 0)) (getD (atEntry positions) j (pos 0)) ⌝ }
+{
+    if at_most(positions, i, j) {
+        positions[i]
+    } else {
+        positions[j]
+    }
+}
+
+fn higher(positions: &[i32], i: usize, j: usize) -> i32
+    requires { ⌜ (i < length (now positions)) × (j < length (now positions)) ⌝ }
+    ensures { λ r. ⌜ r ≡ larger (getD (atEntry positions) i (pos 0)) (getD (atEntry positions) j (pos 0)) ⌝ }
+{
+    if at_most(positions, i, j) {
+        positions[j]
+    } else {
+        positions[i]
+    }
+}
+
+// One edge below another at one time: four numbers are halved to two before they are compared.
+fn edge_under(positions: &[i32], a: usize, b: usize, c: usize, d: usize) -> bool
+    requires { ⌜ (a < length (now positions)) × (b < length (now positions)) × (c < length (now positions))
+        × (d < length (now positions)) ⌝ }
+    ensures { λ r. ⌜ r ≡ edgeUnder (atEntry positions) a b c d ⌝ }
+{
+    higher(positions, a, b) < lower(positions, c, d)
+}
+
 // Two edges on one axis.
 fn edges_far_at(positions: &[i32], a: usize, b: usize, c: usize, d: usize) -> bool
     requires { ⌜ (a + 3 < length (now positions)) × (b + 3 < length (now positions))
         × (c + 3 < length (now positions)) × (d + 3 < length (now positions)) ⌝ }
     ensures { λ r. ⌜ r ≡ edgesFarAt (atEntry positions) a b c d ⌝ }
 {
-    (below(positions, a, c)
-        & below(positions, a, d)
-        & below(positions, b, c)
-        & below(positions, b, d))
-        | (below(positions, c, a)
-            & below(positions, c, b)
-            & below(positions, d, a)
-            & below(positions, d, b))
+    (edge_under(positions, a, b, c, d) & edge_under(positions, a + 3, b + 3, c + 3, d + 3))
+        | (edge_under(positions, c, d, a, b) & edge_under(positions, c + 3, d + 3, a + 3, b + 3))
 }
 
 fn point_far(positions: &[i32], v: usize, a: usize, b: usize, c: usize) -> bool
@@ -57,13 +92,9 @@ fn point_far(positions: &[i32], v: usize, a: usize, b: usize, c: usize) -> bool
     let i = 6 * a;
     let j = 6 * b;
     let k = 6 * c;
-    if point_far_at(positions, p, i, j, k) {
-        return true;
-    }
-    if point_far_at(positions, p + 1, i + 1, j + 1, k + 1) {
-        return true;
-    }
-    point_far_at(positions, p + 2, i + 2, j + 2, k + 2)
+    point_far_at(positions, p, i, j, k)
+        | point_far_at(positions, p + 1, i + 1, j + 1, k + 1)
+        | point_far_at(positions, p + 2, i + 2, j + 2, k + 2)
 }
 
 fn edges_far(positions: &[i32], a: usize, b: usize, c: usize, d: usize) -> bool

@@ -2,3 +2,7 @@
 pub mod Demand1
 pub mod Demand2
 pub mod Demand3
+-- and for rows of edges of a mesh: the table, which stand in the list, and that a map changes none of it
+pub mod RowsRefused
+pub mod RowsMean
+pub mod RowsSent

@@ -80,7 +80,7 @@ fn walk_edge(
     let mut node = start.node;
     let mut k = at;
     while node < levels[2 * level + 1] {
-        let next = step(boxes, levels, parts, top, row, level, node);
+        let next = step(boxes, row, boxes, levels, parts, top, level, node);
         k = enter_through(
             positions,
             edges,

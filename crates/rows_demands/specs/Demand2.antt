@@ -2,31 +2,30 @@
 -- that are not far; every verdict and word is as demanded; what rows leave out touches in no piece and at no time; and what a call leaves in lent lists is
 -- each pair's entry and word.
 use Prim.Native.Nat.{ℕ, _≤_, _<_}
-use mathlib.Core.Bool.{Bool, true, false, true≢false}
-use mathlib.Core.List.{List, [], _∷_, map, List·Memᴰ, List·Memᴰ·head, List·Memᴰ·tail, List·Memᴰ·not-nil, List·Memᴰ·cases-cons}
+use mathlib.Core.Bool.{true, false, true≢false}
+use mathlib.Core.List.{List, map}
 use mathlib.Core.Logic.{_↔_, ⊎-elim}
-use mathlib.Core.Path.{_≡_, refl, sym, ap, _∙_}
+use mathlib.Core.Path.{_≡_, sym, ap, _∙_}
 use native.Mathlib.Omega.{arith}
 use lib.Dec.{ltb}
 use lib.ListN.{length, getD, length-map}
 use borrow.Author.Tests.{ltb-false}
 use Rattle.sequences.specs.Lists.{Lists, lists-as}
 use Rattle.sequences.specs.Mapped.{map-at}
-use Rattle.sequences.specs.Pick.{pick, either}
+use Rattle.sequences.specs.Pick.{either}
 use Rattle.sequences.specs.Wrote.{written-in-front}
 use Rattle.meaning.specs.Scene.{Scene}
 use Rattle.meaning.specs.Refusals.{Outcome, given, shares}
 use Rattle.meaning.specs.Near.{far}
 use Rattle.meaning.specs.List.{Pair, listSays, leaves}
 use Rattle.meaning.specs.Resting.{PairSettled}
-use Rattle.meaning.specs.SceneWords.{byteOf, AllSettled}
-use Rattle.meaning.specs.MeshRows.{Lent, rowTest, rowCount, rowsIn, meshNumber, meshEntries, wantsWord, kept, RowsSettled}
+use Rattle.meaning.specs.SceneWords.{byteOf}
+use Rattle.meaning.specs.MeshRows.{Lent, rowTest, rowCount, rowsIn, meshNumber, meshEntries, RowsSettled}
 use Rattle.meaning.specs.declared.Kind.{Kind}
 use Rattle.meaning.specs.declared.ListAnswer.{ListAnswer}
 use Rattle.meaning.specs.declared.RowPairs.{RowPairs}
 use Rattle.meaning.specs.declared.RowPairs.the-variants.{Listed, Near}
 use Rattle.meaning.specs.declared.Settled.{Settled}
-use Rattle.meaning.specs.declared.Wanted.{Wanted}
 use Rattle.theory.specs.Rational.{touch-rational}
 use Rattle.answers.specs.Below.{or-left, or-rest}
 use Rattle.corner_search.specs.Decided.{pair-word-is}
@@ -102,7 +101,7 @@ demand2-near-rows s =
 -- ---- what a call leaves
 
 module _ {A : Type 0} {x : Outcome A} {a : A} (e : x ≡ given a) where
-  stands-in-front : (l o : List ℕ) {o′ : List ℕ} → o′ ≡ leaves x l o → (k : ℕ) → k < length l → getD o′ k 0 ≡ getD l k 0
+  pub stands-in-front : (l o : List ℕ) {o′ : List ℕ} → o′ ≡ leaves x l o → (k : ℕ) → k < length l → getD o′ k 0 ≡ getD l k 0
   unfolding leaves
   stands-in-front l o p k h =
       ap (λ (m : List ℕ). getD m k 0) (p ∙ ap (λ (y : Outcome A). leaves y l o) e) ∙ written-in-front l o k 0 h
@@ -121,7 +120,8 @@ pub rows-there : {s : Scene} {l : Lent} {rows first end : ℕ} → RowsAsked s l
 rows-there {rows = rows} {first} {end} a =
     (ltb-false end first (or-left (ltb end first) (ltb rows end) (a .there)), ltb-false rows end (or-rest (ltb end first) (ltb rows end) (a .there)))
 
-byte-of-word : (s : Scene) (q : Pair) (n : ℕ) → n ≡ byteOf (wordOfPair s q) → (v : Settled) → (n ≡ byteOf v) ↔ PairSettled s (q .kind) (q .first) (q .second) v
+pub byte-of-word : (s : Scene) (q : Pair) (n : ℕ) → n ≡ byteOf (wordOfPair s q)
+    → (v : Settled) → (n ≡ byteOf v) ↔ PairSettled s (q .kind) (q .first) (q .second) v
 byte-of-word s q n is v = (
   λ e. pair-word-is s (q .kind) (q .first) (q .second) v .1 (sym (byte-back v) ∙ ap wordOfByte (sym e ∙ is) ∙ byte-back (wordOfPair s q)),
   λ h. is ∙ ap byteOf (sym (pair-word-is s (q .kind) (q .first) (q .second) v .0 h)),
@@ -143,36 +143,3 @@ demand2-settled w s l first end o o′ b b′ r p n e =
           byte-of-word s (getD stretch k noPair) (getD b′ k 0)
           (stands-in-front e (bytesOf s stretch) b bytes k (rw (bytes-length s stretch) h) ∙ bytes-at s stretch k h);
     }
-
--- ---- of the pairs whose words are asked for
-
--- exactly these are kept
-pub kept-members : (s : Scene) (m : Wanted) (l : List Pair) (ws : List Settled) → AllSettled s l ws → (p : Pair)
-    → List·Memᴰ p (kept m ws l) ↔ (List·Memᴰ p l × (wantsWord m (wordOfPair s p) ≡ true))
-unfolding AllSettled kept
-kept-members s m [] [] a p = (λ h. absurd (List·Memᴰ·not-nil h), λ h. absurd (List·Memᴰ·not-nil (h .0)))
-kept-members s m [] (w ∷ ws) a p = absurd a
-kept-members s m (q ∷ l) [] a p = absurd a
-kept-members s m (q ∷ l) (w ∷ ws) a p =
-    by (wantsWord m w) refl (pair-word-is s (q .kind) (q .first) (q .second) w .0 (a .0)) (kept-members s m l ws (a .1) p)
-  where
-    by : (b : Bool) → wantsWord m w ≡ b → w ≡ wordOfPair s q → List·Memᴰ p (kept m ws l) ↔ (List·Memᴰ p l × (wantsWord m (wordOfPair s p) ≡ true))
-        → List·Memᴰ p (pick b (q ∷ kept m ws l) (kept m ws l)) ↔ (List·Memᴰ p (q ∷ l) × (wantsWord m (wordOfPair s p) ≡ true))
-    by true e is next = (
-      λ h.
-          ⊎-elim
-          (λ same. (List·Memᴰ·head same, rw same (ap (wantsWord m) (sym is) ∙ e)))
-          (λ later. let (k, t) = next .0 later in (List·Memᴰ·tail k, t))
-          (List·Memᴰ·cases-cons h),
-      λ h. ⊎-elim List·Memᴰ·head (λ later. List·Memᴰ·tail (next .1 (later, h .1))) (List·Memᴰ·cases-cons (h .0)),
-    )
-    by false e is next = (
-      λ h. let (k, t) = next .0 h in (List·Memᴰ·tail k, t),
-      λ h.
-          ⊎-elim
-          (λ same.
-          let wanted : wantsWord m (wordOfPair s q) ≡ true = rw same at (h .1) in
-          absurd (true≢false (sym wanted ∙ ap (wantsWord m) (sym is) ∙ e)))
-          (λ later. next .1 (later, h .1))
-          (List·Memᴰ·cases-cons (h .0)),
-    )

@@ -9,9 +9,13 @@ pub mod OneResult
 pub mod Stretches
 -- demand 2
 pub mod Demand2
+-- the pairs whose words are asked for; stretches joined
+pub mod Kept
 -- demand 3
 pub mod Demand3
 -- near rows say of hits and touches what all rows say
 pub mod NearRows
+-- all rows of a scene say what the calls over scenes say
+pub mod AsScene
 -- each promise shown of something
 pub mod Shown

@@ -4,9 +4,10 @@ use native.Mathlib.Omega.{arith}
 use mathlib.Core.Bool.{Bool, true, false, not, _&&_, false≢true}
 use mathlib.Core.List.{List, [], _∷_, map, List·Memᴰ, List·Memᴰ·head, List·Memᴰ·tail, List·Memᴰ·not-nil, List·Memᴰ·cases-cons}
 use mathlib.Core.Logic.{_↔_, ⊎-elim}
-use mathlib.Core.Path.{_≡_, refl, sym, subst}
-use Rattle.sequences.specs.Chosen.{chosen, chosen-members}
-use Rattle.sequences.specs.Gather.{gather-from, gather-has}
+use mathlib.Core.Path.{_≡_, refl, sym, ap, _∙_, subst}
+use Rattle.sequences.specs.Chosen.{one, chosen, chosen-members}
+use Rattle.sequences.specs.Gather.{gather-from, gather-has, gather-same}
+use Rattle.sequences.specs.Mapped.{map-from}
 use Rattle.sequences.specs.Pick.{both}
 use Rattle.sequences.specs.Rising.{Rising, rising-gather, rising-chosen}
 use Rattle.meaning.specs.Scene.{Scene, edgeCount, triangleCount}
@@ -14,10 +15,14 @@ use Rattle.meaning.specs.Pierced.{Pierced, PiercedIs, endIsCorner}
 use Rattle.meaning.specs.PiercedRows.{Through, throughNumber, AllPierced, mayPierce, throughRow, throughRows, yesOf}
 use Rattle.meaning.specs.declared.Frame.{Frame}
 use Rattle.pierced_laws.specs.BoxesApart.{boxesMeetAt, boxes-apart}
-use Rattle.through_laws.specs.Deciding.{isPierced, one-answers}
+use Rattle.through_laws.specs.Deciding.{isPierced, is-pierced, one-answers}
 use Rattle.through_laws.specs.Listing.{through, entryOf, entriesOf, row-entries, rowsOf, rows-entries}
 
 -- ---- of those that were asked those whose answer is yes
+
+map-has : {A B : Type 0} (g : A → B) (l : List A) {a : A} → List·Memᴰ a l → List·Memᴰ (g a) (map g l)
+map-has g [] m = absurd (List·Memᴰ·not-nil m)
+map-has g (x ∷ l) m = ⊎-elim (λ e. List·Memᴰ·head (ap g e)) (λ n. List·Memᴰ·tail (map-has g l n)) (List·Memᴰ·cases-cons m)
 
 module _ (f : Frame) (s : Scene) where
   yes-has : (ts : List Through) (bs : List Bool) → AllPierced f s ts bs → (t : Through) → List·Memᴰ t ts → Pierced s f (t .edge) (t .triangle)
@@ -61,12 +66,39 @@ module _ (f : Frame) (s : Scene) where
       rw same (low, high, there, may)
 
   -- an edge through a triangle has boxes that meet
-  pierced-may : (i j : ℕ) → endIsCorner s i j ≡ false → Pierced s f i j → mayPierce f s i j ≡ true
-  pierced-may i j apart p = rw apart (go (boxesMeetAt s f i j) refl)
+  boxes-meet : (i j : ℕ) → Pierced s f i j → boxesMeetAt s f i j ≡ true
+  boxes-meet i j p = go (boxesMeetAt s f i j) refl
     where
       go : (b : Bool) → boxesMeetAt s f i j ≡ b → boxesMeetAt s f i j ≡ true
       go true e = e
       go false e = absurd (boxes-apart s f i j e p)
+
+  pierced-may : (i j : ℕ) → endIsCorner s i j ≡ false → Pierced s f i j → mayPierce f s i j ≡ true
+  pierced-may i j apart p = rw apart (boxes-meet i j p)
+
+  -- so a row is what it would be with no boxes looked at
+  enough : (a b p : Bool) → (p ≡ true → b ≡ true) → (a && b) && p ≡ a && p
+  enough false b p h = refl
+  enough true b false h = and-false b
+    where
+      and-false : (b : Bool) → b && false ≡ false
+      and-false true = refl
+      and-false false = refl
+  enough true b true h = rw (h refl)
+
+  pub row-passes : (i : ℕ) → entriesOf f s (throughRow f s i)
+      ≡ chosen (λ j. not (endIsCorner s i j) && isPierced f s i j) (entryOf i) 0 (triangleCount s)
+  unfolding PiercedIs
+  row-passes i =
+      row-entries f s i
+      ∙ gather-same
+      (λ j. one (mayPierce f s i j && isPierced f s i j) (entryOf i j))
+      (λ j. one (not (endIsCorner s i j) && isPierced f s i j) (entryOf i j))
+      0 (triangleCount s)
+      (λ j a b.
+      ap (λ (t : Bool). one t (entryOf i j))
+      (enough (not (endIsCorner s i j)) (boxesMeetAt s f i j) (isPierced f s i j)
+      (λ e. boxes-meet i j (subst (PiercedIs s f i j) e (is-pierced s f i j)))))
 
   not-so : (b : Bool) → not b ≡ true → b ≡ false
   not-so true e = absurd (false≢true e)
@@ -81,6 +113,20 @@ module _ (f : Frame) (s : Scene) where
     listed-exactly i j low high there apart = (
       λ m. yes-from (throughRows f s first end) bs all (through i j) m .1,
       λ p. yes-has (throughRows f s first end) bs all (through i j) (asked-has first end i j low high there (pierced-may i j apart p)) p,
+    )
+
+    -- the same of the entries
+    pub entry-exactly : triangleCount s ≤ 4_294_967_296 → (i j : ℕ) → first ≤ i → i < end → j < triangleCount s → endIsCorner s i j ≡ false
+        → List·Memᴰ (entryOf i j) (map throughNumber (yesOf bs (throughRows f s first end))) ↔ Pierced s f i j
+    entry-exactly few i j low high there apart = (
+      λ m.
+          let (t, n, same) = map-from throughNumber (yesOf bs (throughRows f s first end)) m in
+          let (asked, is) = yes-from (throughRows f s first end) bs all t n in
+          let (_, _, inside, _) = asked-from first end t asked in
+          let edge : t .edge ≡ i = omega arith in
+          let triangle : t .triangle ≡ j = omega arith in
+          subst (λ (v : Through). Pierced s f (v .edge) (v .triangle)) (λ k. record { edge = edge k; triangle = triangle k }) is,
+      λ p. map-has throughNumber (yesOf bs (throughRows f s first end)) (listed-exactly i j low high there apart .1 p),
     )
 
     -- and nothing else is listed

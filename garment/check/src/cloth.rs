@@ -60,6 +60,32 @@ pub fn cloth(kind: Kind, vertices: usize, seed: u64) -> Cloth {
     out
 }
 
+/// A frame of two sheets that fall, one above the other, about so many vertices: neighbours move alike, all of it by some ten edge lengths a frame, and the
+/// upper sheet comes nearer until waves of both meet, behind the second frame.
+pub fn drape(vertices: usize, frame: usize, seed: u64) -> (Vec<Place>, Vec<Vec<u32>>) {
+    let side = ((vertices / 2) as f64).sqrt().round().max(2.0) as usize;
+    let (mut random, mut places, mut faces) = (Random::new(seed), Vec::new(), Vec::new());
+    let time = frame as f64;
+    for layer in [0.0, 1.0] {
+        let base = places.len() as u32;
+        for row in 0..side {
+            for column in 0..side {
+                let (x, y) = (column as f64, row as f64);
+                let wave = 1.2 * (0.13 * x + 0.7 * time + layer).sin() + (0.11 * y + 0.9 * time * (1.0 + layer)).cos();
+                let flat = [x + 7.0 * time, y + 5.0 * time, layer * (8.0 - 2.0 * time) - 9.0 * time + wave];
+                places.push(flat.map(|n| SIDE * (n + aside(&mut random, 0.05))));
+            }
+        }
+        let at = |column: usize, row: usize| base + (row * side + column) as u32;
+        let square =
+            |column: usize, row: usize| vec![at(column - 1, row - 1), at(column, row - 1), at(column, row), at(column - 1, row)];
+        faces.extend(
+            (1..side).flat_map(|row| (1..side).map(move |column| (column, row))).map(|(column, row)| square(column, row)),
+        );
+    }
+    (places, faces)
+}
+
 fn aside(random: &mut Random, most: f64) -> f64 {
     most * (random.below(2_001) as f64 / 1_000.0 - 1.0)
 }

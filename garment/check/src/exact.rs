@@ -2,6 +2,7 @@
 
 use compare::contacts::{self, Contact};
 use compare::list::listing::{boxes_meet, is_listed};
+use compare::numbers::equations::{self, Point};
 use compare::scene::{Pair as ExactPair, Scene as ExactScene};
 use compare::verdicts::settled::of_pair;
 use garment::mesh::Mesh;
@@ -83,4 +84,20 @@ pub fn contacts(mesh: &Mesh) -> String {
         (listed.len(), listed.iter().filter_map(hit).collect())
     });
     contacts::written(&found)
+}
+
+/// Whether an edge and a triangle that share no vertex have a place in common at the start, by the equations of nonnegative weights.
+pub fn pierced(scene: &ExactScene, edge: usize, triangle: usize) -> bool {
+    let (ends, corners) = (&scene.edges[edge], &scene.triangles[triangle]);
+    let shared = ends.iter().any(|&end| corners.iter().any(|&corner| scene.stands_for(end) == scene.stands_for(corner)));
+    let along = |part: &[usize], axis: usize| part.iter().map(|&vertex| scene.vertices[vertex][axis]).collect::<Vec<i64>>();
+    let below = |one: &[usize], other: &[usize], axis: usize| along(one, axis).iter().max() < along(other, axis).iter().min();
+    if shared || (0..3).any(|axis| below(ends, corners, axis) || below(corners, ends, axis)) {
+        return false;
+    }
+    let point = |&vertex: &usize| {
+        let [x, y, z, ..] = scene.vertices[vertex];
+        Point::from([x, y, z, 0])
+    };
+    equations::meet(&ends.iter().map(point).collect::<Vec<_>>(), &corners.iter().map(point).collect::<Vec<_>>())
 }

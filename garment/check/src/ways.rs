@@ -4,6 +4,7 @@ use crate::cloth::Cloth;
 use compare::numbers::random::Random;
 use compare::scene::Scene as ExactScene;
 use garment::fault::Fault;
+use garment::judge::Which;
 use garment::mesh::{self, Mesh};
 use garment::names::Names;
 use garment::obj::{self, Obj};
@@ -46,8 +47,13 @@ pub fn named(cloth: &[String; 2], body: Option<&[String; 2]>, sewn: bool) -> Res
 
 /// The report with what is asked beside it.
 pub fn told(mesh: &Mesh, form: &Form, beside: &Beside, threads: usize) -> (String, Told) {
+    told_of(mesh, form, Which::Listed, beside, threads)
+}
+
+/// Of all listed pairs, or of the near ones.
+pub fn told_of(mesh: &Mesh, form: &Form, which: Which, beside: &Beside, threads: usize) -> (String, Told) {
     let (mut out, about) = (Vec::new(), about(mesh));
-    let asked = Asked { mesh, about: &about, form, beside };
+    let asked = Asked { mesh, about: &about, form, which, beside };
     let told = whole::told(&asked, threads, &mut no_bar(), &mut out).expect("a report is made");
     (String::from_utf8(out).expect("a report is text"), told)
 }

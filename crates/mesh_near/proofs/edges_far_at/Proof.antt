@@ -7,20 +7,20 @@ edges-far-at-spec =
     tie.close
     (tie.spec
     (λ c κs. search needs)
+    (λ c. search needs)
+    (λ c. search needs)
+    (λ c. search needs)
+    (λ c. search needs)
     (λ c κs. search needs)
     (λ c κs. search needs)
-    (λ c κs. search needs)
-    (λ c κs. search needs)
-    (λ c κs. search needs)
-    (λ c κs. search needs)
+    (λ c. search needs)
+    (λ c. search needs)
+    (λ c. search needs)
+    (λ c. search needs)
     (λ c κs. search needs)
     (λ c. rw (
-      c .below8 .ensures,
-      c .before .below7 .ensures,
-      c .before .before .below6 .ensures,
-      c .before .before .before .below5 .ensures,
-      c .before .before .before .before .below4 .ensures,
-      c .before .before .before .before .before .below3 .ensures,
-      c .before .before .before .before .before .before .below2 .ensures,
-      c .before .before .before .before .before .before .before .below .ensures,
+      c .edge-under4 .ensures,
+      c .before .edge-under3 .ensures,
+      c .before .before .edge-under2 .ensures,
+      c .before .before .before .edge-under .ensures,
     )))

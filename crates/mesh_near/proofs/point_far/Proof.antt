@@ -1,20 +1,6 @@
--- `point_far`: the first axis on which the parts are apart decides, and if there is none the third one does.
 use borrow.Author.Needs.{needs}
 use Rattle.mesh_near.proofs.point_far.Statement.{statement}
 use Rattle.mesh_near.proofs.point_far.Tie as tie
-
-returns : tie.Need-returns
-returns c = simp (← c .before .point-far-at .ensures, c .if1 .taken)
-
-returns-2 : tie.Need-returns-2
-returns-2 c =
-    simp (← c .before .before .before .point-far-at .ensures, c .before .before .if1 .left, ← c .before .point-far-at2 .ensures, c .if2 .taken)
-
-returns-3 : tie.Need-returns-3
-returns-3 c =
-    let first = c .before .before .before .before .point-far-at in
-    let second = c .before .before .point-far-at2 in
-    simp (← first .ensures, c .before .before .before .if1 .left, ← second .ensures, c .before .if2 .left) (c .point-far-at3 .ensures)
 
 pub point-far-spec : {M : Type 1} → statement M
 point-far-spec =
@@ -25,16 +11,14 @@ point-far-spec =
     (λ c. search needs)
     (λ c. search needs)
     (λ c κs. search needs)
-    returns
     (λ c. search needs)
     (λ c. search needs)
     (λ c. search needs)
     (λ c. search needs)
     (λ c κs. search needs)
-    returns-2
     (λ c. search needs)
     (λ c. search needs)
     (λ c. search needs)
     (λ c. search needs)
     (λ c κs. search needs)
-    returns-3)
+    (λ c. rw (c .point-far-at3 .ensures, c .before .point-far-at2 .ensures, c .before .before .point-far-at .ensures)))

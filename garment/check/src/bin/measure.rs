@@ -5,6 +5,7 @@
 use compare::ways::cubic::{self, Moving};
 use garment::candidates::Finder;
 use garment::edges;
+use garment::judge::{AtStart, Judge, Question, Which};
 use garment::judging::{settle, Packed, TOGETHER};
 use garment::mesh::{self, Mesh};
 use garment::obj;
@@ -12,11 +13,11 @@ use garment::pairs::{Kind, Pair};
 use garment::report::Form;
 use garment::rounding::onto_grid;
 use garment::seams;
-use garment::work::all_cores;
+use garment::work::{all_cores, stretch};
 use garment_check::clocks::{run, taken, Run};
-use garment_check::cloth::{cloth, Kind as ClothKind, KINDS};
+use garment_check::cloth::{cloth, drape, obj as cloth_text, Kind as ClothKind, KINDS};
 use garment_check::former;
-use garment_check::ways::made;
+use garment_check::ways::{made, mesh_of};
 use makhnodri::COORDINATE_LIMIT;
 use std::hint::black_box;
 use std::process::Command;
@@ -37,7 +38,55 @@ fn main() {
     as_called(folder, &sizes);
     by_parts(&sizes);
     beside_former(&sizes);
+    near_beside_listed(&sizes);
 }
+
+/// Vertices of the drape that is measured, for each size that is asked for: its list has a thousand pairs and more a vertex.
+const OF_A_DRAPE: usize = 10;
+
+/// Finding and judging all listed pairs and the near ones, in turns, and whether an edge is through a triangle at the start: ms of processor time.
+fn near_beside_listed(sizes: &[usize]) {
+    println!("\none thread, find and judge: ms of its processor time");
+    println!("  {:<16}{:>12}{:>12}{:>10}{:>10}{:>7}{:>10}", "", "listed", "near", "listed", "near", "ratio", "pierced");
+    for &size in sizes {
+        for kind in KINDS {
+            both_lists(&format!("{} {size}", kind.name), &made(&cloth(kind, size, 1)));
+        }
+        let count = size / OF_A_DRAPE;
+        let texts = [0, 1].map(|frame| {
+            let (places, faces) = drape(count, frame, 1);
+            cloth_text(&places, &faces)
+        });
+        both_lists(&format!("drape {count}"), &mesh_of(&texts, None, false).expect("a mesh"));
+    }
+}
+
+fn both_lists(name: &str, mesh: &Mesh) {
+    let judge = Judge::new(mesh).expect("a mesh");
+    let asked = |which: Which| {
+        let question = Question { which, choice: None, wanted: [true, false, false, false], contacts: false };
+        let pieces = judge.rows().div_ceil(ROWS);
+        let answer = |piece: usize| judge.asked(stretch(piece, ROWS, judge.rows()), &question).expect("words").tally.listed();
+        (0..pieces).map(answer).sum::<u64>()
+    };
+    let [listed, near] = in_turns(|| asked(Which::Listed), || asked(Which::Near));
+    let (piercing, _) = shortest(|| {
+        let start = AtStart::new(mesh).expect("a mesh");
+        start.pierced(0..start.rows(), None).expect("decided").len()
+    });
+    println!(
+        "  {name:<16}{:>12}{:>12}{:>10.1}{:>10.1}{:>7.3}{:>10.1}",
+        asked(Which::Listed),
+        asked(Which::Near),
+        1e3 * listed,
+        1e3 * near,
+        near / listed,
+        1e3 * piercing
+    );
+}
+
+/// Rows that are asked for in one piece.
+const ROWS: usize = 4_096;
 
 /// The shortest times of two ways to the same, in turns.
 fn in_turns<T, U>(mut one: impl FnMut() -> T, mut other: impl FnMut() -> U) -> [f64; 2] {

@@ -2,14 +2,17 @@
 
 mod before;
 mod choice;
+mod clean;
 mod contacts;
+mod drapes;
 mod in_order;
 mod larger;
 mod mark;
 mod meshes;
 mod names;
+mod near;
 mod one_scene;
 mod reading;
-mod split_join;
+mod shares;
 mod told_apart;
 mod whereabouts;

@@ -4,9 +4,9 @@ use Prim.Native.Nat.{_+_, _*_, _-_, _≤_}
 use Rattle.scene_seams.specs.Alone.{tabled}
 use Rattle.meaning.specs.PiercedRows.{throughRow}
 use Rattle.mesh_tree.specs.Levels.{firstUnder}
+use Rattle.mesh_walk.specs.Places.{found-there}
 use Rattle.mesh_walk.specs.Steps.{rowMeets}
 use Rattle.mesh_entries.specs.Entering.{Entering, entering-place, entering-length}
-use Rattle.mesh_rows.specs.Sifting.{found-there}
 use Rattle.through_laws.specs.Listing.{entriesOf}
 use Rattle.pierced_walk.specs.Rows.{leftOf, row-starts, row-goes, row-ends, row-few}
 use Rattle.pierced_walk.proofs.rows.walk_edge.Statement.{statement}

@@ -1,0 +1,2 @@
+-- A stretch of rows, listed, judged and met.
+pub mod Meeting
