@@ -20,10 +20,16 @@
 #include <unistd.h>
 
 /* each buffer is aligned for 64-bit numbers, and not for more */
-enum { MARGIN = 24, CAPACITY = 1 << 22 };
+enum { MARGIN = 24, CAPACITY = 1 << 24 };
 
-enum { POSITIONS, EDGES, TRIANGLES, SEAMS, LIST, WORDS, TEXT, COUNTS, REPORT, CONTACTS, BOXES, COORDINATES, ENDING, LOG, TOLD, BUFFERS };
-static const size_t size_of[BUFFERS] = {4, 2, 2, 2, 4, 1, 1, sizeof(size_t), 1, 4, 4, 4, 1, 4, 8};
+enum {
+    POSITIONS, EDGES, TRIANGLES, SEAMS, LIST, WORDS, TEXT, COUNTS, REPORT, CONTACTS, BOXES, COORDINATES, ENDING, LOG, TOLD,
+    /* of a mesh of any size */
+    MESH_POSITIONS, MESH_EDGES, MESH_TRIANGLES, MESH_SEAMS, EDGE_ORDER, TRIANGLE_ORDER, SIDES, ORDER, TABLE, PLACES, MESH_BOXES, MESH_LIST,
+    MESH_WORDS, MESH_CONTACTS, MESH_TOLD, BUFFERS
+};
+static const size_t size_of[BUFFERS] = {4, 2, 2, 2, 4, 1, 1, sizeof(size_t), 1, 4, 4, 4, 1, 4, 8,
+                                        4, 4, 4, 4, 4, 4, 4, 4, 4, 4, 4, 8, 1, 4, 8};
 
 struct question {
     uint64_t call, asked[3], length[BUFFERS];
@@ -47,6 +53,9 @@ static void give_up(const char *why) {
 #define SCENE THREE, lent(SEAMS), q->length[SEAMS]
 #define PAIR SCENE, q->asked[0], q->asked[1]
 #define STORED SCENE, lent(BOXES), q->length[BOXES]
+#define LEND(buffer) lent(buffer), q->length[buffer]
+#define ROWS MESH, LEND(EDGE_ORDER), LEND(TRIANGLE_ORDER), LEND(TABLE), LEND(PLACES), LEND(MESH_BOXES)
+#define MESH LEND(MESH_POSITIONS), LEND(MESH_EDGES), LEND(MESH_TRIANGLES), LEND(MESH_SEAMS)
 
 static uint64_t answer(const struct question *q) {
     switch (q->call) {
@@ -88,6 +97,22 @@ static uint64_t answer(const struct question *q) {
     case 30:
         return makhnodri_tell_series_slices(lent(TEXT), q->length[TEXT], STORED, lent(LIST), q->length[LIST], lent(COUNTS), lent(LOG),
                                             lent(TOLD));
+    case 31: return makhnodri_pierced_at_start_slices(PAIR);
+    case 32: return makhnodri_pierced_at_end_slices(PAIR);
+    case 33: return makhnodri_check_mesh_slices(MESH, LEND(TABLE));
+    case 34: return makhnodri_check_edges_slices(MESH, LEND(SIDES), LEND(ORDER), LEND(TABLE), LEND(PLACES), lent(MESH_TOLD));
+    case 35: return makhnodri_count_rows_slices(ROWS, q->asked[0], q->asked[1], lent(MESH_TOLD));
+    case 36: return makhnodri_count_near_rows_slices(ROWS, q->asked[0], q->asked[1], lent(MESH_TOLD));
+    case 37: return makhnodri_list_rows_slices(ROWS, q->asked[0], q->asked[1], LEND(MESH_LIST), lent(MESH_TOLD));
+    case 38: return makhnodri_list_near_rows_slices(ROWS, q->asked[0], q->asked[1], LEND(MESH_LIST), lent(MESH_TOLD));
+    case 39:
+        return makhnodri_settle_rows_slices(ROWS, q->asked[0], q->asked[1], LEND(MESH_LIST), LEND(MESH_WORDS),
+            lent(MESH_TOLD));
+    case 40:
+        return makhnodri_settle_near_rows_slices(ROWS, q->asked[0], q->asked[1], LEND(MESH_LIST), LEND(MESH_WORDS),
+            lent(MESH_TOLD));
+    case 47: return makhnodri_pierced_at_start_rows_slices(ROWS, q->asked[0], q->asked[1], LEND(MESH_LIST), lent(MESH_TOLD));
+    case 48: return makhnodri_pierced_at_end_rows_slices(ROWS, q->asked[0], q->asked[1], LEND(MESH_LIST), lent(MESH_TOLD));
     }
     give_up("no such call");
     return 0;

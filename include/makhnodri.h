@@ -36,6 +36,7 @@ extern "C" {
 #define MAKHNODRI_EDGE_LIMIT 1024
 #define MAKHNODRI_TRIANGLE_LIMIT 512
 #define MAKHNODRI_SEAM_LIMIT 512
+#define MAKHNODRI_PART_LIMIT 1073741824 /* 2^30: vertices, edges, triangles and seams of a mesh, each at most so many */
 #define MAKHNODRI_TEXT_LIMIT 32768 /* bytes of a scene text, and of an OBJ file */
 #define MAKHNODRI_REPORT_ROOM 3072 /* pairs that a report has room for */
 #define MAKHNODRI_PAIR_LIMIT 785920 /* no scene lists more: 512 x 512 of points and triangles, 1024 x 1023 / 2 of edges */
@@ -114,6 +115,12 @@ extern "C" {
  *     count_stored     54,272      list_stored                 87,296
  *     settle_stored    88,320      read_boxed                  24,064
  *     import_scene     48,128      tell_series                176,384
+ *     pierced_at_start, pierced_at_end              3,328
+ *     check_mesh          512      check_edges                    768
+ *     count_rows, count_near_rows                   2,304
+ *     list_rows, list_near_rows                     2,304
+ *     settle_rows, settle_near_rows                 3,072
+ *     pierced_at_start_rows, pierced_at_end_rows    3,584
  *
  * ---- An answer ----
  *
@@ -125,7 +132,7 @@ extern "C" {
  */
 typedef uint64_t makhnodri_answer;
 
-/* the refusal's number, 1 to 17, or 0 where the answer is a value */
+/* the refusal's number, 1 to 18, or 0 where the answer is a value */
 static inline uint32_t makhnodri_refusal(makhnodri_answer answer) { return (uint32_t)(answer >> 32); }
 
 /* the value; of a refusal, the line or the needed count. Look at makhnodri_refusal first: both may be 0 */
@@ -164,6 +171,13 @@ enum {
     MAKHNODRI_EE = 1  /* two edges */
 };
 
+/* What was found of the edges of a mesh. */
+enum {
+    MAKHNODRI_EDGES_WHOLE = 0, /* every side of every triangle is an edge, and no edge stands twice */
+    MAKHNODRI_SIDE_BARE = 1,   /* a side has not the edge that is lent for it */
+    MAKHNODRI_EDGE_TWICE = 2   /* behind a number of the order the ends do not rise: an edge stands twice, or the order is not by ends */
+};
+
 /* The answers to claims. */
 enum {
     MAKHNODRI_NO = 0, /* the weights do not bear the claim out */
@@ -191,6 +205,7 @@ static inline uint32_t makhnodri_entry_second(uint32_t entry) { return entry & 1
  * Of two OBJ files: 12, 8 for the start file, 8 for the end file, then the first faulty line of the start file and then of the end file,
  * in it 9, 10, 11, 2, 3, 4, and 11 again for edge 1,025; 14 last.
  * Of a series: 12, 8, then the first faulty line, and in it 9, 10, 11, 13, 2, 3, 15, 4; 7 last, for the first step without room.
+ * Of a mesh of any size: 12, then 1, 2, 3, 15, 4, then 18, then 5; for contacts 16; 7 last.
  */
 enum {
     MAKHNODRI_SHAPE = 1,           /* positions not a multiple of 6 long, edges of 2, triangles of 3, seams of 2, or a count over its size */
@@ -209,7 +224,8 @@ enum {
     MAKHNODRI_FILES_DIFFER = 14,   /* two OBJ files that differ in vertex count, or in the faces and their order */
     MAKHNODRI_BROKEN_SEAM = 15,    /* a seam that breaks the rules of seams, or whose two positions differ at either time; of a text, with the line */
     MAKHNODRI_BEYOND_OLD_RANGE = 16, /* a contact asked for in a scene with a coordinate beyond MAKHNODRI_CONTACT_LIMIT in size */
-    MAKHNODRI_STALE_BOX = 17       /* a stored box that is not the one worked out from the positions */
+    MAKHNODRI_STALE_BOX = 17,      /* a stored box that is not the one worked out from the positions */
+    MAKHNODRI_WRONG_ORDER = 18     /* of a mesh: a lent order that is none, or not a number for each side */
 };
 /* A line is counted from 1. */
 
@@ -248,6 +264,7 @@ static inline const char *makhnodri_refusal_words(uint32_t refusal) {
     case MAKHNODRI_BROKEN_SEAM: return "a seam that breaks the rules of seams, or whose two positions differ";
     case MAKHNODRI_BEYOND_OLD_RANGE: return "a contact asked for in a scene with a coordinate beyond 262,143";
     case MAKHNODRI_STALE_BOX: return "a stored box that isn't the one worked out";
+    case MAKHNODRI_WRONG_ORDER: return "a lent order that is none, or not a number for each side";
     default: return "no refusal";
     }
 }
@@ -317,6 +334,66 @@ static inline makhnodri_scene makhnodri_scene_of(const makhnodri_boxed_scene *bo
     return scene;
 }
 
+/* ---- A mesh as a struct ---- */
+
+/*
+ * A mesh of any size: the four lists of a scene, in 32-bit vertex numbers, each with its length in numbers, at most MAKHNODRI_PART_LIMIT
+ * parts of each kind. What is not set is to be 0. Two orders may be lent beside them, hints that change no answer: of the edges and of the
+ * triangles, each number once, parts that stand near each other next to each other. Where parts stand in no order, a walk without one takes
+ * long; where they stand well, none is needed. An order of length 0 is not lent.
+ */
+typedef struct makhnodri_mesh {
+    const int32_t *positions;
+    size_t positions_length;
+    const uint32_t *edges;
+    size_t edges_length;
+    const uint32_t *triangles;
+    size_t triangles_length;
+    const uint32_t *seams;
+    size_t seams_length;
+    const uint32_t *edge_order;
+    size_t edge_order_length;
+    const uint32_t *triangle_order;
+    size_t triangle_order_length;
+} makhnodri_mesh;
+
+/*
+ * What a call over a mesh works in: three lists of the caller's, at least as long as makhnodri_table_room, _place_room and _box_room say of
+ * the mesh, else 12. They may hold anything before and hold anything afterwards, also after a refusal: nothing is kept in them from call to
+ * call. Threads that work at the same time have each their own.
+ */
+typedef struct makhnodri_scratch {
+    uint32_t *table;
+    size_t table_length;
+    uint32_t *places;
+    size_t places_length;
+    int32_t *boxes;
+    size_t boxes_length;
+} makhnodri_scratch;
+
+static inline size_t makhnodri_table_room(const makhnodri_mesh *mesh) { return mesh->seams_length ? mesh->positions_length / 6 : 0; }
+static inline size_t makhnodri_place_room(const makhnodri_mesh *mesh) {
+    return mesh->edges_length / 2 + mesh->triangles_length / 3 + 2 * (mesh->edge_order_length + mesh->triangle_order_length);
+}
+static inline size_t makhnodri_box_room(const makhnodri_mesh *mesh) {
+    size_t vertices = mesh->positions_length / 6, edges = mesh->edges_length / 2, triangles = mesh->triangles_length / 3;
+    return 6 * (vertices + edges + triangles + edges / 15 + 16 + triangles / 15 + 16);
+}
+
+/* How many rows a mesh has: row v is vertex v's, with triangles; row vertices + e is edge e's, with the edges behind it. */
+static inline size_t makhnodri_row_count(const makhnodri_mesh *mesh) { return mesh->positions_length / 6 + mesh->edges_length / 2; }
+
+/*
+ * An entry of a mesh: one number of 64 bits, 2^63 for two edges or 0 for a point and a triangle, plus 2^32 times the first place, plus the
+ * second. In a list the numbers rise. Of an edge that is through a triangle the two places are the edge's and the triangle's.
+ */
+static inline uint64_t makhnodri_mesh_entry(uint32_t kind, uint32_t first, uint32_t second) {
+    return ((uint64_t)kind << 63) + ((uint64_t)first << 32) + second;
+}
+static inline uint32_t makhnodri_mesh_entry_kind(uint64_t entry) { return (uint32_t)(entry >> 63); }
+static inline uint32_t makhnodri_mesh_entry_first(uint64_t entry) { return (uint32_t)(entry >> 32) & 0x7fffffff; }
+static inline uint32_t makhnodri_mesh_entry_second(uint64_t entry) { return (uint32_t)entry; }
+
 /*
  * ---- The plain functions ----
  *
@@ -348,6 +425,8 @@ makhnodri_answer makhnodri_contact_pt_slices(MAKHNODRI_LISTS, size_t vertex, siz
 makhnodri_answer makhnodri_contact_ee_slices(MAKHNODRI_LISTS, size_t first, size_t second, uint32_t contact[MAKHNODRI_AT_LEAST(5)]);
 makhnodri_answer makhnodri_contact_scene_slices(MAKHNODRI_LISTS, uint32_t *list, size_t list_length, uint8_t *words, size_t words_length,
                                                 uint32_t *contacts, size_t contacts_length);
+makhnodri_answer makhnodri_pierced_at_start_slices(MAKHNODRI_LISTS, size_t edge, size_t triangle);
+makhnodri_answer makhnodri_pierced_at_end_slices(MAKHNODRI_LISTS, size_t edge, size_t triangle);
 makhnodri_answer makhnodri_check_claims_slices(MAKHNODRI_LISTS, const uint8_t *claims, size_t claims_length, uint8_t *answers,
                                                size_t answers_length);
 makhnodri_answer makhnodri_saved_length_slices(MAKHNODRI_LISTS);
@@ -381,6 +460,34 @@ makhnodri_answer makhnodri_tell_series_slices(const uint8_t *text, size_t text_l
                                               size_t list_length, size_t counts[MAKHNODRI_AT_LEAST(4)],
                                               uint32_t log[MAKHNODRI_AT_LEAST(MAKHNODRI_LOG_LENGTH)],
                                               uint64_t told[MAKHNODRI_AT_LEAST(MAKHNODRI_TOLD_LENGTH)]);
+
+#define MAKHNODRI_MESH_LISTS                                                                                                      \
+    const int32_t *positions, size_t positions_length, const uint32_t *edges, size_t edges_length, const uint32_t *triangles,     \
+        size_t triangles_length, const uint32_t *seams, size_t seams_length
+#define MAKHNODRI_ROW_LISTS                                                                                                       \
+    MAKHNODRI_MESH_LISTS, const uint32_t *edge_order, size_t edge_order_length, const uint32_t *triangle_order,                   \
+        size_t triangle_order_length, uint32_t *table, size_t table_length, uint32_t *places, size_t places_length,               \
+        int32_t *boxes, size_t boxes_length
+
+/* over a mesh: each returns the refusal's number, 0 where there is none */
+uint32_t makhnodri_check_mesh_slices(MAKHNODRI_MESH_LISTS, uint32_t *table, size_t table_length);
+uint32_t makhnodri_check_edges_slices(MAKHNODRI_MESH_LISTS, const uint32_t *sides, size_t sides_length, const uint32_t *order,
+                                      size_t order_length, uint32_t *table, size_t table_length, uint32_t *places,
+                                      size_t places_length, uint64_t told[MAKHNODRI_AT_LEAST(2)]);
+uint32_t makhnodri_count_rows_slices(MAKHNODRI_ROW_LISTS, size_t first, size_t end, uint64_t told[MAKHNODRI_AT_LEAST(1)]);
+uint32_t makhnodri_count_near_rows_slices(MAKHNODRI_ROW_LISTS, size_t first, size_t end, uint64_t told[MAKHNODRI_AT_LEAST(1)]);
+uint32_t makhnodri_list_rows_slices(MAKHNODRI_ROW_LISTS, size_t first, size_t end, uint64_t *list, size_t list_length,
+                                     uint64_t told[MAKHNODRI_AT_LEAST(1)]);
+uint32_t makhnodri_list_near_rows_slices(MAKHNODRI_ROW_LISTS, size_t first, size_t end, uint64_t *list, size_t list_length,
+                                     uint64_t told[MAKHNODRI_AT_LEAST(1)]);
+uint32_t makhnodri_settle_rows_slices(MAKHNODRI_ROW_LISTS, size_t first, size_t end, uint64_t *list, size_t list_length,
+                                     uint8_t *words, size_t words_length, uint64_t told[MAKHNODRI_AT_LEAST(1)]);
+uint32_t makhnodri_settle_near_rows_slices(MAKHNODRI_ROW_LISTS, size_t first, size_t end, uint64_t *list, size_t list_length,
+                                     uint8_t *words, size_t words_length, uint64_t told[MAKHNODRI_AT_LEAST(1)]);
+uint32_t makhnodri_pierced_at_start_rows_slices(MAKHNODRI_ROW_LISTS, size_t first, size_t end, uint64_t *list, size_t list_length,
+                                     uint64_t told[MAKHNODRI_AT_LEAST(1)]);
+uint32_t makhnodri_pierced_at_end_rows_slices(MAKHNODRI_ROW_LISTS, size_t first, size_t end, uint64_t *list, size_t list_length,
+                                     uint64_t told[MAKHNODRI_AT_LEAST(1)]);
 
 /* the lists of a struct, as the plain functions take them; of a scene that keeps its boxes, those too */
 #define MAKHNODRI_LISTS_OF(scene)                                                                                                 \
@@ -501,6 +608,22 @@ static inline makhnodri_answer makhnodri_settle_ee_piece(const makhnodri_scene *
 }
 
 /*
+ * ---- Through already: whether an edge is through a triangle at one time ----
+ *
+ * MAKHNODRI_YES exactly when nonnegative weights, with the same sum above 0 in both, give the edge and the triangle one place at that time:
+ * an edge that touches a side, or ends in the triangle, is through it too; else MAKHNODRI_NO. Or 1, 2, 3, 15, 4, then 5 where there is no such
+ * edge or triangle, then 6 where an end of the edge stands for a corner of the triangle. A drape that is clean at the start, and in which nothing
+ * is hit or touches, is clean at the end.
+ */
+static inline makhnodri_answer makhnodri_pierced_at_start(const makhnodri_scene *scene, size_t edge, size_t triangle) {
+    return makhnodri_pierced_at_start_slices(MAKHNODRI_LISTS_OF(scene), edge, triangle);
+}
+
+static inline makhnodri_answer makhnodri_pierced_at_end(const makhnodri_scene *scene, size_t edge, size_t triangle) {
+    return makhnodri_pierced_at_end_slices(MAKHNODRI_LISTS_OF(scene), edge, triangle);
+}
+
+/*
  * ---- Contacts: when and where a hit pair touched, for a viewer that freezes the picture there ----
  *
  * A contact is MAKHNODRI_CONTACT_LENGTH numbers: the piece, the time, and three shares. Time and shares are whole 2^20ths, from 0 to
@@ -610,6 +733,97 @@ static inline makhnodri_answer makhnodri_list_stored(const makhnodri_boxed_scene
 static inline makhnodri_answer makhnodri_settle_stored(const makhnodri_boxed_scene *boxed, uint32_t *list, size_t list_length,
                                                        uint8_t *words, size_t words_length) {
     return makhnodri_settle_stored_slices(MAKHNODRI_BOXED_LISTS_OF(boxed), list, list_length, words, words_length);
+}
+
+/*
+ * ---- Meshes of any size ----
+ *
+ * A scene has at most 512 vertices; what is larger is a mesh. A call over a mesh returns the refusal's number, 0 where there is none, and
+ * what it counts goes where it is told to, in 64 bits. After a refusal nothing lent has changed but the scratch, and the count needed where
+ * it is 7. Each checks the whole mesh first: 12 for scratch that is too short; 1, 2, 3, 15, 4 as of a scene, with MAKHNODRI_PART_LIMIT for
+ * its sizes; 18 for an order that is none. A mesh of a scene's size has the scene's list and words.
+ *
+ * The list of a mesh is asked for by rows: row v is vertex v's, its pairs with triangles; row vertices + e is edge e's, its pairs with the
+ * edges behind it. All rows in turn are the list of a scene, and the lists of neighbouring stretches joined are that of both: so a program
+ * takes stretches of rows, in as many threads as it likes, each with scratch of its own, and the answers stand in order. Rows that are not
+ * there, the end before the first or beyond makhnodri_row_count, are 5. In each call beside the one named a row's pairs are those whose
+ * swept boxes meet and that share no vertex; those of its neighbour with near_ in its name are of these the ones that are not far: on no
+ * axis one part lies strictly below the other at the start and at the end. Far pairs are neither hit nor touch, and on falling cloth nearly
+ * all are far; whoever asks for hits and touches alone asks for near rows.
+ */
+
+/* May this mesh be used? 12 where scratch->table is too short, 1, 2, 3, 15, 4. Nothing else of the scratch is looked at. */
+static inline uint32_t makhnodri_check_mesh(const makhnodri_mesh *mesh, makhnodri_scratch *scratch) {
+    return makhnodri_check_mesh_slices(MAKHNODRI_LISTS_OF(mesh), scratch->table, scratch->table_length);
+}
+
+/*
+ * Whether edges that were made from the triangles are whole: every side of every triangle an edge, and no edge there twice; an edge that is
+ * dropped drops all its pairs. Who made them lends in sides the number of the edge of each side, three to a triangle, from corner 0 to 1, 1
+ * to 2, 2 to 0, and in order the edges by their ends, the lower end first; both are looked at. Into told[0] goes MAKHNODRI_EDGES_WHOLE,
+ * _SIDE_BARE or _EDGE_TWICE, into told[1] the first side, or the first number of the order behind which the ends do not rise, or 0. 12 also
+ * where scratch->places is shorter than there are edges; 18 where sides is not as long as the triangles, or order is no order of the edges.
+ */
+static inline uint32_t makhnodri_check_edges(const makhnodri_mesh *mesh, makhnodri_scratch *scratch, const uint32_t *sides,
+                                             size_t sides_length, const uint32_t *order, size_t order_length,
+                                             uint64_t told[MAKHNODRI_AT_LEAST(2)]) {
+    return makhnodri_check_edges_slices(MAKHNODRI_LISTS_OF(mesh), sides, sides_length, order, order_length, scratch->table,
+                                        scratch->table_length, scratch->places, scratch->places_length, told);
+}
+
+/* the lists, the orders and the scratch, as the plain functions take them */
+#define MAKHNODRI_ROW_LISTS_OF(mesh, scratch)                                                                                     \
+    MAKHNODRI_LISTS_OF(mesh), (mesh)->edge_order, (mesh)->edge_order_length, (mesh)->triangle_order, (mesh)->triangle_order_length, \
+        (scratch)->table, (scratch)->table_length, (scratch)->places, (scratch)->places_length, (scratch)->boxes, (scratch)->boxes_length
+
+/* How many pairs the rows from first up to and without end have, into *count. */
+static inline uint32_t makhnodri_count_rows(const makhnodri_mesh *mesh, makhnodri_scratch *scratch, size_t first, size_t end,
+                                     uint64_t *count) {
+    return makhnodri_count_rows_slices(MAKHNODRI_ROW_LISTS_OF(mesh, scratch), first, end, count);
+}
+
+static inline uint32_t makhnodri_count_near_rows(const makhnodri_mesh *mesh, makhnodri_scratch *scratch, size_t first, size_t end,
+                                     uint64_t *count) {
+    return makhnodri_count_near_rows_slices(MAKHNODRI_ROW_LISTS_OF(mesh, scratch), first, end, count);
+}
+
+/* Their entries, in front of list; the rest of it is unchanged. Into *count goes how many; or 7, and how many need room. */
+static inline uint32_t makhnodri_list_rows(const makhnodri_mesh *mesh, makhnodri_scratch *scratch, size_t first, size_t end,
+                                     uint64_t *list, size_t list_length, uint64_t *count) {
+    return makhnodri_list_rows_slices(MAKHNODRI_ROW_LISTS_OF(mesh, scratch), first, end, list, list_length, count);
+}
+
+static inline uint32_t makhnodri_list_near_rows(const makhnodri_mesh *mesh, makhnodri_scratch *scratch, size_t first, size_t end,
+                                     uint64_t *list, size_t list_length, uint64_t *count) {
+    return makhnodri_list_near_rows_slices(MAKHNODRI_ROW_LISTS_OF(mesh, scratch), first, end, list, list_length, count);
+}
+
+/* And the word of each, words[i] that of entry i. Room is the smaller of list_length and words_length. */
+static inline uint32_t makhnodri_settle_rows(const makhnodri_mesh *mesh, makhnodri_scratch *scratch, size_t first, size_t end,
+                                     uint64_t *list, size_t list_length, uint8_t *words, size_t words_length, uint64_t *count) {
+    return makhnodri_settle_rows_slices(MAKHNODRI_ROW_LISTS_OF(mesh, scratch), first, end, list, list_length, words, words_length,
+        count);
+}
+
+static inline uint32_t makhnodri_settle_near_rows(const makhnodri_mesh *mesh, makhnodri_scratch *scratch, size_t first, size_t end,
+                                     uint64_t *list, size_t list_length, uint8_t *words, size_t words_length, uint64_t *count) {
+    return makhnodri_settle_near_rows_slices(MAKHNODRI_ROW_LISTS_OF(mesh, scratch), first, end, list, list_length, words,
+        words_length, count);
+}
+
+/*
+ * The edges from first up to and without end that are through a triangle at the start: an entry for each such edge and triangle, by edge
+ * and then by triangle, in front of list. Rows are the edges here. Into *count goes how many; or 7, and how many need room.
+ */
+static inline uint32_t makhnodri_pierced_at_start_rows(const makhnodri_mesh *mesh, makhnodri_scratch *scratch, size_t first,
+                                     size_t end, uint64_t *list, size_t list_length, uint64_t *count) {
+    return makhnodri_pierced_at_start_rows_slices(MAKHNODRI_ROW_LISTS_OF(mesh, scratch), first, end, list, list_length, count);
+}
+
+/* The same at the end. */
+static inline uint32_t makhnodri_pierced_at_end_rows(const makhnodri_mesh *mesh, makhnodri_scratch *scratch, size_t first,
+                                     size_t end, uint64_t *list, size_t list_length, uint64_t *count) {
+    return makhnodri_pierced_at_end_rows_slices(MAKHNODRI_ROW_LISTS_OF(mesh, scratch), first, end, list, list_length, count);
 }
 
 /* ---- Texts ---- */

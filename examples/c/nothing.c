@@ -10,6 +10,7 @@
 #include <string.h>
 
 #define NO_SCENE NULL, 0, NULL, 0, NULL, 0, NULL, 0
+#define NO_HINTS NULL, 0, NULL, 0, NULL, 0, NULL, 0 /* no orders, no table, no places */
 
 static int wrong;
 
@@ -38,6 +39,8 @@ static void hold_slices(void) {
     hold("settle_ee", makhnodri_settle_ee_slices(NO_SCENE, 0, 0), MAKHNODRI_NOT_THERE, 0);
     hold("settle_pt_piece", makhnodri_settle_pt_piece_slices(NO_SCENE, 0, 0, 0), MAKHNODRI_NOT_THERE, 0);
     hold("settle_ee_piece", makhnodri_settle_ee_piece_slices(NO_SCENE, 0, 0, 0), MAKHNODRI_NOT_THERE, 0);
+    hold("pierced_at_start", makhnodri_pierced_at_start_slices(NO_SCENE, 0, 0), MAKHNODRI_NOT_THERE, 0);
+    hold("pierced_at_end", makhnodri_pierced_at_end_slices(NO_SCENE, 0, 0), MAKHNODRI_NOT_THERE, 0);
     hold("check_claims", makhnodri_check_claims_slices(NO_SCENE, NULL, 0, NULL, 0), 0, 0);
     hold("saved_length", makhnodri_saved_length_slices(NO_SCENE), 0, 0);
     hold("save_scene", makhnodri_save_scene_slices(NO_SCENE, NULL, 0), 0, 0);
@@ -130,6 +133,8 @@ static void hold_scene(const makhnodri_scene *scene) {
     hold("settle_ee of a struct", makhnodri_settle_ee(scene, 0, 0), MAKHNODRI_NOT_THERE, 0);
     hold("settle_pt_piece of a struct", makhnodri_settle_pt_piece(scene, 0, 0, 0), MAKHNODRI_NOT_THERE, 0);
     hold("settle_ee_piece of a struct", makhnodri_settle_ee_piece(scene, 0, 0, 0), MAKHNODRI_NOT_THERE, 0);
+    hold("pierced_at_start of a struct", makhnodri_pierced_at_start(scene, 0, 0), MAKHNODRI_NOT_THERE, 0);
+    hold("pierced_at_end of a struct", makhnodri_pierced_at_end(scene, 0, 0), MAKHNODRI_NOT_THERE, 0);
     hold("check_claims of a struct", makhnodri_check_claims(scene, NULL, 0, NULL, 0), 0, 0);
     hold("saved_length of a struct", makhnodri_saved_length(scene), 0, 0);
     hold("save_scene of a struct", makhnodri_save_scene(scene, NULL, 0), 0, 0);
@@ -143,12 +148,59 @@ static void hold_scene(const makhnodri_scene *scene) {
         if (contact[i] != 7) wrong = 1, puts("a contact of no pair of a struct");
 }
 
+/* meshes: no scratch is 12, where any is needed; scratch for no mesh is 192 numbers of boxes */
+static void hold_mesh(const char *asked, uint32_t refusal, uint32_t wanted) {
+    if (refusal == wanted) return;
+    printf("%s: %s\n", asked, makhnodri_refusal_words(refusal));
+    wrong = 1;
+}
+
+static void hold_meshes(void) {
+    static int32_t boxes[192];
+    uint64_t told[6] = {7, 7, 7, 7, 7, 7};
+    hold_mesh("check_mesh", makhnodri_check_mesh_slices(NO_SCENE, NULL, 0), 0);
+    hold_mesh("check_edges", makhnodri_check_edges_slices(NO_SCENE, NULL, 0, NULL, 0, NULL, 0, NULL, 0, told), 0);
+    if (told[0] || told[1]) wrong = 1, puts("what was found of no edges");
+    hold_mesh("count_rows, no boxes", makhnodri_count_rows_slices(NO_SCENE, NO_HINTS, NULL, 0, 0, 0, told), MAKHNODRI_SHORT_BUFFER);
+    hold_mesh("count_rows", makhnodri_count_rows_slices(NO_SCENE, NO_HINTS, boxes, 192, 0, 0, told), 0);
+    hold_mesh("count_near_rows, no boxes", makhnodri_count_near_rows_slices(NO_SCENE, NO_HINTS, NULL, 0, 0, 0, told), MAKHNODRI_SHORT_BUFFER);
+    hold_mesh("count_near_rows", makhnodri_count_near_rows_slices(NO_SCENE, NO_HINTS, boxes, 192, 0, 0, told), 0);
+    hold_mesh("list_rows, no boxes", makhnodri_list_rows_slices(NO_SCENE, NO_HINTS, NULL, 0, 0, 0, NULL, 0, told), MAKHNODRI_SHORT_BUFFER);
+    hold_mesh("list_rows", makhnodri_list_rows_slices(NO_SCENE, NO_HINTS, boxes, 192, 0, 0, NULL, 0, told), 0);
+    hold_mesh("list_near_rows, no boxes", makhnodri_list_near_rows_slices(NO_SCENE, NO_HINTS, NULL, 0, 0, 0, NULL, 0, told), MAKHNODRI_SHORT_BUFFER);
+    hold_mesh("list_near_rows", makhnodri_list_near_rows_slices(NO_SCENE, NO_HINTS, boxes, 192, 0, 0, NULL, 0, told), 0);
+    hold_mesh("settle_rows, no boxes", makhnodri_settle_rows_slices(NO_SCENE, NO_HINTS, NULL, 0, 0, 0, NULL, 0, NULL, 0, told), MAKHNODRI_SHORT_BUFFER);
+    hold_mesh("settle_rows", makhnodri_settle_rows_slices(NO_SCENE, NO_HINTS, boxes, 192, 0, 0, NULL, 0, NULL, 0, told), 0);
+    hold_mesh("settle_near_rows, no boxes", makhnodri_settle_near_rows_slices(NO_SCENE, NO_HINTS, NULL, 0, 0, 0, NULL, 0, NULL, 0, told), MAKHNODRI_SHORT_BUFFER);
+    hold_mesh("settle_near_rows", makhnodri_settle_near_rows_slices(NO_SCENE, NO_HINTS, boxes, 192, 0, 0, NULL, 0, NULL, 0, told), 0);
+    hold_mesh("pierced_at_start_rows, no boxes", makhnodri_pierced_at_start_rows_slices(NO_SCENE, NO_HINTS, NULL, 0, 0, 0, NULL, 0, told), MAKHNODRI_SHORT_BUFFER);
+    hold_mesh("pierced_at_start_rows", makhnodri_pierced_at_start_rows_slices(NO_SCENE, NO_HINTS, boxes, 192, 0, 0, NULL, 0, told), 0);
+    hold_mesh("pierced_at_end_rows, no boxes", makhnodri_pierced_at_end_rows_slices(NO_SCENE, NO_HINTS, NULL, 0, 0, 0, NULL, 0, told), MAKHNODRI_SHORT_BUFFER);
+    hold_mesh("pierced_at_end_rows", makhnodri_pierced_at_end_rows_slices(NO_SCENE, NO_HINTS, boxes, 192, 0, 0, NULL, 0, told), 0);
+    makhnodri_mesh mesh = {0};
+    makhnodri_scratch scratch = {0};
+    if (makhnodri_box_room(&mesh) != 192 || makhnodri_table_room(&mesh) || makhnodri_place_room(&mesh) || makhnodri_row_count(&mesh))
+        wrong = 1, puts("the room of no mesh");
+    scratch.boxes = boxes, scratch.boxes_length = 192;
+    hold_mesh("check_mesh of a struct", makhnodri_check_mesh(&mesh, &scratch), 0);
+    hold_mesh("check_edges of a struct", makhnodri_check_edges(&mesh, &scratch, NULL, 0, NULL, 0, told), 0);
+    hold_mesh("count_rows of a struct", makhnodri_count_rows(&mesh, &scratch, 0, 0, told), 0);
+    hold_mesh("count_near_rows of a struct", makhnodri_count_near_rows(&mesh, &scratch, 0, 0, told), 0);
+    hold_mesh("list_rows of a struct", makhnodri_list_rows(&mesh, &scratch, 0, 0, NULL, 0, told), 0);
+    hold_mesh("list_near_rows of a struct", makhnodri_list_near_rows(&mesh, &scratch, 0, 0, NULL, 0, told), 0);
+    hold_mesh("settle_rows of a struct", makhnodri_settle_rows(&mesh, &scratch, 0, 0, NULL, 0, NULL, 0, told), 0);
+    hold_mesh("settle_near_rows of a struct", makhnodri_settle_near_rows(&mesh, &scratch, 0, 0, NULL, 0, NULL, 0, told), 0);
+    hold_mesh("pierced_at_start_rows of a struct", makhnodri_pierced_at_start_rows(&mesh, &scratch, 0, 0, NULL, 0, told), 0);
+    hold_mesh("pierced_at_end_rows of a struct", makhnodri_pierced_at_end_rows(&mesh, &scratch, 0, 0, NULL, 0, told), 0);
+}
+
 int main(void) {
     static uint8_t out[MAKHNODRI_REPORT_LENGTH];
     static makhnodri_buffers buffers;
     makhnodri_scene scene = {0};
     hold_slices();
     hold_boxed_slices();
+    hold_meshes();
     hold_scene(&scene);
     static int32_t boxes[MAKHNODRI_BOXES_LENGTH];
     static makhnodri_told told = {.first = 7};

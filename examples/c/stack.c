@@ -245,6 +245,51 @@ static void write_asked(void) {
     }
 }
 
+/* the scene as a mesh, whose edges are not the sides of its triangles; and with orders */
+static uint32_t wide_edges[MAKHNODRI_EDGES_LENGTH], wide_triangles[MAKHNODRI_TRIANGLES_LENGTH], wide_seams[MAKHNODRI_SEAMS_LENGTH];
+static uint32_t numbers[MAKHNODRI_EDGES_LENGTH], table[MAKHNODRI_VERTEX_LIMIT], places[8192];
+static uint64_t told_of_a_mesh[6];
+static int32_t room[16384];
+static uint64_t entries[MAKHNODRI_PAIR_LIMIT];
+
+static void widen(void) {
+    for (size_t i = 0; i < MAKHNODRI_EDGES_LENGTH; i++) wide_edges[i] = edges[i], numbers[i] = (uint32_t)i;
+    for (size_t i = 0; i < MAKHNODRI_TRIANGLES_LENGTH; i++) wide_triangles[i] = triangles[i];
+    for (size_t i = 0; i < seams_length; i++) wide_seams[i] = seams[i];
+}
+
+#define MESH positions, MAKHNODRI_POSITIONS_LENGTH, wide_edges, MAKHNODRI_EDGES_LENGTH, wide_triangles, MAKHNODRI_TRIANGLES_LENGTH, wide_seams, seams_length
+#define SEWN table, MAKHNODRI_VERTEX_LIMIT
+#define LISTED sizeof places / sizeof places[0]
+#define ROWS MESH, numbers, MAKHNODRI_EDGE_LIMIT, numbers, MAKHNODRI_TRIANGLE_LIMIT, SEWN, places, LISTED, room, sizeof room / sizeof room[0]
+#define ALL 0, MAKHNODRI_VERTEX_LIMIT + MAKHNODRI_EDGE_LIMIT
+
+static void pierced_at_start(void) { makhnodri_pierced_at_start_slices(SCENE, place, place / 3); }
+static void pierced_at_end(void) { makhnodri_pierced_at_end_slices(SCENE, place, place / 3); }
+static void check_mesh(void) { makhnodri_check_mesh_slices(MESH, SEWN); }
+static void check_edges(void) {
+    makhnodri_check_edges_slices(MESH, numbers, MAKHNODRI_TRIANGLES_LENGTH, numbers, MAKHNODRI_EDGE_LIMIT, SEWN, places, LISTED, told_of_a_mesh);
+}
+static void count_rows(void) { makhnodri_count_rows_slices(ROWS, ALL, told_of_a_mesh); }
+static void count_near_rows(void) { makhnodri_count_near_rows_slices(ROWS, ALL, told_of_a_mesh); }
+static void list_rows(void) { makhnodri_list_rows_slices(ROWS, ALL, entries, sizeof entries / sizeof entries[0], told_of_a_mesh); }
+static void list_near_rows(void) {
+    makhnodri_list_near_rows_slices(ROWS, ALL, entries, sizeof entries / sizeof entries[0], told_of_a_mesh);
+}
+static void settle_rows(void) {
+    makhnodri_settle_rows_slices(ROWS, ALL, entries, sizeof entries / sizeof entries[0], words, sizeof words, told_of_a_mesh);
+}
+static void settle_near_rows(void) {
+    makhnodri_settle_near_rows_slices(ROWS, ALL, entries, sizeof entries / sizeof entries[0], words, sizeof words, told_of_a_mesh);
+}
+static void pierced_at_start_rows(void) {
+    makhnodri_pierced_at_start_rows_slices(ROWS, 0, MAKHNODRI_EDGE_LIMIT, entries, sizeof entries / sizeof entries[0], told_of_a_mesh);
+}
+static void pierced_at_end_rows(void) {
+    makhnodri_pierced_at_end_rows_slices(ROWS, 0, MAKHNODRI_EDGE_LIMIT, entries, sizeof entries / sizeof entries[0], told_of_a_mesh);
+}
+/* end of meshes */
+
 static const struct {
     const char *name;
     void (*call)(void);
@@ -281,6 +326,18 @@ static const struct {
     {"settle_stored", settle_stored, 4},
     {"read_boxed", read_boxed, 40},
     {"import_scene", import_scene, 20},
+    {"pierced_at_start", pierced_at_start, 400},
+    {"pierced_at_end", pierced_at_end, 400},
+    {"check_mesh", check_mesh, 4},
+    {"check_edges", check_edges, 4},
+    {"count_rows", count_rows, 4},
+    {"count_near_rows", count_near_rows, 4},
+    {"list_rows", list_rows, 4},
+    {"list_near_rows", list_near_rows, 4},
+    {"settle_rows", settle_rows, 4},
+    {"settle_near_rows", settle_near_rows, 4},
+    {"pierced_at_start_rows", pierced_at_start_rows, 4},
+    {"pierced_at_end_rows", pierced_at_end_rows, 4},
 };
 
 enum { SCENES = 20 };
@@ -295,6 +352,7 @@ static size_t most_of(size_t i) {
             write_steps((unsigned)run);
             write_claims((unsigned)run);
             write_asked();
+            widen();
             fill_boxes();
             write_files((unsigned)run);
             place = (size_t)run;

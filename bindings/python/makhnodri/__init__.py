@@ -46,6 +46,7 @@ VERTEX_LIMIT = 512
 EDGE_LIMIT = 1024
 TRIANGLE_LIMIT = 512
 SEAM_LIMIT = 512
+PART_LIMIT = 1073741824
 TEXT_LIMIT = 32768
 REPORT_ROOM = 3072
 PAIR_LIMIT = 785920
@@ -97,12 +98,16 @@ PT, EE = Kind
 
 NO, YES = 0, 1
 
+# what was found of the edges of a mesh
+EDGES_WHOLE, SIDE_BARE, EDGE_TWICE = 0, 1, 2
+
 # the file that a refusal of an import is about
 NO_FILE, START_FILE, END_FILE = 0, 1, 2
 
 # refusals by the header's names, and what each says
 SHAPE, COORDINATE, UNKNOWN_VERTEX, REPEATED_VERTEX, NOT_THERE, SHARED_VERTEX, NO_ROOM, LONG_TEXT = range(1, 9)
 BAD_LINE, LATE_RECORD, TOO_MANY, SHORT_BUFFER, BLOCK_LENGTH, FILES_DIFFER, BROKEN_SEAM, BEYOND_OLD_RANGE, STALE_BOX = range(9, 18)
+WRONG_ORDER = 18
 _REFUSALS = {
     SHAPE: "positions not a multiple of 6 long, edges of 2, triangles of 3, seams of 2, or a count over its size",
     COORDINATE: "a coordinate outside its range",
@@ -121,6 +126,7 @@ _REFUSALS = {
     BROKEN_SEAM: "a seam that breaks the rules of seams, or whose two positions differ",
     BEYOND_OLD_RANGE: "a contact asked for in a scene with a coordinate beyond 262,143",
     STALE_BOX: "a stored box that isn't the one worked out",
+    WRONG_ORDER: "a lent order that is none, or not a number for each side",
 }
 
 
@@ -201,6 +207,26 @@ def entry_second(number: int) -> int:
     return number & 1023
 
 
+def mesh_entry(kind: int, first: int, second: int) -> int:
+    """The number of a pair of a mesh in a list: 2^63 for two edges, plus 2^32 times the first place, plus the second."""
+    return (kind << 63) + (first << 32) + second
+
+
+def mesh_entry_kind(number: int) -> Kind:
+    """PT below 2^63 and EE from there on."""
+    return Kind(number >> 63)
+
+
+def mesh_entry_first(number: int) -> int:
+    """Its first place: the vertex, or the first edge; of an edge that is through a triangle the edge."""
+    return number >> 32 & 0x7FFFFFFF
+
+
+def mesh_entry_second(number: int) -> int:
+    """Its second place: the triangle, or the second edge."""
+    return number & 0xFFFFFFFF
+
+
 class Pair(typing.NamedTuple):
     """A pair: its kind and its two places, a vertex and a triangle or two edges, each counted from 0 in its own kind."""
 
@@ -217,6 +243,11 @@ class Pair(typing.NamedTuple):
     def entry(self) -> int:
         """The number of the pair in a list."""
         return entry(*self)
+
+    @classmethod
+    def of_mesh_entry(cls, number: int) -> Pair:
+        """The pair that has this number in the list of a mesh."""
+        return cls(mesh_entry_kind(number), mesh_entry_first(number), mesh_entry_second(number))
 
     def __str__(self) -> str:
         return f"{self.kind} {self.first} {self.second}"
@@ -415,7 +446,7 @@ class _Place:
 class _Lists:
     """A `Scene`: four buffers that are only read."""
 
-    name, optional = "scene", False
+    name, optional, stated = "scene", False, "Scene"
     parts = (_Read("positions", _INT32), _Read("edges", _UINT16), _Read("triangles", _UINT16), _Read("seams", _UINT16))
     c = _Read.c * len(parts)
 
@@ -429,6 +460,51 @@ class _MovedLists(_Lists):
     """A `Scene` whose positions are written."""
 
     parts = (_Write("positions", _INT32), *_Lists.parts[1:])
+
+
+class _MeshLists(_Lists):
+    """A `Mesh`: four buffers that are only read."""
+
+    name, stated = "mesh", "Mesh"
+    parts = (_Read("positions", _INT32), _Read("edges", _UINT32), _Read("triangles", _UINT32), _Read("seams", _UINT32))
+
+    def words(self, given, lent):
+        if not isinstance(given, Mesh):
+            raise TypeError(f"mesh: a Mesh is wanted, and here is {type(given).__name__}")
+        return [word for part in self.parts for word in part.words(getattr(given, part.name), lent)]
+
+
+class _OrderedLists(_MeshLists):
+    """A `Mesh` with its orders."""
+
+    parts = (*_MeshLists.parts, _Read("edge_order", _UINT32), _Read("triangle_order", _UINT32))
+    c = _Read.c * len(parts)
+
+
+class _InScratch(_Lists):
+    """The lists of a `Scratch`, or some of them: they are written."""
+
+    name, stated = "scratch", "Scratch"
+
+    def __init__(self, *parts):
+        self.parts, self.c = tuple(_Write(name, numbers) for name, numbers in parts), _Read.c * len(parts)
+
+    def words(self, given, lent):
+        if not isinstance(given, Scratch):
+            raise TypeError(f"scratch: a Scratch is wanted, and here is {type(given).__name__}")
+        return [word for part in self.parts for word in part.words(getattr(given, part.name), lent)]
+
+
+class _Number(_Place):
+    """A number of 32 bits."""
+
+    c = (ctypes.c_uint32,)
+
+    def words(self, given, lent):
+        number = operator.index(given)
+        if not 0 <= number < 1 << 32:
+            raise OverflowError(f"{self.name}: {number} is below 0 or beyond 32 bits")
+        return (number,)
 
 
 # what a call gives where it does not refuse
@@ -508,6 +584,46 @@ def _calls(symbol: str, given: typing.Any, *arguments: typing.Any) -> typing.Cal
     return made
 
 
+def _calls_mesh(symbol: str, given: typing.Any, *arguments: typing.Any) -> typing.Callable[[_Stated], _Stated]:
+    """The same over a mesh: the number is the refusal's, and what is told stands in the last array, which is made where none is lent."""
+    _calls(symbol, given, *arguments)
+    function, last = _functions[symbol], arguments[-1]
+    function.restype = ctypes.c_uint32
+    wanted = len(arguments) - last.optional
+
+    def made(stated):
+        @functools.wraps(stated)
+        def call(*lent):
+            if not wanted <= len(lent) <= len(arguments):
+                raise TypeError(f"{stated.__name__} takes {', '.join(argument.name for argument in arguments)}; {len(lent)} were given")
+            if last.optional and (len(lent) == wanted or lent[-1] is None):
+                lent = (*lent[:wanted], _room(_UINT64, last.length))
+            with _Lent() as held:
+                for scratch in (one for one in lent if isinstance(one, Scratch) and isinstance(lent[0], Mesh)):
+                    scratch.fit(lent[0])
+                number = function(*(word for argument, one in zip(arguments, lent) for word in argument.words(one, held)))
+            told = memoryview(lent[-1]).cast("B").cast("Q") if last.optional else ()
+            if number:
+                raise Refused(number, told[0] if number == NO_ROOM else 0)
+            return given(told)
+
+        return call
+
+    return made
+
+
+def _TOLD_COUNT(told):
+    return told[0]
+
+
+def _TOLD_EDGES(told):
+    return told[0], told[1]
+
+
+def _TOLD_KEPT(told):
+    return Kept(*told[:6])
+
+
 def _refused(answer, given):
     if given is _IMPORTED:
         return Refused(refusal(answer), import_line(answer), (None, "start", "end")[import_file(answer)])
@@ -564,6 +680,16 @@ def saved_length(scene: Scene, /) -> int:
 @_calls("save_scene_slices", _COUNT, _SCENE, _Write("text", _UINT8))
 def save_scene(scene: Scene, text: WriteableBuffer, /) -> int:
     """Writes the scene as text (docs/FORMAT.md) in front of `text`, and gives its length."""
+
+
+@_calls("pierced_at_start_slices", bool, _SCENE, _Place("edge"), _Place("triangle"))
+def pierced_at_start(scene: Scene, edge: int, triangle: int, /) -> bool:
+    """Whether an edge is through a triangle at the start: nonnegative weights give them one place. Refused with 5 or 6 too."""
+
+
+@_calls("pierced_at_end_slices", bool, _SCENE, _Place("edge"), _Place("triangle"))
+def pierced_at_end(scene: Scene, edge: int, triangle: int, /) -> bool:
+    """The same at the end."""
 
 
 @_calls("check_claims_slices", _COUNT, _SCENE, _Read("claims", _UINT8), _Write("answers", _UINT8))
@@ -739,6 +865,92 @@ def read_boxed(
     """As `read_scene`, and the boxes of the scene's parts into `boxes`. `BoxedScene.read` does all of it."""
 
 
+_MESH, _ROWS, _TABLE = _MeshLists(), _OrderedLists(), _InScratch(("table", _UINT32))
+_TABLE_AND_PLACES = _InScratch(("table", _UINT32), ("places", _UINT32))
+_SCRATCH = _InScratch(("table", _UINT32), ("places", _UINT32), ("boxes", _INT32))
+_STRETCH = (_Place("first"), _Place("end"))
+
+# ---- Functions of a mesh of any size: a stretch of rows at a time. The scratch is made as long as the mesh needs it, so that 12 is not met
+
+
+@_calls_mesh("check_mesh_slices", _NOTHING, _MESH, _TABLE)
+def check_mesh(mesh: Mesh, scratch: Scratch, /) -> None:
+    """Whether this mesh may be used: Refused with 1, 2, 3, 15 or 4 where it may not."""
+
+
+@_calls_mesh(
+    "check_edges_slices",
+    _TOLD_EDGES,
+    _MESH,
+    _Read("sides", _UINT32),
+    _Read("order", _UINT32),
+    _TABLE_AND_PLACES,
+    _Fixed("told", _UINT64, 2, optional=True),
+)
+def check_edges(
+    mesh: Mesh, sides: ReadableBuffer, order: ReadableBuffer, scratch: Scratch, told: typing.Optional[WriteableBuffer] = None, /
+) -> typing.Tuple[int, int]:
+    """Whether edges that were made from the triangles are whole: EDGES_WHOLE and 0, SIDE_BARE and the first side that has not its edge, or EDGE_TWICE
+    and the number of the order behind which the ends do not rise. `sides` has the edge of each side, three to a triangle, and `order` the edges by
+    their ends, the lower end first; Refused with 18 where one is of another length, or the order is none."""
+
+
+@_calls_mesh("count_rows_slices", _TOLD_COUNT, _ROWS, _SCRATCH, *_STRETCH, _Fixed("told", _UINT64, 1, optional=True))
+def count_rows(
+    mesh: Mesh, scratch: Scratch, first: int, end: int, told: typing.Optional[WriteableBuffer] = None, /
+) -> int:
+    """How many pairs the rows from `first` up to and without `end` have."""
+
+
+@_calls_mesh("count_near_rows_slices", _TOLD_COUNT, _ROWS, _SCRATCH, *_STRETCH, _Fixed("told", _UINT64, 1, optional=True))
+def count_near_rows(
+    mesh: Mesh, scratch: Scratch, first: int, end: int, told: typing.Optional[WriteableBuffer] = None, /
+) -> int:
+    """How many pairs the rows from `first` up to and without `end` have, of the near ones."""
+
+
+@_calls_mesh("list_rows_slices", _TOLD_COUNT, _ROWS, _SCRATCH, *_STRETCH, _Write("list", _UINT64), _Fixed("told", _UINT64, 1, optional=True))
+def list_rows(
+    mesh: Mesh, scratch: Scratch, first: int, end: int, list: WriteableBuffer, told: typing.Optional[WriteableBuffer] = None, /
+) -> int:
+    """Their entries in front of `list`, in rising order; gives the count, or is Refused with 7."""
+
+
+@_calls_mesh("list_near_rows_slices", _TOLD_COUNT, _ROWS, _SCRATCH, *_STRETCH, _Write("list", _UINT64), _Fixed("told", _UINT64, 1, optional=True))
+def list_near_rows(
+    mesh: Mesh, scratch: Scratch, first: int, end: int, list: WriteableBuffer, told: typing.Optional[WriteableBuffer] = None, /
+) -> int:
+    """Their entries in front of `list`, in rising order, of the near ones; gives the count, or is Refused with 7."""
+
+
+@_calls_mesh("settle_rows_slices", _TOLD_COUNT, _ROWS, _SCRATCH, *_STRETCH, _Write("list", _UINT64), _WORDS, _Fixed("told", _UINT64, 1, optional=True))
+def settle_rows(
+    mesh: Mesh, scratch: Scratch, first: int, end: int, list: WriteableBuffer, words: WriteableBuffer, told: typing.Optional[WriteableBuffer] = None, /
+) -> int:
+    """Their entries and the word of each, words[i] that of entry i."""
+
+
+@_calls_mesh("settle_near_rows_slices", _TOLD_COUNT, _ROWS, _SCRATCH, *_STRETCH, _Write("list", _UINT64), _WORDS, _Fixed("told", _UINT64, 1, optional=True))
+def settle_near_rows(
+    mesh: Mesh, scratch: Scratch, first: int, end: int, list: WriteableBuffer, words: WriteableBuffer, told: typing.Optional[WriteableBuffer] = None, /
+) -> int:
+    """Their entries and the word of each, words[i] that of entry i, of the near ones."""
+
+
+@_calls_mesh("pierced_at_start_rows_slices", _TOLD_COUNT, _ROWS, _SCRATCH, *_STRETCH, _Write("list", _UINT64), _Fixed("told", _UINT64, 1, optional=True))
+def pierced_at_start_rows(
+    mesh: Mesh, scratch: Scratch, first: int, end: int, list: WriteableBuffer, told: typing.Optional[WriteableBuffer] = None, /
+) -> int:
+    """The edges from `first` up to and without `end` that are through a triangle at the start, an entry for each such edge and triangle."""
+
+
+@_calls_mesh("pierced_at_end_rows_slices", _TOLD_COUNT, _ROWS, _SCRATCH, *_STRETCH, _Write("list", _UINT64), _Fixed("told", _UINT64, 1, optional=True))
+def pierced_at_end_rows(
+    mesh: Mesh, scratch: Scratch, first: int, end: int, list: WriteableBuffer, told: typing.Optional[WriteableBuffer] = None, /
+) -> int:
+    """The edges from `first` up to and without `end` that are through a triangle at the end, an entry for each such edge and triangle."""
+
+
 # ---- A scene
 
 
@@ -866,6 +1078,78 @@ class Scene:
     def __repr__(self) -> str:
         sizes = ((part.name, getattr(self, part.name)) for part in _Lists.parts)
         return f"<Scene {', '.join(f'{name}: {0 if given is None else memoryview(given).nbytes} bytes' for name, given in sizes)}>"
+
+
+class Mesh:
+    """A mesh of any size: the lists of a `Scene` with 32-bit unsigned vertex numbers ('I'), and an order of its edges and one of its triangles, hints that
+    change no answer, or None. Each is a buffer that is lent as it is; a list or a tuple of Python's is copied into an array. Its list is asked for by
+    rows, a stretch at a time: row v is vertex v's, row vertices + e is edge e's. Threads take stretches, each with a `Scratch` of its own; what
+    neighbouring stretches list, joined, is the list of both."""
+
+    __slots__ = ("positions", "edges", "triangles", "seams", "edge_order", "triangle_order")
+    positions: typing.Optional[ReadableBuffer]
+    edges: typing.Optional[ReadableBuffer]
+    triangles: typing.Optional[ReadableBuffer]
+    seams: typing.Optional[ReadableBuffer]
+    edge_order: typing.Optional[ReadableBuffer]
+    triangle_order: typing.Optional[ReadableBuffer]
+
+    def __init__(
+        self,
+        positions: _Numbers = None,
+        edges: _Numbers = None,
+        triangles: _Numbers = None,
+        seams: _Numbers = None,
+        edge_order: _Numbers = None,
+        triangle_order: _Numbers = None,
+    ) -> None:
+        for part, given in zip(_OrderedLists.parts, (positions, edges, triangles, seams, edge_order, triangle_order)):
+            setattr(self, part.name, _in_a_row(given, part.numbers))
+
+    def _length(self, name: str) -> int:
+        given = getattr(self, name)
+        return 0 if given is None else memoryview(given).nbytes // 4
+
+    @property
+    def rows(self) -> int:
+        """How many rows it has: one for each vertex and one for each edge."""
+        return self._length("positions") // 6 + self._length("edges") // 2
+
+
+def row_count(mesh: Mesh) -> int:
+    """How many rows a mesh has."""
+    return mesh.rows
+
+
+def table_room(mesh: Mesh) -> int:
+    """How many numbers the table of a scratch needs."""
+    return mesh._length("positions") // 6 if mesh._length("seams") else 0
+
+
+def place_room(mesh: Mesh) -> int:
+    """How many numbers the places of a scratch need."""
+    return mesh._length("edges") // 2 + mesh._length("triangles") // 3 + 2 * (mesh._length("edge_order") + mesh._length("triangle_order"))
+
+
+def box_room(mesh: Mesh) -> int:
+    """How many numbers the boxes of a scratch need."""
+    vertices, edges, triangles = mesh._length("positions") // 6, mesh._length("edges") // 2, mesh._length("triangles") // 3
+    return 6 * (vertices + edges + triangles + edges // 15 + 16 + triangles // 15 + 16)
+
+
+class Scratch:
+    """What a call over a mesh works in: it grows as a mesh needs it, and nothing is kept in it from call to call. Each thread has its own."""
+
+    __slots__ = ("table", "places", "boxes")
+
+    def __init__(self) -> None:
+        self.table, self.places, self.boxes = _room(_UINT32, 0), _room(_UINT32, 0), _room(_INT32, 0)
+
+    def fit(self, mesh: Mesh) -> None:
+        """Makes it as long as this mesh needs it."""
+        for name, numbers, room in (("table", _UINT32, table_room(mesh)), ("places", _UINT32, place_room(mesh)), ("boxes", _INT32, box_room(mesh))):
+            if len(getattr(self, name)) < room:
+                setattr(self, name, _room(numbers, room))
 
 
 def _weights(scene, edges, pair, contact):

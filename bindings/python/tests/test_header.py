@@ -8,8 +8,8 @@ from . import TOP
 
 HEADER = (TOP / "include/makhnodri.h").read_text(encoding="utf-8")
 CODE = re.sub(r"[ \t]+$", "", re.sub(r"/\*.*?\*/", "", HEADER, flags=re.S), flags=re.M)
-NO_NUMBERS = {"H", "AT_LEAST", "LISTS", "LISTS_OF", "BOXED_LISTS_OF"}  # macros that stand for no number
-STRUCTS = {"scene", "buffers", "boxed_scene", "boxed_buffers", "hit", "told"}  # Scene, arrays, BoxedScene, arrays, Hit and Told
+NO_NUMBERS = {"H", "AT_LEAST", "LISTS", "LISTS_OF", "BOXED_LISTS_OF", "MESH_LISTS", "ROW_LISTS", "ROW_LISTS_OF"}  # macros that stand for no number
+STRUCTS = {"scene", "buffers", "boxed_scene", "boxed_buffers", "hit", "told", "mesh", "scratch"}  # Scene, arrays, BoxedScene, arrays, Hit ..
 TYPES = {"int32_t": "_INT32", "uint16_t": "_UINT16", "uint32_t": "_UINT32", "uint8_t": "_UINT8", "size_t": "_SIZE", "uint64_t": "_UINT64"}
 
 
@@ -19,10 +19,12 @@ def in_numbers(length):
 
 def declared():
     """The functions of the library, by name: each parameter as its words and its name."""
-    lists = re.search(r"#define MAKHNODRI_LISTS\b(.*?[^\\])\n", CODE, re.S).group(1).replace("\\\n", " ")
+    lists = {name: lists.replace("\\\n", " ") for name, lists in re.findall(r"#define (MAKHNODRI_\w*LISTS)\b(?!\()(.*?[^\\])\n", CODE, re.S)}
     functions = {}
-    for name, parameters in re.findall(r"^(?:makhnodri_answer|size_t) makhnodri_(\w+)\(((?:[^()]|\([^()]*\))*)\);", CODE, re.M):
-        parameters = re.sub(r"MAKHNODRI_AT_LEAST\((?:MAKHNODRI_)?(\w+)\)", in_numbers, parameters.replace("MAKHNODRI_LISTS", lists))
+    for name, parameters in re.findall(r"^(?:makhnodri_answer|size_t|uint32_t) makhnodri_(\w+)\(((?:[^()]|\([^()]*\))*)\);", CODE, re.M):
+        for _ in range(2):  # one stands in another
+            parameters = re.sub(r"MAKHNODRI_\w*LISTS", lambda found: lists[found.group()], parameters)
+        parameters = re.sub(r"MAKHNODRI_AT_LEAST\((?:MAKHNODRI_)?(\w+)\)", in_numbers, parameters)
         functions[name] = [" ".join(part.split()) for part in parameters.split(",")]
     return functions
 
@@ -32,7 +34,7 @@ def in_c(argument):
     if isinstance(argument, makhnodri._Lists):
         return [word for part in argument.parts for word in in_c(part)]
     if isinstance(argument, makhnodri._Place):
-        return [f"size_t {argument.name}"]
+        return [f"{'uint32_t' if isinstance(argument, makhnodri._Number) else 'size_t'} {argument.name}"]
     spelt = next(name for name, ours in TYPES.items() if argument.numbers is getattr(makhnodri, ours))
     if isinstance(argument, makhnodri._Fixed):
         return [f"{'' if argument.written else 'const '}{spelt} {argument.name}[{argument.length}]"]
@@ -66,7 +68,7 @@ class Header(unittest.TestCase):
         for name, said in words.items():
             number = getattr(makhnodri, name)
             self.assertEqual(makhnodri.word(number) if isinstance(number, makhnodri.Word) else makhnodri.refusal_words(number), said)
-        self.assertEqual((makhnodri.word(5), makhnodri.refusal_words(0), makhnodri.refusal_words(18)), ("no word", "not refused", "no refusal"))
+        self.assertEqual((makhnodri.word(5), makhnodri.refusal_words(0), makhnodri.refusal_words(19)), ("no word", "not refused", "no refusal"))
 
     def test_structs_have_their_stand_ins(self):
         self.assertEqual(set(re.findall(r"^} makhnodri_(\w+);", CODE, re.M)), STRUCTS)

@@ -55,10 +55,11 @@ class Help(unittest.TestCase):
             self.assertEqual([one.default is None for one in stated], [argument.optional for argument in arguments], symbol)
             self.assertTrue(all(one.kind is one.POSITIONAL_ONLY for one in stated), symbol)
             for one, argument in zip(stated, arguments):
-                plain = next((name for kind, name in ((makhnodri._Place, "int"), (makhnodri._Lists, "Scene")) if isinstance(argument, kind)), None)
+                plain = "int" if isinstance(argument, makhnodri._Place) else getattr(argument, "stated", None)
                 buffer = "WriteableBuffer" if getattr(argument, "written", False) else "ReadableBuffer"
                 self.assertIn(one.annotation, (plain,) if plain else (buffer, f"typing.Optional[{buffer}]"), f"{symbol} {one.name}")
-            answer = {makhnodri.Word: "Word", int: "int"}.get(given, "None")
+            told = {makhnodri._TOLD_COUNT: "int", makhnodri._TOLD_EDGES: "typing.Tuple[int, int]", makhnodri._TOLD_KEPT: "Kept"}
+            answer = {makhnodri.Word: "Word", int: "int", bool: "bool", **told}.get(given, "None")
             self.assertEqual(inspect.signature(function).return_annotation, answer, symbol)
 
     def test_help_has_them(self):

@@ -146,7 +146,7 @@ pub struct Listed {
     pub box_tests: usize,
 }
 
-/// Why a call was refused, in the order of the numbers, 1 to 17. [`Refusal::StaleBox`] is given to no call of this wrapper: a
+/// Why a call was refused, in the order of the numbers, 1 to 18. [`Refusal::StaleBox`] is given to no call of this wrapper: a
 /// [`BoxedScene`](crate::BoxedScene) keeps its boxes right.
 #[derive(Clone, Copy, Debug, PartialEq, Eq, Hash)]
 #[non_exhaustive]
@@ -185,6 +185,8 @@ pub enum Refusal {
     BeyondOldRange,
     /// A stored box that isn't the one worked out.
     StaleBox,
+    /// A lent order that is none, or not a number for each side.
+    WrongOrder,
 }
 
 /// Why no list was made.
@@ -264,7 +266,7 @@ pub enum SaveRefusal {
     },
 }
 
-const REFUSALS: [(Refusal, &str); 17] = [
+const REFUSALS: [(Refusal, &str); 18] = [
     (Refusal::Shape, "positions not a multiple of 6 long, edges of 2, triangles of 3, seams of 2, or a count over its size"),
     (Refusal::Coordinate, "a coordinate outside its range"),
     (Refusal::UnknownVertex, "a vertex number not below the vertex count"),
@@ -282,6 +284,7 @@ const REFUSALS: [(Refusal, &str); 17] = [
     (Refusal::BrokenSeam, "a seam that breaks the rules of seams, or whose two positions differ"),
     (Refusal::BeyondOldRange, "a contact asked for in a scene with a coordinate beyond 262,143"),
     (Refusal::StaleBox, "a stored box that isn't the one worked out"),
+    (Refusal::WrongOrder, "a lent order that is none, or not a number for each side"),
 ];
 
 impl Refusal {
@@ -296,7 +299,7 @@ impl Refusal {
         own.expect("every refusal has its words").1
     }
 
-    fn numbered(number: u64) -> Refusal {
+    pub(crate) fn numbered(number: u64) -> Refusal {
         let own = REFUSALS.iter().find(|(refusal, _)| refusal.number() as u64 == number);
         own.expect("the library gives no other number").0
     }

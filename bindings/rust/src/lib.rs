@@ -40,6 +40,8 @@
 //!
 //! A [`BoxedScene`] keeps the boxes of its parts, for a program that drags one vertex after the other.
 //!
+//! A [`Mesh`] is a scene of any size: its list is asked for by rows, a stretch at a time, by as many threads as one likes.
+//!
 //! A pair's two places are a vertex and a triangle, or two edges, each counted from 0 in its own kind: pt 3 0 is vertex 3 and
 //! triangle 0.
 //!
@@ -65,6 +67,7 @@ mod answers;
 mod boxed;
 mod contacts;
 mod importing;
+mod meshes;
 mod own;
 #[doc(hidden)]
 pub mod raw;
@@ -78,6 +81,7 @@ pub use answers::{
 pub use boxed::BoxedScene;
 pub use contacts::Contact;
 pub use importing::{import_scene, ImportRefusal, ObjFile};
+pub use meshes::{EdgesFound, Mesh, MeshPair, RowPairs, RowsRefusal, Scratch};
 pub use own::OwnRefusal;
 pub use scenes::{turn_scene, Scene};
 pub use series::{tell_series, Hit, Log, Series, SeriesRefusal, Told};
@@ -96,6 +100,8 @@ pub const EDGE_LIMIT: usize = 1_024;
 pub const TRIANGLE_LIMIT: usize = 512;
 /// Seams of a scene, at most.
 pub const SEAM_LIMIT: usize = 512;
+/// 2^30: vertices, edges, triangles and seams of a mesh, each at most so many.
+pub const PART_LIMIT: usize = 1 << 30;
 /// Bytes of a scene text, and of an OBJ file.
 pub const TEXT_LIMIT: usize = 32_768;
 /// Pairs that a report has room for.

@@ -226,6 +226,27 @@ impl Scene<'_> {
     }
 }
 
+/// Whether an edge is through a triangle already, at one time: nonnegative weights give them one place. One that touches a side, or ends in the
+/// triangle, is through it too. 5 where there is no such edge or triangle, 6 where they share a vertex.
+///
+/// ```
+/// // an edge that comes down on a resting triangle, and ends with its lower end below it
+/// let positions = [0, 0, 0, 0, 0, 0, 4, 0, 0, 4, 0, 0, 0, 4, 0, 0, 4, 0, 1, 1, 3, 1, 1, 1, 1, 1, 1, 1, 1, -1];
+/// let scene = makhnodri::Scene::new(&positions, &[3, 4], &[0, 1, 2]);
+/// assert_eq!((scene.pierced_at_start(0, 0), scene.pierced_at_end(0, 0)), (Ok(false), Ok(true)));
+/// ```
+impl Scene<'_> {
+    /// At the start.
+    pub fn pierced_at_start(&self, edge: usize, triangle: usize) -> Result<bool, Refusal> {
+        heard(ask!(self, makhnodri_pierced_at_start_slices, edge, triangle)).map(|yes| yes == 1).map_err(bare)
+    }
+
+    /// At the end.
+    pub fn pierced_at_end(&self, edge: usize, triangle: usize) -> Result<bool, Refusal> {
+        heard(ask!(self, makhnodri_pierced_at_end_slices, edge, triangle)).map(|yes| yes == 1).map_err(bare)
+    }
+}
+
 /// Played backwards.
 impl Scene<'_> {
     /// The scene turned round, as by [`turn_scene`]; one with seams is not.

@@ -19,7 +19,7 @@ fn header() -> BTreeMap<String, i64> {
     text.lines().filter_map(numbered).collect()
 }
 
-const REFUSALS: [(&str, Refusal); 17] = [
+const REFUSALS: [(&str, Refusal); 18] = [
     ("SHAPE", Refusal::Shape),
     ("COORDINATE", Refusal::Coordinate),
     ("UNKNOWN_VERTEX", Refusal::UnknownVertex),
@@ -37,6 +37,7 @@ const REFUSALS: [(&str, Refusal); 17] = [
     ("BROKEN_SEAM", Refusal::BrokenSeam),
     ("BEYOND_OLD_RANGE", Refusal::BeyondOldRange),
     ("STALE_BOX", Refusal::StaleBox),
+    ("WRONG_ORDER", Refusal::WrongOrder),
 ];
 
 #[test]
@@ -51,6 +52,10 @@ fn the_header_has_the_same_numbers() {
         ("EDGE_LIMIT", EDGE_LIMIT),
         ("TRIANGLE_LIMIT", TRIANGLE_LIMIT),
         ("SEAM_LIMIT", SEAM_LIMIT),
+        ("PART_LIMIT", PART_LIMIT),
+        ("EDGES_WHOLE", 0),
+        ("SIDE_BARE", 1),
+        ("EDGE_TWICE", 2),
         ("TEXT_LIMIT", TEXT_LIMIT),
         ("REPORT_ROOM", REPORT_ROOM),
         ("PAIR_LIMIT", PAIR_LIMIT),
@@ -112,6 +117,8 @@ fn the_independent_program_has_the_same_sizes() {
     assert_eq!(Refusal::FilesDiffer.number() as u64, compare::scene::refusal::FILES_DIFFER);
     assert_eq!(Refusal::BrokenSeam.number() as u64, compare::scene::refusal::BROKEN_SEAM);
     assert_eq!(Refusal::StaleBox.number() as u64, compare::scene::refusal::STALE_BOX);
+    assert_eq!(Refusal::WrongOrder.number() as u64, compare::scene::refusal::WRONG_ORDER);
+    assert_eq!(PART_LIMIT, compare::mesh::checks::PART_LIMIT);
 }
 
 #[test]

@@ -2,6 +2,8 @@
 
 use super::bounds::{beyond, LONGEST_JUDGED, NO_TESTS};
 use super::harm::{harm, SCENE_CHECKS};
+use super::meshes;
+use super::pierced;
 use super::question::*;
 use super::series;
 use super::stored;
@@ -43,6 +45,7 @@ pub fn fixed() -> Vec<Question> {
     out.extend(stored::fixed());
     out.extend(obj_files::fixed().into_iter().flat_map(|trial| about_files(&mut random, trial)));
     out.extend(series::fixed());
+    out.extend(meshes::fixed());
     out
 }
 
@@ -74,6 +77,7 @@ pub fn seeded(seed: u64) -> Vec<Question> {
     out.extend(scenes_for_contacts(seed));
     out.extend(obj_files::seeded(seed).into_iter().flat_map(|trial| about_files(&mut random, trial)));
     out.extend(series::seeded(seed));
+    out.extend(meshes::seeded(seed));
     out
 }
 
@@ -179,6 +183,7 @@ fn whole(random: &mut Random, scene: &Scene) -> Vec<Question> {
     out.extend(about_own_lists(&mut random.clone(), scene));
     out.extend(about_saving(&mut random.clone(), scene));
     out.extend(stored::about(&mut random.clone(), scene));
+    out.extend(pierced::about(&mut random.clone(), scene));
     out
 }
 

@@ -36,6 +36,7 @@ pub fn all() -> Vec<Damage> {
     out.extend(stored_damaged::all());
     out.extend(importing());
     out.extend(series());
+    out.extend(super::meshes::damages());
     out
 }
 

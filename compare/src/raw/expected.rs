@@ -8,6 +8,10 @@ use crate::claims;
 use crate::contacts::{self, Contact};
 use crate::list::box_tests;
 use crate::list::listing;
+use crate::mesh::answering::Answering;
+use crate::mesh::lent::Ask;
+use crate::mesh::rows;
+use crate::mesh::wrong::Wrong as MeshWrong;
 use crate::obj;
 use crate::report;
 use crate::scene::backwards;
@@ -26,6 +30,7 @@ pub struct Expecting {
     contacts: HashMap<Pair, Option<Contact>>,
     /// The way in which stored boxes are got wrong, if any.
     wrong: Wrong,
+    meshes: Answering,
 }
 
 fn number_of(verdict: Verdict) -> u64 {
@@ -43,6 +48,11 @@ impl Expecting {
     }
 
     pub fn answer(&mut self, question: &Question) -> Answer {
+        if let Call::Mesh(call) = question.call {
+            let ask = Ask { call, asked: question.asked, lent: question.lent.mesh.clone() };
+            let (number, mesh) = self.meshes.answer(&ask, MeshWrong::Nothing);
+            return Answer { number, buffers: Lent { mesh, ..question.lent.clone() }.bytes() };
+        }
         let mut lent = question.lent.clone();
         let number = match self.called(question, &mut lent) {
             Ok(value) => value,
@@ -122,6 +132,12 @@ impl Expecting {
             Call::ReadBoxed => read_boxed(lent, self.wrong),
             Call::ImportScene => import(lent),
             Call::TellSeries => super::series::told(lent),
+            Call::Pierced(time) => {
+                let scene = scene(lent)?;
+                let [edge, triangle] = edge_and_triangle(&scene, question.asked)?;
+                Ok(rows::is_pierced(&scene, time, edge, triangle, MeshWrong::Nothing) as u64)
+            }
+            Call::Mesh(_) => unreachable!("a mesh's answer is no scene's"),
         }
     }
 
@@ -212,6 +228,18 @@ impl Expecting {
             *self = Expecting { scene: scene.clone(), ..Expecting::going_wrong(self.wrong) };
         }
     }
+}
+
+/// 5 where there is no such edge or triangle, 6 where an end stands for a corner.
+fn edge_and_triangle(scene: &Scene, [edge, triangle, _]: [u64; 3]) -> Result<[usize; 2], Refusal> {
+    if edge >= scene.edges.len() as u64 || triangle >= scene.triangles.len() as u64 {
+        return Err(Refusal::bare(NOT_THERE));
+    }
+    let (edge, triangle) = (edge as usize, triangle as usize);
+    if scene.edges[edge].iter().any(|&end| Pair::pt(end, triangle).shares_a_vertex(scene)) {
+        return Err(Refusal::bare(SHARES_A_VERTEX));
+    }
+    Ok([edge, triangle])
 }
 
 fn with_slices<T>(lent: &Lent, then: impl FnOnce(Slices) -> T) -> T {

@@ -6,6 +6,8 @@ pub mod change;
 pub mod damaged;
 pub mod expected;
 pub mod harm;
+pub mod meshes;
+pub mod pierced;
 pub mod question;
 pub mod series;
 pub mod sorts;

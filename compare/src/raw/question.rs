@@ -1,6 +1,7 @@
 //! A call of the library with everything that it is lent, and its answer; in the form in which driver.c takes and gives them.
 
 use crate::calls::slices;
+use crate::mesh::lent::{self as mesh, Time};
 use crate::scene::{Kind, Scene};
 
 /// The calls in the order of driver.c.
@@ -37,6 +38,10 @@ pub enum Call {
     /// Two OBJ files.
     ImportScene,
     TellSeries,
+    /// An edge and a triangle at one time.
+    Pierced(Time),
+    /// A mesh of any size.
+    Mesh(mesh::Call),
 }
 
 /// Of a pair, or of a piece of one.
@@ -85,10 +90,22 @@ pub fn calls() -> Vec<Call> {
     out.extend([Call::SavedLength, Call::SaveScene]);
     out.extend(STORED_CALLS);
     out.extend([Call::ReadBoxed, Call::ImportScene, Call::TellSeries]);
+    out.extend([Time::Start, Time::End].map(Call::Pierced));
+    out.extend(mesh::exported().into_iter().map(Call::Mesh));
     out
 }
 
 impl Call {
+    /// As driver.c has it: the calls over meshes stand behind the others.
+    fn number(self) -> u64 {
+        let others = calls().iter().filter(|call| !matches!(call, Call::Mesh(_))).count();
+        let place = match self {
+            Call::Mesh(own) => mesh::calls().iter().position(|&call| call == own).map(|place| others + place),
+            _ => calls().iter().position(|&call| call == self),
+        };
+        place.expect("every call has its number") as u64
+    }
+
     pub fn asked(self) -> Option<Asked> {
         match self {
             Call::Judge(asked) | Call::Settle(asked) | Call::Contact(asked) => Some(asked),
@@ -98,7 +115,8 @@ impl Call {
 
     /// Whether it takes a scene as slices.
     pub fn takes_a_scene(self) -> bool {
-        !matches!(self, Call::ReadScene | Call::WriteReport | Call::ReadBoxed | Call::ImportScene | Call::TellSeries)
+        let texts = [Call::ReadScene, Call::WriteReport, Call::ReadBoxed, Call::ImportScene, Call::TellSeries];
+        !texts.contains(&self) && !matches!(self, Call::Mesh(_))
     }
 
     /// Whether it reads a text into lent buffers.
@@ -177,6 +195,9 @@ impl Call {
             Call::ReadBoxed => "read_boxed".into(),
             Call::ImportScene => "import_scene".into(),
             Call::TellSeries => "tell_series".into(),
+            Call::Pierced(Time::Start) => "pierced_at_start".into(),
+            Call::Pierced(Time::End) => "pierced_at_end".into(),
+            Call::Mesh(call) => call.name(),
         }
     }
 }
@@ -203,12 +224,19 @@ pub struct Lent {
     /// A series' log, two numbers an entry, and what is told beside it.
     pub log: Vec<u32>,
     pub told: Vec<u64>,
+    /// What a call over a mesh is lent, and nothing else then.
+    pub mesh: mesh::Lent,
 }
 
-pub const BUFFERS: [&str; 15] = [
+pub const BUFFERS: [&str; 30] = [
     "positions", "edges", "triangles", "seams", "list", "words", "text", "counts", "report", "contacts", "boxes", "coordinates",
-    "ending", "log", "told",
+    "ending", "log", "told", "a mesh's positions", "a mesh's edges", "a mesh's triangles", "a mesh's seams", "order of edges",
+    "order of triangles", "sides", "edges by their ends", "table", "places", "a mesh's boxes", "a mesh's list", "a mesh's words",
+    "a mesh's contacts", "what is told of a mesh",
 ];
+
+/// The scratch of a call over a mesh: what stands there afterwards is promised by nobody.
+const SCRATCH: [usize; 3] = [23, 24, 25];
 
 /// The places of some buffers.
 pub const POSITIONS: usize = 0;
@@ -258,12 +286,29 @@ impl Lent {
             self.ending.len(),
             self.log.len(),
             self.told.len(),
+            self.mesh.positions.len(),
+            self.mesh.edges.len(),
+            self.mesh.triangles.len(),
+            self.mesh.seams.len(),
+            self.mesh.edge_order.len(),
+            self.mesh.triangle_order.len(),
+            self.mesh.sides.len(),
+            self.mesh.order.len(),
+            self.mesh.table.len(),
+            self.mesh.places.len(),
+            self.mesh.boxes.len(),
+            self.mesh.list.len(),
+            self.mesh.words.len(),
+            self.mesh.contacts.len(),
+            self.mesh.told.len(),
         ]
     }
 
     /// Each buffer between its margins.
     pub fn bytes(&self) -> [Vec<u8>; BUFFERS.len()] {
         let short = |numbers: &[u16]| numbers.iter().flat_map(|n| n.to_le_bytes()).collect::<Vec<u8>>();
+        let wide = |numbers: &[u32]| numbers.iter().flat_map(|n| n.to_le_bytes()).collect::<Vec<u8>>();
+        let signed = |numbers: &[i32]| numbers.iter().flat_map(|n| n.to_le_bytes()).collect::<Vec<u8>>();
         let inside = [
             self.positions.iter().flat_map(|n| n.to_le_bytes()).collect(),
             short(&self.edges),
@@ -280,6 +325,21 @@ impl Lent {
             self.ending.clone(),
             self.log.iter().flat_map(|n| n.to_le_bytes()).collect(),
             self.told.iter().flat_map(|n| n.to_le_bytes()).collect(),
+            signed(&self.mesh.positions),
+            wide(&self.mesh.edges),
+            wide(&self.mesh.triangles),
+            wide(&self.mesh.seams),
+            wide(&self.mesh.edge_order),
+            wide(&self.mesh.triangle_order),
+            wide(&self.mesh.sides),
+            wide(&self.mesh.order),
+            wide(&self.mesh.table),
+            wide(&self.mesh.places),
+            signed(&self.mesh.boxes),
+            self.mesh.list.iter().flat_map(|n| n.to_le_bytes()).collect(),
+            self.mesh.words.clone(),
+            wide(&self.mesh.contacts),
+            self.mesh.told.iter().flat_map(|n| n.to_le_bytes()).collect(),
         ];
         inside.map(|inside| [marks(MARGIN), inside, marks(MARGIN)].concat())
     }
@@ -317,7 +377,7 @@ impl Question {
 
     /// As driver.c takes it.
     pub fn written(&self) -> Vec<u8> {
-        let call = calls().iter().position(|&call| call == self.call).unwrap() as u64;
+        let call = self.call.number();
         let lengths = self.lent.lengths().map(|length| length as u64);
         let numbers = std::iter::once(call).chain(self.asked).chain(lengths);
         let head: Vec<u8> = numbers.flat_map(u64::to_le_bytes).collect();
@@ -360,9 +420,17 @@ impl Answer {
             let shown = |answer: &Answer| format!("{} (refusal {}, {})", answer.number, answer.refusal(), answer.number as u32);
             return Some(format!("answers {}, and should answer {}", shown(self), shown(wanted)));
         }
-        let place = (0..BUFFERS.len()).find(|&i| self.buffers[i] != wanted.buffers[i])?;
+        let looked_at = |place: usize, byte: usize| {
+            let inside = MARGIN..self.buffers[place].len() - MARGIN;
+            !SCRATCH.contains(&place) || !inside.contains(&byte)
+        };
+        let differs = |&place: &usize| {
+            let (given, wanted) = (&self.buffers[place], &wanted.buffers[place]);
+            given != wanted && (0..given.len()).any(|byte| given[byte] != wanted[byte] && looked_at(place, byte))
+        };
+        let place = (0..BUFFERS.len()).find(differs)?;
         let (given, wanted) = (&self.buffers[place], &wanted.buffers[place]);
-        let byte = given.iter().zip(wanted).position(|(a, b)| a != b)?;
+        let byte = (0..given.len()).find(|&byte| given[byte] != wanted[byte] && looked_at(place, byte))?;
         let at = byte as i64 - MARGIN as i64;
         Some(format!("leaves {} at byte {at} of {}, which should be {}", given[byte], BUFFERS[place], wanted[byte]))
     }

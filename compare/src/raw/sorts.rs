@@ -2,6 +2,8 @@
 
 use super::expected;
 use super::harm::*;
+use super::meshes;
+use super::pierced;
 use super::question::*;
 use super::series;
 use super::stored_sorts;
@@ -49,6 +51,8 @@ pub fn none_yet() -> Sorts {
     out.extend(of_saving_calls());
     out.extend(stored_sorts::all());
     out.extend(series::sorts());
+    out.extend(pierced::sorts());
+    out.extend(meshes::sorts());
     out.extend(SCENE_FAULTS.map(|(number, fault)| alone(number, fault)));
     out.extend(of_texts());
     out.extend(of_imports());
@@ -334,6 +338,8 @@ pub fn of(question: &Question, answer: &Answer) -> Vec<String> {
             out
         }
         Call::TellSeries => series::sorts_of(question, answer),
+        Call::Mesh(_) => meshes::sorts_of(question, answer),
+        Call::Pierced(_) => [of_slices(question, answer), pierced::sorts_of(question, answer)].concat(),
         _ => of_slices(question, answer),
     }
 }

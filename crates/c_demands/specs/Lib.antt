@@ -3,3 +3,4 @@ pub mod OneResult
 pub mod OneOwn
 pub mod OneStored
 pub mod OneImporting
+pub mod OneMesh

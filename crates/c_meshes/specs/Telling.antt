@@ -1,5 +1,5 @@
 -- The steps from an answer to its number and to what a lent array holds, as code takes them.
-use Prim.Native.Nat.{ℕ, _+_, _≤_, _<_}
+use Prim.Native.Nat.{ℕ, _+_, _*_, _≤_, _<_}
 use mathlib.Core.List.{List, [], _∷_, _++_}
 use mathlib.Core.Path.{_≡_, refl, sym, ap, _∙_}
 use native.Mathlib.Omega.{arith}
@@ -12,6 +12,9 @@ use Rattle.meaning.specs.Refusals.{numberOf, sceneSays}
 use Rattle.meaning.specs.List.{listSays}
 use Rattle.meaning.specs.MeshRows.{keptSays}
 use Rattle.meaning.specs.MeshEdges.{edgesSay}
+use Rattle.meaning.specs.Claims.{answerByte}
+use Rattle.meaning.specs.Numbers.{upper, numberFor}
+use Rattle.meaning.specs.Pierced.{piercedSays}
 use Rattle.meaning.specs.MeshNumbers.{refusalOf, neededLeft, countLeft, keptLeft, edgesLeft}
 use Rattle.meaning.specs.declared.Refusal.{Refusal}
 use Rattle.meaning.specs.declared.Made.{Made}
@@ -22,6 +25,8 @@ use Rattle.meaning.specs.declared.ListAnswer as ListAnswers
 use Rattle.meaning.specs.declared.ListAnswer.{ListAnswer}
 use Rattle.meaning.specs.declared.KeptAnswer as KeptAnswers
 use Rattle.meaning.specs.declared.KeptAnswer.{KeptAnswer}
+use Rattle.meaning.specs.declared.PiercedAnswer as PiercedAnswers
+use Rattle.meaning.specs.declared.PiercedAnswer.{PiercedAnswer}
 use Rattle.meaning.specs.declared.EdgesAnswer as EdgesAnswers
 use Rattle.meaning.specs.declared.EdgesAnswer.{EdgesAnswer}
 
@@ -103,3 +108,18 @@ pub edges-refused : (o : List ℕ) {a : EdgesAnswer} {x : Refusal} {r : ℕ} →
     → (r ≡ refusalOf (edgesSay a)) × (o ≡ edgesLeft (edgesSay a) o)
 unfolding edgesSay refusalOf edgesLeft
 edges-refused o e h = rw e (h, refl)
+
+-- ---- an edge and a triangle of a scene
+
+pub pierced-yes : {a : PiercedAnswer} → a ≡ PiercedAnswers.the-variants.Pierced → 1 ≡ numberFor answerByte (piercedSays a)
+unfolding piercedSays numberFor answerByte
+pierced-yes e = rw e refl
+
+pub pierced-no : {a : PiercedAnswer} → a ≡ PiercedAnswers.the-variants.Clear → 0 ≡ numberFor answerByte (piercedSays a)
+unfolding piercedSays numberFor answerByte
+pierced-no e = rw e refl
+
+pub pierced-refused : {a : PiercedAnswer} {x : Refusal} {r : ℕ} → a ≡ PiercedAnswers.the-variants.Refused x → r ≡ numberOf x * upper + 0
+    → r ≡ numberFor answerByte (piercedSays a)
+unfolding piercedSays numberFor answerByte
+pierced-refused e h = rw e h

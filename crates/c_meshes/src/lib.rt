@@ -10,11 +10,15 @@ ghost use Rattle.meaning.specs.Refusals.{numberOf, sceneSays};
 ghost use Rattle.meaning.specs.List.{listSays};
 ghost use Rattle.meaning.specs.MeshRows.{keptSays};
 ghost use Rattle.meaning.specs.MeshEdges.{edgesSay};
+ghost use Rattle.meaning.specs.Claims.{answerByte};
+ghost use Rattle.meaning.specs.Numbers.{numberFor};
+ghost use Rattle.meaning.specs.Pierced.{piercedSays};
 ghost use Rattle.meaning.specs.MeshNumbers.{refusalOf, neededLeft, countLeft, keptLeft, edgesLeft, wantedBy};
 use meaning::EdgesAnswer;
 use meaning::KeptAnswer;
 use meaning::KeptRows;
 use meaning::ListAnswer;
+use meaning::PiercedAnswer;
 use meaning::Refusal;
 use meaning::SceneAnswer;
 use meaning::Wanted;
@@ -140,5 +144,16 @@ pub fn wanted_by(mask: u32) -> Wanted
         miss: (mask / 2) % 2 == 1,
         touch: (mask / 8) % 2 == 1,
         apart: (mask / 16) % 2 == 1,
+    }
+}
+
+// Of an edge and a triangle of a scene, as the other calls over a scene tell it: 1 for yes, 0 for no, or the refusal's number times 2^32.
+pub fn pierced_number(answer: PiercedAnswer) -> u64
+    ensures { λ r. ⌜ r ≡ numberFor answerByte (piercedSays answer) ⌝ }
+{
+    match answer {
+        PiercedAnswer::Pierced => 1,
+        PiercedAnswer::Clear => 0,
+        PiercedAnswer::Refused(why) => c_numbers::refused(why, 0),
     }
 }

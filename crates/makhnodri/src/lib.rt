@@ -4,6 +4,8 @@ pub mod own; // own.rt: a list of one's own
 pub mod stored; // stored.rt: a scene that keeps its boxes
 pub mod importing; // importing.rt: two OBJ files
 pub mod series; // series.rt: a series
+pub mod pierced; // pierced.rt: an edge through a triangle already
+pub mod meshes; // meshes.rt: meshes of any size
 
 ghost use mathlib.Core.List.{[], _∷_};
 ghost use mathlib.Core.Path.{_≡_};
