@@ -75,7 +75,7 @@ pub fn at_start(
 pub fn write(found: &[Through], about: &About, form: &Form, out: &mut impl Write) -> std::io::Result<()> {
     if !form.json {
         let lines: String = found.iter().map(|Through { edge, triangle }| format!("pierced\t{edge}\t{triangle}\n")).collect();
-        return write!(out, "{lines}total\t{}\n", found.len());
+        return writeln!(out, "{lines}total\t{}", found.len());
     }
     let line = |Through { edge, triangle }: &Through| format!("{{\"edge\":{edge},\"triangle\":{triangle}}}");
     let lines: Vec<String> = found.iter().map(line).collect();

@@ -152,7 +152,7 @@ fn series(command: &Command, files: &[String], options: &Options) -> Result<Ende
     drop(bar);
     let limit = makhnodri::COORDINATE_LIMIT;
     let grid = Grid::of(&bounds, options.step, limit).map_err(alone)?;
-    let at_first = grid.frame(&first.places, limit).map_err(|()| alone(too_fine(grid.step, &bounds, limit)))?;
+    let at_first = grid.frame(&first.places, limit).ok_or_else(|| alone(too_fine(grid.step, &bounds, limit)))?;
     let positions = at_first.places.iter().map(|&[x, y, z]| [x, y, z, x, y, z]).collect();
     let mesh = Mesh::new(positions, std::mem::take(&mut first.triangles));
     let about = about(&mesh, grid.step);

@@ -42,7 +42,7 @@ impl Grid {
     }
 
     /// All places of one time on the grid; nothing where one is beyond the limit.
-    pub fn frame(&self, places: &[Place], limit: i32) -> Result<Frame, ()> {
+    pub fn frame(&self, places: &[Place], limit: i32) -> Option<Frame> {
         let mut out = Frame { places: Vec::with_capacity(places.len()), moved: 0, farthest: 0.0 };
         for place in places {
             let mut number = [0; 3];
@@ -51,7 +51,7 @@ impl Grid {
             }
             out.places.push(number);
         }
-        Ok(out)
+        Some(out)
     }
 
     /// A place that is given in 2^20ths of a step, in the files' unit, rounded to a hundredth of a step or finer.
@@ -86,7 +86,7 @@ pub fn onto_grid(start: &[Place], end: &[Place], wanted: Option<f64>, limit: i32
         let to = scope.spawn(|| grid.frame(end, limit));
         (grid.frame(start, limit), to.join().unwrap_or_else(|panic| resume_unwind(panic)))
     });
-    let (from, to) = from.and_then(|from| to.map(|to| (from, to))).map_err(|()| too_fine(grid.step, &bounds, limit))?;
+    let (from, to) = from.zip(to).ok_or_else(|| too_fine(grid.step, &bounds, limit))?;
     let positions: Vec<[i32; 6]> =
         from.places.iter().zip(&to.places).map(|(&[a, b, c], &[d, e, f])| [a, b, c, d, e, f]).collect();
     let (moved, farthest) = (from.moved + to.moved, from.farthest.max(to.farthest));
@@ -111,17 +111,14 @@ fn fallen(start: &[Place], end: &[Place], positions: &[[i32; 6]]) -> u64 {
 }
 
 impl Frame {
-    fn coordinate(&mut self, value: f64, step: f64, middle: i64, limit: i32) -> Result<i32, ()> {
+    fn coordinate(&mut self, value: f64, step: f64, middle: i64, limit: i32) -> Option<i32> {
         let steps = value / step;
         let nearest = steps.round();
         let off = (steps - nearest).abs();
         self.moved += (off > ON_THE_GRID) as u64;
         self.farthest = self.farthest.max(off);
         let number = nearest as i64 - middle;
-        if number.abs() > limit as i64 {
-            return Err(());
-        }
-        Ok(number as i32)
+        (number.abs() <= limit as i64).then_some(number as i32)
     }
 }
 

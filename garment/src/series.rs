@@ -75,7 +75,7 @@ impl<'a> Frames<'a> {
     fn read(&self, name: &str) -> Result<Vec<[i32; 3]>, Fault> {
         let changed = || Fault::new(format!("{name} has changed since it was read first"));
         let frame = obj::read_file(name)?;
-        Ok(self.grid.frame(&frame.places, self.limit).map_err(|()| changed())?.places)
+        Ok(self.grid.frame(&frame.places, self.limit).ok_or_else(changed)?.places)
     }
 }
 

@@ -79,9 +79,9 @@ impl Springs {
                 continue;
             }
             let share = 0.5 * (now - length) / now;
-            for axis in 0..3 {
-                self.places[a][axis] += share * apart[axis];
-                self.places[b][axis] -= share * apart[axis];
+            for (axis, along) in apart.iter().enumerate() {
+                self.places[a][axis] += share * along;
+                self.places[b][axis] -= share * along;
             }
         }
     }
