@@ -1,22 +1,20 @@
 -- What one row of a mesh's list goes by: a tree over the parts of the other kind, and the row's own box. The places that a walk finds in it, sifted by
 -- what else is asked of a pair, are the row's pairs.
-use Prim.Native.Nat.{ℕ, _+_, _*_, _-_, _≤_, _<_}
+use Prim.Native.Nat.{ℕ, _+_, _*_, _≤_, _<_}
 use mathlib.Core.Bool.{Bool, true, false, _&&_}
 use mathlib.Core.List.{List, map}
-use mathlib.Core.Logic.{⊎-elim}
 use mathlib.Core.Path.{_≡_, refl, sym, ap, _∙_}
 use native.Mathlib.Omega.{arith}
 use lib.IntN.{ℤ}
 use lib.ListN.{length, length-map}
 use Rattle.sequences.specs.Chosen.{one, chosen, chosen-short}
-use Rattle.sequences.specs.Gather.{gather, gather-same, gather-short}
-use Rattle.sequences.specs.Range.{le-or-lt}
+use Rattle.sequences.specs.Gather.{gather, gather-same}
 use Rattle.sequences.specs.Wrote.{written, wrote-front}
 use Rattle.meaning.specs.Limits.{partLimit}
 use Rattle.meaning.specs.Scene.{Scene, vertexCount, edgeCount, triangleCount, edgeEnd, corner}
 use Rattle.meaning.specs.Boxes.{boxesMeet}
 use Rattle.meaning.specs.List.{Pair, pair}
-use Rattle.meaning.specs.MeshRows.{rowTest, rowCount, meshRow, rowsIn, meshNumber, meshEntries}
+use Rattle.meaning.specs.MeshRows.{rowTest, meshRow, rowsIn, meshNumber, meshEntries}
 use Rattle.meaning.specs.declared.Kind.{Kind}
 use Rattle.meaning.specs.declared.Kind.the-variants.{PointTriangle, EdgeEdge}
 use Rattle.meaning.specs.declared.RowPairs.{RowPairs}
@@ -27,7 +25,6 @@ use Rattle.mesh_tree.specs.Levels.{nodesAt, firstUnder}
 use Rattle.mesh_walk.specs.Places.{placesFrom, places-start, places-end, Stepped}
 use Rattle.mesh_walk.specs.Steps.{Tree, rowMeets}
 use Rattle.mesh_trees.specs.Forest.{Forest}
-use Rattle.mesh_entries.specs.Telling.{mesh-entries-length}
 use Rattle.mesh_entries.specs.Entering.{Entered, entered-wrote, Entering, entering-starts, entering-as, entering-step, entering-ends}
 use Rattle.mesh_rows.specs.Asking.{passes, passes-listed, Askable, askable}
 use Rattle.mesh_rows.specs.Sifting.{sifted, sifted-found, sifted-chosen, map-gather, map-one}
@@ -197,9 +194,6 @@ module _ (w : RowPairs) (s : Scene) where
   unfolding secondCount secondFrom
   edge-row-of i row e = sym (ap (meshRow w s) e ∙ edge-row w s i)
 
-pub entered-as : {most k m : ℕ} {o o′ ns ms : List ℕ} → ns ≡ ms → Entered most o k ns o′ m → Entered most o k ms o′ m
-entered-as e w = rw e at w
-
 -- ---- a stretch of rows
 
 abbrev pub rowEntries : RowPairs → Scene → ℕ → List ℕ
@@ -207,25 +201,3 @@ rowEntries w s i = meshEntries (meshRow w s i)
 
 pub rows-gathered : (w : RowPairs) (s : Scene) (a b : ℕ) → gather (rowEntries w s) a b ≡ meshEntries (rowsIn w s a b)
 rows-gathered w s a b = sym (map-gather meshNumber (meshRow w s) b a)
-
-module _ (w : RowPairs) {s : Scene} {l : List ℤ} {e t : List ℕ} {edgeTop triangleTop : ℕ} (so : Forest s l e t edgeTop triangleTop) where
-  row-of-few : (kind : Kind) (i : ℕ) → length (partRow w s kind i) ≤ partLimit
-  unfolding secondCount
-  row-of-few PointTriangle i = omega (arith, part-row-short w s PointTriangle i, so .fewTriangles)
-  row-of-few EdgeEdge i = omega (arith, part-row-short w s EdgeEdge i, so .fewEdges)
-
-  row-entries-few : (row : ℕ) → length (rowEntries w s row) ≤ partLimit
-  row-entries-few row =
-      ⊎-elim
-      (λ past.
-      let i = row - vertexCount s in
-      let place : row ≡ vertexCount s + i = omega arith in
-      omega (arith, mesh-entries-length (meshRow w s row), row-of-few EdgeEdge i, ap length (edge-row-of w s i row place)))
-      (λ low. omega (arith, mesh-entries-length (meshRow w s row), row-of-few PointTriangle row, ap length (vertex-row-of w s row low)))
-      (le-or-lt (vertexCount s) row)
-
-  -- a stretch of rows has fewer than 2^62 pairs
-  pub rows-few : (a b : ℕ) → b ≤ rowCount s → length (gather (rowEntries w s) a b) < 4611686018427387904
-  rows-few a b h =
-      let short = gather-short (rowEntries w s) partLimit a b (λ j p q. row-entries-few j) in
-      omega (arith, so .fewVertices, so .fewEdges)

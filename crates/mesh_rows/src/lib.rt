@@ -9,7 +9,7 @@ ghost use lib.ListN.{length};
 ghost use Rattle.sequences.specs.Chosen.{one};
 ghost use Rattle.sequences.specs.Lent.{atEntry, atExit};
 ghost use Rattle.meaning.specs.Scene.{edgeCount, triangleCount};
-ghost use Rattle.meaning.specs.MeshRows.{rowCount, meshRow, rowsIn, meshEntries};
+ghost use Rattle.meaning.specs.MeshRows.{rowCount, meshRow, meshEntries};
 ghost use Rattle.scene_seams.specs.Alone.{tabledIn, tabledAtEntry};
 ghost use Rattle.mesh_near.specs.Spanned.{Spanned};
 ghost use Rattle.mesh_trees.specs.Forest.{Forest};
@@ -75,7 +75,7 @@ fn is_listed(
 }
 
 // A part that was found is entered, and counted, if its pair is listed.
-fn enter_found(
+pub fn enter_found(
     positions: &[i32],
     edges: &[u32],
     triangles: &[u32],
@@ -114,7 +114,7 @@ fn enter_found(
 }
 
 // The row of one first part, whose own box is `row`: over the tree of the second parts, from the first of them that goes with it on.
-fn walk_row(
+pub fn walk_row(
     positions: &[i32],
     edges: &[u32],
     triangles: &[u32],
@@ -159,119 +159,6 @@ fn walk_row(
         );
         level = next.level;
         node = next.node;
-    }
-    k
-}
-
-// The row of a number: first the vertices' rows, then the edges'. A row's own box has the row's number.
-fn walk_numbered(
-    positions: &[i32],
-    edges: &[u32],
-    triangles: &[u32],
-    stands: &[u32],
-    boxes: &[i32],
-    edge_levels: &[usize],
-    edge_top: usize,
-    triangle_levels: &[usize],
-    triangle_top: usize,
-    which: RowPairs,
-    row: usize,
-    list: &mut [u64],
-    most: usize,
-    at: usize,
-) -> usize
-    requires { ⌜ Forest (tabledIn positions edges triangles stands) (now boxes) (now «edge_levels») (now «triangle_levels»)
-        «edge_top» «triangle_top» × (row < rowCount (tabledIn positions edges triangles stands)) ⌝ }
-    requires { ⌜ (most ≤ length (now list)) × (at < 4611686018427387904) ⌝ }
-    ensures { λ r. ⌜ Entered most (atEntry list) at
-        (meshEntries (meshRow which (tabledAtEntry positions edges triangles stands) row)) (atExit list) r ⌝ }
-{
-    let vertices = vertex_count(positions);
-    if row < vertices {
-        walk_row(
-            positions,
-            edges,
-            triangles,
-            stands,
-            boxes,
-            triangle_levels,
-            triangle_count(triangles),
-            triangle_top,
-            which,
-            Kind::PointTriangle,
-            row,
-            row,
-            0,
-            list,
-            most,
-            at,
-        )
-    } else {
-        let i = row - vertices;
-        walk_row(
-            positions,
-            edges,
-            triangles,
-            stands,
-            boxes,
-            edge_levels,
-            edge_count(edges),
-            edge_top,
-            which,
-            Kind::EdgeEdge,
-            i,
-            row,
-            i + 1,
-            list,
-            most,
-            at,
-        )
-    }
-}
-
-// The rows from one up to another: all their pairs are counted, and entered in front of the list while there is room below a bound.
-pub fn walk_rows(
-    positions: &[i32],
-    edges: &[u32],
-    triangles: &[u32],
-    stands: &[u32],
-    boxes: &[i32],
-    edge_levels: &[usize],
-    edge_top: usize,
-    triangle_levels: &[usize],
-    triangle_top: usize,
-    which: RowPairs,
-    first: usize,
-    end: usize,
-    list: &mut [u64],
-    most: usize,
-) -> usize
-    requires { ⌜ Forest (tabledIn positions edges triangles stands) (now boxes) (now «edge_levels») (now «triangle_levels»)
-        «edge_top» «triangle_top» × (first ≤ end) × (end ≤ rowCount (tabledIn positions edges triangles stands)) ⌝ }
-    requires { ⌜ most ≤ length (now list) ⌝ }
-    ensures { λ r. ⌜ Entered most (atEntry list) 0
-        (meshEntries (rowsIn which (tabledAtEntry positions edges triangles stands) first end)) (atExit list) r ⌝ }
-{
-    let mut k = 0;
-    let mut row = first;
-    while row < end {
-        k = walk_numbered(
-            positions,
-            edges,
-            triangles,
-            stands,
-            boxes,
-            edge_levels,
-            edge_top,
-            triangle_levels,
-            triangle_top,
-            which,
-            row,
-            list,
-            most,
-            k,
-        );
-        row += 1;
     }
     k
 }

@@ -14,7 +14,7 @@ use meaning::ListAnswer;
 use meaning::Made;
 use meaning::Refusal;
 use meaning::RowPairs;
-use mesh_rows::walk_rows;
+use mesh_runs::walk_rows;
 use mesh_trees::plant;
 
 // Where a level of a tree begins and how many nodes it has, for each of its levels.

@@ -4,7 +4,7 @@ use mathlib.Core.List.{List}
 use mathlib.Core.Path.{_≡_, sym, ap, _∙_}
 use lib.ListN.{length}
 use Rattle.meaning.specs.Scene.{Scene, edgeCount}
-use Rattle.meaning.specs.Refusals.{Outcome, refused}
+use Rattle.meaning.specs.Refusals.{Outcome}
 use Rattle.meaning.specs.List.{listSays, leaves}
 use Rattle.meaning.specs.MeshRows.{Lent}
 use Rattle.meaning.specs.PiercedRows.{throughRows, PiercedListed}

@@ -1,7 +1,7 @@
 -- What each way out of the call over rows of edges gives: a refusal of what comes first is passed on, and what is listed of the mesh that its table tells is
 -- said of the mesh.
 use Prim.Native.Nat.{ℕ}
-use mathlib.Core.List.{List, [], _∷_}
+use mathlib.Core.List.{List}
 use mathlib.Core.Path.{_≡_, refl, sym, subst}
 use lib.ListN.{length}
 use Rattle.meaning.specs.Scene.{Scene, edgeCount}

@@ -1,0 +1,464 @@
+// Rows of a mesh's list in runs: rows that stand one behind the other have boxes near each other, so a tree is walked once for eight of them, with their
+// joint box. Who misses that misses each of them, so that a row's pairs are among the places found. More than there is room for, and they go alone.
+
+ghost use Prim.Native.Nat.{_+_, _*_, _-_, _≤_, _<_, min};
+ghost use mathlib.Core.Bool.{_&&_};
+ghost use mathlib.Core.Path.{_≡_};
+ghost use lib.Dec.{leb};
+ghost use lib.IntN.{pos};
+ghost use lib.ListN.{length, getD, set};
+ghost use Rattle.sequences.specs.Gather.{gather};
+ghost use Rattle.sequences.specs.Lent.{atEntry, atExit};
+ghost use Rattle.meaning.specs.StoredBoxes.{boxAt, BoxesStand};
+ghost use Rattle.meaning.specs.MeshRows.{rowCount, rowsIn, meshEntries};
+ghost use Rattle.list_boxes.specs.Kept.{meetBoxes};
+ghost use Rattle.scene_seams.specs.Alone.{tabledIn, tabledAtEntry};
+ghost use Rattle.list_candidates.specs.Rows.{firstCount, secondFrom};
+ghost use Rattle.mesh_trees.specs.Forest.{Forest};
+ghost use Rattle.mesh_entries.specs.Entering.{Entered};
+ghost use Rattle.mesh_rows.specs.Rows.{partRow};
+ghost use Rattle.mesh_runs.specs.Runs.{KindTree, Covers, Sought, AllSought, kindEntries};
+ghost use Rattle.mesh_runs.specs.Stretch.{Parted};
+use list_runs::fill_runs;
+use meaning::Kind;
+use meaning::RowPairs;
+use mesh_parts::edge_count;
+use mesh_parts::triangle_count;
+use mesh_rows::enter_found;
+use mesh_rows::walk_row;
+use mesh_seams::wide;
+use mesh_walk::boxes_meet;
+use mesh_walk::find_met;
+use scene_parts::vertex_count;
+
+// The rows of a run, the places that there is room for, and the numbers of the run's boxes with their joint box behind 16 of them.
+const RUN_ROWS: usize = 8;
+
+const RUN_PLACES: usize = 1024;
+
+const RUN_NUMBERS: usize = 102;
+
+// One number.
+fn copy_number(boxes: &[i32], i: usize, own: &mut [i32], n: usize)
+    requires { ⌜ (i < length (now boxes)) × (n < length (now own)) ⌝ }
+    ensures { λ _. ⌜ atExit own ≡ set (atEntry own) n (getD (atEntry boxes) i (pos 0)) ⌝ }
+{
+    own[n] = boxes[i];
+}
+
+// So many boxes from `first` on, in front of another list.
+fn copy_boxes(boxes: &[i32], first: usize, count: usize, own: &mut [i32])
+    requires { ⌜ (6 * (first + count) ≤ length (now boxes)) × (6 * count ≤ length (now own)) ⌝ }
+    ensures { λ _. ⌜ BoxesStand (atExit own) 0 count (λ r. boxAt (atEntry boxes) (first + r)) ⌝ }
+{
+    let end = 6 * count;
+    let mut n = 0;
+    while n < end {
+        copy_number(boxes, 6 * first + n, own, n);
+        n += 1;
+    }
+}
+
+// A box that no part meets which one of these misses not.
+fn join_rows(boxes: &[i32], first: usize, count: usize, own: &mut [i32])
+    requires { ⌜ (6 * (first + count) ≤ length (now boxes)) × (0 < count) × (count ≤ 16) × (102 ≤ length (now own)) ⌝ }
+    ensures { λ _. ⌜ Covers (boxAt (atExit own) 16) (atEntry boxes) first count ⌝ }
+{
+    copy_boxes(boxes, first, count, own);
+    fill_runs(own, 0, count, 16);
+}
+
+// The first of the second parts that goes with a first one.
+fn first_second(kind: Kind, i: usize) -> usize
+    requires { ⌜ i < 1073741824 ⌝ }
+    ensures { λ r. ⌜ r ≡ secondFrom kind i ⌝ }
+{
+    match kind {
+        Kind::PointTriangle => 0,
+        Kind::EdgeEdge => i + 1,
+    }
+}
+
+// Whether a place goes with a row, and its box meets the row's.
+fn is_met(boxes: &[i32], base: usize, row: usize, from: usize, j: usize) -> bool
+    requires { ⌜ (6 * row + 5 < length (now boxes)) × (6 * (base + j) + 5 < length (now boxes)) ⌝ }
+    ensures { λ r. ⌜ r ≡ leb from j && meetBoxes (boxAt (atEntry boxes) row) (boxAt (atEntry boxes) (base + j)) ⌝ }
+{
+    let met = boxes_meet(boxes, row, boxes, base + j);
+    (from <= j) & met
+}
+
+// The row of one first part, by the places that were found for its run.
+fn enter_sought(
+    positions: &[i32],
+    edges: &[u32],
+    triangles: &[u32],
+    stands: &[u32],
+    boxes: &[i32],
+    base: usize,
+    which: RowPairs,
+    kind: Kind,
+    i: usize,
+    row: usize,
+    from: usize,
+    places: &[u32],
+    count: usize,
+    list: &mut [u64],
+    most: usize,
+    at: usize,
+) -> usize
+    requires { ⌜ Sought (tabledIn positions edges triangles stands) kind i (now boxes) base row from (now places) count ⌝ }
+    requires { ⌜ (most ≤ length (now list)) × (at < 4611686018427387904) ⌝ }
+    ensures { λ r. ⌜ Entered most (atEntry list) at
+        (meshEntries (partRow which (tabledAtEntry positions edges triangles stands) kind i)) (atExit list) r ⌝ }
+{
+    let mut k = at;
+    let mut c = 0;
+    while c < count {
+        let j = wide(places[c]);
+        let found = is_met(boxes, base, row, from, j);
+        k = enter_found(
+            positions,
+            edges,
+            triangles,
+            stands,
+            which,
+            kind,
+            i,
+            j,
+            found,
+            list,
+            most,
+            k,
+        );
+        c += 1;
+    }
+    k
+}
+
+// The rows of a run, by the places that were found for it.
+fn enter_run(
+    positions: &[i32],
+    edges: &[u32],
+    triangles: &[u32],
+    stands: &[u32],
+    boxes: &[i32],
+    base: usize,
+    which: RowPairs,
+    kind: Kind,
+    offset: usize,
+    first: usize,
+    end: usize,
+    places: &[u32],
+    count: usize,
+    list: &mut [u64],
+    most: usize,
+    at: usize,
+) -> usize
+    requires { ⌜ AllSought (tabledIn positions edges triangles stands) kind (now boxes) base offset first end (now places)
+        count × (first ≤ end) × (end ≤ first + 16) × (end ≤ 1073741824) × (offset ≤ 1073741824) ⌝ }
+    requires { ⌜ (most ≤ length (now list)) × (at ≤ 2305843009213693952) ⌝ }
+    ensures { λ r. ⌜ Entered most (atEntry list) at
+        (gather (kindEntries which (tabledAtEntry positions edges triangles stands) kind) first end) (atExit list) r ⌝ }
+{
+    let mut k = at;
+    let mut i = first;
+    while i < end {
+        let from = first_second(kind, i);
+        k = enter_sought(
+            positions,
+            edges,
+            triangles,
+            stands,
+            boxes,
+            base,
+            which,
+            kind,
+            i,
+            offset + i,
+            from,
+            places,
+            count,
+            list,
+            most,
+            k,
+        );
+        i += 1;
+    }
+    k
+}
+
+// The rows of a run, each by a walk of its own.
+fn enter_alone(
+    positions: &[i32],
+    edges: &[u32],
+    triangles: &[u32],
+    stands: &[u32],
+    boxes: &[i32],
+    levels: &[usize],
+    parts: usize,
+    top: usize,
+    which: RowPairs,
+    kind: Kind,
+    offset: usize,
+    first: usize,
+    end: usize,
+    list: &mut [u64],
+    most: usize,
+    at: usize,
+) -> usize
+    requires { ⌜ KindTree (tabledIn positions edges triangles stands) kind (now boxes) (now levels) parts top offset
+        × (first ≤ end) × (end ≤ first + 16) × (end ≤ firstCount (tabledIn positions edges triangles stands) kind) ⌝ }
+    requires { ⌜ (most ≤ length (now list)) × (at ≤ 2305843009213693952) ⌝ }
+    ensures { λ r. ⌜ Entered most (atEntry list) at
+        (gather (kindEntries which (tabledAtEntry positions edges triangles stands) kind) first end) (atExit list) r ⌝ }
+{
+    let mut k = at;
+    let mut i = first;
+    while i < end {
+        let from = first_second(kind, i);
+        k = walk_row(
+            positions,
+            edges,
+            triangles,
+            stands,
+            boxes,
+            levels,
+            parts,
+            top,
+            which,
+            kind,
+            i,
+            offset + i,
+            from,
+            list,
+            most,
+            k,
+        );
+        i += 1;
+    }
+    k
+}
+
+// A run of rows: by the places that their joint box meets, or alone where these are more than there is room for.
+fn walk_run(
+    positions: &[i32],
+    edges: &[u32],
+    triangles: &[u32],
+    stands: &[u32],
+    boxes: &[i32],
+    levels: &[usize],
+    parts: usize,
+    top: usize,
+    which: RowPairs,
+    kind: Kind,
+    offset: usize,
+    first: usize,
+    end: usize,
+    places: &mut [u32],
+    list: &mut [u64],
+    most: usize,
+    at: usize,
+) -> usize
+    requires { ⌜ KindTree (tabledIn positions edges triangles stands) kind (now boxes) (now levels) parts top offset
+        × (first < end) × (end ≤ first + 16) × (end ≤ firstCount (tabledIn positions edges triangles stands) kind) ⌝ }
+    requires { ⌜ (most ≤ length (now list)) × (at ≤ 2305843009213693952) ⌝ }
+    ensures { λ r. ⌜ Entered most (atEntry list) at
+        (gather (kindEntries which (tabledAtEntry positions edges triangles stands) kind) first end) (atExit list) r ⌝ }
+{
+    let mut own = [0i32; RUN_NUMBERS];
+    join_rows(boxes, offset + first, end - first, &mut own);
+    let from = first_second(kind, first);
+    let count = find_met(&own, 16, boxes, levels, parts, top, from, places);
+    if count <= places.len() {
+        enter_run(
+            positions,
+            edges,
+            triangles,
+            stands,
+            boxes,
+            levels[0],
+            which,
+            kind,
+            offset,
+            first,
+            end,
+            places,
+            count,
+            list,
+            most,
+            at,
+        )
+    } else {
+        enter_alone(
+            positions,
+            edges,
+            triangles,
+            stands,
+            boxes,
+            levels,
+            parts,
+            top,
+            which,
+            kind,
+            offset,
+            first,
+            end,
+            list,
+            most,
+            at,
+        )
+    }
+}
+
+// Where the run ends that begins with a row.
+fn run_end(first: usize, end: usize) -> usize
+    requires { ⌜ (first < end) × (first < 1073741824) ⌝ }
+    ensures { λ r. ⌜ (first < r) × (r ≤ end) × (r ≤ first + 16) ⌝ }
+{
+    if first + RUN_ROWS < end {
+        first + RUN_ROWS
+    } else {
+        end
+    }
+}
+
+// The rows of a kind from one up to another, run by run.
+fn walk_kind(
+    positions: &[i32],
+    edges: &[u32],
+    triangles: &[u32],
+    stands: &[u32],
+    boxes: &[i32],
+    levels: &[usize],
+    parts: usize,
+    top: usize,
+    which: RowPairs,
+    kind: Kind,
+    offset: usize,
+    first: usize,
+    end: usize,
+    places: &mut [u32],
+    list: &mut [u64],
+    most: usize,
+    at: usize,
+) -> usize
+    requires { ⌜ KindTree (tabledIn positions edges triangles stands) kind (now boxes) (now levels) parts top offset
+        × (first ≤ end)
+        × (end ≤ first + (firstCount (tabledIn positions edges triangles stands) kind - first)) ⌝ }
+    requires { ⌜ (most ≤ length (now list)) × (at ≤ 1152921504606846976) ⌝ }
+    ensures { λ r. ⌜ Entered most (atEntry list) at
+        (gather (kindEntries which (tabledAtEntry positions edges triangles stands) kind) first end) (atExit list) r ⌝ }
+{
+    let mut k = at;
+    let mut i = first;
+    while i < end {
+        let next = run_end(i, end);
+        k = walk_run(
+            positions,
+            edges,
+            triangles,
+            stands,
+            boxes,
+            levels,
+            parts,
+            top,
+            which,
+            kind,
+            offset,
+            i,
+            next,
+            places,
+            list,
+            most,
+            k,
+        );
+        i = next;
+    }
+    k
+}
+
+// Where the vertices' rows of a stretch end and the edges' begin.
+fn kinds_meet(vertices: usize, first: usize, end: usize) -> usize
+    requires { ⌜ first ≤ end ⌝ }
+    ensures { λ r. ⌜ Parted vertices first end r ⌝ }
+{
+    if vertices <= first {
+        first
+    } else {
+        if vertices <= end { vertices } else { end }
+    }
+}
+
+// An edge's number, of its row's; 0 for a row of a vertex.
+fn behind(row: usize, vertices: usize) -> usize
+    ensures { λ r. ⌜ r ≡ row - vertices ⌝ }
+{
+    if row <= vertices { 0 } else { row - vertices }
+}
+
+// The rows from one up to another: all their pairs are counted, and entered in front of the list while there is room below a bound.
+pub fn walk_rows(
+    positions: &[i32],
+    edges: &[u32],
+    triangles: &[u32],
+    stands: &[u32],
+    boxes: &[i32],
+    edge_levels: &[usize],
+    edge_top: usize,
+    triangle_levels: &[usize],
+    triangle_top: usize,
+    which: RowPairs,
+    first: usize,
+    end: usize,
+    list: &mut [u64],
+    most: usize,
+) -> usize
+    requires { ⌜ Forest (tabledIn positions edges triangles stands) (now boxes) (now «edge_levels») (now «triangle_levels»)
+        «edge_top» «triangle_top» × (first ≤ end) × (end ≤ rowCount (tabledIn positions edges triangles stands)) ⌝ }
+    requires { ⌜ most ≤ length (now list) ⌝ }
+    ensures { λ r. ⌜ Entered most (atEntry list) 0
+        (meshEntries (rowsIn which (tabledAtEntry positions edges triangles stands) first end)) (atExit list) r ⌝ }
+{
+    let mut places = [0u32; RUN_PLACES];
+    let vertices = vertex_count(positions);
+    let middle = kinds_meet(vertices, first, end);
+    let k = walk_kind(
+        positions,
+        edges,
+        triangles,
+        stands,
+        boxes,
+        triangle_levels,
+        triangle_count(triangles),
+        triangle_top,
+        which,
+        Kind::PointTriangle,
+        0,
+        first,
+        middle,
+        &mut places,
+        list,
+        most,
+        0,
+    );
+    walk_kind(
+        positions,
+        edges,
+        triangles,
+        stands,
+        boxes,
+        edge_levels,
+        edge_count(edges),
+        edge_top,
+        which,
+        Kind::EdgeEdge,
+        vertices,
+        behind(middle, vertices),
+        behind(end, vertices),
+        &mut places,
+        list,
+        most,
+        k,
+    )
+}
