@@ -1,6 +1,8 @@
 """Meshes of any size: their rows are the scene's list, stretches join, orders change nothing, and buffers are lent as they are."""
 
 import array
+import contextlib
+import ctypes
 import random
 import threading
 import unittest
@@ -127,13 +129,19 @@ class Meshes(unittest.TestCase):
         self.assertEqual((makhnodri.pierced_at_start(scene, 0, 0), makhnodri.pierced_at_end(scene, 0, 0)), (False, True))
         self.assertRaises(Refused, makhnodri.pierced_at_end, scene, 1, 0)
 
-    def test_numpy_s_arrays_are_lent(self):
-        try:
-            import numpy
-        except ImportError:
-            self.skipTest("there is no numpy")
+    def test_other_arrays_are_lent(self):
         mesh, _ = sheet(5, 5)
-        lent = Mesh(*(numpy.array(given, dtype=kind) for given, kind in ((mesh.positions, "i4"), (mesh.edges, "u4"), (mesh.triangles, "u4"))))
-        entries, told = numpy.zeros(500, dtype="u8"), numpy.zeros(1, dtype="u8")
-        count = makhnodri.list_rows(lent, Scratch(), 0, mesh.rows, entries, told)
-        self.assertEqual((int(told[0]), [Pair.of_mesh_entry(int(number)) for number in entries[:count]]), (count, pairs_of(mesh, Scratch(), 0, mesh.rows)))
+        wanted = pairs_of(mesh, Scratch(), 0, mesh.rows)
+
+        def hold(positions, edges, triangles, entries, told):
+            count = makhnodri.list_rows(Mesh(positions, edges, triangles), Scratch(), 0, mesh.rows, entries, told)
+            self.assertEqual((int(told[0]), [Pair.of_mesh_entry(int(number)) for number in entries[:count]]), (count, wanted))
+
+        lists = (mesh.positions, mesh.edges, mesh.triangles)
+        kinds = (ctypes.c_int32, ctypes.c_uint32, ctypes.c_uint32)
+        hold(*((kind * len(given))(*given) for given, kind in zip(lists, kinds)), (ctypes.c_uint64 * 500)(), (ctypes.c_uint64 * 1)())
+        with contextlib.suppress(ImportError):
+            import numpy
+
+            arrays = (numpy.array(given, dtype=kind) for given, kind in zip(lists, ("i4", "u4", "u4")))
+            hold(*arrays, numpy.zeros(500, dtype="u8"), numpy.zeros(1, dtype="u8"))

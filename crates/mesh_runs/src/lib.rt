@@ -1,4 +1,4 @@
-// Rows of a mesh's list in runs: rows that stand one behind the other have boxes near each other, so a tree is walked once for eight of them, with their
+// Rows of a mesh's list in runs: rows that stand one behind the other have boxes near each other, so a tree is walked once for four of them, with their
 // joint box. Who misses that misses each of them, so that a row's pairs are among the places found. More than there is room for, and they go alone.
 
 ghost use Prim.Native.Nat.{_+_, _*_, _-_, _≤_, _<_, min};
@@ -32,7 +32,7 @@ use mesh_walk::find_met;
 use scene_parts::vertex_count;
 
 // The rows of a run, the places that there is room for, and the numbers of the run's boxes with their joint box behind 16 of them.
-const RUN_ROWS: usize = 8;
+const RUN_ROWS: usize = 4;
 
 const RUN_PLACES: usize = 1024;
 

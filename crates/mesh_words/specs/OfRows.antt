@@ -31,7 +31,7 @@ module _ (s : Scene) where
       subst (List·Memᴰ p) (all-rows s) (gather-has (meshRow Listed s) (rowCount s) j (omega arith) row 0 (omega arith))
 
   -- a pair of a mesh has narrow places
-  there-within : MeshSized s → (kind : Kind) (i j : ℕ) → notThere s kind i j ≡ false → Within (pair kind i j)
+  pub there-within : MeshSized s → (kind : Kind) (i j : ℕ) → notThere s kind i j ≡ false → Within (pair kind i j)
   there-within few PointTriangle i j h =
       let (p, q) = pt-there s i j h in
       record { firstFew = omega (arith, few .fewVertices); secondFew = omega (arith, few .fewTriangles) }

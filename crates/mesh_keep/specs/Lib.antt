@@ -1,0 +1,3 @@
+-- Pairs judged one behind the other, and those kept whose word is asked for; row by row.
+pub mod Keeping
+pub mod OfRows
