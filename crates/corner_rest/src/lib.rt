@@ -32,6 +32,7 @@ fn rests(positions: &[i32], v: usize) -> bool
     same(positions, at) & same(positions, at + 1) & same(positions, at + 2)
 }
 
+// Do a vertex and the corners of a triangle all rest?
 pub fn point_rests(positions: &[i32], p: usize, c: Corners) -> bool
     requires { ⌜ PointReady (now positions) p c ⌝ }
     ensures { λ r. ⌜ r ≡ pointRests (atEntry positions) p c ⌝ }
@@ -42,6 +43,7 @@ pub fn point_rests(positions: &[i32], p: usize, c: Corners) -> bool
         & rests(positions, c.high)
 }
 
+// Do the ends of two edges all rest?
 pub fn edges_rest(positions: &[i32], e: Ends, f: Ends) -> bool
     requires { ⌜ EdgesReady (now positions) e f ⌝ }
     ensures { λ r. ⌜ r ≡ edgesRest (atEntry positions) e f ⌝ }

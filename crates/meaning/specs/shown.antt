@@ -9,3 +9,4 @@ pub mod ContactsShown
 pub mod ClaimsShown
 pub mod OrderShown
 pub mod PiercedShown
+pub mod MeshShown

@@ -81,6 +81,7 @@ pub fn point_pair(positions: &[i32], p: usize, c: Corners) -> Verdict
     verdict_of(either(a, either(b, d)))
 }
 
+// The same for two edges, the lower one's ends first.
 pub fn edges_pair(positions: &[i32], first: Ends, second: Ends) -> Verdict
     requires { ⌜ EdgesReady (now positions) first second ⌝ }
     ensures { λ r. ⌜ ((e t w : List ℕ) (i j : ℕ) → endsOf (sceneOf (atEntry positions) e t w) (min i j) ≡ first

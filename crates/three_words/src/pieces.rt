@@ -1,6 +1,8 @@
 // The verdict of one piece. The first simplex of every piece holds a point at the start and one at the end that all pieces of its pair hold. The
 // four other points are seen from these, a start from the one and an end from the other.
 
+ghost use mathlib.Core.Bool.{cond};
+ghost use mathlib.Core.Path.{_≡_};
 ghost use Rattle.meaning.specs.Pieces.{movingPoint, movingTriangle, movingEdge};
 ghost use Rattle.meaning.specs.Verdicts.{PieceIs};
 ghost use Rattle.three_words.specs.Ready.{PointReady, EdgesReady};
@@ -34,8 +36,14 @@ pub fn point_piece(positions: &[i32], p: usize, c: Corners, k: usize) -> Verdict
     judge_point(positions, low, from, low + 3, to, mid + 3, to, high + 3, to)
 }
 
+fn one_of(test: bool, yes: usize, no: usize) -> usize
+    ensures { λ r. ⌜ r ≡ cond test yes no ⌝ }
+{
+    if test { yes } else { no }
+}
+
 // Piece A (0) or B (1) of the first edge against that of the second. Both pieces of the first hold its lower end at the start and its higher end
-// at the end: these are the base.
+// at the end: these are the base. Between them piece A holds the higher end at the start, and piece B the lower end at the end.
 pub fn edges_piece(positions: &[i32], e: Ends, i: usize, f: Ends, j: usize) -> Verdict
     requires { ⌜ EdgesReady (now positions) e f ⌝ }
     ensures { λ r. ⌜ PieceIs (record {
@@ -44,136 +52,29 @@ pub fn edges_piece(positions: &[i32], e: Ends, i: usize, f: Ends, j: usize) -> V
           (atEntry positions) f j;
     }) r ⌝ }
 {
-    if i == 0 {
-        if j == 0 {
-            both_a(positions, e, f)
-        } else {
-            a_against_b(positions, e, f)
-        }
-    } else {
-        if j == 0 {
-            b_against_a(positions, e, f)
-        } else {
-            both_b(positions, e, f)
-        }
-    }
-}
-
-fn both_a(positions: &[i32], e: Ends, f: Ends) -> Verdict
-    requires { ⌜ EdgesReady (now positions) e f ⌝ }
-    ensures { λ r. ⌜ PieceIs (record {
-      first = movingEdge (atEntry positions) e 0;
-      second = movingEdge
-          (atEntry positions) f 0;
-    }) r ⌝ }
-{
     let from = 6 * e.low;
-    let other = 6 * e.high;
-    let to = other + 3;
+    let high = 6 * e.high;
     let low = 6 * f.low;
-    let high = 6 * f.high;
+    let to = high + 3;
+    let last = 6 * f.high;
+    let first = 0 < i;
+    let second = 0 < j;
+    let other = one_of(first, from + 3, high);
+    let seen = one_of(first, to, from);
+    let between = one_of(second, low + 3, last);
+    let base = one_of(second, to, from);
     judge_edges(
         positions,
         other,
-        from,
-        false,
+        seen,
+        first,
         low,
         from,
         false,
-        high,
-        from,
-        false,
-        high + 3,
-        to,
-        true,
-    )
-}
-
-fn a_against_b(positions: &[i32], e: Ends, f: Ends) -> Verdict
-    requires { ⌜ EdgesReady (now positions) e f ⌝ }
-    ensures { λ r. ⌜ PieceIs (record {
-      first = movingEdge (atEntry positions) e 0;
-      second = movingEdge
-          (atEntry positions) f 1;
-    }) r ⌝ }
-{
-    let from = 6 * e.low;
-    let other = 6 * e.high;
-    let to = other + 3;
-    let low = 6 * f.low;
-    let high = 6 * f.high;
-    judge_edges(
-        positions,
-        other,
-        from,
-        false,
-        low,
-        from,
-        false,
-        low + 3,
-        to,
-        true,
-        high + 3,
-        to,
-        true,
-    )
-}
-
-fn b_against_a(positions: &[i32], e: Ends, f: Ends) -> Verdict
-    requires { ⌜ EdgesReady (now positions) e f ⌝ }
-    ensures { λ r. ⌜ PieceIs (record {
-      first = movingEdge (atEntry positions) e 1;
-      second = movingEdge
-          (atEntry positions) f 0;
-    }) r ⌝ }
-{
-    let from = 6 * e.low;
-    let to = 6 * e.high + 3;
-    let low = 6 * f.low;
-    let high = 6 * f.high;
-    let other = from + 3;
-    judge_edges(
-        positions,
-        other,
-        to,
-        true,
-        low,
-        from,
-        false,
-        high,
-        from,
-        false,
-        high + 3,
-        to,
-        true,
-    )
-}
-
-fn both_b(positions: &[i32], e: Ends, f: Ends) -> Verdict
-    requires { ⌜ EdgesReady (now positions) e f ⌝ }
-    ensures { λ r. ⌜ PieceIs (record {
-      first = movingEdge (atEntry positions) e 1;
-      second = movingEdge
-          (atEntry positions) f 1;
-    }) r ⌝ }
-{
-    let from = 6 * e.low;
-    let to = 6 * e.high + 3;
-    let low = 6 * f.low;
-    let high = 6 * f.high;
-    let other = from + 3;
-    judge_edges(
-        positions,
-        other,
-        to,
-        true,
-        low,
-        from,
-        false,
-        low + 3,
-        to,
-        true,
-        high + 3,
+        between,
+        base,
+        second,
+        last + 3,
         to,
         true,
     )

@@ -39,8 +39,8 @@ abbrev pub o : ℤ
 o = pos 0
 
 -- past the range of a coordinate
-abbrev pub far : ℤ
-far = pos 524_288
+abbrev pub tooFar : ℤ
+tooFar = pos 524_288
 
 -- a line of each kind has its form: a vertex of six numbers, the `n` below it, and a vertex of three numbers below that
 pub items-formed : ItemFormed nothingYet (v o o) × ItemFormed nothingYet next × ItemFormed (withItem nothingYet next) (on o)
@@ -76,19 +76,19 @@ table =
     ∷ row (next ∷ on o ∷ []) (refused 13 2)
     -- 13 at the first line too many, its own 2 after it
     ∷ row (v o o ∷ next ∷ on o ∷ on o ∷ on o ∷ []) (refused 13 4)
-    ∷ row (v o o ∷ next ∷ on o ∷ on far ∷ []) (refused 13 4)
+    ∷ row (v o o ∷ next ∷ on o ∷ on tooFar ∷ []) (refused 13 4)
     -- 13 at the `n` that comes too soon
     ∷ row (v o o ∷ v o o ∷ next ∷ on o ∷ next ∷ on o ∷ on o ∷ []) (refused 13 5)
     ∷ row (v o o ∷ next ∷ next ∷ on o ∷ []) (refused 13 3)
     -- 13 at the last line where the text ends too soon, before that line's 2, also where it is the `n`
     ∷ row (v o o ∷ v o o ∷ next ∷ on o ∷ []) (refused 13 4)
-    ∷ row (v o o ∷ v o o ∷ next ∷ on far ∷ []) (refused 13 4)
+    ∷ row (v o o ∷ v o o ∷ next ∷ on tooFar ∷ []) (refused 13 4)
     ∷ row (v o o ∷ next ∷ []) (refused 13 2)
     ∷ row (v o o ∷ next ∷ on o ∷ next ∷ []) (refused 13 4)
     -- 2 in a line above comes first
-    ∷ row (v o o ∷ v o o ∷ v o o ∷ next ∷ on far ∷ on o ∷ []) (refused 2 5)
-    ∷ row (v o o ∷ next ∷ on far ∷ []) (refused 2 3)
-    ∷ row (v o far ∷ next ∷ []) (refused 2 1)
+    ∷ row (v o o ∷ v o o ∷ v o o ∷ next ∷ on tooFar ∷ on o ∷ []) (refused 2 5)
+    ∷ row (v o o ∷ next ∷ on tooFar ∷ []) (refused 2 3)
+    ∷ row (v o tooFar ∷ next ∷ []) (refused 2 1)
     -- 10 for any other record after an `n`, in an unfinished block and as the last line too
     ∷ row (v o o ∷ v o o ∷ next ∷ of (edge 0 1) ∷ on o ∷ on o ∷ []) (refused 10 4)
     ∷ row (v o o ∷ v o o ∷ next ∷ on o ∷ of (edge 0 0) ∷ []) (refused 10 5)
@@ -98,7 +98,7 @@ table =
     ∷ row (v o o ∷ v o o ∷ of (seam 1 0) ∷ next ∷ on (pos 1) ∷ on (pos 1) ∷ []) (given tt)
     ∷ row (v o o ∷ v o o ∷ of (seam 1 0) ∷ next ∷ on o ∷ on (pos 1) ∷ []) (refused 15 6)
     ∷ row (v o o ∷ v o o ∷ v o o ∷ of (seam 1 0) ∷ next ∷ on o ∷ on (pos 1) ∷ on o ∷ []) (refused 15 8)
-    ∷ row (v o o ∷ v o o ∷ of (seam 1 0) ∷ next ∷ on o ∷ on far ∷ []) (refused 2 6)
+    ∷ row (v o o ∷ v o o ∷ of (seam 1 0) ∷ next ∷ on o ∷ on tooFar ∷ []) (refused 2 6)
     -- what comes together again is together: the starts of a step are the last ends
     ∷ row (v o o ∷ v o o ∷ of (seam 1 0) ∷ next ∷ on (pos 1) ∷ on (pos 1) ∷ next ∷ on o ∷ on (pos 2) ∷ []) (refused 15 9)
     ∷ []
