@@ -1,0 +1,93 @@
+-- The rows of a stretch, judged one after the other: what is kept of those passed.
+use Prim.Native.Nat.{ℕ, _+_, _-_, _≤_, _<_}
+use mathlib.Core.List.{List, []}
+use mathlib.Core.Logic.{⊎-elim}
+use mathlib.Core.Path.{_≡_, sym, ap}
+use native.Mathlib.Omega.{arith}
+use lib.IntN.{ℤ}
+use lib.ListN.{length}
+use Rattle.sequences.specs.Gather.{gather-short}
+use Rattle.sequences.specs.Range.{le-or-lt}
+use Rattle.meaning.specs.Scene.{Scene, vertexCount, edgeCount, triangleCount}
+use Rattle.meaning.specs.MeshRows.{rowCount, meshRow, rowsIn}
+use Rattle.meaning.specs.declared.Kind.{Kind}
+use Rattle.meaning.specs.declared.Kind.the-variants.{PointTriangle, EdgeEdge}
+use Rattle.meaning.specs.declared.RowPairs.{RowPairs}
+use Rattle.meaning.specs.declared.Wanted.{Wanted}
+use Rattle.mesh_laws.specs.Entries.{MeshSized}
+use Rattle.mesh_trees.specs.Forest.{Forest}
+use Rattle.list_candidates.specs.Rows.{secondCount}
+use Rattle.mesh_rows.specs.Rows.{partRow, part-row-short, SecondsPut, vertex-row-of, edge-row-of}
+use Rattle.mesh_keep.specs.Keeping.{KeptBy, kept-none, kept-then, kept-as, kept-bound}
+use Rattle.mesh_keep.specs.OfRows.{RowOf, pairsOf, row-of, row-pairs, row-short, rows-next, rows-none}
+use Rattle.mesh_keep.specs.declared.Going.{Going}
+
+pub forest-sized : {s : Scene} {l : List ℤ} {e t : List ℕ} {edgeTop triangleTop : ℕ} → Forest s l e t edgeTop triangleTop → MeshSized s
+forest-sized f = record { fewVertices = f .fewVertices; fewEdges = f .fewEdges; fewTriangles = f .fewTriangles }
+
+-- a stretch of rows has fewer than 2^62 pairs
+module _ (w : RowPairs) (s : Scene) (few : MeshSized s) where
+  row-few : (row : ℕ) → length (meshRow w s row) ≤ 1073741824
+  row-few row =
+      ⊎-elim
+      (λ past.
+      let i = row - vertexCount s in
+      let place : row ≡ vertexCount s + i = omega arith in
+      row-short w s few EdgeEdge i row (edge-row-of w s i row place))
+      (λ low. row-short w s few PointTriangle row row (vertex-row-of w s row low))
+      (le-or-lt (vertexCount s) row)
+
+  pub rows-few : (a b : ℕ) → b ≤ rowCount s → length (rowsIn w s a b) < 4611686018427387904
+  rows-few a b h =
+      let short = gather-short (meshRow w s) 1073741824 a b (λ j p q. row-few j) in
+      omega (arith, few .fewVertices, few .fewEdges)
+
+-- rows up to one are judged
+pub record StretchGoing (w : RowPairs) (s : Scene) (m : Wanted) (most first end : ℕ) (o v : List ℕ) (g : Going) (o′ v′ : List ℕ) (g′ : Going) (row : ℕ) : Type 0 where
+  pub past : first ≤ row
+  pub within : row ≤ end
+  pub done : KeptBy s m most (rowsIn w s first row) o v g o′ v′ g′
+
+pub stretch-starts : (w : RowPairs) (s : Scene) (m : Wanted) (most first end : ℕ) (o v : List ℕ) (g : Going) → first ≤ end
+    → StretchGoing w s m most first end o v g o v g first
+stretch-starts w s m most first end o v g h =
+    record { past = omega arith; within = h; done = kept-as (rows-none w s first) (kept-none s m most o v g) }
+
+module _ {w : RowPairs} {s : Scene} {m : Wanted} {most first end : ℕ} {o v : List ℕ} {g : Going} {o₁ v₁ : List ℕ} {g₁ : Going} {row : ℕ}
+    (so : StretchGoing w s m most first end o v g o₁ v₁ g₁ row) where
+  pub stretch-goes : {o₂ v₂ : List ℕ} {g₂ : Going} → row < end → KeptBy s m most (meshRow w s row) o₁ v₁ g₁ o₂ v₂ g₂
+      → StretchGoing w s m most first end o v g o₂ v₂ g₂ (row + 1)
+  stretch-goes h b =
+      record { past = omega (arith, so .past); within = omega arith; done = kept-as (rows-next w s first row (so .past)) (kept-then (so .done) b) }
+
+  pub stretch-few : {l : List ℤ} {e t : List ℕ} {edgeTop triangleTop : ℕ} → Forest s l e t edgeTop triangleTop → row ≤ rowCount s → g .count ≤ 0
+      → g₁ .count < 4611686018427387904
+  stretch-few f h z =
+      omega (arith, kept-bound (so .done), rows-few w s (forest-sized f) first row h)
+
+  pub stretch-ends : end ≤ row → KeptBy s m most (rowsIn w s first end) o v g o₁ v₁ g₁
+  stretch-ends h = let e : row ≡ end = omega (arith, so .within) in kept-as (ap (rowsIn w s first) e) (so .done)
+
+-- ---- the row of a number, whose second places were put where there is room for all edges and for all triangles
+
+module _ (w : RowPairs) (s : Scene) (few : MeshSized s) where
+  pub numbered-short : (kind : Kind) (i row : ℕ) → partRow w s kind i ≡ meshRow w s row → length (meshRow w s row) ≤ 1073741824
+  numbered-short kind i row is = row-short w s few kind i row is
+
+  module _ (row : ℕ) (inside : row < rowCount s) (kind : Kind) (i : ℕ) (is : partRow w s kind i ≡ meshRow w s row) {o o′ : List ℕ} {n : ℕ}
+      (put : SecondsPut (meshRow w s row) o o′ n)
+      (edges : edgeCount s ≤ length o)
+      (triangles : triangleCount s ≤ length o) where
+    second-room : (kind : Kind) → secondCount s kind ≤ length o
+    unfolding secondCount
+    second-room PointTriangle = triangles
+    second-room EdgeEdge = edges
+
+    room : length (meshRow w s row) ≤ length o
+    room = omega (arith, ap length (sym is), part-row-short w s kind i, second-room kind)
+
+    pub numbered-of : i < 1073741824 → RowOf s kind i o′ n
+    numbered-of low = row-of w s few row inside kind i is put room low
+
+    pub numbered-pairs : pairsOf kind i o′ n ≡ meshRow w s row
+    numbered-pairs = row-pairs w s few row inside kind i is put room

@@ -1,0 +1,157 @@
+// Of a stretch of rows of a mesh the pairs whose words are asked for: every pair is judged, and counted by its word; the entries and words of those that
+// are kept are written where there is room for all of them.
+
+ghost use Prim.Native.Nat.{_≤_, _<_};
+ghost use lib.ListN.{length};
+ghost use Rattle.sequences.specs.Lent.{atEntry, atExit};
+ghost use Rattle.meaning.specs.Scene.{edgeCount, triangleCount};
+ghost use Rattle.meaning.specs.MeshRows.{rowCount, meshRow, rowsIn};
+ghost use Rattle.scene_seams.specs.Alone.{tabledIn, tabledAtEntry};
+ghost use Rattle.scene_checks.specs.Facts.{Sound};
+ghost use Rattle.mesh_trees.specs.Forest.{Forest};
+ghost use Rattle.mesh_keep.specs.Keeping.{KeptBy};
+use meaning::Kind;
+use meaning::RowPairs;
+use meaning::Wanted;
+use mesh_keep::Going;
+use mesh_keep::keep_row;
+use mesh_rows::row_places;
+use scene_parts::vertex_count;
+
+// The pairs of the row of a number: its second places are put into scratch, and its pairs are judged one behind the other.
+fn keep_numbered(
+    positions: &[i32],
+    edges: &[u32],
+    triangles: &[u32],
+    stands: &[u32],
+    boxes: &[i32],
+    edge_levels: &[usize],
+    edge_top: usize,
+    triangle_levels: &[usize],
+    triangle_top: usize,
+    which: RowPairs,
+    row: usize,
+    places: &mut [u32],
+    wanted: Wanted,
+    list: &mut [u64],
+    words: &mut [u8],
+    most: usize,
+    going: Going,
+) -> Going
+    requires { ⌜ Forest (tabledIn positions edges triangles stands) (now boxes) (now «edge_levels») (now «triangle_levels»)
+        «edge_top» «triangle_top» × (row < rowCount (tabledIn positions edges triangles stands)) ⌝ }
+    requires { ⌜ (edgeCount (tabledIn positions edges triangles stands) ≤ length (now places))
+        × (triangleCount (tabledIn positions edges triangles stands) ≤ length (now places)) ⌝ }
+    requires { ⌜ Sound (tabledIn positions edges triangles stands) × (most ≤ length (now list)) × (most ≤ length (now words))
+        × (going .count < 4611686018427387904) ⌝ }
+    ensures { λ r. ⌜ KeptBy (tabledAtEntry positions edges triangles stands) wanted most
+        (meshRow which (tabledAtEntry positions edges triangles stands) row) (atEntry list) (atEntry words) going
+        (atExit list) (atExit words) r ⌝ }
+{
+    let parts = row_places(
+        positions,
+        edges,
+        triangles,
+        stands,
+        boxes,
+        edge_levels,
+        edge_top,
+        triangle_levels,
+        triangle_top,
+        which,
+        row,
+        places,
+    );
+    let vertices = vertex_count(positions);
+    if row < vertices {
+        keep_row(
+            positions,
+            edges,
+            triangles,
+            stands,
+            Kind::PointTriangle,
+            row,
+            places,
+            parts,
+            wanted,
+            list,
+            words,
+            most,
+            going,
+        )
+    } else {
+        keep_row(
+            positions,
+            edges,
+            triangles,
+            stands,
+            Kind::EdgeEdge,
+            row - vertices,
+            places,
+            parts,
+            wanted,
+            list,
+            words,
+            most,
+            going,
+        )
+    }
+}
+
+// The rows of a stretch, one after the other.
+pub fn keep_stretch(
+    positions: &[i32],
+    edges: &[u32],
+    triangles: &[u32],
+    stands: &[u32],
+    boxes: &[i32],
+    edge_levels: &[usize],
+    edge_top: usize,
+    triangle_levels: &[usize],
+    triangle_top: usize,
+    which: RowPairs,
+    first: usize,
+    end: usize,
+    places: &mut [u32],
+    wanted: Wanted,
+    list: &mut [u64],
+    words: &mut [u8],
+    most: usize,
+    going: Going,
+) -> Going
+    requires { ⌜ Forest (tabledIn positions edges triangles stands) (now boxes) (now «edge_levels») (now «triangle_levels»)
+        «edge_top» «triangle_top» × (first ≤ end) × (end ≤ rowCount (tabledIn positions edges triangles stands)) ⌝ }
+    requires { ⌜ (edgeCount (tabledIn positions edges triangles stands) ≤ length (now places))
+        × (triangleCount (tabledIn positions edges triangles stands) ≤ length (now places)) ⌝ }
+    requires { ⌜ Sound (tabledIn positions edges triangles stands) × (most ≤ length (now list)) × (most ≤ length (now words))
+        × (going .count ≤ 0) ⌝ }
+    ensures { λ r. ⌜ KeptBy (tabledAtEntry positions edges triangles stands) wanted most
+        (rowsIn which (tabledAtEntry positions edges triangles stands) first end) (atEntry list) (atEntry words) going
+        (atExit list) (atExit words) r ⌝ }
+{
+    let mut so_far = going;
+    let mut row = first;
+    while row < end {
+        so_far = keep_numbered(
+            positions,
+            edges,
+            triangles,
+            stands,
+            boxes,
+            edge_levels,
+            edge_top,
+            triangle_levels,
+            triangle_top,
+            which,
+            row,
+            places,
+            wanted,
+            list,
+            words,
+            most,
+            so_far,
+        );
+        row += 1;
+    }
+    so_far
+}
