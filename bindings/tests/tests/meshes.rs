@@ -50,7 +50,8 @@ fn rows_are_those_of_the_independent_program() {
                 let mut list = vec![7; entries.len() + 2];
                 assert_eq!(mesh.list_rows(&mut scratch, which, first..end, &mut list), Ok(entries.len() as u64));
                 assert_eq!((&list[..entries.len()], &list[entries.len()..]), (&entries[..], &[7, 7][..]), "seed {seed}");
-                let ordered = mesh.clone().ordered(order(&mut random, scene.edges.len()), order(&mut random, scene.triangles.len()));
+                let ordered =
+                    mesh.clone().ordered(order(&mut random, scene.edges.len()), order(&mut random, scene.triangles.len()));
                 let mut again = vec![7; list.len()];
                 assert_eq!(ordered.list_rows(&mut scratch, which, first..end, &mut again), Ok(entries.len() as u64));
                 assert_eq!(again, list);
