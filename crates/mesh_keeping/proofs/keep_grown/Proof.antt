@@ -1,0 +1,36 @@
+-- `keep_grown`: counted, and entered where there is room.
+use borrow.Author.Needs.{needs}
+use native.Mathlib.Omega.{arith}
+use Rattle.scene_seams.specs.Alone.{tabled}
+use Rattle.mesh_keeping.specs.Kept.{kept-refused, kept-entered}
+use Rattle.mesh_keeping.proofs.keep_grown.Statement.{statement}
+use Rattle.mesh_keeping.proofs.keep_grown.Tie as tie
+
+returns : tie.Need-returns
+returns c =
+    let a = c .before .before .before .before .before .before .before .before .before .before .before .before .before .before .args in
+    kept-refused (a .which) (a .wanted) (tabled (a .positions .now) (a .edges .now) (a .triangles .now) (a .stands .now)) (a .first) (a .end) (c .before .before .before .before .count-kept .ensures) (a .list .now) (a .words .now) (c .if1 .taken)
+
+keep-into-requires : tie.Need-keep-into-requires
+keep-into-requires c κs =
+    let start = c .before .before .before .before .before .before .before .before .before .before .before .before .before .before .before .before .before in
+    (start .pre .0, ((omega (arith, start .pre .1 .0 .0, c .before .before .before .before .before .before .places .given), omega (arith, start .pre .1 .0 .1, c .before .before .before .before .before .before .places .given)), start .pre .1 .1))
+
+returns-2 : tie.Need-returns-2
+returns-2 c =
+    let start = c .before .before .before .before .before .before .before .before .before .before .before .before .before .before .before .before .before .before .before .before .before .before .before .before in
+    let a = start .args in
+    kept-entered (a .which) (a .wanted) (tabled (a .positions .now) (a .edges .now) (a .triangles .now) (a .stands .now)) (a .first) (a .end) (c .before .before .before .before .before .before .before .before .before .before .before .before .before .before .count-kept .ensures) (c .before .before .before .before .before .before .before .before .before .before .if1 .left) (start .pre .1 .1 .1) (start .pre .1 .1 .2) (c .before .before .before .before .before .before .keep-into .ensures)
+
+pub keep-grown-spec : {M : Type 1} → statement M
+keep-grown-spec =
+    tie.close
+    (tie.spec
+    (λ c κs. search needs)
+    (λ c. search needs)
+    returns
+    keep-into-requires
+    (λ c. search needs)
+    (λ c. search needs)
+    (λ c. search needs)
+    returns-2)
