@@ -2,7 +2,6 @@
 // Nothing is written to the lent lists before it is known that they have room for all that are kept.
 
 ghost use Prim.Native.Nat.{_≤_};
-ghost use mathlib.Core.Path.{_≡_};
 ghost use lib.ListN.{length};
 ghost use Rattle.sequences.specs.Lent.{atEntry, atExit};
 ghost use Rattle.meaning.specs.Scene.{sceneAtEntry, edgeCount, triangleCount};
@@ -11,156 +10,24 @@ ghost use Rattle.scene_seams.specs.Alone.{tabledIn, tabledAtEntry};
 ghost use Rattle.scene_checks.specs.Facts.{Sound};
 ghost use Rattle.mesh_trees.specs.Planting.{Plantable};
 ghost use Rattle.mesh_trees.specs.Forest.{Forest};
-ghost use Rattle.mesh_keeping.specs.Kept.{noneYet, toldOf, KeptTold, KeptInto, StretchKept};
+ghost use Rattle.mesh_keeping.specs.Kept.{StretchKept};
 use meaning::KeptAnswer;
-use meaning::KeptRows;
 use meaning::Refusal;
 use meaning::RowPairs;
 use meaning::SceneAnswer;
 use meaning::Wanted;
 use mesh_asked::ask_rows;
 use mesh_asked::row_count;
-use mesh_keep::Going;
+use mesh_judged::OWN_ENTRIES;
+use mesh_judged::keep_into;
+use mesh_judged::keep_own;
 use mesh_trees::plant;
-use mesh_wanted::keep_stretch;
 use scene_parts::asked::smaller;
-use tally::Tally;
 
 // Where a level of a tree begins and how many nodes it has, for each of its levels.
 const LEVEL_NUMBERS: usize = 34;
 
-// Nothing is judged yet.
-fn none_yet() -> Going
-    ensures { λ r. ⌜ r ≡ noneYet ⌝ }
-{
-    Going {
-        count: 0,
-        tally: Tally {
-            listed: 0,
-            hits: 0,
-            misses: 0,
-            touches: 0,
-            aparts: 0,
-        },
-    }
-}
-
-// What was counted, as an answer tells it.
-fn told(going: Going) -> KeptRows
-    ensures { λ r. ⌜ r ≡ toldOf going ⌝ }
-{
-    let tally = going.tally;
-    KeptRows {
-        count: going.count,
-        listed: tally.listed,
-        hits: tally.hits,
-        misses: tally.misses,
-        touches: tally.touches,
-        aparts: tally.aparts,
-    }
-}
-
-// All pairs of the rows are judged and counted, and those that are kept are entered below a bound.
-fn keep_into(
-    positions: &[i32],
-    edges: &[u32],
-    triangles: &[u32],
-    stands: &[u32],
-    boxes: &[i32],
-    edge_levels: &[usize],
-    edge_top: usize,
-    triangle_levels: &[usize],
-    triangle_top: usize,
-    which: RowPairs,
-    first: usize,
-    end: usize,
-    places: &mut [u32],
-    wanted: Wanted,
-    list: &mut [u64],
-    words: &mut [u8],
-    most: usize,
-) -> KeptRows
-    requires { ⌜ Forest (tabledIn positions edges triangles stands) (now boxes) (now «edge_levels») (now «triangle_levels»)
-        «edge_top» «triangle_top» × (first ≤ end) × (end ≤ rowCount (tabledIn positions edges triangles stands)) ⌝ }
-    requires { ⌜ (edgeCount (tabledIn positions edges triangles stands) ≤ length (now places))
-        × (triangleCount (tabledIn positions edges triangles stands) ≤ length (now places)) ⌝ }
-    requires { ⌜ Sound (tabledIn positions edges triangles stands) × (most ≤ length (now list))
-        × (most ≤ length (now words)) ⌝ }
-    ensures { λ r. ⌜ KeptInto which wanted (tabledAtEntry positions edges triangles stands) first end most (atEntry list)
-        (atEntry words) (atExit list) (atExit words) r ⌝ }
-{
-    let start = none_yet();
-    let going = keep_stretch(
-        positions,
-        edges,
-        triangles,
-        stands,
-        boxes,
-        edge_levels,
-        edge_top,
-        triangle_levels,
-        triangle_top,
-        which,
-        first,
-        end,
-        places,
-        wanted,
-        list,
-        words,
-        most,
-        start,
-    );
-    told(going)
-}
-
-// The counts alone: nothing is entered.
-fn count_kept(
-    positions: &[i32],
-    edges: &[u32],
-    triangles: &[u32],
-    stands: &[u32],
-    boxes: &[i32],
-    edge_levels: &[usize],
-    edge_top: usize,
-    triangle_levels: &[usize],
-    triangle_top: usize,
-    which: RowPairs,
-    first: usize,
-    end: usize,
-    places: &mut [u32],
-    wanted: Wanted,
-) -> KeptRows
-    requires { ⌜ Forest (tabledIn positions edges triangles stands) (now boxes) (now «edge_levels») (now «triangle_levels»)
-        «edge_top» «triangle_top» × (first ≤ end) × (end ≤ rowCount (tabledIn positions edges triangles stands)) ⌝ }
-    requires { ⌜ (edgeCount (tabledIn positions edges triangles stands) ≤ length (now places))
-        × (triangleCount (tabledIn positions edges triangles stands) ≤ length (now places)) ⌝ }
-    requires { ⌜ Sound (tabledIn positions edges triangles stands) ⌝ }
-    ensures { λ r. ⌜ KeptTold which wanted (tabledAtEntry positions edges triangles stands) first end r ⌝ }
-{
-    let mut none = [0u64; 0];
-    let mut no_words = [0u8; 0];
-    keep_into(
-        positions,
-        edges,
-        triangles,
-        stands,
-        boxes,
-        edge_levels,
-        edge_top,
-        triangle_levels,
-        triangle_top,
-        which,
-        first,
-        end,
-        places,
-        wanted,
-        &mut none,
-        &mut no_words,
-        0,
-    )
-}
-
-// The pairs that are kept are counted first, and the rows are judged again where there is room.
+// All pairs are judged once, and again where there is room and more are kept than one's own arrays hold.
 fn keep_grown(
     positions: &[i32],
     edges: &[u32],
@@ -189,7 +56,7 @@ fn keep_grown(
     ensures { λ r. ⌜ StretchKept which wanted (tabledAtEntry positions edges triangles stands) first end room (atEntry list)
         (atExit list) (atEntry words) (atExit words) r ⌝ }
 {
-    let counted = count_kept(
+    let counted = keep_own(
         positions,
         edges,
         triangles,
@@ -204,9 +71,15 @@ fn keep_grown(
         end,
         places,
         wanted,
+        list,
+        words,
+        room,
     );
     if room < counted.count {
         return KeptAnswer::Refused(Refusal::NoRoom, counted.count);
+    }
+    if counted.count <= OWN_ENTRIES {
+        return KeptAnswer::Kept(counted);
     }
     let kept = keep_into(
         positions,

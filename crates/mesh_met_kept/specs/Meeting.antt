@@ -12,7 +12,7 @@ use Rattle.sequences.specs.Pick.{pick}
 use Rattle.sequences.specs.Wrote.{written, written-length}
 use Rattle.meaning.specs.Limits.{contactLimit}
 use Rattle.meaning.specs.Scene.{Scene, reachesBeyond}
-use Rattle.meaning.specs.Refusals.{given, refused, numberOf, roomCheck, Answers}
+use Rattle.meaning.specs.Refusals.{numberOf, roomCheck, Answers}
 use Rattle.meaning.specs.List.{Pair, leaves}
 use Rattle.meaning.specs.SceneWords.{byteOf}
 use Rattle.meaning.specs.WholeContacts.{rangeCheck, contactRoom, rowsLeft, rowsAfter}
@@ -35,7 +35,8 @@ use Rattle.mesh_list.specs.Answering.{toldBy, open-told}
 use Rattle.mesh_words.specs.Asked.{meshPairsIn, MeshThere, Entered, entered-pairs, entered-there}
 use Rattle.mesh_words.specs.OfRows.{rows-of-list, listed-entered}
 use Rattle.mesh_keep.specs.Keeping.{keptPairs, kept-is, kept-words}
-use Rattle.mesh_keeping.specs.Kept.{rowWords, keptEntries, keptBytes, KeptTold, StretchKept}
+use Rattle.mesh_judged.specs.Judged.{rowWords, keptEntries, keptBytes, KeptTold}
+use Rattle.mesh_keeping.specs.Kept.{StretchKept}
 
 -- what is kept was there
 module _ (s : Scene) (m : Wanted) where
@@ -53,12 +54,12 @@ module _ (w : RowPairs) (m : Wanted) (s : Scene) (a b : ℕ) where
   rows = rowsIn w s a b
 
   abbrev pub keptRows : List Pair
-  keptRows = kept m (rowWords w m s a b) rows
+  keptRows = kept m (rowWords w s a b) rows
 
   -- ---- a stretch of which pairs were kept
 
   pub record KeptMade (room : ℕ) (o o′ v v′ : List ℕ) (n : ℕ) : Type 0 where
-    pub counts : n ≡ length (kept m (rowWords w m s a b) (rowWords w m s a b))
+    pub counts : n ≡ length (kept m (rowWords w s a b) (rowWords w s a b))
     pub fits : n ≤ room
     pub list : o′ ≡ written (keptEntries w m s a b) o
     pub bytes : v′ ≡ written (keptBytes w m s a b) v
@@ -68,17 +69,17 @@ module _ (w : RowPairs) (m : Wanted) (s : Scene) (a b : ℕ) where
     unfolding keptSays leaves Answers
     kept-made =
         let k : StretchKept w m s a b room o o′ v v′ (KeptAnswers.the-variants.Kept t) = subst (StretchKept w m s a b room o o′ v v′) e l in
-        let (h, rest) = is-given (KeptTold w m s a b) (roomCheck room (length (kept m (rowWords w m s a b) (rowWords w m s a b)))) [] t (k .answer) in
+        let (h, rest) = is-given (KeptTold w m s a b) (roomCheck room (length (kept m (rowWords w s a b) (rowWords w s a b)))) [] t (k .answer) in
         let same = ap (λ (u : KeptRows). u .count) rest in
         record {
           counts = same;
-          fits = omega (arith, same, ltb-false room (length (kept m (rowWords w m s a b) (rowWords w m s a b))) h);
+          fits = omega (arith, same, ltb-false room (length (kept m (rowWords w s a b) (rowWords w s a b))) h);
           list = k .list;
           bytes = k .bytes;
         }
 
   -- the words of those that are kept
-  words-kept : wordsOf s keptRows ≡ kept m (rowWords w m s a b) (rowWords w m s a b)
+  words-kept : wordsOf s keptRows ≡ kept m (rowWords w s a b) (rowWords w s a b)
   words-kept = ap (wordsOf s) (sym (kept-is s m rows)) ∙ kept-words s m rows
 
   module _ {room n : ℕ} {o o′ v v′ : List ℕ} (few : MeshSized s) (within : b ≤ rowCount s) (high : room ≤ length o) (wide : room ≤ length v) (made : KeptMade room o o′ v v′ n) where
@@ -87,7 +88,7 @@ module _ (w : RowPairs) (m : Wanted) (s : Scene) (a b : ℕ) where
         omega (arith, length-map keptRows meshNumber, length-map keptRows (wordOfPair s), ap length words-kept, made .counts)
 
     bytes-long : length (keptBytes w m s a b) ≡ n
-    bytes-long = omega (arith, length-map (kept m (rowWords w m s a b) (rowWords w m s a b)) byteOf, made .counts)
+    bytes-long = omega (arith, length-map (kept m (rowWords w s a b) (rowWords w s a b)) byteOf, made .counts)
 
     pub made-room : n ≤ length o′
     made-room =
@@ -144,7 +145,7 @@ module _ (w : RowPairs) (m : Wanted) (s : Scene) (a b : ℕ) where
 
   pub record KeptThere (o o′ v v′ c c′ : List ℕ) (r : KeptAnswer) : Type 0 where
     pub answer : Answers
-        (rangeCheck s ∷ roomCheck (contactRoom o v c) (length (kept m (rowWords w m s a b) (rowWords w m s a b))) ∷ [])
+        (rangeCheck s ∷ roomCheck (contactRoom o v c) (length (kept m (rowWords w s a b) (rowWords w s a b))) ∷ [])
         (KeptTold w m s a b)
         (keptSays r)
     pub list : o′ ≡ leaves (keptSays r) (keptEntries w m s a b) o
@@ -169,7 +170,7 @@ module _ (w : RowPairs) (m : Wanted) (s : Scene) (l : Lent) (first end : ℕ) {t
   unfolding keptSays leaves rowsAfter
   not-met o v c x e =
       record {
-        words = rowWords w m s first end;
+        words = rowWords w s first end;
         right = all-judged s (rowsIn w s first end);
         answer = refused-first p (KeptTold w m s first end) _ x e;
         list = refl;
@@ -185,7 +186,7 @@ module _ (w : RowPairs) (m : Wanted) (s : Scene) (l : Lent) (first end : ℕ) {t
   met {o} {o′} {v} {v′} {c} {c′} {r} passed h =
       let k = subst (λ (n : Scene). KeptThere w m n first end o o′ v v′ c c′ r) (open-told p passed) h in
       record {
-        words = rowWords w m s first end;
+        words = rowWords w s first end;
         right = all-judged s (rowsIn w s first end);
         answer = passed-first p (KeptTold w m s first end) _ (keptSays r) passed (k .answer);
         list = k .list;

@@ -5,9 +5,9 @@ use mathlib.Core.Path.{ap}
 use Rattle.mesh_keep.specs.declared.Going.{Going}
 use Rattle.mesh_wanted.specs.Stretch.{forest-sized}
 use Rattle.scene_seams.specs.Alone.{tabled}
-use Rattle.mesh_keeping.specs.Kept.{judged-into}
-use Rattle.mesh_keeping.proofs.keep_into.Statement.{statement}
-use Rattle.mesh_keeping.proofs.keep_into.Tie as tie
+use Rattle.mesh_judged.specs.Judged.{judged-into}
+use Rattle.mesh_judged.proofs.keep_into.Statement.{statement}
+use Rattle.mesh_judged.proofs.keep_into.Tie as tie
 
 keep-stretch-requires : tie.Need-keep-stretch-requires
 keep-stretch-requires c κs =
