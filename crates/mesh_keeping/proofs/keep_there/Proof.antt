@@ -1,0 +1,30 @@
+-- `keep_there`: what was planted is what the rows are judged by.
+use borrow.Author.Needs.{needs}
+use native.Mathlib.Omega.{arith}
+use Rattle.scene_seams.specs.Table.{seamsOf}
+use Rattle.mesh_trees.specs.Forest.{planted-forest}
+use Rattle.mesh_keeping.proofs.keep_there.Statement.{statement}
+use Rattle.mesh_keeping.proofs.keep_there.Tie as tie
+
+keep-grown-requires : tie.Need-keep-grown-requires
+keep-grown-requires c κs =
+    let start = c .before .before .before .before .before .before .before .before .before .before .before .before .before .before .before .before .before .before .before in (
+      (planted-forest (start .pre .0 .0) (omega arith) (omega arith) (c .before .before .before .before .before .before .before .before .before .plant .ensures (seamsOf (start .args .stands .now))), start .pre .0 .1, start .pre .0 .2),
+      start .pre .1,
+    )
+
+pub keep-there-spec : {M : Type 1} → statement M
+keep-there-spec =
+    tie.close
+    (tie.spec
+    (λ c. search needs)
+    (λ c. search needs)
+    (λ c κs. search needs)
+    (λ c. search needs)
+    (λ c. search needs)
+    keep-grown-requires
+    (λ c. search needs)
+    (λ c. search needs)
+    (λ c. search needs)
+    (λ c. search needs)
+    (λ c. search needs))

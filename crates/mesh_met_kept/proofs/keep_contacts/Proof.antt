@@ -1,0 +1,61 @@
+-- `keep_contacts`: a refusal of what comes first is passed on, and the rows of an accepted mesh are judged and met, by the table of its seams.
+use borrow.Author.Needs.{needs}
+use native.Mathlib.Omega.{arith}
+use mathlib.Core.Path.{refl}
+use lib.ListN.{length}
+use denote.Ref.{now}
+use Rattle.meaning.specs.Scene.{sceneIn}
+use Rattle.mesh_asked.specs.Asking.{lentOf}
+use Rattle.mesh_list.specs.Answering.{by-count, open-plantable, open-rows}
+use Rattle.mesh_met.specs.Meeting.{open-accepted}
+use Rattle.mesh_keeping.specs.Kept.{open-places}
+use Rattle.mesh_met_kept.specs.Meeting.{not-met, met}
+use Rattle.mesh_met_kept.proofs.keep_contacts.Statement.{statement}
+use Rattle.mesh_met_kept.proofs.keep_contacts.Tie as tie
+
+contact-there-requires : tie.Need-contact-there-requires
+contact-there-requires c κs =
+    let a = c .before .before .before .before .before .before .before .before .before .before .before .before .before .before .before .before .before .before .before .before .before .before .before .before .before .before .args in
+    let s = sceneIn (a .positions) (a .edges) (a .triangles) (a .seams) in
+    let l = lentOf (now (a .edge-order)) (now (a .triangle-order)) (length (now (a .table))) (length (now (a .places))) (length (now (a .boxes))) in
+    let asked = by-count {s = s} (c .before .before .before .before .before .before .before .before .before .before .before .before .before .before .before .row-count .ensures) (c .before .before .before .before .before .before .before .before .before .before .before .before .ask-rows .ensures) in
+    let passed = c .before .before .before .before .before .before .enum-told .given .1 in
+    let there = open-rows asked passed in
+    let room = open-places (a .which) (a .wanted) s l (a .first) (a .end) asked passed in (
+      (open-plantable asked passed (now (a .boxes)) refl, there .0, there .1),
+      ((omega (arith, room .0, c .before .before .before .before .before .before .before .before .before .places .given), omega (arith, room .1, c .before .before .before .before .before .before .before .before .before .places .given)), open-accepted (a .which) s l (a .first) (a .end) asked passed),
+    )
+
+returns : tie.Need-returns
+returns c =
+    let a = c .before .before .before .before .before .before .before .before .before .before .before .before .before .before .before .before .before .before .before .before .before .args in
+    let s = sceneIn (a .positions) (a .edges) (a .triangles) (a .seams) in
+    let l = lentOf (now (a .edge-order)) (now (a .triangle-order)) (length (now (a .table))) (length (now (a .places))) (length (now (a .boxes))) in
+    not-met (a .which) (a .wanted) s l (a .first) (a .end) (by-count {s = s} (c .before .before .before .before .before .before .before .before .before .before .row-count .ensures) (c .before .before .before .before .before .before .before .ask-rows .ensures)) (now (a .list)) (now (a .words)) (now (a .contacts)) _ (c .before .why .given .1)
+
+returns-2 : tie.Need-returns-2
+returns-2 c =
+    let a = c .before .before .before .before .before .before .before .before .before .before .before .before .before .before .before .before .before .before .before .before .before .before .before .before .before .before .before .before .before .before .before .before .before .before .before .before .args in
+    let s = sceneIn (a .positions) (a .edges) (a .triangles) (a .seams) in
+    let l = lentOf (now (a .edge-order)) (now (a .triangle-order)) (length (now (a .table))) (length (now (a .places))) (length (now (a .boxes))) in
+    met (a .which) (a .wanted) s l (a .first) (a .end) (by-count {s = s} (c .before .before .before .before .before .before .before .before .before .before .before .before .before .before .before .before .before .before .before .before .before .before .before .before .before .row-count .ensures) (c .before .before .before .before .before .before .before .before .before .before .before .before .before .before .before .before .before .before .before .before .before .before .ask-rows .ensures)) (c .before .before .before .before .before .before .before .before .before .before .before .before .before .before .before .before .enum-told .given .1) (c .before .before .before .before .before .before .before .before .before .contact-there .ensures)
+
+pub keep-contacts-spec : {M : Type 1} → statement M
+keep-contacts-spec =
+    tie.close
+    (tie.spec
+    (λ c κs. search needs)
+    (λ c κs. search needs)
+    (λ c. search needs)
+    (λ c. search needs)
+    contact-there-requires
+    (λ c. search needs)
+    (λ c. search needs)
+    returns
+    (λ c. search needs)
+    (λ c. search needs)
+    (λ c. search needs)
+    (λ c. search needs)
+    (λ c. search needs)
+    (λ c. search needs)
+    returns-2)
