@@ -25,9 +25,9 @@ extern "C" {
 /* ---- Version: of this header and of the library that was installed with it; docs/CHANGES.md tells what changed ---- */
 
 #define MAKHNODRI_VERSION_MAJOR 0
-#define MAKHNODRI_VERSION_MINOR 7
+#define MAKHNODRI_VERSION_MINOR 8
 #define MAKHNODRI_VERSION_PATCH 0
-#define MAKHNODRI_VERSION "0.7.0"
+#define MAKHNODRI_VERSION "0.8.0"
 
 /* ---- Sizes ---- */
 
