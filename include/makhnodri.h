@@ -121,6 +121,7 @@ extern "C" {
  *     list_rows, list_near_rows                     8,192
  *     settle_rows, settle_near_rows                 8,192
  *     contact_rows, contact_near_rows               8,192
+ *     keep_rows, keep_near_rows                    81,920
  *     pierced_at_start_rows, pierced_at_end_rows    3,584
  *
  * ---- An answer ----
@@ -170,6 +171,14 @@ enum {
 enum {
     MAKHNODRI_PT = 0, /* a point and a triangle */
     MAKHNODRI_EE = 1  /* two edges */
+};
+
+/* Words asked for, added up: 2 to the power of each word's number. Any other bit stands for nothing. */
+enum {
+    MAKHNODRI_WANT_HITS = 1,
+    MAKHNODRI_WANT_MISSES = 2,
+    MAKHNODRI_WANT_TOUCHES = 8,
+    MAKHNODRI_WANT_APARTS = 16
 };
 
 /* What was found of the edges of a mesh. */
@@ -491,6 +500,10 @@ uint32_t makhnodri_contact_rows_slices(MAKHNODRI_ROW_LISTS, size_t first, size_t
 uint32_t makhnodri_contact_near_rows_slices(MAKHNODRI_ROW_LISTS, size_t first, size_t end, uint64_t *list, size_t list_length,
                                      uint8_t *words, size_t words_length, uint32_t *contacts, size_t contacts_length,
                                      uint64_t told[MAKHNODRI_AT_LEAST(1)]);
+uint32_t makhnodri_keep_rows_slices(MAKHNODRI_ROW_LISTS, size_t first, size_t end, uint32_t wanted, uint64_t *list,
+                                     size_t list_length, uint8_t *words, size_t words_length, uint64_t told[MAKHNODRI_AT_LEAST(6)]);
+uint32_t makhnodri_keep_near_rows_slices(MAKHNODRI_ROW_LISTS, size_t first, size_t end, uint32_t wanted, uint64_t *list,
+                                     size_t list_length, uint8_t *words, size_t words_length, uint64_t told[MAKHNODRI_AT_LEAST(6)]);
 uint32_t makhnodri_pierced_at_start_rows_slices(MAKHNODRI_ROW_LISTS, size_t first, size_t end, uint64_t *list, size_t list_length,
                                      uint64_t told[MAKHNODRI_AT_LEAST(1)]);
 uint32_t makhnodri_pierced_at_end_rows_slices(MAKHNODRI_ROW_LISTS, size_t first, size_t end, uint64_t *list, size_t list_length,
@@ -834,6 +847,25 @@ static inline uint32_t makhnodri_contact_near_rows(const makhnodri_mesh *mesh, m
                                      size_t contacts_length, uint64_t *count) {
     return makhnodri_contact_near_rows_slices(MAKHNODRI_ROW_LISTS_OF(mesh, scratch), first, end, list, list_length, words,
         words_length, contacts, contacts_length, count);
+}
+
+/*
+ * Of their pairs those whose words are asked for (MAKHNODRI_WANT_HITS and its like, added up): their entries and words, as of
+ * makhnodri_settle_rows of those pairs alone. Into told go how many are kept, how many pairs there are, and how many of all these are
+ * hits, misses, touches and aparts; or 7, and into told[0] how many need room: those that are kept, and no others.
+ */
+static inline uint32_t makhnodri_keep_rows(const makhnodri_mesh *mesh, makhnodri_scratch *scratch, size_t first, size_t end,
+                                     uint32_t wanted, uint64_t *list, size_t list_length, uint8_t *words, size_t words_length,
+                                     uint64_t told[MAKHNODRI_AT_LEAST(6)]) {
+    return makhnodri_keep_rows_slices(MAKHNODRI_ROW_LISTS_OF(mesh, scratch), first, end, wanted, list, list_length, words,
+        words_length, told);
+}
+
+static inline uint32_t makhnodri_keep_near_rows(const makhnodri_mesh *mesh, makhnodri_scratch *scratch, size_t first, size_t end,
+                                     uint32_t wanted, uint64_t *list, size_t list_length, uint8_t *words, size_t words_length,
+                                     uint64_t told[MAKHNODRI_AT_LEAST(6)]) {
+    return makhnodri_keep_near_rows_slices(MAKHNODRI_ROW_LISTS_OF(mesh, scratch), first, end, wanted, list, list_length, words,
+        words_length, told);
 }
 
 /*

@@ -288,6 +288,13 @@ static void contact_rows(void) {
 static void contact_near_rows(void) {
     makhnodri_contact_near_rows_slices(ROWS, ALL, entries, sizeof entries / sizeof entries[0], words, sizeof words, contacts, sizeof contacts / sizeof contacts[0], told_of_a_mesh);
 }
+#define EVERY_WORD MAKHNODRI_WANT_HITS + MAKHNODRI_WANT_MISSES + MAKHNODRI_WANT_TOUCHES + MAKHNODRI_WANT_APARTS
+static void keep_rows(void) {
+    makhnodri_keep_rows_slices(ROWS, ALL, EVERY_WORD, entries, sizeof entries / sizeof entries[0], words, sizeof words, told_of_a_mesh);
+}
+static void keep_near_rows(void) {
+    makhnodri_keep_near_rows_slices(ROWS, ALL, EVERY_WORD, entries, sizeof entries / sizeof entries[0], words, sizeof words, told_of_a_mesh);
+}
 static void pierced_at_start_rows(void) {
     makhnodri_pierced_at_start_rows_slices(ROWS, 0, MAKHNODRI_EDGE_LIMIT, entries, sizeof entries / sizeof entries[0], told_of_a_mesh);
 }
@@ -344,6 +351,8 @@ static const struct {
     {"settle_near_rows", settle_near_rows, 4},
     {"contact_rows", contact_rows, 4},
     {"contact_near_rows", contact_near_rows, 4},
+    {"keep_rows", keep_rows, 4},
+    {"keep_near_rows", keep_near_rows, 4},
     {"pierced_at_start_rows", pierced_at_start_rows, 4},
     {"pierced_at_end_rows", pierced_at_end_rows, 4},
 };

@@ -98,6 +98,9 @@ PT, EE = Kind
 
 NO, YES = 0, 1
 
+# words asked for, added up: 2 to the power of each word's number
+WANT_HITS, WANT_MISSES, WANT_TOUCHES, WANT_APARTS = 1, 2, 8, 16
+
 # what was found of the edges of a mesh
 EDGES_WHOLE, SIDE_BARE, EDGE_TWICE = 0, 1, 2
 
@@ -225,6 +228,17 @@ def mesh_entry_first(number: int) -> int:
 def mesh_entry_second(number: int) -> int:
     """Its second place: the triangle, or the second edge."""
     return number & 0xFFFFFFFF
+
+
+class Kept(typing.NamedTuple):
+    """What is told of rows of which pairs were kept: how many are kept, how many there are, and how many of all of these have each word."""
+
+    count: int
+    listed: int
+    hits: int
+    misses: int
+    touches: int
+    aparts: int
 
 
 class Pair(typing.NamedTuple):
@@ -868,7 +882,7 @@ def read_boxed(
 _MESH, _ROWS, _TABLE = _MeshLists(), _OrderedLists(), _InScratch(("table", _UINT32))
 _TABLE_AND_PLACES = _InScratch(("table", _UINT32), ("places", _UINT32))
 _SCRATCH = _InScratch(("table", _UINT32), ("places", _UINT32), ("boxes", _INT32))
-_STRETCH = (_Place("first"), _Place("end"))
+_STRETCH, _WANTED = (_Place("first"), _Place("end")), _Number("wanted")
 
 # ---- Functions of a mesh of any size: a stretch of rows at a time. The scratch is made as long as the mesh needs it, so that 12 is not met
 
@@ -949,6 +963,41 @@ def contact_near_rows(
     mesh: Mesh, scratch: Scratch, first: int, end: int, list: WriteableBuffer, words: WriteableBuffer, contacts: WriteableBuffer, told: typing.Optional[WriteableBuffer] = None, /
 ) -> int:
     """And the contact of each hit: that of entry i begins at contacts[5 * i], of the near ones."""
+
+
+@_calls_mesh(
+    "keep_rows_slices", _TOLD_KEPT, _ROWS, _SCRATCH, *_STRETCH, _WANTED, _Write("list", _UINT64), _WORDS, _Fixed("told", _UINT64, 6, optional=True)
+)
+def keep_rows(
+    mesh: Mesh,
+    scratch: Scratch,
+    first: int,
+    end: int,
+    wanted: int,
+    list: WriteableBuffer,
+    words: WriteableBuffer,
+    told: typing.Optional[WriteableBuffer] = None,
+    /,
+) -> Kept:
+    """Of the pairs of the rows those whose words are asked for, WANT_HITS and its like added up: their entries in front of `list` and their words in
+    front of `words`. The totals are of all pairs; Refused with 7 and the count of those that are kept where there is no room for them."""
+
+
+@_calls_mesh(
+    "keep_near_rows_slices", _TOLD_KEPT, _ROWS, _SCRATCH, *_STRETCH, _WANTED, _Write("list", _UINT64), _WORDS, _Fixed("told", _UINT64, 6, optional=True)
+)
+def keep_near_rows(
+    mesh: Mesh,
+    scratch: Scratch,
+    first: int,
+    end: int,
+    wanted: int,
+    list: WriteableBuffer,
+    words: WriteableBuffer,
+    told: typing.Optional[WriteableBuffer] = None,
+    /,
+) -> Kept:
+    """As `keep_rows`, of the near ones."""
 
 
 @_calls_mesh("pierced_at_start_rows_slices", _TOLD_COUNT, _ROWS, _SCRATCH, *_STRETCH, _Write("list", _UINT64), _Fixed("told", _UINT64, 1, optional=True))

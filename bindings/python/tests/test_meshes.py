@@ -105,6 +105,29 @@ class Meshes(unittest.TestCase):
         self.assertRaises(TypeError, makhnodri.count_rows, Mesh(), None, 0, 0)
         self.assertRaises(TypeError, makhnodri.count_rows, Mesh(mesh.positions, array.array("H", [0, 1])), scratch, 0, 0)
 
+    def test_pairs_are_kept_by_their_words(self):
+        bits = {makhnodri.HIT: makhnodri.WANT_HITS, makhnodri.MISS: makhnodri.WANT_MISSES, makhnodri.TOUCH: makhnodri.WANT_TOUCHES, makhnodri.APART: makhnodri.WANT_APARTS}
+        scratch, seen, left = Scratch(), 0, 0
+        for name, scene in scenes():
+            mesh, drawn, settled = mesh_of(scene), random.Random(name), scene.settled()
+            wanted = sum(bit for bit in bits.values() if drawn.randrange(2))
+            kept = [(pair, word) for pair, word in settled if bits[word] & wanted]
+            totals = [sum(word == one for _, word in settled) for one in bits]
+            entries, words = array.array("Q", [9] * (len(kept) + 1)), array.array("B", [9] * (len(kept) + 1))
+            told = makhnodri.keep_rows(mesh, scratch, 0, mesh.rows, wanted, entries, words)
+            self.assertEqual(told, (len(kept), len(settled), *totals), name)
+            self.assertEqual([(Pair.of_mesh_entry(entry), word) for entry, word in zip(entries, words)][:-1], kept, name)
+            self.assertEqual((entries[-1], words[-1]), (9, 9), name)
+            near = makhnodri.keep_near_rows(mesh, scratch, 0, mesh.rows, wanted, entries, words)
+            self.assertEqual((near.hits, near.touches), (told.hits, told.touches), name)
+            if kept:
+                with self.assertRaises(Refused) as refused:
+                    makhnodri.keep_rows(mesh, scratch, 0, mesh.rows, wanted, entries[1:], words[:0])
+                self.assertEqual((refused.exception.number, refused.exception.count), (7, len(kept)), name)
+            seen, left = seen + len(kept), left + len(settled) - len(kept)
+        self.assertGreater(min(seen, left), 50)
+        self.assertRaises(OverflowError, makhnodri.keep_rows, Mesh(), scratch, 0, 0, 1 << 32, None, None)
+
     def test_edges_by_a_certificate(self):
         positions, triangles = sheet(4, 4)[0].positions, sheet(4, 4)[0].triangles
         corners = [tuple(triangles[at : at + 3]) for at in range(0, len(triangles), 3)]

@@ -83,7 +83,7 @@ pub use answers::{
 pub use boxed::BoxedScene;
 pub use contacts::Contact;
 pub use importing::{import_scene, ImportRefusal, ObjFile};
-pub use meshes::{EdgesFound, Mesh, MeshPair, RowPairs, RowsRefusal, Scratch};
+pub use meshes::{EdgesFound, KeptRows, Mesh, MeshPair, RowPairs, RowsRefusal, Scratch, Wanted};
 pub use own::OwnRefusal;
 pub use scenes::{turn_scene, Scene};
 pub use series::{tell_series, Hit, Log, Series, SeriesRefusal, Told};

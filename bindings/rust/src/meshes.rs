@@ -121,6 +121,46 @@ impl Display for RowsRefusal {
 
 impl Error for RowsRefusal {}
 
+/// The words whose pairs are kept; none by default.
+#[derive(Clone, Copy, Debug, Default, PartialEq, Eq, Hash)]
+pub struct Wanted {
+    /// Pairs that are hit.
+    pub hits: bool,
+    /// Pairs that miss.
+    pub misses: bool,
+    /// Pairs that touch.
+    pub touches: bool,
+    /// Pairs that are apart.
+    pub aparts: bool,
+}
+
+impl Wanted {
+    /// As C asks: 2 to the power of each word's byte, added up.
+    pub fn mask(self) -> u32 {
+        let asked = [
+            (self.hits, Settled::Hit), (self.misses, Settled::Miss), (self.touches, Settled::Touch), (self.aparts, Settled::Apart),
+        ];
+        asked.into_iter().map(|(is_wanted, word)| (is_wanted as u32) << word as u32).sum()
+    }
+}
+
+/// What is told of rows of which pairs were kept.
+#[derive(Clone, Copy, Debug, PartialEq, Eq, Hash)]
+pub struct KeptRows {
+    /// How many pairs are kept.
+    pub count: u64,
+    /// How many pairs there are.
+    pub listed: u64,
+    /// How many of all of these are hit.
+    pub hits: u64,
+    /// How many miss.
+    pub misses: u64,
+    /// How many touch.
+    pub touches: u64,
+    /// How many are apart.
+    pub aparts: u64,
+}
+
 /// What was found of the edges of a mesh.
 #[derive(Clone, Copy, Debug, PartialEq, Eq, Hash)]
 pub enum EdgesFound {
@@ -203,13 +243,17 @@ fn heard(number: u32) -> Result<(), Refusal> {
     Err(Refusal::numbered(number as u64))
 }
 
-/// The count, or the refusal with the count needed.
-fn counted(number: u32, told: [u64; 1]) -> Result<u64, RowsRefusal> {
+/// What is told, or the refusal with the count needed, which stands in front.
+fn told_of<const LENGTH: usize>(number: u32, told: [u64; LENGTH]) -> Result<[u64; LENGTH], RowsRefusal> {
     match heard(number) {
-        Ok(()) => Ok(told[0]),
+        Ok(()) => Ok(told),
         Err(Refusal::NoRoom) => Err(RowsRefusal::NoRoom { needed: told[0] }),
         Err(refusal) => Err(RowsRefusal::Mesh(refusal)),
     }
+}
+
+fn counted(number: u32, told: [u64; 1]) -> Result<u64, RowsRefusal> {
+    told_of(number, told).map(|[count]| count)
 }
 
 /// Each call checks the whole mesh first: 1, 2, 3, 15, 4, with [`PART_LIMIT`](crate::PART_LIMIT) for its sizes. After a refusal nothing lent has
@@ -306,6 +350,38 @@ impl Mesh<'_> {
             RowPairs::Near => ask_rows!(self, scratch, makhnodri_contact_near_rows_slices, a, b, l.0, l.1, w.0, w.1, c.0, c.1, t),
         };
         counted(number, told)
+    }
+
+    /// Of their pairs those whose words are asked for: their entries and words, as of [`Mesh::settle_rows`] of those pairs alone. Room is
+    /// needed for those that are kept, and no others; the totals are of all.
+    ///
+    /// ```
+    /// use makhnodri::{Mesh, RowPairs, Scratch, Wanted};
+    ///
+    /// let positions = [0, 0, 0, 0, 0, 0, 4, 0, 0, 4, 0, 0, 0, 4, 0, 0, 4, 0, 1, 1, 1, 1, 1, -1];
+    /// let mesh = Mesh::new(&positions, &[], &[0, 1, 2]);
+    /// let wanted = Wanted { touches: true, ..Wanted::default() };
+    /// let kept = mesh.keep_rows(&mut Scratch::default(), RowPairs::Near, 0..mesh.row_count(), wanted, &mut [], &mut []).unwrap();
+    /// assert_eq!((kept.count, kept.listed, kept.hits), (0, 1, 1));
+    /// ```
+    pub fn keep_rows(
+        &self,
+        scratch: &mut Scratch,
+        which: RowPairs,
+        rows: Range<usize>,
+        wanted: Wanted,
+        list: &mut [u64],
+        words: &mut [u8],
+    ) -> Result<KeptRows, RowsRefusal> {
+        let (a, b, m, mut told) = (rows.start, rows.end, wanted.mask(), [0; 6]);
+        let (l, w) = ((list.as_mut_ptr(), list.len()), (words.as_mut_ptr(), words.len()));
+        let t = told.as_mut_ptr();
+        let number = match which {
+            RowPairs::Listed => ask_rows!(self, scratch, makhnodri_keep_rows_slices, a, b, m, l.0, l.1, w.0, w.1, t),
+            RowPairs::Near => ask_rows!(self, scratch, makhnodri_keep_near_rows_slices, a, b, m, l.0, l.1, w.0, w.1, t),
+        };
+        let [count, listed, hits, misses, touches, aparts] = told_of(number, told)?;
+        Ok(KeptRows { count, listed, hits, misses, touches, aparts })
     }
 
     /// The edges that are through a triangle at the start: an entry for each such edge and triangle, by edge and then by triangle. Rows are the

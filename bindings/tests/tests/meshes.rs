@@ -60,6 +60,39 @@ fn rows_are_those_of_the_independent_program() {
     }
 }
 
+/// By every mask: the pairs of a stretch whose words are asked for, with the totals of all, and room for the kept ones alone.
+#[test]
+fn kept_rows_are_those_of_the_independent_program() {
+    let (mut scratch, mut kept_some, mut left_some) = (Scratch::default(), 0, 0);
+    for seed in 0..SEEDS {
+        let scene = drawn(seed);
+        let (mesh, mask) = (mesh_of(&scene), seed % 16);
+        let asked = |bit: u64| mask >> bit & 1 == 1;
+        let asked_for = Wanted { hits: asked(0), misses: asked(1), touches: asked(2), aparts: asked(3) };
+        for which in [RowPairs::Listed, RowPairs::Near] {
+            let rows = mesh.row_count();
+            let (entries, bytes) = wanted(&scene, which, [0, rows]);
+            let of = |word: Settled| bytes.iter().filter(|&&byte| byte == word as u8).count() as u64;
+            let keeps = |byte: u8| asked_for.mask() >> byte & 1 == 1;
+            let kept: Vec<(u64, u8)> = entries.iter().copied().zip(bytes.iter().copied()).filter(|&(_, byte)| keeps(byte)).collect();
+            let (mut list, mut words) = (vec![7; kept.len() + 1], vec![7; kept.len() + 1]);
+            let told = mesh.keep_rows(&mut scratch, which, 0..rows, asked_for, &mut list, &mut words).unwrap();
+            let (count, listed) = (kept.len() as u64, entries.len() as u64);
+            let totals = [of(Settled::Hit), of(Settled::Miss), of(Settled::Touch), of(Settled::Apart)];
+            assert_eq!([told.count, told.listed], [count, listed], "seed {seed}");
+            assert_eq!([told.hits, told.misses, told.touches, told.aparts], totals, "seed {seed}");
+            assert_eq!((list.pop(), words.pop()), (Some(7), Some(7)));
+            assert_eq!(list.into_iter().zip(words).collect::<Vec<_>>(), kept, "seed {seed}");
+            if count > 0 {
+                let refused = mesh.keep_rows(&mut scratch, which, 0..rows, asked_for, &mut vec![0; kept.len()], &mut []);
+                assert_eq!(refused, Err(RowsRefusal::NoRoom { needed: count }));
+            }
+            (kept_some, left_some) = (kept_some + count, left_some + listed - count);
+        }
+    }
+    assert!(kept_some > 100 && left_some > 100);
+}
+
 fn order(random: &mut Random, parts: usize) -> Vec<u32> {
     let mut order: Vec<u32> = (0..parts as u32).collect();
     (1..parts).for_each(|place| order.swap(place, random.below(place + 1)));

@@ -45,10 +45,7 @@ pub fn calls() -> Vec<Call> {
 
 /// Those that the library has for C.
 pub fn exported() -> Vec<Call> {
-    calls()
-        .into_iter()
-        .filter(|call| matches!(call, CheckMesh | CheckEdges | Count(_) | List(_) | Settle(_) | Contact(_) | Pierced(_)))
-        .collect()
+    calls().into_iter().filter(|call| !matches!(call, KeepContacts(_))).collect()
 }
 
 impl Call {

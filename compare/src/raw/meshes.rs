@@ -195,7 +195,7 @@ pub fn sorts_of(question: &Question, answer: &Answer) -> Vec<String> {
 // ---- wrong programs
 
 /// Those that show in the calls that the library has.
-const SHOWN: [Wrong; 20] = [
+const SHOWN: [Wrong; 26] = [
     Wrong::FarWhereEqual,
     Wrong::FarAtTheStart,
     Wrong::NearIsListed,
@@ -216,6 +216,12 @@ const SHOWN: [Wrong; 20] = [
     Wrong::RowsCut,
     Wrong::SidesOneWay,
     Wrong::TwiceUnseen,
+    Wrong::WantedInARow,
+    Wrong::WantedAll,
+    Wrong::TotalsOfTheKept,
+    Wrong::ListedIsKept,
+    Wrong::RoomForAll,
+    Wrong::KeptInPlace,
 ];
 
 pub fn damages() -> Vec<Damage> {

@@ -15,12 +15,15 @@ use Rattle.meaning.specs.Pierced.{piercedSays, PiercedDecided}
 use Rattle.meaning.specs.Mesh.{MeshAccepted}
 use Rattle.meaning.specs.MeshEdges.{edgesSay, EdgesChecked}
 use Rattle.meaning.specs.MeshRows.{Lent, rowCount, rowChecks, rowsIn, meshEntries, RowsCounted, RowsListed, RowsSettled, RowsContacts}
+use Rattle.meaning.specs.MeshRows.{kept, keptTold, keptSays, RowsKept}
 use Rattle.meaning.specs.PiercedRows.{PiercedListed}
-use Rattle.meaning.specs.MeshNumbers.{refusalOf, countLeft, edgesLeft, Left}
+use Rattle.meaning.specs.MeshNumbers.{refusalOf, countLeft, keptLeft, edgesLeft, Left}
 use Rattle.meaning.specs.declared.Frame.{Frame}
+use Rattle.meaning.specs.declared.KeptRows.{KeptRows}
 use Rattle.meaning.specs.declared.ListAnswer.{ListAnswer}
 use Rattle.meaning.specs.declared.RowPairs.{RowPairs}
 use Rattle.meaning.specs.declared.SceneAnswer.{SceneAnswer}
+use Rattle.meaning.specs.declared.Wanted.{Wanted}
 use Rattle.meaning.specs.WholeContacts.{rangeCheck, contactRoom, rowsAfter, wordOf}
 use Rattle.meaning.specs.declared.WholeContact.{WholeContact}
 use Rattle.answers.specs.Answering.{one-answer}
@@ -108,6 +111,24 @@ module _ (w : RowPairs) (s : Scene) (l : Lent) (first end : ℕ) (t t′ t″ : 
         p .right .bytes ∙ (λ i. leaves (same i) (map (λ (m : WholeContact). byteOf (wordOf m)) (met i)) b) ∙ sym (q .right .bytes),
         p .right .rows ∙ (λ i. rowsAfter (same i) (met i) c) ∙ sym (q .right .rows),
       )
+
+-- two right outcomes of one count of what is kept are one
+one-kept-said : (t : KeptRows) (checks : List Check) (o o′ : Outcome KeptRows) → Answers checks (λ u. u ≡ t) o → Answers checks (λ u. u ≡ t) o′ → o ≡ o′
+one-kept-said t checks o o′ = one-answer (λ u. u ≡ t) (λ a b h k. h ∙ sym k) checks o o′
+
+pub one-rows-kept : (w : RowPairs) (m : Wanted) (s : Scene) (l : Lent) (first end : ℕ) (o o′ o″ b b′ b″ t t′ t″ : List ℕ) (r r′ : ℕ)
+    → Left keptSays keptLeft (RowsKept w m s l first end o o′ b b′) t t′ r
+    → Left keptSays keptLeft (RowsKept w m s l first end o o″ b b″) t t″ r′
+    → ((r ≡ r′) × (t′ ≡ t″)) × (o′ ≡ o″) × (b′ ≡ b″)
+one-rows-kept w m s l first end o o′ o″ b b′ b″ t t′ t″ r r′ p q =
+    let words : p .right .words ≡ q .right .words =
+    all-judged-one s (rowsIn w s first end) (p .right .words) (q .right .words) (p .right .right) (q .right .right) in
+    let same : keptSays (p .answer) ≡ keptSays (q .answer) =
+    one-kept-said (keptTold m (q .right .words)) _ (keptSays (p .answer)) (keptSays (q .answer)) (rw words at (p .right .answer)) (q .right .answer) in (
+      one-left p q same,
+      p .right .list ∙ (λ i. leaves (same i) (meshEntries (kept m (words i) (rowsIn w s first end))) o) ∙ sym (q .right .list),
+      p .right .bytes ∙ (λ i. leaves (same i) (map byteOf (kept m (words i) (words i))) b) ∙ sym (q .right .bytes),
+    )
 
 pub one-pierced-rows : (f : Frame) (s : Scene) (l : Lent) (first end : ℕ) (o o′ o″ t t′ t″ : List ℕ) (r r′ : ℕ)
     → Left listSays countLeft (PiercedListed f s l first end o o′) t t′ r

@@ -8,15 +8,17 @@ ghost use Rattle.meaning.specs.Refusals.{sceneSays};
 ghost use Rattle.meaning.specs.List.{listSays};
 ghost use Rattle.meaning.specs.Mesh.{MeshAccepted};
 ghost use Rattle.meaning.specs.MeshEdges.{edgesSay, EdgesChecked};
-ghost use Rattle.meaning.specs.MeshRows.{lentAtEntry, RowsCounted, RowsListed, RowsSettled, RowsContacts};
+ghost use Rattle.meaning.specs.MeshRows.{lentAtEntry, keptSays, RowsCounted, RowsListed, RowsSettled, RowsContacts, RowsKept};
 ghost use Rattle.meaning.specs.PiercedRows.{PiercedListed};
-ghost use Rattle.meaning.specs.MeshNumbers.{refusalOf, countLeft, edgesLeft, Left};
+ghost use Rattle.meaning.specs.MeshNumbers.{refusalOf, countLeft, keptLeft, edgesLeft, wantedBy, Left};
 ghost use Rattle.meaning.specs.Numbers.{Numbered};
 ghost use Rattle.meaning.specs.declared.RowPairs.the-variants.{Listed, Near};
 ghost use Rattle.meaning.specs.declared.Frame.the-variants.{Start, End};
 use c_meshes::tell_count;
 use c_meshes::tell_edges;
+use c_meshes::tell_kept;
 use c_meshes::tell_scene;
+use c_meshes::wanted_by;
 use meaning::Frame;
 use meaning::RowPairs;
 
@@ -386,6 +388,92 @@ pub extern "C" fn makhnodri_contact_near_rows_slices(
         contacts,
     );
     tell_count(told, answer)
+}
+
+// Of the pairs of the rows those whose words are asked for, with their words, and the totals of all.
+#[no_mangle]
+pub extern "C" fn makhnodri_keep_rows_slices(
+    positions: &[i32],
+    edges: &[u32],
+    triangles: &[u32],
+    seams: &[u32],
+    edge_order: &[u32],
+    triangle_order: &[u32],
+    table: &mut [u32],
+    places: &mut [u32],
+    boxes: &mut [i32],
+    first: usize,
+    end: usize,
+    wanted: u32,
+    list: &mut [u64],
+    words: &mut [u8],
+    told: &mut [u64; 6],
+) -> u32
+    ensures { λ r. ⌜ Left keptSays keptLeft (RowsKept Listed (wantedBy wanted) (sceneAtEntry positions edges triangles seams)
+        (lentAtEntry «edge_order» «triangle_order» table places boxes) first end (atEntry list) (atExit list) (atEntry words) (atExit words))
+        (atEntry told) (atExit told) r ⌝ }
+{
+    let answer = mesh_keeping::keep_rows(
+        positions,
+        edges,
+        triangles,
+        seams,
+        edge_order,
+        triangle_order,
+        table,
+        places,
+        boxes,
+        RowPairs::Listed,
+        wanted_by(wanted),
+        first,
+        end,
+        list,
+        words,
+    );
+    tell_kept(told, answer)
+}
+
+// Of the near ones those whose words are asked for.
+#[no_mangle]
+pub extern "C" fn makhnodri_keep_near_rows_slices(
+    positions: &[i32],
+    edges: &[u32],
+    triangles: &[u32],
+    seams: &[u32],
+    edge_order: &[u32],
+    triangle_order: &[u32],
+    table: &mut [u32],
+    places: &mut [u32],
+    boxes: &mut [i32],
+    first: usize,
+    end: usize,
+    wanted: u32,
+    list: &mut [u64],
+    words: &mut [u8],
+    told: &mut [u64; 6],
+) -> u32
+    ensures { λ r. ⌜ Left keptSays keptLeft (RowsKept Near (wantedBy wanted) (sceneAtEntry positions edges triangles seams)
+        (lentAtEntry «edge_order» «triangle_order» table places boxes) first end (atEntry list) (atExit list) (atEntry words) (atExit words))
+        (atEntry told) (atExit told) r ⌝ }
+{
+    let answer = mesh_keeping::keep_rows(
+        positions,
+        edges,
+        triangles,
+        seams,
+        edge_order,
+        triangle_order,
+        table,
+        places,
+        boxes,
+        RowPairs::Near,
+        wanted_by(wanted),
+        first,
+        end,
+        list,
+        words,
+    );
+    tell_kept(told, answer)
 }
 
 // The edges from one up to another that are through a triangle at the start, each with each such triangle.
