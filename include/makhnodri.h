@@ -117,10 +117,10 @@ extern "C" {
  *     import_scene     48,128      tell_series                176,384
  *     pierced_at_start, pierced_at_end              3,328
  *     check_mesh          512      check_edges                    768
- *     count_rows, count_near_rows                   2,304
- *     list_rows, list_near_rows                     2,304
- *     settle_rows, settle_near_rows                 3,072
- *     contact_rows, contact_near_rows               4,096
+ *     count_rows, count_near_rows                   8,192
+ *     list_rows, list_near_rows                     8,192
+ *     settle_rows, settle_near_rows                 8,192
+ *     contact_rows, contact_near_rows               8,192
  *     keep_rows, keep_near_rows                     8,192
  *     pierced_at_start_rows, pierced_at_end_rows    3,584
  *
