@@ -138,7 +138,10 @@ impl Wanted {
     /// As C asks: 2 to the power of each word's byte, added up.
     pub fn mask(self) -> u32 {
         let asked = [
-            (self.hits, Settled::Hit), (self.misses, Settled::Miss), (self.touches, Settled::Touch), (self.aparts, Settled::Apart),
+            (self.hits, Settled::Hit),
+            (self.misses, Settled::Miss),
+            (self.touches, Settled::Touch),
+            (self.aparts, Settled::Apart),
         ];
         asked.into_iter().map(|(is_wanted, word)| (is_wanted as u32) << word as u32).sum()
     }

@@ -74,7 +74,8 @@ fn kept_rows_are_those_of_the_independent_program() {
             let (entries, bytes) = wanted(&scene, which, [0, rows]);
             let of = |word: Settled| bytes.iter().filter(|&&byte| byte == word as u8).count() as u64;
             let keeps = |byte: u8| asked_for.mask() >> byte & 1 == 1;
-            let kept: Vec<(u64, u8)> = entries.iter().copied().zip(bytes.iter().copied()).filter(|&(_, byte)| keeps(byte)).collect();
+            let kept: Vec<(u64, u8)> =
+                entries.iter().copied().zip(bytes.iter().copied()).filter(|&(_, byte)| keeps(byte)).collect();
             let (mut list, mut words) = (vec![7; kept.len() + 1], vec![7; kept.len() + 1]);
             let told = mesh.keep_rows(&mut scratch, which, 0..rows, asked_for, &mut list, &mut words).unwrap();
             let (count, listed) = (kept.len() as u64, entries.len() as u64);
