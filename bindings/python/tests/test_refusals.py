@@ -174,5 +174,5 @@ class Refusals(unittest.TestCase):
 
     @classmethod
     def tearDownClass(cls):
-        missing = set(makhnodri._REFUSALS) - MET
+        missing = set(makhnodri._REFUSALS) - MET - {18}  # of a mesh: test_meshes meets it
         assert not missing, f"refusals that were never met: {missing}"
