@@ -100,7 +100,7 @@ extern "C" {
  * corner, in turn of the one simplex and of the other, and call each other on the rest. A piece has six corners to leave out, and
  * with the same corners left each step is asked once at most, so that the calls are never more than 14 deep.
  * MAKHNODRI_STACK bytes of stack are enough for any call. As measured by `examples/c/run stack` on x86-64 and on aarch64, in bytes, the
- * greater of the two rounded up:
+ * greater of the two rounded up (of the calls over meshes and of pierced pairs on x86-64 alone, with room):
  *
  *     check_scene       1,536      judge_pt, judge_pt_piece     2,048
  *     count_pairs      53,760      judge_ee, judge_ee_piece     2,048
