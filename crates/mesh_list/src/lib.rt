@@ -51,7 +51,19 @@ pub fn count_rows(
     ) {
         SceneAnswer::Refused(why) => ListAnswer::Refused(why, 0),
         SceneAnswer::Accepted => {
-            let count = count_stretch(positions, edges, triangles, table, boxes, which, first, end);
+            let count = count_stretch(
+                positions,
+                edges,
+                triangles,
+                table,
+                edge_order,
+                triangle_order,
+                places,
+                boxes,
+                which,
+                first,
+                end,
+            );
             ListAnswer::Listed(Made { count })
         }
     }
@@ -100,6 +112,9 @@ pub fn list_rows(
                 edges,
                 triangles,
                 table,
+                edge_order,
+                triangle_order,
+                places,
                 boxes,
                 which,
                 first,
