@@ -2,7 +2,7 @@
 
 use crate::pairs::{Kind, Pair};
 use crate::whereabouts::{json_names, plain_names};
-use makhnodri::{Settled, CONTACT_LENGTH};
+use makhnodri::{KeptRows, Settled, CONTACT_LENGTH};
 use std::io::Write;
 
 /// The four words, in the order in which the totals name them.
@@ -43,6 +43,18 @@ impl Tally {
         let counts = [hit, miss, touch, apart];
         let told = counts.iter().try_fold(0u64, |sum, &count| sum.checked_add(count))?;
         Some(Tally { counts, not_hit: listed.checked_sub(told)? })
+    }
+
+    /// Of the words of so many pairs, as the library writes them.
+    pub fn of_bytes(words: &[u8]) -> Tally {
+        let counts = WORDS.map(|word| words.iter().filter(|&&byte| byte == word as u8).count() as u64);
+        assert_eq!(counts.iter().sum::<u64>(), words.len() as u64, "the library writes words alone");
+        Tally { counts, not_hit: 0 }
+    }
+
+    /// Of rows of which the library kept some pairs.
+    pub fn of_rows(rows: &KeptRows) -> Tally {
+        Tally { counts: [rows.hits, rows.misses, rows.touches, rows.aparts], not_hit: 0 }
     }
 
     pub fn add(&mut self, word: Settled) {
@@ -137,22 +149,25 @@ impl Form {
         self.line_with(pair, word, "", out);
     }
 
-    /// The lines of pairs, behind what is there. Pairs of a row have the same beginning, which is made once.
-    pub fn lines(&self, told: impl Iterator<Item = (Pair, Settled)>, out: &mut Vec<u8>) {
+    /// The lines of entries and the bytes of their words, as the library writes them, behind what is there. Pairs of a row have the same beginning, which is
+    /// made once.
+    pub fn lines(&self, list: &[u64], words: &[u8], out: &mut Vec<u8>) {
         if self.json {
-            return told.for_each(|(pair, word)| self.line(pair, word, out));
+            return pairs_of(list, words).for_each(|(pair, word)| self.line(pair, word, out));
         }
-        let shown = WORDS.map(|word| self.shown.contains(&word));
-        let (mut head, mut at) = (Head::default(), out.len());
-        for (pair, word) in told {
-            let word = place(word);
-            if shown[word] {
-                if out.len() - at < LONGEST {
-                    out.resize(at + ROOM, 0);
-                }
-                head.turn_to(pair);
-                at = head.line(pair.second, word, out, at);
+        let shown = BYTES.map(|word| word.is_some_and(|word| self.shown.contains(&word)));
+        let mut at = out.len();
+        for (list, words) in list.chunks(TOGETHER).zip(words.chunks(TOGETHER)) {
+            out.resize(at + TOGETHER * LONGEST, 0);
+            let room = &mut out[at..];
+            let mut head = Head::of(list[0]);
+            let mut end = 0;
+            for (&entry, &word) in list.iter().zip(words) {
+                head.turn_to(entry);
+                let behind = head.line(entry as u32, word, room, end);
+                end = if shown[usize::from(word) % BYTES.len()] { behind } else { end };
             }
+            at += end;
         }
         out.truncate(at);
     }
@@ -280,48 +295,70 @@ fn without_zeros(digits: u64) -> ([u8; 8], usize) {
     (((digits | ZEROS) >> (8 * zeros)).to_le_bytes(), 8 - zeros as usize)
 }
 
+/// The pairs of entries, and their words, as the library writes them.
+pub fn pairs_of<'a>(list: &'a [u64], words: &'a [u8]) -> impl Iterator<Item = (Pair, Settled)> + 'a {
+    let word = |byte: u8| Settled::of_byte(byte).expect("the library writes words alone");
+    list.iter().zip(words).map(move |(&entry, &byte)| (Pair::of_entry(entry), word(byte)))
+}
+
 /// The beginning of a line: kind and first number, with a tab behind each.
-#[derive(Default)]
 struct Head {
-    of: Option<(Kind, u32)>,
+    /// The upper half of the entries that it begins.
+    of: u32,
     letters: [u8; 16],
     length: usize,
 }
 
-/// What ends the line of each word, in the order of `WORDS`, with room behind it.
-const ENDS: [(&[u8; 8], usize); 4] = [(b"\thit\n   ", 5), (b"\tmiss\n  ", 6), (b"\ttouch\n ", 7), (b"\tapart\n ", 7)];
+/// The word of each byte, and no more than three bits of it count.
+const BYTES: [Option<Settled>; 8] =
+    [Some(Settled::Hit), Some(Settled::Miss), None, Some(Settled::Touch), Some(Settled::Apart), None, None, None];
 
-/// Room for any line, and for many.
-const LONGEST: usize = 48;
-const ROOM: usize = 1 << 16;
+/// What ends the line of each byte's word, with room behind it.
+const ENDS: [(&[u8; 8], usize); 8] = [
+    (b"\thit\n   ", 5),
+    (b"\tmiss\n  ", 6),
+    (b"        ", 0),
+    (b"\ttouch\n ", 7),
+    (b"\tapart\n ", 7),
+    (b"        ", 0),
+    (b"        ", 0),
+    (b"        ", 0),
+];
+
+/// Room for any line; and lines that are made in one go.
+const LONGEST: usize = 40;
+const TOGETHER: usize = 1 << 10;
 
 impl Head {
-    #[inline]
-    fn turn_to(&mut self, pair: Pair) {
-        if self.of == Some((pair.kind, pair.first)) {
-            return;
-        }
-        let [a, b] = match pair.kind {
-            Kind::PointTriangle => *b"pt",
-            Kind::EdgeEdge => *b"ee",
-        };
+    fn of(entry: u64) -> Head {
+        let of = (entry >> 32) as u32;
         let mut letters = [0; 32];
-        [letters[0], letters[1], letters[2]] = [a, b, b'\t'];
-        let end = put_number(pair.first, &mut letters, 3);
+        let kind = if of >> 31 == 0 { *b"pt\t" } else { *b"ee\t" };
+        letters[..3].copy_from_slice(&kind);
+        let end = put_number(of & 0x7fff_ffff, &mut letters, 3);
         letters[end] = b'\t';
-        self.letters.copy_from_slice(&letters[..16]);
-        (self.of, self.length) = (Some((pair.kind, pair.first)), end + 1);
+        let mut head = Head { of, letters: [0; 16], length: end + 1 };
+        head.letters.copy_from_slice(&letters[..16]);
+        head
+    }
+
+    #[inline]
+    fn turn_to(&mut self, entry: u64) {
+        if self.of != (entry >> 32) as u32 {
+            *self = Head::of(entry);
+        }
     }
 
     /// Writes a line, and hands back where it ends. Pieces of a fixed length are copied, one over the end of the other, since that takes no call; nothing
     /// that was just written is read again.
     #[inline]
-    fn line(&self, second: u32, word: usize, out: &mut [u8], at: usize) -> usize {
-        let (end, length) = ENDS[word];
-        out[at..at + 16].copy_from_slice(&self.letters);
-        let behind = put_number(second, out, at + self.length);
+    fn line(&self, second: u32, word: u8, out: &mut [u8], at: usize) -> usize {
+        let (end, length) = ENDS[usize::from(word) % ENDS.len()];
+        let out = &mut out[at..at + LONGEST];
+        out[..16].copy_from_slice(&self.letters);
+        let behind = put_number(second, out, self.length);
         out[behind..behind + 8].copy_from_slice(end);
-        behind + length
+        at + behind + length
     }
 }
 
