@@ -1000,6 +1000,61 @@ def keep_near_rows(
     """As `keep_rows`, of the near ones."""
 
 
+@_calls_mesh(
+    "keep_contacts_slices",
+    _TOLD_KEPT,
+    _ROWS,
+    _SCRATCH,
+    *_STRETCH,
+    _WANTED,
+    _Write("list", _UINT64),
+    _WORDS,
+    _CONTACTS,
+    _Fixed("told", _UINT64, 6, optional=True),
+)
+def keep_contacts(
+    mesh: Mesh,
+    scratch: Scratch,
+    first: int,
+    end: int,
+    wanted: int,
+    list: WriteableBuffer,
+    words: WriteableBuffer,
+    contacts: WriteableBuffer,
+    told: typing.Optional[WriteableBuffer] = None,
+    /,
+) -> Kept:
+    """As `keep_rows`, and the contact of each hit that is kept: that of entry i begins at contacts[5 * i]. Refused with 16 before 7, whichever words are
+    asked for."""
+
+
+@_calls_mesh(
+    "keep_near_contacts_slices",
+    _TOLD_KEPT,
+    _ROWS,
+    _SCRATCH,
+    *_STRETCH,
+    _WANTED,
+    _Write("list", _UINT64),
+    _WORDS,
+    _CONTACTS,
+    _Fixed("told", _UINT64, 6, optional=True),
+)
+def keep_near_contacts(
+    mesh: Mesh,
+    scratch: Scratch,
+    first: int,
+    end: int,
+    wanted: int,
+    list: WriteableBuffer,
+    words: WriteableBuffer,
+    contacts: WriteableBuffer,
+    told: typing.Optional[WriteableBuffer] = None,
+    /,
+) -> Kept:
+    """As `keep_contacts`, of the near ones."""
+
+
 @_calls_mesh("pierced_at_start_rows_slices", _TOLD_COUNT, _ROWS, _SCRATCH, *_STRETCH, _Write("list", _UINT64), _Fixed("told", _UINT64, 1, optional=True))
 def pierced_at_start_rows(
     mesh: Mesh, scratch: Scratch, first: int, end: int, list: WriteableBuffer, told: typing.Optional[WriteableBuffer] = None, /
