@@ -77,8 +77,8 @@ struct Room {
     contacts: Vec<Row>,
 }
 
-/// Rows that are asked for at once where nothing is learned from one to the next.
-const STRETCHES: usize = 8;
+/// Stretches for each thread where there are several, so that all end at about the same time; and the fewest rows of one.
+const STRETCHES: usize = 3;
 const FEWEST: usize = 512;
 
 /// Pairs that a call has room for: at least so many, and one for so many parts of the mesh, beside what the library works in. More of them go in several
@@ -135,9 +135,10 @@ impl<'a> Judge<'a> {
         Cutter::new(self.rows(), self.mesh.positions.len(), threads)
     }
 
-    /// How many rows are well asked for in one piece, where they are not cut as they are asked for.
-    pub fn length(&self) -> usize {
-        self.rows().div_ceil(STRETCHES).max(FEWEST)
+    /// How many rows are well asked for in one piece, where nothing is learned from one to the next: each call makes boxes and trees anew, so there are few.
+    pub fn length(&self, threads: usize) -> usize {
+        let stretches = if threads > 1 { STRETCHES * threads } else { 1 };
+        self.rows().div_ceil(stretches).max(FEWEST)
     }
 
     /// How many pairs a call has room for.
@@ -197,18 +198,21 @@ impl<'a> Judge<'a> {
 
     /// One call: how many pairs are wanted, which stand in front of the room's lists, and the counts of all.
     fn called(&self, rows: Range<usize>, question: &Question, room: &mut Room) -> Result<(usize, Counts), RowsRefusal> {
-        let Room { scratch, list, words, contacts, .. } = room;
+        let (Room { scratch, list, words, contacts }, which) = (&mut *room, question.which);
+        let contacts = contacts.as_flattened_mut();
         if let Some(wanted) = question.kept().filter(|_| !self.many.load(Relaxed)) {
             let short = rows.len() <= self.rows() / SHORT;
-            let kept = self.asked.keep_rows(scratch, question.which, rows, wanted, list, words)?;
+            let kept = match question.contacts {
+                true => self.asked.keep_contacts(scratch, which, rows, wanted, list, words, contacts)?,
+                false => self.asked.keep_rows(scratch, which, rows, wanted, list, words)?,
+            };
             self.many.fetch_or(short && kept.count as usize > KEPT, Relaxed);
             let filled = kept.count as f64 / KEPT as f64;
             return Ok((kept.count as usize, Counts { tally: Tally::of_rows(&kept), left: 0, filled }));
         }
-        let contacts = contacts.as_flattened_mut();
         let count = match question.contacts {
-            true => self.asked.contact_rows(scratch, question.which, rows, list, words, contacts)?,
-            false => self.asked.settle_rows(scratch, question.which, rows, list, words)?,
+            true => self.asked.contact_rows(scratch, which, rows, list, words, contacts)?,
+            false => self.asked.settle_rows(scratch, which, rows, list, words)?,
         };
         let (wanted, counts) = room.chosen(count as usize, question);
         Ok((wanted, Counts { filled: count as f64 / self.most() as f64, ..counts }))
@@ -266,7 +270,7 @@ impl Question<'_> {
     /// The words that are kept, where others need not be seen: those that a choice leaves out are counted apart.
     fn kept(&self) -> Option<Wanted> {
         let [hits, misses, touches, aparts] = self.wanted;
-        let some = self.wanted != [true; 4] && self.choice.is_none() && !self.contacts;
+        let some = self.wanted != [true; 4] && self.choice.is_none();
         some.then_some(Wanted { hits, misses, touches, aparts })
     }
 }

@@ -3,7 +3,7 @@
 use crate::fault::Fault;
 use crate::seams;
 use crate::work::{both, in_order, stretch};
-use makhnodri::CONTACT_UNIT;
+use makhnodri::{CONTACT_UNIT, COORDINATE_LIMIT};
 use std::convert::Infallible;
 
 pub type Place = [f64; 3];
@@ -208,7 +208,7 @@ pub fn parting_step(length: f64) -> Option<f64> {
     steps.filter_map(|text| text.parse().ok()).find(|&step: &f64| step <= length && step.is_normal())
 }
 
-fn least_step(bounds: &Bounds, limit: i32) -> Result<f64, Fault> {
+pub fn least_step(bounds: &Bounds, limit: i32) -> Result<f64, Fault> {
     least_step_for(bounds.widest(), limit)
         .ok_or_else(|| Fault::new("the vertices are too far apart, or too near each other, for a step to be chosen"))
 }
@@ -232,5 +232,6 @@ pub fn too_fine(step: f64, bounds: &Bounds, limit: i32) -> Fault {
     let width = bounds.widest();
     let room = 2 * limit;
     let fitting = least_step_for(width, limit).map_or(String::new(), |least| format!("; {least} is enough"));
-    Fault::new(format!("the mesh is {width} wide, and the room is {room} steps of {step}: take a larger --step{fitting}"))
+    let why = if limit < COORDINATE_LIMIT { "; contacts have less room than words, and are refused beyond it (16)" } else { "" };
+    Fault::new(format!("the mesh is {width} wide, and the room is {room} steps of {step}: take a larger --step{fitting}{why}"))
 }
