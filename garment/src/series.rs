@@ -189,11 +189,11 @@ pub fn write(log: &Log, about: &About, frames: usize, asked: &Asked, out: &mut i
         format!("{{\"step\":{step},\"kind\":\"{kind}\",\"first\":{first},\"second\":{second}{tail}}}")
     };
     let hits: Vec<String> = log.hits.iter().map(line).collect();
-    // the foot closes the list of lines, and the whole
+    // the foot closes the list of lines and the whole, and here neither ends with it
     let foot = foot.trim_start_matches("\n],\n").trim_end_matches("}\n");
     let (mesh, hits, later, first) = (about.json(), hits.join(",\n"), log.later, log.first);
     writeln!(
         out,
-        "{{\"mesh\":{mesh},\n\"frames\":{frames},\n\"hits\":[\n{hits}\n],\n\"later\":{later},\n{foot}}},\n\"first\":{first}}}"
+        "{{\"mesh\":{mesh},\n\"frames\":{frames},\n\"hits\":[\n{hits}\n],\n\"later\":{later},\n{foot},\n\"first\":{first}}}"
     )
 }
