@@ -52,7 +52,7 @@ pub fn at_start(
     bar: &mut Bar,
     mut take: impl FnMut(&[Through]) -> Result<(), Fault>,
 ) -> Result<Pierced, Fault> {
-    let (rows, length) = (judge.edge_rows(), judge.length());
+    let (rows, length) = (judge.edge_rows(), judge.length(threads));
     let count = rows.div_ceil(length);
     let mut pierced = Pierced::default();
     let work = |piece| judge.pierced(stretch(piece, length, rows), choice);

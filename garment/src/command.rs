@@ -10,16 +10,16 @@ use crate::names::Names;
 use crate::obj::{self, Obj};
 use crate::progress::Bar;
 use crate::report::{About, Tally};
-use crate::rounding::{onto_grid, Grid, Rounded};
+use crate::rounding::{onto_grid_on, Grid, Rounded};
 use crate::shares::{self, Closing, Counted, Of, Share};
 use crate::whereabouts::Whereabouts;
 use crate::whole::{self, Asked, Beside};
 use crate::words::{understood, Command, Options, USAGE};
+use crate::work::both;
 use crate::{before, edges, mark, of_frames, scene_text, total};
 use makhnodri::Settled;
 use std::ffi::OsString;
 use std::io::{stderr, stdout, BufWriter, Write};
-use std::thread;
 
 const DONE: u8 = 0;
 const NO_REPORT: u8 = 1;
@@ -89,14 +89,14 @@ pub struct Garment {
 }
 
 fn report(command: &Command, files: &[String; 2], options: &Options) -> Result<Ended, Vec<Fault>> {
-    let Garment { mesh, about, names, grid, .. } = read(command, files, options)?;
+    let Garment { mut mesh, about, names, grid, .. } = read(command, files, options)?;
     let choice = options.choice(&mesh, &names);
-    let judge = Judge::new(&mesh).map_err(alone)?;
-    let pierced = start_checked(&judge, choice.as_ref(), "the start", options).map_err(alone)?;
     let whereabouts = options.told_where.then(|| Whereabouts::new(&mesh, names, grid));
+    let judge = Judge::sparing(&mut mesh, options.mark.is_some()).map_err(alone)?;
+    let pierced = start_checked(&judge, choice.as_ref(), "the start", options).map_err(alone)?;
     let beside = Beside { choice, whereabouts, marked: options.mark.is_some() };
     let mut bar = Bar::new("judging", !options.quiet);
-    let asked = Asked { mesh: &mesh, about: &about, form: &options.form, which: options.which, beside: &beside };
+    let asked = Asked { mesh: judge.mesh(), about: &about, form: &options.form, which: options.which, beside: &beside };
     let told = whole::told(&asked, &judge, options.threads, &mut bar, buffered()).map_err(alone)?;
     drop(bar);
     options.note(|| note_of_pairs(options.which, told.tally.listed(), beside.choice.as_ref().map(|_| told.left)));
@@ -160,23 +160,24 @@ fn scene(command: &Command, files: &[String; 2], options: &Options) -> Result<()
 
 /// The mesh of two files, start first; what is wrong with either is told, and what is to be known before its report is read.
 fn read(command: &Command, files: &[String; 2], options: &Options) -> Result<Garment, Vec<Fault>> {
-    let (both, note, digests) = all_read(files, options, matches!(command, Command::Rows { .. }))?;
-    let mut garment = meshed(command, &files[0], both, note, options)?;
+    let (times, note, digests) = all_read(files, options, matches!(command, Command::Rows { .. }))?;
+    let mut garment = meshed(command, &files[0], times, note, options)?;
     garment.digests = digests;
     options.tell_all(before::of_mesh(&garment.mesh, options.seams));
     Ok(garment)
 }
 
 /// Two times put onto one grid; the file is that of the first.
-pub fn meshed(command: &Command, file: &str, both: [Obj; 2], of_file: String, options: &Options) -> Result<Garment, Vec<Fault>> {
-    let [mut start, end] = both;
+pub fn meshed(command: &Command, file: &str, times: [Obj; 2], of_file: String, options: &Options) -> Result<Garment, Vec<Fault>> {
+    let [mut start, end] = times;
     let names = std::mem::take(&mut start.names);
     options.all_known(&names)?;
-    let (rounded, edges) = thread::scope(|scope| {
-        let edges = scope.spawn(|| edges::of(start.places.len(), &start.triangles));
-        let rounded = onto_grid(&start.places, &end.places, options.step, options.limit(command));
-        (rounded, edges.join().unwrap_or_else(|panic| std::panic::resume_unwind(panic)))
-    });
+    let (threads, half) = (options.threads, options.threads.div_ceil(2));
+    let (edges, rounded) = both(
+        threads,
+        || edges::made_on(start.places.len(), &start.triangles, half),
+        || onto_grid_on(half, &start.places, &end.places, options.step, options.limit(command)),
+    );
     let rounded = rounded.map_err(alone)?;
     let of_steps = note_of_steps(&rounded, options.step.is_none(), matches!(command, Command::Check { .. }));
     let grid = Grid { step: rounded.step, middle: rounded.middle };
@@ -192,24 +193,26 @@ pub fn meshed(command: &Command, file: &str, both: [Obj; 2], of_file: String, op
 
 /// Start and end, with the body's own files behind the cloth's where there are any; what is to be noted of them, and their digests where they are wanted.
 fn all_read(files: &[String; 2], options: &Options, digested: bool) -> Result<([Obj; 2], String, String), Vec<Fault>> {
-    let (mut both, mut note, mut digests) = same_read(files, digested)?;
+    let (mut times, mut note, mut digests) = same_read(files, digested, options.threads)?;
     if let [from, to] = &options.body_files[..] {
         let files = [from.clone(), to.clone()];
-        let (body, more, of_body) = same_read(&files, digested)?;
+        let (body, more, of_body) = same_read(&files, digested, options.threads)?;
         note += &more;
         digests = format!("{digests},{of_body}");
-        for ((file, cloth), body) in files.iter().zip(&mut both).zip(body) {
+        for ((file, cloth), body) in files.iter().zip(&mut times).zip(body) {
             cloth.join_body(obj::shown_name(file), body).map_err(alone)?;
         }
     }
-    Ok((both, note, digests))
+    Ok((times, note, digests))
 }
 
-fn same_read(files: &[String; 2], digested: bool) -> Result<([Obj; 2], String, String), Vec<Fault>> {
-    let [(start, one), (end, other)] = both_read(files, digested)?;
+fn same_read(files: &[String; 2], digested: bool, threads: usize) -> Result<([Obj; 2], String, String), Vec<Fault>> {
+    let [(start, one), (end, other)] = both_read(files, digested, threads)?;
     let [from, to] = files.each_ref().map(|name| obj::shown_name(name));
     mesh::same_faces([from, to], &start, &end).map_err(alone)?;
     let note = note_of_file(from, &start);
+    // faces, lines and names are those of the start
+    let end = Obj { places: end.places, ..Obj::default() };
     Ok(([start, end], note, format!("{one},{other}")))
 }
 
@@ -227,17 +230,14 @@ pub fn about(mesh: &Mesh, step: f64) -> About {
 /// What a file has, and its digest.
 type Read = (Obj, String);
 
-fn both_read(files: &[String; 2], digested: bool) -> Result<[Read; 2], Vec<Fault>> {
+fn both_read(files: &[String; 2], digested: bool, threads: usize) -> Result<[Read; 2], Vec<Fault>> {
     let read = |name: &String| {
         let bytes = obj::bytes_of(name)?;
-        let digest = if digested { Digest::of(&bytes) } else { String::new() };
-        Ok((obj::of_bytes(obj::shown_name(name), &bytes)?, digest))
+        let digest = || if digested { Digest::of(&bytes) } else { String::new() };
+        let (digest, obj) = both(threads / 2, digest, || obj::of_bytes_on(obj::shown_name(name), &bytes, threads.div_ceil(2)));
+        Ok((obj?, digest))
     };
-    let [from, to] = files;
-    let (start, end) = thread::scope(|scope| {
-        let end = scope.spawn(|| read(to));
-        (read(from), end.join().unwrap_or_else(|panic| std::panic::resume_unwind(panic)))
-    });
+    let (start, end) = both(threads, || read(&files[0]), || read(&files[1]));
     match (start, end) {
         (Ok(start), Ok(end)) => Ok([start, end]),
         (start, end) => Err([start.err(), end.err()].into_iter().flatten().collect()),

@@ -45,7 +45,7 @@ pub fn check(command: &Command, file: &str, options: &Options) -> Result<Ended, 
 
 /// A frame with the body behind it, and what is to be noted of both files.
 fn frame_read(file: &str, options: &Options) -> Result<(Obj, String), Vec<Fault>> {
-    let mut frame = obj::read_file(file).map_err(alone)?;
+    let mut frame = obj::read_on(file, options.threads).map_err(alone)?;
     let mut note = note_of_file(obj::shown_name(file), &frame);
     for file in &options.body_files {
         let body = obj::read_file(file).map_err(alone)?;

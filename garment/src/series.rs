@@ -133,7 +133,7 @@ fn step(asked: &Asked, frames: &Frames, at: usize, threads: usize) -> Result<Ste
     let mut step = Step { number: at + 1, moved, sewn: mesh.seams(), ..Step::default() };
     let judge = Judge::new(&mesh)?;
     let question = asked.question();
-    let (rows, length) = (judge.rows(), judge.length());
+    let (rows, length) = (judge.rows(), judge.length(threads));
     in_order(
         rows.div_ceil(length),
         threads,
