@@ -12,13 +12,18 @@ ghost use Rattle.meaning.specs.MeshRows.{wantsWord};
 ghost use Rattle.list_entries.specs.UpTo.{kept};
 ghost use Rattle.scene_seams.specs.Alone.{tabledIn, tabledAtEntry};
 ghost use Rattle.scene_checks.specs.Facts.{Sound};
+ghost use Rattle.mesh_words.specs.Asked.{meshPairAt, meshPairsIn};
+ghost use Rattle.mesh_keep.specs.Entries.{EntryOf, EntriesOf};
 ghost use Rattle.mesh_keep.specs.Keeping.{KeptBy};
 ghost use Rattle.mesh_keep.specs.OfRows.{RowOf, pairsOf};
 use list_words::byte_of;
 use meaning::Kind;
 use meaning::Settled;
 use meaning::Wanted;
+use mesh_entries::first_of;
+use mesh_entries::kind_of;
 use mesh_entries::put_below;
+use mesh_entries::second_of;
 use mesh_seams::wide;
 use mesh_words::pairs::word;
 use tally::Tally;
@@ -124,6 +129,87 @@ pub fn keep_row(
             kind,
             i,
             wide(places[k]),
+            wanted,
+            list,
+            words,
+            most,
+            so_far,
+        );
+        k += 1;
+    }
+    so_far
+}
+
+// The pair of the k-th entry of a list.
+fn keep_entry(
+    positions: &[i32],
+    edges: &[u32],
+    triangles: &[u32],
+    stands: &[u32],
+    entries: &[u64],
+    k: usize,
+    wanted: Wanted,
+    list: &mut [u64],
+    words: &mut [u8],
+    most: usize,
+    going: Going,
+) -> Going
+    requires { ⌜ Sound (tabledIn positions edges triangles stands)
+        × EntryOf (tabledIn positions edges triangles stands) (now entries) k ⌝ }
+    requires { ⌜ (most ≤ length (now list)) × (most ≤ length (now words)) × (going .count < 9223372036854775808) ⌝ }
+    ensures { λ r. ⌜ KeptBy (tabledAtEntry positions edges triangles stands) wanted most (meshPairAt (atEntry entries) k ∷ [])
+        (atEntry list) (atEntry words) going (atExit list) (atExit words) r ⌝ }
+{
+    let entry = entries[k];
+    let kind = kind_of(entry);
+    let first = first_of(entry);
+    let second = second_of(entry);
+    keep_pair(
+        positions,
+        edges,
+        triangles,
+        stands,
+        kind,
+        first,
+        second,
+        wanted,
+        list,
+        words,
+        most,
+        going,
+    )
+}
+
+// The pairs of the first entries of a list, in their order.
+pub fn keep_entries(
+    positions: &[i32],
+    edges: &[u32],
+    triangles: &[u32],
+    stands: &[u32],
+    entries: &[u64],
+    count: usize,
+    wanted: Wanted,
+    list: &mut [u64],
+    words: &mut [u8],
+    most: usize,
+    going: Going,
+) -> Going
+    requires { ⌜ Sound (tabledIn positions edges triangles stands)
+        × EntriesOf (tabledIn positions edges triangles stands) (now entries) count ⌝ }
+    requires { ⌜ (most ≤ length (now list)) × (most ≤ length (now words)) × (going .count + count < 9223372036854775808) ⌝ }
+    ensures { λ r. ⌜ KeptBy (tabledAtEntry positions edges triangles stands) wanted most (meshPairsIn count (atEntry entries))
+        (atEntry list) (atEntry words) going (atExit list) (atExit words) r ⌝ }
+{
+    let mut so_far = going;
+    let mut k = 0;
+    while k < count {
+        so_far = keep_entry(
+            positions,
+            edges,
+            triangles,
+            stands,
+            entries,
+            k,
             wanted,
             list,
             words,

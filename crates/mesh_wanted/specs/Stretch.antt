@@ -2,23 +2,28 @@
 use Prim.Native.Nat.{ℕ, _+_, _-_, _≤_, _<_}
 use mathlib.Core.List.{List, []}
 use mathlib.Core.Logic.{⊎-elim}
-use mathlib.Core.Path.{_≡_, ap}
+use mathlib.Core.Path.{_≡_, sym, ap, _∙_, subst}
 use native.Mathlib.Omega.{arith}
 use lib.IntN.{ℤ}
-use lib.ListN.{length}
+use lib.ListN.{length, getD, take, length-append}
 use Rattle.sequences.specs.Gather.{gather-short}
 use Rattle.sequences.specs.Range.{le-or-lt}
 use Rattle.meaning.specs.Scene.{Scene, vertexCount}
-use Rattle.meaning.specs.MeshRows.{rowCount, meshRow, rowsIn}
+use Rattle.meaning.specs.MeshRows.{rowCount, meshRow, rowsIn, meshEntries}
 use Rattle.meaning.specs.declared.Kind.{Kind}
 use Rattle.meaning.specs.declared.Kind.the-variants.{PointTriangle, EdgeEdge}
 use Rattle.meaning.specs.declared.RowPairs.{RowPairs}
 use Rattle.meaning.specs.declared.Wanted.{Wanted}
 use Rattle.mesh_laws.specs.Entries.{MeshSized}
+use Rattle.mesh_laws.specs.Rows.{stretches-joined}
+use Rattle.mesh_entries.specs.Entering.{Entered, entered-wrote}
+use Rattle.mesh_words.specs.Asked.{meshPairsIn, entered-pairs, entered-there}
+use Rattle.mesh_words.specs.OfRows.{rows-entered, there-within}
 use Rattle.mesh_trees.specs.Forest.{Forest}
 use Rattle.mesh_rows.specs.Rows.{partRow, SecondsPut, vertex-row-of, edge-row-of}
 use Rattle.mesh_ordered.specs.Put.{put-fits}
 use Rattle.mesh_keep.specs.Keeping.{KeptBy, kept-none, kept-then, kept-as, kept-bound}
+use Rattle.mesh_keep.specs.Entries.{EntriesOf}
 use Rattle.mesh_keep.specs.OfRows.{RowOf, pairsOf, row-of, row-pairs, row-short, rows-next, rows-none}
 use Rattle.mesh_keep.specs.declared.Going.{Going}
 
@@ -42,6 +47,10 @@ module _ (w : RowPairs) (s : Scene) (few : MeshSized s) where
       let short = gather-short (meshRow w s) 1073741824 a b (λ j p q. row-few j) in
       omega (arith, few .fewVertices, few .fewEdges)
 
+-- the pairs of neighbouring stretches are those of the stretch
+rows-sum : (w : RowPairs) (s : Scene) (a b c : ℕ) → a ≤ b → b ≤ c → length (rowsIn w s a b) + length (rowsIn w s b c) ≡ length (rowsIn w s a c)
+rows-sum w s a b c h k = sym (length-append (rowsIn w s a b) (rowsIn w s b c)) ∙ ap length (stretches-joined w s a b c h k)
+
 -- rows up to one are judged
 pub record StretchGoing (w : RowPairs) (s : Scene) (m : Wanted) (most first end : ℕ) (o v : List ℕ) (g : Going) (o′ v′ : List ℕ) (g′ : Going) (row : ℕ) : Type 0 where
   pub past : first ≤ row
@@ -60,11 +69,28 @@ module _ {w : RowPairs} {s : Scene} {m : Wanted} {most first end : ℕ} {o v : L
   stretch-goes h b =
       record { past = omega (arith, so .past); within = omega arith; done = kept-as (rows-next w s first row (so .past)) (kept-then (so .done) b) }
 
-  pub stretch-few : {p q : List ℕ} {l : List ℤ} {e t : List ℕ} {edgeTop triangleTop : ℕ} → Forest s p q l e t edgeTop triangleTop → row ≤ rowCount s
+  -- what is kept so far, and the next rows: few
+  pub stretch-few : (next : ℕ) → row ≤ next → {p q : List ℕ} {l : List ℤ} {e t : List ℕ} {edgeTop triangleTop : ℕ}
+      → Forest s p q l e t edgeTop triangleTop
+      → next ≤ rowCount s
       → g .count ≤ 0
-      → g₁ .count < 4611686018427387904
-  stretch-few f h z =
-      omega (arith, kept-bound (so .done), rows-few w s (forest-sized f) first row h)
+      → g₁ .count + length (rowsIn w s row next) < 4611686018427387904
+  stretch-few next after f h z =
+      omega (arith, kept-bound (so .done), rows-few w s (forest-sized f) first next h, rows-sum w s first row next (so .past) after)
+
+  -- one after the other, where all of them are few
+  pub alone-few : row ≤ end → g .count + length (rowsIn w s first end) < 4611686018427387904 → g₁ .count < 4611686018427387904
+  alone-few h few = omega (arith, kept-bound (so .done), few, rows-sum w s first row end (so .past) h)
+
+  -- a block of rows is judged
+  pub stretch-goes-on : (next : ℕ) {o₂ v₂ : List ℕ} {g₂ : Going} → row < next → next ≤ end → KeptBy s m most (rowsIn w s row next) o₁ v₁ g₁ o₂ v₂ g₂
+      → StretchGoing w s m most first end o v g o₂ v₂ g₂ next
+  stretch-goes-on next h k b =
+      record {
+        past = omega (arith, so .past);
+        within = k;
+        done = kept-as (stretches-joined w s first row next (so .past) (omega arith)) (kept-then (so .done) b);
+      }
 
   pub stretch-ends : end ≤ row → KeptBy s m most (rowsIn w s first end) o v g o₁ v₁ g₁
   stretch-ends h = let e : row ≡ end = omega (arith, so .within) in kept-as (ap (rowsIn w s first) e) (so .done)
@@ -85,3 +111,31 @@ module _ (w : RowPairs) (s : Scene) (few : MeshSized s) where
 
     pub numbered-pairs : pairsOf kind i o n ≡ meshRow w s row
     numbered-pairs = row-pairs w s few row inside kind i is put room
+
+-- ---- the rows of a block, whose entries stand in front of a list
+
+module _ (w : RowPairs) (s : Scene) (few : MeshSized s) (a b : ℕ) (within : b ≤ rowCount s) {most n : ℕ} {o o′ : List ℕ}
+    (listed : Entered most o 0 (meshEntries (rowsIn w s a b)) o′ n)
+    (fits : n ≤ most)
+    (room : most ≤ length o) where
+  wrote : take n o′ ≡ meshEntries (rowsIn w s a b)
+  wrote = entered-wrote fits room listed .front
+
+  inside : n ≤ length o′
+  inside = omega (arith, fits, room, entered-wrote fits room listed .same)
+
+  pub block-of : EntriesOf s o′ n
+  block-of =
+      let so = rows-entered s w few a b n o′ within inside wrote in
+      record {
+        room = inside;
+        each = λ k h.
+            record {
+              inside = omega arith;
+              there = entered-there so k h;
+              narrow = there-within s few _ _ _ (entered-there so k h);
+            };
+      }
+
+  pub block-pairs : meshPairsIn n o′ ≡ rowsIn w s a b
+  block-pairs = entered-pairs (rows-entered s w few a b n o′ within inside wrote)

@@ -1,4 +1,4 @@
--- `keep_stretch`: the rows passed are judged.
+-- `keep_stretch`: the blocks passed are judged.
 use borrow.Author.Needs.{needs}
 use native.Mathlib.Omega.{arith}
 use Prim.Native.Nat.{_-_}
@@ -7,7 +7,7 @@ use lib.ListN.{length}
 use Rattle.scene_seams.specs.Alone.{tabled}
 use Rattle.mesh_entries.specs.Entering.{entered-length}
 use Rattle.mesh_ordered.specs.Either.{lent-as}
-use Rattle.mesh_wanted.specs.Stretch.{StretchGoing, stretch-starts, stretch-goes, stretch-few, stretch-ends}
+use Rattle.mesh_wanted.specs.Stretch.{StretchGoing, stretch-starts, stretch-goes-on, stretch-few, stretch-ends}
 use Rattle.mesh_wanted.proofs.keep_stretch.Statement.{statement}
 use Rattle.mesh_wanted.proofs.keep_stretch.Tie as tie
 
@@ -22,26 +22,29 @@ abbrev μ-loop : tie.MeasureT-loop
 loop-holds : tie.Need-loop-holds Inv-loop μ-loop
 loop-holds c = (search needs, stretch-starts _ _ _ _ _ _ _ _ _ (c .before .before .before .before .before .before .before .before .before .before .pre .0 .1))
 
-keep-numbered-requires : tie.Need-keep-numbered-requires Inv-loop μ-loop
-keep-numbered-requires c κs =
-    let loop = c .before .before .before .before .loop in
-    let below = c .before .before .before .loop-test .taken in
-    let same = loop .inv .0 in (
-      (c .before .before .before .before .before .before .before .before .before .before .before .before .before .before .before .pre .0 .0, omega (arith, c .before .before .before .before .before .before .before .before .before .before .before .before .before .before .before .pre .0 .2, below)),
-      (lent-as (c .before .before .before .before .before .before .before .before .before .before .before .before .before .before .before .pre .1 .0) same, (c .before .before .before .before .before .before .before .before .before .before .before .before .before .before .before .pre .1 .1 .0, omega (arith, c .before .before .before .before .before .before .before .before .before .before .before .before .before .before .before .pre .1 .1 .1, entered-length (loop .inv .1 .done .list)), omega (arith, c .before .before .before .before .before .before .before .before .before .before .before .before .before .before .before .pre .1 .1 .2, entered-length (loop .inv .1 .done .bytes)), stretch-few (loop .inv .1) (c .before .before .before .before .before .before .before .before .before .before .before .before .before .before .before .pre .0 .0) (omega (arith, c .before .before .before .before .before .before .before .before .before .before .before .before .before .before .before .pre .0 .2, below)) (c .before .before .before .before .before .before .before .before .before .before .before .before .before .before .before .pre .1 .1 .3))),
+block-end-requires : tie.Need-block-end-requires Inv-loop μ-loop
+block-end-requires c κs =
+    let p = c .before .before .before .before .before .before .before .before .before .before .before .before .pre .0 in
+    (c .loop-test .taken, omega (arith, p .2, p .0 .fewVertices, p .0 .fewEdges))
+
+keep-block-requires : tie.Need-keep-block-requires Inv-loop μ-loop
+keep-block-requires c κs =
+    let loop = c .before .before .before .before .before .loop in
+    let ends = c .before .before .before .block-end .ensures in
+    let p = c .before .before .before .before .before .before .before .before .before .before .before .before .before .before .before .before .pre in (
+      (p .0 .0, omega (arith, ends .0), omega (arith, p .0 .2, ends .1)),
+      (lent-as (p .1 .0) (loop .inv .0), (p .1 .1 .0, omega (arith, p .1 .1 .1, entered-length (loop .inv .1 .done .list)), omega (arith, p .1 .1 .2, entered-length (loop .inv .1 .done .bytes)), stretch-few (loop .inv .1) (c .before .before .before .block-end .result) (omega (arith, ends .0)) (p .0 .0) (omega (arith, p .0 .2, ends .1)) (p .1 .1 .3))),
     )
 
-add-row : tie.Need-add-row Inv-loop μ-loop
-add-row c =
-    let start = c .before .before .before .before .before .before .before .before .before .before .before .before .before .before .before .before .before .before .before .before .before .before in
-    let below = c .before .before .before .before .before .before .before .before .before .before .loop-test .taken in
-    omega (arith, below, start .pre .0 .2, start .pre .0 .0 .fewVertices, start .pre .0 .0 .fewEdges)
-
 loop-less : tie.Need-loop-less Inv-loop μ-loop
-loop-less c = let below = c .before .before .before .before .before .before .before .before .before .before .loop-test .taken in omega arith
+loop-less c = let ends = c .before .before .before .before .before .before .before .before .before .before .block-end .ensures in omega (arith, ends .0, ends .1)
 
 loop-again : tie.Need-loop-again Inv-loop μ-loop
-loop-again c = let same = c .before .before .before .before .before .before .before .before .before .before .before .loop .inv .0 in (omega (arith, same), stretch-goes (c .before .before .before .before .before .before .before .before .before .before .before .loop .inv .1) (c .before .before .before .before .before .before .before .before .before .before .loop-test .taken) (c .before .before .before .before .before .before .keep-numbered .ensures))
+loop-again c =
+    let loop = c .before .before .before .before .before .before .before .before .before .before .before .before .loop in
+    let same = loop .inv .0 in
+    let ends = c .before .before .before .before .before .before .before .before .before .before .block-end .ensures in
+    (omega (arith, same), stretch-goes-on (loop .inv .1) (c .before .before .before .before .before .before .before .before .before .before .block-end .result) (ends .0) (ends .1) (c .before .before .before .before .before .before .keep-block .ensures))
 
 same-places : tie.Need-same-length Inv-loop μ-loop
 same-places c = c .before .loop .inv .0
@@ -62,8 +65,8 @@ keep-stretch-spec =
     Inv-loop
     μ-loop
     loop-holds
-    keep-numbered-requires
-    add-row
+    block-end-requires
+    keep-block-requires
     loop-less
     loop-again
     same-places
