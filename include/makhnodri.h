@@ -121,8 +121,8 @@ extern "C" {
  *     list_rows, list_near_rows                     8,192
  *     settle_rows, settle_near_rows                 8,192
  *     contact_rows, contact_near_rows               8,192
- *     keep_rows, keep_near_rows                    81,920
- *     keep_contacts, keep_near_contacts            81,920
+ *     keep_rows, keep_near_rows                   114,688
+ *     keep_contacts, keep_near_contacts           114,688
  *     pierced_at_start_rows, pierced_at_end_rows    3,584
  *
  * ---- An answer ----
