@@ -69,7 +69,7 @@ fn join_rows(boxes: &[i32], first: usize, count: usize, own: &mut [i32])
 }
 
 // The first of the second parts that goes with a first one.
-fn first_second(kind: Kind, i: usize) -> usize
+pub fn first_second(kind: Kind, i: usize) -> usize
     requires { ⌜ i < 1073741824 ⌝ }
     ensures { λ r. ⌜ r ≡ secondFrom kind i ⌝ }
 {
@@ -107,7 +107,7 @@ fn enter_sought(
     most: usize,
     at: usize,
 ) -> usize
-    requires { ⌜ Sought (tabledIn positions edges triangles stands) kind i (now boxes) base row from (now places) count ⌝ }
+    requires { ⌜ Sought which (tabledIn positions edges triangles stands) kind i (now boxes) base row from (now places) count ⌝ }
     requires { ⌜ (most ≤ length (now list)) × (at < 4611686018427387904) ⌝ }
     ensures { λ r. ⌜ Entered most (atEntry list) at
         (meshEntries (partRow which (tabledAtEntry positions edges triangles stands) kind i)) (atExit list) r ⌝ }
@@ -137,7 +137,7 @@ fn enter_sought(
 }
 
 // The rows of a run, by the places that were found for it.
-fn enter_run(
+pub fn enter_run(
     positions: &[i32],
     edges: &[u32],
     triangles: &[u32],
@@ -155,7 +155,7 @@ fn enter_run(
     most: usize,
     at: usize,
 ) -> usize
-    requires { ⌜ AllSought (tabledIn positions edges triangles stands) kind (now boxes) base offset first end (now places)
+    requires { ⌜ AllSought which (tabledIn positions edges triangles stands) kind (now boxes) base offset first end (now places)
         count × (first ≤ end) × (end ≤ first + 16) × (end ≤ 1073741824) × (offset ≤ 1073741824) ⌝ }
     requires { ⌜ (most ≤ length (now list)) × (at ≤ 2305843009213693952) ⌝ }
     ensures { λ r. ⌜ Entered most (atEntry list) at
@@ -189,7 +189,7 @@ fn enter_run(
 }
 
 // The rows of a run, each by a walk of its own.
-fn enter_alone(
+pub fn enter_alone(
     positions: &[i32],
     edges: &[u32],
     triangles: &[u32],
@@ -312,7 +312,7 @@ fn walk_run(
 }
 
 // Where the run ends that begins with a row.
-fn run_end(first: usize, end: usize) -> usize
+pub fn run_end(first: usize, end: usize) -> usize
     requires { ⌜ (first < end) × (first < 1073741824) ⌝ }
     ensures { λ r. ⌜ (first < r) × (r ≤ end) × (r ≤ first + 16) ⌝ }
 {
@@ -379,7 +379,7 @@ fn walk_kind(
 }
 
 // Where the vertices' rows of a stretch end and the edges' begin.
-fn kinds_meet(vertices: usize, first: usize, end: usize) -> usize
+pub fn kinds_meet(vertices: usize, first: usize, end: usize) -> usize
     requires { ⌜ first ≤ end ⌝ }
     ensures { λ r. ⌜ Parted vertices first end r ⌝ }
 {
@@ -391,7 +391,7 @@ fn kinds_meet(vertices: usize, first: usize, end: usize) -> usize
 }
 
 // An edge's number, of its row's; 0 for a row of a vertex.
-fn behind(row: usize, vertices: usize) -> usize
+pub fn behind(row: usize, vertices: usize) -> usize
     ensures { λ r. ⌜ r ≡ row - vertices ⌝ }
 {
     if row <= vertices { 0 } else { row - vertices }
