@@ -1,35 +1,20 @@
 -- What is promised of boxes that are filled in leaves nothing open, whatever the vertices' boxes are.
-use Prim.Native.Nat.{ℕ, _+_, _*_, _<_}
-use mathlib.Core.List.{List}
-use mathlib.Core.Logic.{⊎-elim}
-use mathlib.Core.Path.{_≡_, sym, _∙_}
-use native.Mathlib.Omega.{arith}
-use lib.IntN.{ℤ, pos}
-use lib.Seq.{ext-getD}
-use Rattle.sequences.specs.Range.{le-or-lt}
-use Rattle.meaning.specs.Scene.{Scene, vertexCount, edgeCount, triangleCount}
-use Rattle.meaning.specs.StoredBoxes.{Box, boxAt}
-use Rattle.list_boxes.specs.Once.{numbers-same, holds-one}
-use Rattle.mesh_boxes.specs.Joining.{BoxedAs, FilledAs}
+use Prim.Native.Nat.{ℕ}
+use mathlib.Core.List.{List, []}
+use mathlib.Core.Path.{_≡_}
+use lib.IntN.{ℤ}
+use Rattle.meaning.specs.Scene.{Scene}
+use Rattle.meaning.specs.StoredBoxes.{Box}
+use Rattle.mesh_boxes.specs.Joining.{FilledAs, FilledBy}
+use Rattle.mesh_boxes.specs.Once.{one-filling-by}
 
-boxed-one : (s : Scene) {b : ℕ → Box} {l l′ : List ℤ} → BoxedAs s b l → BoxedAs s b l′ → (k : ℕ) → k < vertexCount s + edgeCount s + triangleCount s
-    → boxAt l k ≡ boxAt l′ k
-boxed-one s p q k h =
-    ⊎-elim
-    (λ e.
-    ⊎-elim
-    (λ t. holds-one (p .triangles) (q .triangles) k t (omega arith))
-    (λ below. holds-one (p .edges) (q .edges) k e (omega arith))
-    (le-or-lt (vertexCount s + edgeCount s) k))
-    (λ v. holds-one (p .vertices) (q .vertices) k (omega arith) (omega arith))
-    (le-or-lt (vertexCount s) k)
+-- without orders
+unordered : (s : Scene) {b : ℕ → Box} {l l′ : List ℤ} → FilledAs s b l l′ → FilledBy s b [] [] l l′
+unordered s f =
+    record {
+      boxed = record { vertices = f .boxed .vertices; edges = f .boxed .edges; triangles = f .boxed .triangles; room = f .boxed .room };
+      kept = f .kept;
+    }
 
 pub one-filling-as : (s : Scene) {b : ℕ → Box} {l l₁ l₂ : List ℤ} → FilledAs s b l l₁ → FilledAs s b l l₂ → l₁ ≡ l₂
-one-filling-as s {l₁ = l₁} {l₂ = l₂} p q =
-    let all = vertexCount s + edgeCount s + triangleCount s in
-    ext-getD (pos 0) l₁ l₂ (p .kept .same ∙ sym (q .kept .same))
-    (λ i h.
-    ⊎-elim
-    (λ behind. p .kept .at i behind ∙ sym (q .kept .at i behind))
-    (λ front. numbers-same l₁ l₂ all (boxed-one s (p .boxed) (q .boxed)) i front)
-    (le-or-lt (6 * all) i))
+one-filling-as s p q = one-filling-by s (unordered s p) (unordered s q)

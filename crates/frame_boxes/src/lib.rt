@@ -66,8 +66,9 @@ pub fn fill_at(positions: &[i32], edges: &[u32], triangles: &[u32], frame: Frame
         (vertexBoxAt frame (sceneOf (atEntry positions) (atEntry edges) (atEntry triangles) w)) (atEntry boxes)
         (atExit boxes)) ⌝ }
 {
+    let none = [0u32; 0];
     fill_vertices_at(positions, frame, boxes);
-    join_parts(positions, edges, triangles, boxes);
+    join_parts(positions, edges, triangles, &none, &none, boxes);
 }
 
 // The boxes at that time are filled in, and a tree over the triangles is grown behind them. Returned is how high it is.

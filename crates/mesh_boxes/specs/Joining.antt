@@ -9,12 +9,13 @@ use native.Mathlib.Omega.{arith}
 use lib.IntN.{ℤ}
 use lib.ListN.{length}
 use Rattle.meaning.specs.Scene.{Scene, vertexCount, edgeCount, triangleCount, edgeEnd, corner, unknownIn}
-use Rattle.meaning.specs.StoredBoxes.{Box, boxAt, vertexBox, BoxesStand, KeptBehind, Filled}
+use Rattle.meaning.specs.StoredBoxes.{Box, boxAt, BoxesStand, KeptBehind}
 use Rattle.scene_checks.specs.Facts.{known-inside, edge-inside, triangle-inside}
 use Rattle.list_boxes.specs.Kept.{jointBox}
 use Rattle.list_boxes.specs.Storing.{BoxStored, others-kept}
 use Rattle.list_boxes.specs.Filling.{kept-then}
 use Rattle.mesh_boxes.specs.Drawing.{Drawable}
+use Rattle.mesh_boxes.specs.Led.{partOf, OrderLent, part-itself, part-inside}
 
 -- by the boxes of the vertices
 abbrev pub joinedEdge : Scene → (ℕ → Box) → ℕ → Box
@@ -23,7 +24,18 @@ joinedEdge s b j = jointBox (b (edgeEnd s j 0)) (b (edgeEnd s j 1))
 abbrev pub joinedTriangle : Scene → (ℕ → Box) → ℕ → Box
 joinedTriangle s b j = jointBox (jointBox (b (corner s j 0)) (b (corner s j 1))) (b (corner s j 2))
 
--- the boxes of all parts stand in the list, by those of the vertices
+-- the boxes of all parts stand in the list, by those of the vertices, edges and triangles as two lists lead
+pub record BoxedBy (s : Scene) (b : ℕ → Box) (e t : List ℕ) (l : List ℤ) : Type 0 where
+  pub vertices : BoxesStand l 0 (vertexCount s) b
+  pub edges : BoxesStand l (vertexCount s) (edgeCount s) (λ k. joinedEdge s b (partOf e k))
+  pub triangles : BoxesStand l (vertexCount s + edgeCount s) (triangleCount s) (λ k. joinedTriangle s b (partOf t k))
+  pub room : 6 * (vertexCount s + edgeCount s + triangleCount s) ≤ length l
+
+pub record FilledBy (s : Scene) (b : ℕ → Box) (e t : List ℕ) (l l′ : List ℤ) : Type 0 where
+  pub boxed : BoxedBy s b e t l′
+  pub kept : KeptBehind l l′ (vertexCount s + edgeCount s + triangleCount s)
+
+-- each in its own place
 pub record BoxedAs (s : Scene) (b : ℕ → Box) (l : List ℤ) : Type 0 where
   pub vertices : BoxesStand l 0 (vertexCount s) b
   pub edges : BoxesStand l (vertexCount s) (edgeCount s) (joinedEdge s b)
@@ -111,43 +123,56 @@ pub stands-then : {l l′ : List ℤ} {first count n : ℕ} {b : ℕ → Box} �
 stands-then {first = first} front h so = record { at = λ i p. stands-there front (first + i) (omega arith) ∙ so .at i p }
 
 -- first the edges, then the triangles: both by the vertices' boxes as they were at first
-pub joined-parts : (s : Scene) {l l₁ l₂ : List ℤ} → Drawable s l → BoxesStand l₁ 0 (vertexCount s) (boxAt l)
-    → BoxesStand l₁ (vertexCount s) (edgeCount s) (joinedEdge s (boxAt l)) → KeptBehind l l₁ (vertexCount s + edgeCount s)
-    → BoxesStand l₂ 0 (vertexCount s + edgeCount s) (boxAt l₁)
-    → BoxesStand l₂ (vertexCount s + edgeCount s) (triangleCount s) (joinedTriangle s (boxAt l₁))
-    → KeptBehind l₁ l₂ (vertexCount s + edgeCount s + triangleCount s)
-    → FilledAs s (boxAt l) l l₂
-joined-parts s can front edges before kept triangles after =
-    record {
-      boxed = record {
-        vertices = stands-then kept (omega arith) front;
-        edges = stands-then kept (omega arith) edges;
-        triangles = record { at = λ i p. triangles .at i p ∙ triangle-as s (can .corners) i p front };
-        room = omega (arith, can .room, before .same, after .same);
-      };
-      kept = kept-then before after (omega arith);
-    }
+module _ (s : Scene) {l l₁ l₂ : List ℤ} {e t : List ℕ} (can : Drawable s l) (known : OrderLent (triangleCount s) t) where
+  pub joined-parts : BoxesStand l₁ 0 (vertexCount s) (boxAt l)
+      → BoxesStand l₁ (vertexCount s) (edgeCount s) (λ k. joinedEdge s (boxAt l) (partOf e k))
+      → KeptBehind l l₁ (vertexCount s + edgeCount s)
+      → BoxesStand l₂ 0 (vertexCount s + edgeCount s) (boxAt l₁)
+      → BoxesStand l₂ (vertexCount s + edgeCount s) (triangleCount s) (λ k. joinedTriangle s (boxAt l₁) (partOf t k))
+      → KeptBehind l₁ l₂ (vertexCount s + edgeCount s + triangleCount s)
+      → FilledBy s (boxAt l) e t l l₂
+  joined-parts front edges before kept triangles after =
+      record {
+        boxed = record {
+          vertices = stands-then kept (omega arith) front;
+          edges = stands-then kept (omega arith) edges;
+          triangles = record {
+            at = λ i p. triangles .at i p ∙ triangle-as s (can .corners) (partOf t i) (part-inside known i p) front;
+          };
+          room = omega (arith, can .room, before .same, after .same);
+        };
+        kept = kept-then before after (omega arith);
+      }
 
 -- filled in over boxes of the vertices that are b
-pub filled-as : {s : Scene} {l l₁ l₂ : List ℤ} {b : ℕ → Box} → Drawable s l → BoxesStand l₁ 0 (vertexCount s) b → KeptBehind l l₁ (vertexCount s)
-    → FilledAs s (boxAt l₁) l₁ l₂ → FilledAs s b l l₂
-filled-as {s} can so before filled =
+module _ {s : Scene} {l l₁ l₂ : List ℤ} {b : ℕ → Box} {e t : List ℕ} (can : Drawable s l) (edges : OrderLent (edgeCount s) e) (triangles : OrderLent (triangleCount s) t) where
+  pub filled-by : BoxesStand l₁ 0 (vertexCount s) b → KeptBehind l l₁ (vertexCount s) → FilledBy s (boxAt l₁) e t l₁ l₂ → FilledBy s b e t l l₂
+  filled-by so before filled =
+      let boxed = filled .boxed in
+      record {
+        boxed = record {
+          vertices = record { at = λ i p. boxed .vertices .at i p ∙ stands-there so i p };
+          edges = record {
+            at = λ i p. boxed .edges .at i p ∙ edge-as s (can .ends) (partOf e i) (part-inside edges i p) so;
+          };
+          triangles = record {
+            at = λ i p. boxed .triangles .at i p ∙ triangle-as s (can .corners) (partOf t i) (part-inside triangles i p) so;
+          };
+          room = boxed .room;
+        };
+        kept = kept-then before (filled .kept) (omega arith);
+      }
+
+-- where no order is lent each stands in its own place
+pub filled-as : {s : Scene} {l l′ : List ℤ} {b : ℕ → Box} (e t : List ℕ) → length e ≡ 0 → length t ≡ 0 → FilledBy s b e t l l′ → FilledAs s b l l′
+filled-as {s} {b = b} e t bare plain filled =
     let boxed = filled .boxed in
     record {
       boxed = record {
-        vertices = record { at = λ i p. boxed .vertices .at i p ∙ stands-there so i p };
-        edges = record { at = λ i p. boxed .edges .at i p ∙ edge-as s (can .ends) i p so };
-        triangles = record { at = λ i p. boxed .triangles .at i p ∙ triangle-as s (can .corners) i p so };
+        vertices = boxed .vertices;
+        edges = record { at = λ i p. boxed .edges .at i p ∙ ap (joinedEdge s b) (part-itself e i bare) };
+        triangles = record { at = λ i p. boxed .triangles .at i p ∙ ap (joinedTriangle s b) (part-itself t i plain) };
         room = boxed .room;
       };
-      kept = kept-then before (filled .kept) (omega arith);
-    }
-
--- of swept boxes
-pub swept-filled : {s : Scene} {l l′ : List ℤ} → FilledAs s (vertexBox s) l l′ → Filled s l l′
-swept-filled filled =
-    let boxed = filled .boxed in
-    record {
-      boxed = record { vertices = boxed .vertices; edges = boxed .edges; triangles = boxed .triangles; room = boxed .room };
       kept = filled .kept;
     }

@@ -6,11 +6,11 @@ ghost use mathlib.Core.Path.{_≡_};
 ghost use lib.ListN.{length, take};
 ghost use Rattle.sequences.specs.Lent.{atEntry, atExit};
 ghost use Rattle.sequences.specs.Wrote.{written};
-ghost use Rattle.meaning.specs.Scene.{edgeCount, triangleCount};
 ghost use Rattle.meaning.specs.MeshRows.{rowCount};
 ghost use Rattle.scene_seams.specs.Alone.{tabledIn, tabledAtEntry};
 ghost use Rattle.scene_checks.specs.Facts.{Sound};
 ghost use Rattle.mesh_trees.specs.Forest.{Forest};
+ghost use Rattle.mesh_ordered.specs.Either.{OrdersLent};
 ghost use Rattle.mesh_judged.specs.Judged.{noneYet, toldOf, KeptInto, KeptOwn};
 use meaning::KeptRows;
 use meaning::RowPairs;
@@ -60,6 +60,8 @@ pub fn keep_into(
     edges: &[u32],
     triangles: &[u32],
     stands: &[u32],
+    edge_order: &[u32],
+    triangle_order: &[u32],
     boxes: &[i32],
     edge_levels: &[usize],
     edge_top: usize,
@@ -74,10 +76,10 @@ pub fn keep_into(
     words: &mut [u8],
     most: usize,
 ) -> KeptRows
-    requires { ⌜ Forest (tabledIn positions edges triangles stands) (now boxes) (now «edge_levels») (now «triangle_levels»)
-        «edge_top» «triangle_top» × (first ≤ end) × (end ≤ rowCount (tabledIn positions edges triangles stands)) ⌝ }
-    requires { ⌜ (edgeCount (tabledIn positions edges triangles stands) ≤ length (now places))
-        × (triangleCount (tabledIn positions edges triangles stands) ≤ length (now places)) ⌝ }
+    requires { ⌜ Forest (tabledIn positions edges triangles stands) (now «edge_order») (now «triangle_order») (now boxes)
+        (now «edge_levels») (now «triangle_levels») «edge_top» «triangle_top» × (first ≤ end)
+        × (end ≤ rowCount (tabledIn positions edges triangles stands)) ⌝ }
+    requires { ⌜ OrdersLent (tabledIn positions edges triangles stands) (now «edge_order») (now «triangle_order») (length (now places)) ⌝ }
     requires { ⌜ Sound (tabledIn positions edges triangles stands) × (most ≤ length (now list))
         × (most ≤ length (now words)) ⌝ }
     ensures { λ r. ⌜ KeptInto which wanted (tabledAtEntry positions edges triangles stands) first end most (atEntry list)
@@ -89,6 +91,8 @@ pub fn keep_into(
         edges,
         triangles,
         stands,
+        edge_order,
+        triangle_order,
         boxes,
         edge_levels,
         edge_top,
@@ -129,6 +133,8 @@ pub fn keep_own(
     edges: &[u32],
     triangles: &[u32],
     stands: &[u32],
+    edge_order: &[u32],
+    triangle_order: &[u32],
     boxes: &[i32],
     edge_levels: &[usize],
     edge_top: usize,
@@ -143,10 +149,10 @@ pub fn keep_own(
     words: &mut [u8],
     room: usize,
 ) -> KeptRows
-    requires { ⌜ Forest (tabledIn positions edges triangles stands) (now boxes) (now «edge_levels») (now «triangle_levels»)
-        «edge_top» «triangle_top» × (first ≤ end) × (end ≤ rowCount (tabledIn positions edges triangles stands)) ⌝ }
-    requires { ⌜ (edgeCount (tabledIn positions edges triangles stands) ≤ length (now places))
-        × (triangleCount (tabledIn positions edges triangles stands) ≤ length (now places)) ⌝ }
+    requires { ⌜ Forest (tabledIn positions edges triangles stands) (now «edge_order») (now «triangle_order») (now boxes)
+        (now «edge_levels») (now «triangle_levels») «edge_top» «triangle_top» × (first ≤ end)
+        × (end ≤ rowCount (tabledIn positions edges triangles stands)) ⌝ }
+    requires { ⌜ OrdersLent (tabledIn positions edges triangles stands) (now «edge_order») (now «triangle_order») (length (now places)) ⌝ }
     requires { ⌜ Sound (tabledIn positions edges triangles stands) × (room ≤ length (now list))
         × (room ≤ length (now words)) ⌝ }
     ensures { λ r. ⌜ KeptOwn which wanted (tabledAtEntry positions edges triangles stands) first end 8192 room
@@ -159,6 +165,8 @@ pub fn keep_own(
         edges,
         triangles,
         stands,
+        edge_order,
+        triangle_order,
         boxes,
         edge_levels,
         edge_top,

@@ -6,7 +6,7 @@ use native.Mathlib.Omega.{arith}
 use lib.ListN.{length}
 use borrow.Author.Tests.{lt-ltb, le-ltb}
 use Rattle.sequences.specs.Wrote.{written, wrote-front}
-use Rattle.meaning.specs.Scene.{Scene, edgeCount, triangleCount}
+use Rattle.meaning.specs.Scene.{Scene}
 use Rattle.meaning.specs.Refusals.{given, refused, numberOf, roomCheck, Answers}
 use Rattle.meaning.specs.List.{leaves}
 use Rattle.meaning.specs.MeshRows.{Lent, rowCount, rowsIn, kept, keptSays, RowsKept}
@@ -98,12 +98,6 @@ module _ (w : RowPairs) (m : Wanted) (s : Scene) (l : Lent) (first end : ℕ) {t
   module _ (passed : asked ≡ SceneAnswers.the-variants.Accepted) where
     pub open-sound : Sound (toldBy s t′)
     open-sound = subst Sound (sym (open-told p passed)) (mesh-sound {s = s} (p .opened passed .accepted))
-
-    -- scratch with room for the parts of a mesh has room for the second places of a row
-    pub open-places : (edgeCount (toldBy s t′) ≤ l .places) × (triangleCount (toldBy s t′) ≤ l .places)
-    open-places =
-        let o = p .opened passed .places in
-        subst (λ (m : Scene). (edgeCount m ≤ l .places) × (triangleCount m ≤ l .places)) (sym (open-told p passed)) (omega (arith, o), omega (arith, o))
 
     pub rows-kept : {room : ℕ} {o o′ b b′ : List ℕ} {r : KeptAnswer} → room ≡ min (length o) (length b)
         → StretchKept w m (toldBy s t′) first end room o o′ b b′ r

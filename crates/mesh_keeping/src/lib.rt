@@ -4,12 +4,13 @@
 ghost use Prim.Native.Nat.{_≤_};
 ghost use lib.ListN.{length};
 ghost use Rattle.sequences.specs.Lent.{atEntry, atExit};
-ghost use Rattle.meaning.specs.Scene.{sceneAtEntry, edgeCount, triangleCount};
+ghost use Rattle.meaning.specs.Scene.{sceneAtEntry};
 ghost use Rattle.meaning.specs.MeshRows.{rowCount, lentAtEntry, RowsKept};
 ghost use Rattle.scene_seams.specs.Alone.{tabledIn, tabledAtEntry};
 ghost use Rattle.scene_checks.specs.Facts.{Sound};
 ghost use Rattle.mesh_trees.specs.Planting.{Plantable};
 ghost use Rattle.mesh_trees.specs.Forest.{Forest};
+ghost use Rattle.mesh_ordered.specs.Either.{OrdersLent};
 ghost use Rattle.mesh_keeping.specs.Kept.{StretchKept};
 use meaning::KeptAnswer;
 use meaning::Refusal;
@@ -33,6 +34,8 @@ fn keep_grown(
     edges: &[u32],
     triangles: &[u32],
     stands: &[u32],
+    edge_order: &[u32],
+    triangle_order: &[u32],
     boxes: &[i32],
     edge_levels: &[usize],
     edge_top: usize,
@@ -47,10 +50,10 @@ fn keep_grown(
     words: &mut [u8],
     room: usize,
 ) -> KeptAnswer
-    requires { ⌜ Forest (tabledIn positions edges triangles stands) (now boxes) (now «edge_levels») (now «triangle_levels»)
-        «edge_top» «triangle_top» × (first ≤ end) × (end ≤ rowCount (tabledIn positions edges triangles stands)) ⌝ }
-    requires { ⌜ (edgeCount (tabledIn positions edges triangles stands) ≤ length (now places))
-        × (triangleCount (tabledIn positions edges triangles stands) ≤ length (now places)) ⌝ }
+    requires { ⌜ Forest (tabledIn positions edges triangles stands) (now «edge_order») (now «triangle_order») (now boxes)
+        (now «edge_levels») (now «triangle_levels») «edge_top» «triangle_top» × (first ≤ end)
+        × (end ≤ rowCount (tabledIn positions edges triangles stands)) ⌝ }
+    requires { ⌜ OrdersLent (tabledIn positions edges triangles stands) (now «edge_order») (now «triangle_order») (length (now places)) ⌝ }
     requires { ⌜ Sound (tabledIn positions edges triangles stands) × (room ≤ length (now list))
         × (room ≤ length (now words)) ⌝ }
     ensures { λ r. ⌜ StretchKept which wanted (tabledAtEntry positions edges triangles stands) first end room (atEntry list)
@@ -61,6 +64,8 @@ fn keep_grown(
         edges,
         triangles,
         stands,
+        edge_order,
+        triangle_order,
         boxes,
         edge_levels,
         edge_top,
@@ -86,6 +91,8 @@ fn keep_grown(
         edges,
         triangles,
         stands,
+        edge_order,
+        triangle_order,
         boxes,
         edge_levels,
         edge_top,
@@ -109,6 +116,8 @@ pub fn keep_there(
     edges: &[u32],
     triangles: &[u32],
     stands: &[u32],
+    edge_order: &[u32],
+    triangle_order: &[u32],
     places: &mut [u32],
     boxes: &mut [i32],
     which: RowPairs,
@@ -121,8 +130,7 @@ pub fn keep_there(
 ) -> KeptAnswer
     requires { ⌜ Plantable (tabledIn positions edges triangles stands) (now boxes) × (first ≤ end)
         × (end ≤ rowCount (tabledIn positions edges triangles stands)) ⌝ }
-    requires { ⌜ (edgeCount (tabledIn positions edges triangles stands) ≤ length (now places))
-        × (triangleCount (tabledIn positions edges triangles stands) ≤ length (now places)) ⌝ }
+    requires { ⌜ OrdersLent (tabledIn positions edges triangles stands) (now «edge_order») (now «triangle_order») (length (now places)) ⌝ }
     requires { ⌜ Sound (tabledIn positions edges triangles stands) × (room ≤ length (now list))
         × (room ≤ length (now words)) ⌝ }
     ensures { λ r. ⌜ StretchKept which wanted (tabledAtEntry positions edges triangles stands) first end room (atEntry list)
@@ -134,6 +142,8 @@ pub fn keep_there(
         positions,
         edges,
         triangles,
+        edge_order,
+        triangle_order,
         boxes,
         &mut edge_levels,
         &mut triangle_levels,
@@ -143,6 +153,8 @@ pub fn keep_there(
         edges,
         triangles,
         stands,
+        edge_order,
+        triangle_order,
         boxes,
         &edge_levels,
         tops.edges,
@@ -206,6 +218,8 @@ pub fn keep_rows(
                 edges,
                 triangles,
                 table,
+                edge_order,
+                triangle_order,
                 places,
                 boxes,
                 which,

@@ -12,8 +12,8 @@ use meaning::RowPairs;
 use meaning::SceneAnswer;
 use mesh_asked::ask_rows;
 use mesh_asked::row_count;
-use mesh_stretch::count_stretch;
-use mesh_stretch::list_stretch;
+use near_stretch::count_stretch;
+use near_stretch::list_stretch;
 
 // How many pairs the rows from one up to another have: all that are listed, or the near ones.
 pub fn count_rows(
@@ -51,7 +51,19 @@ pub fn count_rows(
     ) {
         SceneAnswer::Refused(why) => ListAnswer::Refused(why, 0),
         SceneAnswer::Accepted => {
-            let count = count_stretch(positions, edges, triangles, table, boxes, which, first, end);
+            let count = count_stretch(
+                positions,
+                edges,
+                triangles,
+                table,
+                edge_order,
+                triangle_order,
+                places,
+                boxes,
+                which,
+                first,
+                end,
+            );
             ListAnswer::Listed(Made { count })
         }
     }
@@ -100,6 +112,9 @@ pub fn list_rows(
                 edges,
                 triangles,
                 table,
+                edge_order,
+                triangle_order,
+                places,
                 boxes,
                 which,
                 first,

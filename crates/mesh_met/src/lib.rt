@@ -3,6 +3,7 @@
 
 ghost use Prim.Native.Nat.{_≤_};
 ghost use mathlib.Core.Path.{_≡_};
+ghost use lib.ListN.{length};
 ghost use Rattle.sequences.specs.Lent.{atEntry, atExit};
 ghost use Rattle.meaning.specs.Limits.{contactLimit};
 ghost use Rattle.meaning.specs.Scene.{sceneAtEntry};
@@ -12,6 +13,7 @@ ghost use Rattle.scene_seams.specs.Alone.{tabledIn, tabledAtEntry};
 ghost use Rattle.scene_checks.specs.Facts.{SoundWithin};
 ghost use Rattle.mesh_checks.specs.Meshes.{AcceptedMesh};
 ghost use Rattle.mesh_trees.specs.Planting.{Plantable};
+ghost use Rattle.mesh_ordered.specs.Either.{OrdersLent};
 ghost use Rattle.mesh_met.specs.Meeting.{MetNear, MetThere};
 use contact_pair::beyond_old_range;
 use meaning::ListAnswer;
@@ -22,7 +24,7 @@ use meaning::SceneAnswer;
 use mesh_asked::ask_rows;
 use mesh_asked::row_count;
 use mesh_contacts::contact_mesh_entries;
-use mesh_stretch::list_stretch;
+use near_stretch::list_stretch;
 use scene_parts::asked::smaller;
 
 // How many pairs the three lent lists have room for.
@@ -41,6 +43,9 @@ fn contact_near(
     edges: &[u32],
     triangles: &[u32],
     stands: &[u32],
+    edge_order: &[u32],
+    triangle_order: &[u32],
+    places: &mut [u32],
     boxes: &mut [i32],
     which: RowPairs,
     first: usize,
@@ -51,6 +56,7 @@ fn contact_near(
 ) -> ListAnswer
     requires { ⌜ Plantable (tabledIn positions edges triangles stands) (now boxes) × (first ≤ end)
         × (end ≤ rowCount (tabledIn positions edges triangles stands)) ⌝ }
+    requires { ⌜ OrdersLent (tabledIn positions edges triangles stands) (now «edge_order») (now «triangle_order») (length (now places)) ⌝ }
     requires { ⌜ SoundWithin contactLimit (tabledIn positions edges triangles stands) ⌝ }
     ensures { λ r. ⌜ MetNear which (tabledAtEntry positions edges triangles stands) first end
         (contactRoom (atEntry list) (atEntry words) (atEntry contacts)) (atEntry list) (atExit list) (atEntry words)
@@ -62,6 +68,9 @@ fn contact_near(
         edges,
         triangles,
         stands,
+        edge_order,
+        triangle_order,
+        places,
         boxes,
         which,
         first,
@@ -92,6 +101,9 @@ fn contact_there(
     edges: &[u32],
     triangles: &[u32],
     stands: &[u32],
+    edge_order: &[u32],
+    triangle_order: &[u32],
+    places: &mut [u32],
     boxes: &mut [i32],
     which: RowPairs,
     first: usize,
@@ -102,6 +114,7 @@ fn contact_there(
 ) -> ListAnswer
     requires { ⌜ Plantable (tabledIn positions edges triangles stands) (now boxes) × (first ≤ end)
         × (end ≤ rowCount (tabledIn positions edges triangles stands)) ⌝ }
+    requires { ⌜ OrdersLent (tabledIn positions edges triangles stands) (now «edge_order») (now «triangle_order») (length (now places)) ⌝ }
     requires { ⌜ AcceptedMesh (tabledIn positions edges triangles stands) ⌝ }
     ensures { λ r. ⌜ MetThere which (tabledAtEntry positions edges triangles stands) first end (atEntry list)
         (atExit list) (atEntry words) (atExit words) (atEntry contacts) (atExit contacts) r ⌝ }
@@ -114,6 +127,9 @@ fn contact_there(
         edges,
         triangles,
         stands,
+        edge_order,
+        triangle_order,
+        places,
         boxes,
         which,
         first,
@@ -169,6 +185,9 @@ pub fn contact_rows(
             edges,
             triangles,
             table,
+            edge_order,
+            triangle_order,
+            places,
             boxes,
             which,
             first,

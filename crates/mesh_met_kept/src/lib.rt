@@ -5,13 +5,14 @@ ghost use Prim.Native.Nat.{_≤_};
 ghost use lib.ListN.{length};
 ghost use Rattle.sequences.specs.Lent.{atEntry, atExit};
 ghost use Rattle.meaning.specs.Limits.{contactLimit};
-ghost use Rattle.meaning.specs.Scene.{sceneAtEntry, edgeCount, triangleCount};
+ghost use Rattle.meaning.specs.Scene.{sceneAtEntry};
 ghost use Rattle.meaning.specs.WholeContacts.{contactRoom};
 ghost use Rattle.meaning.specs.MeshRows.{rowCount, lentAtEntry, ContactsKept};
 ghost use Rattle.scene_seams.specs.Alone.{tabledIn, tabledAtEntry};
 ghost use Rattle.scene_checks.specs.Facts.{SoundWithin};
 ghost use Rattle.mesh_checks.specs.Meshes.{AcceptedMesh};
 ghost use Rattle.mesh_trees.specs.Planting.{Plantable};
+ghost use Rattle.mesh_ordered.specs.Either.{OrdersLent};
 ghost use Rattle.mesh_met_kept.specs.Meeting.{KeptNear, KeptThere};
 use contact_pair::beyond_old_range;
 use meaning::KeptAnswer;
@@ -31,6 +32,8 @@ fn contact_near(
     edges: &[u32],
     triangles: &[u32],
     stands: &[u32],
+    edge_order: &[u32],
+    triangle_order: &[u32],
     places: &mut [u32],
     boxes: &mut [i32],
     which: RowPairs,
@@ -43,8 +46,7 @@ fn contact_near(
 ) -> KeptAnswer
     requires { ⌜ Plantable (tabledIn positions edges triangles stands) (now boxes) × (first ≤ end)
         × (end ≤ rowCount (tabledIn positions edges triangles stands)) ⌝ }
-    requires { ⌜ (edgeCount (tabledIn positions edges triangles stands) ≤ length (now places))
-        × (triangleCount (tabledIn positions edges triangles stands) ≤ length (now places)) ⌝ }
+    requires { ⌜ OrdersLent (tabledIn positions edges triangles stands) (now «edge_order») (now «triangle_order») (length (now places)) ⌝ }
     requires { ⌜ SoundWithin contactLimit (tabledIn positions edges triangles stands) ⌝ }
     ensures { λ r. ⌜ KeptNear which wanted (tabledAtEntry positions edges triangles stands) first end
         (contactRoom (atEntry list) (atEntry words) (atEntry contacts)) (atEntry list) (atExit list) (atEntry words)
@@ -56,6 +58,8 @@ fn contact_near(
         edges,
         triangles,
         stands,
+        edge_order,
+        triangle_order,
         places,
         boxes,
         which,
@@ -89,6 +93,8 @@ fn contact_there(
     edges: &[u32],
     triangles: &[u32],
     stands: &[u32],
+    edge_order: &[u32],
+    triangle_order: &[u32],
     places: &mut [u32],
     boxes: &mut [i32],
     which: RowPairs,
@@ -101,8 +107,7 @@ fn contact_there(
 ) -> KeptAnswer
     requires { ⌜ Plantable (tabledIn positions edges triangles stands) (now boxes) × (first ≤ end)
         × (end ≤ rowCount (tabledIn positions edges triangles stands)) ⌝ }
-    requires { ⌜ (edgeCount (tabledIn positions edges triangles stands) ≤ length (now places))
-        × (triangleCount (tabledIn positions edges triangles stands) ≤ length (now places)) ⌝ }
+    requires { ⌜ OrdersLent (tabledIn positions edges triangles stands) (now «edge_order») (now «triangle_order») (length (now places)) ⌝ }
     requires { ⌜ AcceptedMesh (tabledIn positions edges triangles stands) ⌝ }
     ensures { λ r. ⌜ KeptThere which wanted (tabledAtEntry positions edges triangles stands) first end (atEntry list)
         (atExit list) (atEntry words) (atExit words) (atEntry contacts) (atExit contacts) r ⌝ }
@@ -115,6 +120,8 @@ fn contact_there(
         edges,
         triangles,
         stands,
+        edge_order,
+        triangle_order,
         places,
         boxes,
         which,
@@ -174,6 +181,8 @@ pub fn keep_contacts(
             edges,
             triangles,
             table,
+            edge_order,
+            triangle_order,
             places,
             boxes,
             which,

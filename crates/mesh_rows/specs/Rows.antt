@@ -4,26 +4,29 @@ use Prim.Native.Nat.{ℕ, _+_, _*_, _≤_, _<_}
 use mathlib.Core.Bool.{Bool, true, false, _&&_}
 use mathlib.Core.List.{List, map}
 use mathlib.Core.Path.{_≡_, refl, sym, ap, _∙_}
+use native.Mathlib.Nat.{zero-add}
 use native.Mathlib.Omega.{arith}
 use lib.IntN.{ℤ}
-use lib.ListN.{length, length-map}
+use lib.ListN.{length, getD, length-map}
 use Rattle.sequences.specs.Chosen.{one, chosen, chosen-short}
 use Rattle.sequences.specs.Gather.{gather, gather-same}
 use Rattle.sequences.specs.Wrote.{written, wrote-front}
 use Rattle.meaning.specs.Limits.{partLimit}
 use Rattle.meaning.specs.Scene.{Scene, vertexCount, edgeCount, triangleCount, edgeEnd, corner}
-use Rattle.meaning.specs.Boxes.{boxesMeet}
+use Rattle.meaning.specs.Boxes.{boxesMeet, meetOn}
+use Rattle.meaning.specs.StoredBoxes.{boxAt, vertexBox, edgeBox, triangleBox}
 use Rattle.meaning.specs.List.{Pair, pair}
 use Rattle.meaning.specs.MeshRows.{rowTest, meshRow, rowsIn, meshNumber, meshEntries}
 use Rattle.meaning.specs.declared.Kind.{Kind}
 use Rattle.meaning.specs.declared.Kind.the-variants.{PointTriangle, EdgeEdge}
 use Rattle.meaning.specs.declared.RowPairs.{RowPairs}
-use Rattle.list_candidates.specs.Meeting.{meets-pt, meets-ee}
+use Rattle.list_boxes.specs.Kept.{meetBoxes}
 use Rattle.list_candidates.specs.Rows.{firstCount, secondCount, secondFrom}
 use Rattle.mesh_laws.specs.Rows.{vertex-row, edge-row}
 use Rattle.mesh_tree.specs.Levels.{nodesAt, firstUnder}
 use Rattle.mesh_walk.specs.Places.{placesFrom, places-start, places-end, Stepped}
 use Rattle.mesh_walk.specs.Steps.{Tree, rowMeets}
+use Rattle.mesh_boxes.specs.Led.{part-itself}
 use Rattle.mesh_trees.specs.Forest.{Forest}
 use Rattle.mesh_entries.specs.Entering.{Entered, entered-wrote, Entering, entering-starts, entering-as, entering-step, entering-ends}
 use Rattle.mesh_rows.specs.Asking.{passes, passes-listed, Askable, askable}
@@ -148,36 +151,47 @@ seconds-put ps {o} room e =
 pub seconds-as : {ps qs : List Pair} {o o′ : List ℕ} {n : ℕ} → ps ≡ qs → SecondsPut ps o o′ n → SecondsPut qs o o′ n
 seconds-as e p = rw e at p
 
--- ---- the two kinds of rows in a forest
+-- ---- the two kinds of rows in a forest, where no order is lent for the second parts
 
-module _ {s : Scene} {l : List ℤ} {e t : List ℕ} {edgeTop triangleTop : ℕ} (so : Forest s l e t edgeTop triangleTop) where
-  pub vertex-tree : (v n from : ℕ) → v < vertexCount s → n ≡ triangleCount s → from ≡ 0 → RowTree s PointTriangle v l t n triangleTop v from
-  unfolding firstCount secondCount secondFrom
-  vertex-tree v n from h k b =
+module _ {s : Scene} {p q : List ℕ} {l : List ℤ} {e t : List ℕ} {edgeTop triangleTop : ℕ} (so : Forest s p q l e t edgeTop triangleTop) where
+  triangle-at : length q ≡ 0 → (j : ℕ) → j < triangleCount s → boxAt l (getD t 0 0 + j) ≡ triangleBox s j
+  triangle-at none j h =
+      ap (λ (n : ℕ). boxAt l (n + j)) (so .trianglesFrom) ∙ so .boxed .triangles .at j h ∙ ap (triangleBox s) (part-itself q j none)
+
+  edge-at : length p ≡ 0 → (n j : ℕ) → n ≡ vertexCount s → j < edgeCount s → boxAt l (n + j) ≡ edgeBox s j
+  edge-at none n j from h =
+      ap (λ (n : ℕ). boxAt l (n + j)) from ∙ so .boxed .edges .at j h ∙ ap (edgeBox s) (part-itself p j none)
+
+  pub vertex-tree : length q ≡ 0 → (v n from : ℕ) → v < vertexCount s → n ≡ triangleCount s → from ≡ 0
+      → RowTree s PointTriangle v l t n triangleTop v from
+  unfolding firstCount secondCount secondFrom meetOn
+  vertex-tree none v n from h k b =
+      let own : boxAt l v ≡ vertexBox s v = rw zero-add at (so .boxed .vertices .at v h) in
       rw k (record {
         tree = so .overTriangles;
         inside = omega (arith, so .boxed .room);
         there = h;
         all = refl;
         begins = b;
-        meets = λ j q. meets-pt (so .boxed) v j refl refl (ap (λ (p : ℕ). p + j) (so .trianglesFrom)) h q;
+        meets = λ j q. let other = triangle-at none j q in λ u. meetBoxes (own u) (other u);
         few = so .fewTriangles;
         low = omega (arith, so .fewVertices);
         ends = so .ends;
         corners = so .corners;
       })
 
-  pub edge-tree : (i row n from : ℕ) → i < edgeCount s → row ≡ vertexCount s + i → n ≡ edgeCount s → from ≡ i + 1
+  pub edge-tree : length p ≡ 0 → (i row n from : ℕ) → i < edgeCount s → row ≡ vertexCount s + i → n ≡ edgeCount s → from ≡ i + 1
       → RowTree s EdgeEdge i l e n edgeTop row from
-  unfolding firstCount secondCount secondFrom
-  edge-tree i row n from h p k b =
+  unfolding firstCount secondCount secondFrom meetOn
+  edge-tree none i row n from h p k b =
+      let own : boxAt l row ≡ edgeBox s i = ap (boxAt l) p ∙ edge-at none (vertexCount s) i refl h in
       rw k (record {
         tree = so .overEdges;
         inside = omega (arith, so .boxed .room);
         there = h;
         all = refl;
         begins = b;
-        meets = λ j q. meets-ee (so .boxed) i j refl p (ap (λ (f : ℕ). f + j) (so .edgesFrom)) h q;
+        meets = λ j q. let other = edge-at none (getD e 0 0) j (so .edgesFrom) q in λ u. meetBoxes (own u) (other u);
         few = so .fewEdges;
         low = omega (arith, so .fewEdges);
         ends = so .ends;

@@ -8,11 +8,9 @@ ghost use mathlib.Core.Path.{_≡_};
 ghost use lib.ListN.{length};
 ghost use Rattle.sequences.specs.Chosen.{one};
 ghost use Rattle.sequences.specs.Lent.{atEntry, atExit};
-ghost use Rattle.meaning.specs.Scene.{edgeCount, triangleCount};
-ghost use Rattle.meaning.specs.MeshRows.{rowCount, meshRow, meshEntries};
+ghost use Rattle.meaning.specs.MeshRows.{meshEntries};
 ghost use Rattle.scene_seams.specs.Alone.{tabledIn, tabledAtEntry};
 ghost use Rattle.mesh_near.specs.Spanned.{Spanned};
-ghost use Rattle.mesh_trees.specs.Forest.{Forest};
 ghost use Rattle.mesh_entries.specs.Entering.{Entered};
 ghost use Rattle.mesh_rows.specs.Asking.{leftOut, passes, Askable};
 ghost use Rattle.mesh_rows.specs.Rows.{RowTree, partRow, entryOf, SecondsPut};
@@ -21,12 +19,9 @@ use meaning::RowPairs;
 use mesh_entries::put_below;
 use mesh_near::is_far;
 use mesh_parts::asked::shares_vertex;
-use mesh_parts::edge_count;
-use mesh_parts::triangle_count;
 use mesh_walk::climb;
 use mesh_walk::put_place;
 use mesh_walk::step;
-use scene_parts::vertex_count;
 
 // Whether a pair is left out of such rows for being far.
 fn left_out(
@@ -164,7 +159,7 @@ pub fn walk_row(
 }
 
 // A place that was found is put down, and counted, if its pair is listed.
-fn put_found(
+pub fn put_found(
     positions: &[i32],
     edges: &[u32],
     triangles: &[u32],
@@ -200,8 +195,9 @@ fn put_found(
     }
 }
 
-// The second places of the row of one first part, as `walk_row` finds them.
-fn place_row(
+// The second places of the row of one first part, as `walk_row` finds them, in front of a lent list with room for all second parts; the rest of it is
+// unchanged. Returned is how many.
+pub fn place_row(
     positions: &[i32],
     edges: &[u32],
     triangles: &[u32],
@@ -245,67 +241,4 @@ fn place_row(
         node = next.node;
     }
     k
-}
-
-// The second places of the row of a number, in order, in front of a lent list with room for all edges and for all triangles; the rest of it is
-// unchanged. Returned is how many.
-pub fn row_places(
-    positions: &[i32],
-    edges: &[u32],
-    triangles: &[u32],
-    stands: &[u32],
-    boxes: &[i32],
-    edge_levels: &[usize],
-    edge_top: usize,
-    triangle_levels: &[usize],
-    triangle_top: usize,
-    which: RowPairs,
-    row: usize,
-    places: &mut [u32],
-) -> usize
-    requires { ⌜ Forest (tabledIn positions edges triangles stands) (now boxes) (now «edge_levels») (now «triangle_levels»)
-        «edge_top» «triangle_top» × (row < rowCount (tabledIn positions edges triangles stands)) ⌝ }
-    requires { ⌜ (edgeCount (tabledIn positions edges triangles stands) ≤ length (now places))
-        × (triangleCount (tabledIn positions edges triangles stands) ≤ length (now places)) ⌝ }
-    ensures { λ r. ⌜ SecondsPut (meshRow which (tabledAtEntry positions edges triangles stands) row) (atEntry places)
-        (atExit places) r ⌝ }
-{
-    let vertices = vertex_count(positions);
-    if vertices <= row {
-        let i = row - vertices;
-        let from = i + 1;
-        place_row(
-            positions,
-            edges,
-            triangles,
-            stands,
-            boxes,
-            edge_levels,
-            edge_count(edges),
-            edge_top,
-            which,
-            Kind::EdgeEdge,
-            i,
-            row,
-            from,
-            places,
-        )
-    } else {
-        place_row(
-            positions,
-            edges,
-            triangles,
-            stands,
-            boxes,
-            triangle_levels,
-            triangle_count(triangles),
-            triangle_top,
-            which,
-            Kind::PointTriangle,
-            row,
-            row,
-            0,
-            places,
-        )
-    }
 }

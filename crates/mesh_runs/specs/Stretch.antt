@@ -1,5 +1,5 @@
 -- A stretch of rows is one of vertices and one of edges, each run by run.
-use Prim.Native.Nat.{ℕ, _+_, _*_, _-_, _≤_, _<_}
+use Prim.Native.Nat.{ℕ, _+_, _-_, _≤_}
 use mathlib.Core.List.{List, _++_}
 use mathlib.Core.Logic.{⊎-elim}
 use mathlib.Core.Path.{_≡_, refl, sym, ap, _∙_, subst}
@@ -7,19 +7,17 @@ use native.Mathlib.Nat.{zero-add}
 use native.Mathlib.Omega.{arith}
 use lib.IntN.{ℤ}
 use lib.ListN.{length}
-use Rattle.sequences.specs.Gather.{gather, gather-none, gather-cut, gather-same, gather-short}
+use Rattle.sequences.specs.Gather.{gather, gather-none, gather-cut, gather-same}
 use Rattle.sequences.specs.Range.{le-or-lt}
-use Rattle.meaning.specs.Limits.{partLimit}
 use Rattle.meaning.specs.Scene.{Scene, vertexCount, edgeCount, triangleCount}
-use Rattle.meaning.specs.MeshRows.{meshNumber, meshEntries, rowCount, rowsIn}
-use Rattle.meaning.specs.declared.Kind.{Kind}
+use Rattle.meaning.specs.MeshRows.{meshEntries, rowCount, rowsIn}
 use Rattle.meaning.specs.declared.Kind.the-variants.{PointTriangle, EdgeEdge}
 use Rattle.meaning.specs.declared.RowPairs.{RowPairs}
 use Rattle.list_candidates.specs.Rows.{firstCount, secondFrom}
 use Rattle.mesh_laws.specs.Rows.{gather-moved}
 use Rattle.mesh_trees.specs.Forest.{Forest}
 use Rattle.mesh_entries.specs.Entering.{Entered, EnteringUpTo, entered-then}
-use Rattle.mesh_rows.specs.Rows.{RowTree, vertex-tree, edge-tree, vertex-row-of, edge-row-of, rowEntries, rows-gathered, row-few}
+use Rattle.mesh_rows.specs.Rows.{RowTree, vertex-tree, edge-tree, vertex-row-of, edge-row-of, rowEntries, rows-gathered}
 use Rattle.mesh_runs.specs.Runs.{KindTree, kindEntries}
 
 -- the row with which the edges' begin, or the end of a stretch where it has none
@@ -29,15 +27,15 @@ pub record Parted (n first end middle : ℕ) : Type 0 where
   pub vertices : middle ≤ first + (n - first)
   pub edges : end ≤ middle + (end - n)
 
--- ---- the rows of a kind in a forest
+-- ---- the rows of a kind in a forest, where no order is lent for the second parts
 
-module _ {s : Scene} {l : List ℤ} {e t : List ℕ} {edgeTop triangleTop : ℕ} (so : Forest s l e t edgeTop triangleTop) where
-  pub vertex-kind : (n : ℕ) → n ≡ triangleCount s → KindTree s PointTriangle l t n triangleTop 0
+module _ {s : Scene} {p q : List ℕ} {l : List ℤ} {e t : List ℕ} {edgeTop triangleTop : ℕ} (so : Forest s p q l e t edgeTop triangleTop) where
+  pub vertex-kind : length q ≡ 0 → (n : ℕ) → n ≡ triangleCount s → KindTree s PointTriangle l t n triangleTop 0
   unfolding firstCount secondFrom
-  vertex-kind n k =
+  vertex-kind none n k =
       record {
         row = λ i h.
-            subst (λ (row : ℕ). RowTree s PointTriangle i l t n triangleTop row 0) (sym (zero-add i)) (vertex-tree so i n 0 h k refl);
+            subst (λ (row : ℕ). RowTree s PointTriangle i l t n triangleTop row 0) (sym (zero-add i)) (vertex-tree so none i n 0 h k refl);
         tree = rw k (so .overTriangles);
         inside = omega (arith, so .boxed .room);
         few = omega (arith, so .fewTriangles);
@@ -45,11 +43,11 @@ module _ {s : Scene} {l : List ℤ} {e t : List ℕ} {edgeTop triangleTop : ℕ}
         low = omega arith;
       }
 
-  pub edge-kind : (n offset : ℕ) → n ≡ edgeCount s → offset ≡ vertexCount s → KindTree s EdgeEdge l e n edgeTop offset
+  pub edge-kind : length p ≡ 0 → (n offset : ℕ) → n ≡ edgeCount s → offset ≡ vertexCount s → KindTree s EdgeEdge l e n edgeTop offset
   unfolding firstCount secondFrom
-  edge-kind n offset k o =
+  edge-kind none n offset k o =
       record {
-        row = λ i h. edge-tree so i (offset + i) n (i + 1) h (omega arith) k refl;
+        row = λ i h. edge-tree so none i (offset + i) n (i + 1) h (omega arith) k refl;
         tree = rw k (so .overEdges);
         inside = omega (arith, so .boxed .room);
         few = omega (arith, so .fewEdges);
@@ -120,13 +118,3 @@ module _ (s : Scene) {n first end middle : ℕ} (counted : n ≡ vertexCount s) 
       → Entered most o₁ k (gather (kindEntries w s EdgeEdge) a b) o₂ m
       → Entered most o 0 (meshEntries (rowsIn w s first end)) o₂ m
   stretch-entered w p q one two = both-entered w s first end middle (rw counted at so) one (rw (p, q, counted) at two)
-
--- the rows of a kind have at most 2^60 pairs
-pub kind-most : (w : RowPairs) {s : Scene} {kind : Kind} {l : List ℤ} {t : List ℕ} {parts top offset : ℕ} → KindTree s kind l t parts top offset
-    → (first end : ℕ) → first ≤ end → end ≤ first + (firstCount s kind - first)
-    → length (gather (kindEntries w s kind) first end) ≤ 1152921504606846976
-kind-most w {s} {kind} so first end h last =
-    let rows = so .fewRows in
-    let short = gather-short (kindEntries w s kind) partLimit first end
-    (λ j p q. omega (arith, row-few (so .row j (omega arith)) meshNumber w, so .few)) in
-    omega arith

@@ -10,11 +10,10 @@ ghost use lib.ListN.{length, getD, set};
 ghost use Rattle.sequences.specs.Gather.{gather};
 ghost use Rattle.sequences.specs.Lent.{atEntry, atExit};
 ghost use Rattle.meaning.specs.StoredBoxes.{boxAt, BoxesStand};
-ghost use Rattle.meaning.specs.MeshRows.{rowCount, rowsIn, meshEntries};
+ghost use Rattle.meaning.specs.MeshRows.{meshEntries};
 ghost use Rattle.list_boxes.specs.Kept.{meetBoxes};
 ghost use Rattle.scene_seams.specs.Alone.{tabledIn, tabledAtEntry};
 ghost use Rattle.list_candidates.specs.Rows.{firstCount, secondFrom};
-ghost use Rattle.mesh_trees.specs.Forest.{Forest};
 ghost use Rattle.mesh_entries.specs.Entering.{Entered};
 ghost use Rattle.mesh_rows.specs.Rows.{partRow};
 ghost use Rattle.mesh_runs.specs.Runs.{KindTree, Covers, Sought, AllSought, kindEntries};
@@ -22,19 +21,14 @@ ghost use Rattle.mesh_runs.specs.Stretch.{Parted};
 use list_runs::fill_runs;
 use meaning::Kind;
 use meaning::RowPairs;
-use mesh_parts::edge_count;
-use mesh_parts::triangle_count;
 use mesh_rows::enter_found;
 use mesh_rows::walk_row;
 use mesh_seams::wide;
 use mesh_walk::boxes_meet;
 use mesh_walk::find_met;
-use scene_parts::vertex_count;
 
-// The rows of a run, the places that there is room for, and the numbers of the run's boxes with their joint box behind 16 of them.
+// The rows of a run, and the numbers of the run's boxes with their joint box behind 16 of them.
 const RUN_ROWS: usize = 4;
-
-const RUN_PLACES: usize = 1024;
 
 const RUN_NUMBERS: usize = 102;
 
@@ -323,8 +317,8 @@ pub fn run_end(first: usize, end: usize) -> usize
     }
 }
 
-// The rows of a kind from one up to another, run by run.
-fn walk_kind(
+// The rows of a kind from one up to another, run by run: all their pairs are counted, and entered while there is room below a bound.
+pub fn walk_kind(
     positions: &[i32],
     edges: &[u32],
     triangles: &[u32],
@@ -395,70 +389,4 @@ pub fn behind(row: usize, vertices: usize) -> usize
     ensures { λ r. ⌜ r ≡ row - vertices ⌝ }
 {
     if row <= vertices { 0 } else { row - vertices }
-}
-
-// The rows from one up to another: all their pairs are counted, and entered in front of the list while there is room below a bound.
-pub fn walk_rows(
-    positions: &[i32],
-    edges: &[u32],
-    triangles: &[u32],
-    stands: &[u32],
-    boxes: &[i32],
-    edge_levels: &[usize],
-    edge_top: usize,
-    triangle_levels: &[usize],
-    triangle_top: usize,
-    which: RowPairs,
-    first: usize,
-    end: usize,
-    list: &mut [u64],
-    most: usize,
-) -> usize
-    requires { ⌜ Forest (tabledIn positions edges triangles stands) (now boxes) (now «edge_levels») (now «triangle_levels»)
-        «edge_top» «triangle_top» × (first ≤ end) × (end ≤ rowCount (tabledIn positions edges triangles stands)) ⌝ }
-    requires { ⌜ most ≤ length (now list) ⌝ }
-    ensures { λ r. ⌜ Entered most (atEntry list) 0
-        (meshEntries (rowsIn which (tabledAtEntry positions edges triangles stands) first end)) (atExit list) r ⌝ }
-{
-    let mut places = [0u32; RUN_PLACES];
-    let vertices = vertex_count(positions);
-    let middle = kinds_meet(vertices, first, end);
-    let k = walk_kind(
-        positions,
-        edges,
-        triangles,
-        stands,
-        boxes,
-        triangle_levels,
-        triangle_count(triangles),
-        triangle_top,
-        which,
-        Kind::PointTriangle,
-        0,
-        first,
-        middle,
-        &mut places,
-        list,
-        most,
-        0,
-    );
-    walk_kind(
-        positions,
-        edges,
-        triangles,
-        stands,
-        boxes,
-        edge_levels,
-        edge_count(edges),
-        edge_top,
-        which,
-        Kind::EdgeEdge,
-        vertices,
-        behind(middle, vertices),
-        behind(end, vertices),
-        &mut places,
-        list,
-        most,
-        k,
-    )
 }

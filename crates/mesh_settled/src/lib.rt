@@ -8,14 +8,15 @@ ghost use Rattle.meaning.specs.MeshRows.{rowCount, lentAtEntry, RowsSettled};
 ghost use Rattle.scene_seams.specs.Alone.{tabledIn, tabledAtEntry};
 ghost use Rattle.scene_checks.specs.Facts.{Sound};
 ghost use Rattle.mesh_trees.specs.Planting.{Plantable};
+ghost use Rattle.mesh_ordered.specs.Either.{OrdersLent};
 ghost use Rattle.mesh_settled.specs.Settling.{SettledThere};
 use meaning::ListAnswer;
 use meaning::RowPairs;
 use meaning::SceneAnswer;
 use mesh_asked::ask_rows;
 use mesh_asked::row_count;
-use mesh_stretch::list_stretch;
 use mesh_words::settle_mesh_entries;
+use near_stretch::list_stretch;
 use scene_parts::asked::smaller;
 
 // Of an accepted mesh whose seams stand in a table.
@@ -24,6 +25,9 @@ fn settle_there(
     edges: &[u32],
     triangles: &[u32],
     stands: &[u32],
+    edge_order: &[u32],
+    triangle_order: &[u32],
+    places: &mut [u32],
     boxes: &mut [i32],
     which: RowPairs,
     first: usize,
@@ -33,6 +37,7 @@ fn settle_there(
 ) -> ListAnswer
     requires { ⌜ Plantable (tabledIn positions edges triangles stands) (now boxes) × (first ≤ end)
         × (end ≤ rowCount (tabledIn positions edges triangles stands)) ⌝ }
+    requires { ⌜ OrdersLent (tabledIn positions edges triangles stands) (now «edge_order») (now «triangle_order») (length (now places)) ⌝ }
     requires { ⌜ Sound (tabledIn positions edges triangles stands) ⌝ }
     ensures { λ r. ⌜ SettledThere which (tabledAtEntry positions edges triangles stands) first end
         (min (length (atEntry list)) (length (atEntry words))) (atEntry list) (atExit list) (atEntry words)
@@ -44,6 +49,9 @@ fn settle_there(
         edges,
         triangles,
         stands,
+        edge_order,
+        triangle_order,
+        places,
         boxes,
         which,
         first,
@@ -103,6 +111,9 @@ pub fn settle_rows(
             edges,
             triangles,
             table,
+            edge_order,
+            triangle_order,
+            places,
             boxes,
             which,
             first,

@@ -9,12 +9,13 @@ ghost use Rattle.meaning.specs.MeshRows.{rowCount};
 ghost use Rattle.scene_seams.specs.Alone.{tabledIn, tabledAtEntry};
 ghost use Rattle.mesh_trees.specs.Planting.{Plantable};
 ghost use Rattle.mesh_trees.specs.Forest.{Forest};
+ghost use Rattle.mesh_ordered.specs.Either.{OrdersLent};
 ghost use Rattle.mesh_stretch.specs.Stretching.{IsRowCount, StretchListed};
 use meaning::ListAnswer;
 use meaning::Made;
 use meaning::Refusal;
 use meaning::RowPairs;
-use mesh_runs::walk_rows;
+use mesh_ordered::walk_rows;
 use mesh_trees::plant;
 
 // Where a level of a tree begins and how many nodes it has, for each of its levels.
@@ -26,6 +27,8 @@ fn count_grown(
     edges: &[u32],
     triangles: &[u32],
     stands: &[u32],
+    edge_order: &[u32],
+    triangle_order: &[u32],
     boxes: &[i32],
     edge_levels: &[usize],
     edge_top: usize,
@@ -34,9 +37,12 @@ fn count_grown(
     which: RowPairs,
     first: usize,
     end: usize,
+    places: &mut [u32],
 ) -> usize
-    requires { ⌜ Forest (tabledIn positions edges triangles stands) (now boxes) (now «edge_levels») (now «triangle_levels»)
-        «edge_top» «triangle_top» × (first ≤ end) × (end ≤ rowCount (tabledIn positions edges triangles stands)) ⌝ }
+    requires { ⌜ Forest (tabledIn positions edges triangles stands) (now «edge_order») (now «triangle_order») (now boxes)
+        (now «edge_levels») (now «triangle_levels») «edge_top» «triangle_top» × (first ≤ end)
+        × (end ≤ rowCount (tabledIn positions edges triangles stands)) ⌝ }
+    requires { ⌜ OrdersLent (tabledIn positions edges triangles stands) (now «edge_order») (now «triangle_order») (length (now places)) ⌝ }
     ensures { λ r. ⌜ IsRowCount which (tabledAtEntry positions edges triangles stands) first end r ⌝ }
 {
     let mut none = [0u64; 0];
@@ -45,6 +51,8 @@ fn count_grown(
         edges,
         triangles,
         stands,
+        edge_order,
+        triangle_order,
         boxes,
         edge_levels,
         edge_top,
@@ -53,6 +61,7 @@ fn count_grown(
         which,
         first,
         end,
+        places,
         &mut none,
         0,
     )
@@ -64,6 +73,8 @@ fn list_grown(
     edges: &[u32],
     triangles: &[u32],
     stands: &[u32],
+    edge_order: &[u32],
+    triangle_order: &[u32],
     boxes: &[i32],
     edge_levels: &[usize],
     edge_top: usize,
@@ -72,11 +83,14 @@ fn list_grown(
     which: RowPairs,
     first: usize,
     end: usize,
+    places: &mut [u32],
     list: &mut [u64],
     room: usize,
 ) -> ListAnswer
-    requires { ⌜ Forest (tabledIn positions edges triangles stands) (now boxes) (now «edge_levels») (now «triangle_levels»)
-        «edge_top» «triangle_top» × (first ≤ end) × (end ≤ rowCount (tabledIn positions edges triangles stands)) ⌝ }
+    requires { ⌜ Forest (tabledIn positions edges triangles stands) (now «edge_order») (now «triangle_order») (now boxes)
+        (now «edge_levels») (now «triangle_levels») «edge_top» «triangle_top» × (first ≤ end)
+        × (end ≤ rowCount (tabledIn positions edges triangles stands)) ⌝ }
+    requires { ⌜ OrdersLent (tabledIn positions edges triangles stands) (now «edge_order») (now «triangle_order») (length (now places)) ⌝ }
     requires { ⌜ room ≤ length (now list) ⌝ }
     ensures { λ r. ⌜ StretchListed which (tabledAtEntry positions edges triangles stands) first end room (atEntry list)
         (atExit list) r ⌝ }
@@ -86,6 +100,8 @@ fn list_grown(
         edges,
         triangles,
         stands,
+        edge_order,
+        triangle_order,
         boxes,
         edge_levels,
         edge_top,
@@ -94,6 +110,7 @@ fn list_grown(
         which,
         first,
         end,
+        places,
     );
     if room < count {
         return ListAnswer::Refused(Refusal::NoRoom, count);
@@ -103,6 +120,8 @@ fn list_grown(
         edges,
         triangles,
         stands,
+        edge_order,
+        triangle_order,
         boxes,
         edge_levels,
         edge_top,
@@ -111,6 +130,7 @@ fn list_grown(
         which,
         first,
         end,
+        places,
         list,
         room,
     );
@@ -123,6 +143,9 @@ pub fn count_stretch(
     edges: &[u32],
     triangles: &[u32],
     stands: &[u32],
+    edge_order: &[u32],
+    triangle_order: &[u32],
+    places: &mut [u32],
     boxes: &mut [i32],
     which: RowPairs,
     first: usize,
@@ -130,6 +153,7 @@ pub fn count_stretch(
 ) -> usize
     requires { ⌜ Plantable (tabledIn positions edges triangles stands) (now boxes) × (first ≤ end)
         × (end ≤ rowCount (tabledIn positions edges triangles stands)) ⌝ }
+    requires { ⌜ OrdersLent (tabledIn positions edges triangles stands) (now «edge_order») (now «triangle_order») (length (now places)) ⌝ }
     ensures { λ r. ⌜ IsRowCount which (tabledAtEntry positions edges triangles stands) first end r ⌝ }
 {
     let mut edge_levels = [0usize; LEVEL_NUMBERS];
@@ -138,6 +162,8 @@ pub fn count_stretch(
         positions,
         edges,
         triangles,
+        edge_order,
+        triangle_order,
         boxes,
         &mut edge_levels,
         &mut triangle_levels,
@@ -147,6 +173,8 @@ pub fn count_stretch(
         edges,
         triangles,
         stands,
+        edge_order,
+        triangle_order,
         boxes,
         &edge_levels,
         tops.edges,
@@ -155,6 +183,7 @@ pub fn count_stretch(
         which,
         first,
         end,
+        places,
     )
 }
 
@@ -164,6 +193,9 @@ pub fn list_stretch(
     edges: &[u32],
     triangles: &[u32],
     stands: &[u32],
+    edge_order: &[u32],
+    triangle_order: &[u32],
+    places: &mut [u32],
     boxes: &mut [i32],
     which: RowPairs,
     first: usize,
@@ -173,6 +205,7 @@ pub fn list_stretch(
 ) -> ListAnswer
     requires { ⌜ Plantable (tabledIn positions edges triangles stands) (now boxes) × (first ≤ end)
         × (end ≤ rowCount (tabledIn positions edges triangles stands)) ⌝ }
+    requires { ⌜ OrdersLent (tabledIn positions edges triangles stands) (now «edge_order») (now «triangle_order») (length (now places)) ⌝ }
     requires { ⌜ room ≤ length (now list) ⌝ }
     ensures { λ r. ⌜ StretchListed which (tabledAtEntry positions edges triangles stands) first end room (atEntry list)
         (atExit list) r ⌝ }
@@ -183,6 +216,8 @@ pub fn list_stretch(
         positions,
         edges,
         triangles,
+        edge_order,
+        triangle_order,
         boxes,
         &mut edge_levels,
         &mut triangle_levels,
@@ -192,6 +227,8 @@ pub fn list_stretch(
         edges,
         triangles,
         stands,
+        edge_order,
+        triangle_order,
         boxes,
         &edge_levels,
         tops.edges,
@@ -200,6 +237,7 @@ pub fn list_stretch(
         which,
         first,
         end,
+        places,
         list,
         room,
     )

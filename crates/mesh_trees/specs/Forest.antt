@@ -1,5 +1,5 @@
--- What a row of the list goes by: the boxes of all parts and the two trees stand in the scratch, the lists of levels tell where, and every vertex
--- number is known.
+-- What a row of the list goes by: the boxes of all parts, edges and triangles by the orders lent for them, and the two trees stand in the scratch, the
+-- lists of levels tell where, and every vertex number is known.
 use Prim.Native.Nat.{ℕ, _+_, _*_, _≤_, _<_}
 use mathlib.Core.List.{List}
 use mathlib.Core.Path.{_≡_, sym, ap, _∙_}
@@ -7,7 +7,7 @@ use native.Mathlib.Omega.{arith}
 use lib.IntN.{ℤ, pos}
 use lib.ListN.{length, getD}
 use Rattle.meaning.specs.Scene.{Scene, vertexCount, edgeCount, triangleCount, edgeEnd, corner}
-use Rattle.meaning.specs.StoredBoxes.{boxAt, Boxed}
+use Rattle.meaning.specs.StoredBoxes.{boxAt, vertexBox}
 use Rattle.meaning.specs.Limits.{partLimit}
 use Rattle.meaning.specs.MeshRows.{treeRoom, boxRoom}
 use Rattle.scene_checks.specs.Facts.{known-inside}
@@ -15,11 +15,15 @@ use Rattle.list_boxes.specs.Storing.{same-box}
 use Rattle.mesh_tree.specs.Levels.{nodesAt, node-same}
 use Rattle.mesh_tree.specs.Grown.{levelPlace, room-enough, levels-before, Grown}
 use Rattle.mesh_walk.specs.Steps.{leafBox, Tree, grown-tree}
+use Rattle.mesh_boxes.specs.Led.{OrderLent}
+use Rattle.mesh_boxes.specs.Joining.{BoxedBy}
 use Rattle.mesh_trees.specs.Scratch.{edgeNodes, triangleNodes}
 use Rattle.mesh_trees.specs.Planting.{Plantable, Planted}
 
-pub record Forest (s : Scene) (l : List ℤ) (e t : List ℕ) (edgeTop triangleTop : ℕ) : Type 0 where
-  pub boxed : Boxed s l
+pub record Forest (s : Scene) (edgeOrder triangleOrder : List ℕ) (l : List ℤ) (e t : List ℕ) (edgeTop triangleTop : ℕ) : Type 0 where
+  pub edgesLent : OrderLent (edgeCount s) edgeOrder
+  pub trianglesLent : OrderLent (triangleCount s) triangleOrder
+  pub boxed : BoxedBy s (vertexBox s) edgeOrder triangleOrder l
   pub overEdges : Tree l e (edgeCount s) edgeTop
   pub edgesFrom : getD e 0 0 ≡ vertexCount s
   pub overTriangles : Tree l t (triangleCount s) triangleTop
@@ -39,7 +43,8 @@ module _ {l l′ : List ℤ} {bound : ℕ} (so : SameUpTo l l′ bound) where
   box-stays : (k : ℕ) → k < bound → boxAt l′ k ≡ boxAt l k
   box-stays k h = same-box l l′ k (λ i p q. so .at i (omega arith))
 
-  boxed-stays : {s : Scene} → Boxed s l → vertexCount s + edgeCount s + triangleCount s ≤ bound → Boxed s l′
+  boxed-stays : {s : Scene} {p q : List ℕ} → BoxedBy s (vertexBox s) p q l → vertexCount s + edgeCount s + triangleCount s ≤ bound
+      → BoxedBy s (vertexBox s) p q l′
   boxed-stays {s} boxed h =
       record {
         vertices = record { at = λ i p. box-stays (0 + i) (omega arith) ∙ boxed .vertices .at i p };
@@ -84,14 +89,18 @@ unfolding levelPlace
 first-level g = g .levels .places 0 (omega arith)
 
 -- what was planted is such a forest
-pub planted-forest : {s : Scene} {b b′ : List ℤ} {e e′ t t′ : List ℕ} {edgeTop triangleTop : ℕ} → Plantable s b → 34 ≤ length e → 34 ≤ length t
-    → Planted s b b′ e e′ t t′ edgeTop triangleTop → Forest s b′ e′ t′ edgeTop triangleTop
-planted-forest {s} can long wide p =
+pub planted-forest : {s : Scene} {m n : List ℕ} {b b′ : List ℤ} {e e′ t t′ : List ℕ} {edgeTop triangleTop : ℕ} → Plantable s b
+    → 34 ≤ length e → 34 ≤ length t
+    → OrderLent (edgeCount s) m → OrderLent (triangleCount s) n → Planted s m n b b′ e e′ t t′ edgeTop triangleTop
+    → Forest s m n b′ e′ t′ edgeTop triangleTop
+planted-forest {s} can long wide orders lent p =
     let edges = grown-same (p .overEdges) in
     let triangles = grown-same (p .overTriangles) in
     let room = can .room in
     let start = p .filled .kept .same in
     record {
+      edgesLent = orders;
+      trianglesLent = lent;
       boxed =
           boxed-stays (same-less {less = edgeNodes s} (omega arith) triangles)
           (boxed-stays edges (p .filled .boxed) (omega arith))

@@ -8,15 +8,16 @@ use native.Mathlib.Omega.{arith}
 use lib.IntN.{ℤ}
 use lib.ListN.{length}
 use Rattle.meaning.specs.Scene.{Scene, vertexCount, edgeCount, triangleCount}
-use Rattle.meaning.specs.StoredBoxes.{Filled}
+use Rattle.meaning.specs.StoredBoxes.{vertexBox}
 use Rattle.meaning.specs.Limits.{partLimit}
 use Rattle.meaning.specs.MeshRows.{treeRoom, boxRoom}
-use Rattle.list_boxes.specs.Once.{one-filling}
 use Rattle.mesh_tree.specs.Grown.{Grown}
 use Rattle.mesh_tree.specs.Once.{one-height, one-growing, one-telling}
 use Rattle.mesh_checks.specs.Meshes.{AcceptedMesh}
 use Rattle.mesh_check_laws.specs.Facts.{mesh-sized}
 use Rattle.mesh_boxes.specs.Drawing.{Drawable, mesh-drawable}
+use Rattle.mesh_boxes.specs.Joining.{FilledBy}
+use Rattle.mesh_boxes.specs.Once.{one-filling-by}
 use Rattle.mesh_trees.specs.Scratch.{edgeNodes, triangleNodes}
 
 -- a mesh whose boxes can be worked out, no larger than a mesh may be, and scratch with room for its trees
@@ -38,11 +39,11 @@ mesh-plantable {s} l a h =
       room = h;
     }
 
--- the scratch was b and is b′, the lists of levels of the two trees were e and t and are e′ and t′
-pub record Planted (s : Scene) (b b′ : List ℤ) (e e′ t t′ : List ℕ) (edgeTop triangleTop : ℕ) : Type 0 where
+-- by two orders the scratch was b and is b′, the lists of levels of the two trees were e and t and are e′ and t′
+pub record Planted (s : Scene) (edgeOrder triangleOrder : List ℕ) (b b′ : List ℤ) (e e′ t t′ : List ℕ) (edgeTop triangleTop : ℕ) : Type 0 where
   pub boxes : List ℤ
   pub nodes : List ℤ
-  pub filled : Filled s b boxes
+  pub filled : FilledBy s (vertexBox s) edgeOrder triangleOrder b boxes
   pub overEdges : Grown boxes nodes e e′ (vertexCount s) (edgeCount s) (edgeNodes s) edgeTop
   pub overTriangles : Grown nodes b′ t t′ (vertexCount s + edgeCount s) (triangleCount s) (triangleNodes s) triangleTop
 
@@ -56,9 +57,9 @@ module _ {s : Scene} {v e t room : ℕ} (vs : v ≡ vertexCount s) (es : e ≡ e
       let all = can .room in
       (omega arith, omega arith, rw (behind, vs, es, ts) (omega arith))
 
-  pub planting-done : {b b₁ b₂ b₃ : List ℤ} {k k′ m m′ : List ℕ} {edgeTop triangleTop : ℕ} → Filled s b b₁
+  pub planting-done : {p q : List ℕ} {b b₁ b₂ b₃ : List ℤ} {k k′ m m′ : List ℕ} {edgeTop triangleTop : ℕ} → FilledBy s (vertexBox s) p q b b₁
       → Grown b₁ b₂ k k′ v e (v + e + t) edgeTop → Grown b₂ b₃ m m′ (v + e) t (v + e + t + room) triangleTop
-      → Planted s b b₃ k k′ m m′ edgeTop triangleTop
+      → Planted s p q b b₃ k k′ m m′ edgeTop triangleTop
   planting-done {b₁ = b₁} {b₂ = b₂} filled first second =
       record {
         boxes = b₁;
@@ -70,8 +71,8 @@ module _ {s : Scene} {v e t room : ℕ} (vs : v ≡ vertexCount s) (es : e ≡ e
 
 -- ---- nothing is left open
 
-module _ {s : Scene} {b b₁ b₂ : List ℤ} {e e₁ e₂ t t₁ t₂ : List ℕ} {edgeTop triangleTop edgeHigh triangleHigh : ℕ}
-    (p : Planted s b b₁ e e₁ t t₁ edgeTop triangleTop) (q : Planted s b b₂ e e₂ t t₂ edgeHigh triangleHigh) where
+module _ {s : Scene} {m n : List ℕ} {b b₁ b₂ : List ℤ} {e e₁ e₂ t t₁ t₂ : List ℕ} {edgeTop triangleTop edgeHigh triangleHigh : ℕ}
+    (p : Planted s m n b b₁ e e₁ t t₁ edgeTop triangleTop) (q : Planted s m n b b₂ e e₂ t t₂ edgeHigh triangleHigh) where
   pub one-edge-top : edgeTop ≡ edgeHigh
   one-edge-top = one-height (p .overEdges .height) (q .overEdges .height)
 
@@ -79,7 +80,7 @@ module _ {s : Scene} {b b₁ b₂ : List ℤ} {e e₁ e₂ t t₁ t₂ : List �
   one-triangle-top = one-height (p .overTriangles .height) (q .overTriangles .height)
 
   edges-grown : Grown (p .boxes) (q .nodes) e e₂ (vertexCount s) (edgeCount s) (edgeNodes s) edgeTop
-  edges-grown = rw (one-edge-top, one-filling s (p .filled) (q .filled)) (q .overEdges)
+  edges-grown = rw (one-edge-top, one-filling-by s (p .filled) (q .filled)) (q .overEdges)
 
   same-nodes : p .nodes ≡ q .nodes
   same-nodes = one-growing (p .overEdges .nodes) (edges-grown .nodes)

@@ -5,8 +5,9 @@ ghost use mathlib.Core.List.{List};
 ghost use mathlib.Core.Path.{_≡_};
 ghost use lib.Dec.{ltb};
 ghost use lib.ListN.{length};
-ghost use Rattle.meaning.specs.Scene.{sceneOf, unsewnIn, unsewnAtEntry};
+ghost use Rattle.meaning.specs.Scene.{sceneOf, edgeCount, triangleCount, unsewnIn, unsewnAtEntry};
 ghost use Rattle.meaning.specs.MeshRows.{treeRoom, boxRoom};
+ghost use Rattle.mesh_boxes.specs.Led.{OrderLent};
 ghost use Rattle.mesh_trees.specs.Planting.{Plantable, Planted};
 ghost use Rattle.sequences.specs.Lent.{atEntry, atExit};
 use mesh_boxes::fill;
@@ -46,22 +47,34 @@ pub struct Heights {
     pub triangles: usize,
 }
 
-// The boxes are filled in, and the two trees grown. A box looks at no seam, so they are those of the mesh with any seams.
+// The boxes are filled in, edges and triangles by the orders that are lent for them, and the two trees grown. A box looks at no seam, so they are those of the
+// mesh with any seams.
 pub fn plant(
     positions: &[i32],
     edges: &[u32],
     triangles: &[u32],
+    edge_order: &[u32],
+    triangle_order: &[u32],
     boxes: &mut [i32],
     edge_levels: &mut [usize],
     triangle_levels: &mut [usize],
 ) -> Heights
     requires { ⌜ Plantable (unsewnIn positions edges triangles) (now boxes) × (34 ≤ length (now «edge_levels»))
         × (34 ≤ length (now «triangle_levels»)) ⌝ }
+    requires { ⌜ OrderLent (edgeCount (unsewnIn positions edges triangles)) (now «edge_order»)
+        × OrderLent (triangleCount (unsewnIn positions edges triangles)) (now «triangle_order») ⌝ }
     ensures { λ r. ⌜ ((w : List ℕ) → Planted (sceneOf (atEntry positions) (atEntry edges) (atEntry triangles) w)
-        (atEntry boxes) (atExit boxes) (atEntry «edge_levels») (atExit «edge_levels») (atEntry «triangle_levels»)
-        (atExit «triangle_levels») (r .edges) (r .triangles)) ⌝ }
+        (atEntry «edge_order») (atEntry «triangle_order») (atEntry boxes) (atExit boxes) (atEntry «edge_levels»)
+        (atExit «edge_levels») (atEntry «triangle_levels») (atExit «triangle_levels») (r .edges) (r .triangles)) ⌝ }
 {
-    fill(positions, edges, triangles, boxes);
+    fill(
+        positions,
+        edges,
+        triangles,
+        edge_order,
+        triangle_order,
+        boxes,
+    );
     let vertices = vertex_count(positions);
     let sides = edge_count(edges);
     let faces = triangle_count(triangles);

@@ -2,13 +2,13 @@
 use Prim.Native.Nat.{ℕ, _+_, _-_, _≤_, _<_}
 use mathlib.Core.List.{List, []}
 use mathlib.Core.Logic.{⊎-elim}
-use mathlib.Core.Path.{_≡_, sym, ap}
+use mathlib.Core.Path.{_≡_, ap}
 use native.Mathlib.Omega.{arith}
 use lib.IntN.{ℤ}
 use lib.ListN.{length}
 use Rattle.sequences.specs.Gather.{gather-short}
 use Rattle.sequences.specs.Range.{le-or-lt}
-use Rattle.meaning.specs.Scene.{Scene, vertexCount, edgeCount, triangleCount}
+use Rattle.meaning.specs.Scene.{Scene, vertexCount}
 use Rattle.meaning.specs.MeshRows.{rowCount, meshRow, rowsIn}
 use Rattle.meaning.specs.declared.Kind.{Kind}
 use Rattle.meaning.specs.declared.Kind.the-variants.{PointTriangle, EdgeEdge}
@@ -16,13 +16,13 @@ use Rattle.meaning.specs.declared.RowPairs.{RowPairs}
 use Rattle.meaning.specs.declared.Wanted.{Wanted}
 use Rattle.mesh_laws.specs.Entries.{MeshSized}
 use Rattle.mesh_trees.specs.Forest.{Forest}
-use Rattle.list_candidates.specs.Rows.{secondCount}
-use Rattle.mesh_rows.specs.Rows.{partRow, part-row-short, SecondsPut, vertex-row-of, edge-row-of}
+use Rattle.mesh_rows.specs.Rows.{partRow, SecondsPut, vertex-row-of, edge-row-of}
+use Rattle.mesh_ordered.specs.Put.{put-fits}
 use Rattle.mesh_keep.specs.Keeping.{KeptBy, kept-none, kept-then, kept-as, kept-bound}
 use Rattle.mesh_keep.specs.OfRows.{RowOf, pairsOf, row-of, row-pairs, row-short, rows-next, rows-none}
 use Rattle.mesh_keep.specs.declared.Going.{Going}
 
-pub forest-sized : {s : Scene} {l : List ℤ} {e t : List ℕ} {edgeTop triangleTop : ℕ} → Forest s l e t edgeTop triangleTop → MeshSized s
+pub forest-sized : {s : Scene} {p q : List ℕ} {l : List ℤ} {e t : List ℕ} {edgeTop triangleTop : ℕ} → Forest s p q l e t edgeTop triangleTop → MeshSized s
 forest-sized f = record { fewVertices = f .fewVertices; fewEdges = f .fewEdges; fewTriangles = f .fewTriangles }
 
 -- a stretch of rows has fewer than 2^62 pairs
@@ -60,7 +60,8 @@ module _ {w : RowPairs} {s : Scene} {m : Wanted} {most first end : ℕ} {o v : L
   stretch-goes h b =
       record { past = omega (arith, so .past); within = omega arith; done = kept-as (rows-next w s first row (so .past)) (kept-then (so .done) b) }
 
-  pub stretch-few : {l : List ℤ} {e t : List ℕ} {edgeTop triangleTop : ℕ} → Forest s l e t edgeTop triangleTop → row ≤ rowCount s → g .count ≤ 0
+  pub stretch-few : {p q : List ℕ} {l : List ℤ} {e t : List ℕ} {edgeTop triangleTop : ℕ} → Forest s p q l e t edgeTop triangleTop → row ≤ rowCount s
+      → g .count ≤ 0
       → g₁ .count < 4611686018427387904
   stretch-few f h z =
       omega (arith, kept-bound (so .done), rows-few w s (forest-sized f) first row h)
@@ -68,26 +69,19 @@ module _ {w : RowPairs} {s : Scene} {m : Wanted} {most first end : ℕ} {o v : L
   pub stretch-ends : end ≤ row → KeptBy s m most (rowsIn w s first end) o v g o₁ v₁ g₁
   stretch-ends h = let e : row ≡ end = omega (arith, so .within) in kept-as (ap (rowsIn w s first) e) (so .done)
 
--- ---- the row of a number, whose second places were put where there is room for all edges and for all triangles
+-- ---- the row of a number, whose second places stand in front of a list
 
 module _ (w : RowPairs) (s : Scene) (few : MeshSized s) where
   pub numbered-short : (kind : Kind) (i row : ℕ) → partRow w s kind i ≡ meshRow w s row → length (meshRow w s row) ≤ 1073741824
   numbered-short kind i row is = row-short w s few kind i row is
 
-  module _ (row : ℕ) (inside : row < rowCount s) (kind : Kind) (i : ℕ) (is : partRow w s kind i ≡ meshRow w s row) {o o′ : List ℕ} {n : ℕ}
-      (put : SecondsPut (meshRow w s row) o o′ n)
-      (edges : edgeCount s ≤ length o)
-      (triangles : triangleCount s ≤ length o) where
-    second-room : (kind : Kind) → secondCount s kind ≤ length o
-    unfolding secondCount
-    second-room PointTriangle = triangles
-    second-room EdgeEdge = edges
-
+  module _ (row : ℕ) (inside : row < rowCount s) (kind : Kind) (i : ℕ) (is : partRow w s kind i ≡ meshRow w s row) {o : List ℕ} {n : ℕ}
+      (put : SecondsPut (meshRow w s row) o o n) where
     room : length (meshRow w s row) ≤ length o
-    room = omega (arith, ap length (sym is), part-row-short w s kind i, second-room kind)
+    room = omega (arith, put .count, put-fits (meshRow w s row) put)
 
-    pub numbered-of : i < 1073741824 → RowOf s kind i o′ n
+    pub numbered-of : i < 1073741824 → RowOf s kind i o n
     numbered-of low = row-of w s few row inside kind i is put room low
 
-    pub numbered-pairs : pairsOf kind i o′ n ≡ meshRow w s row
+    pub numbered-pairs : pairsOf kind i o n ≡ meshRow w s row
     numbered-pairs = row-pairs w s few row inside kind i is put room

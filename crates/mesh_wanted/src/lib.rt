@@ -4,18 +4,18 @@
 ghost use Prim.Native.Nat.{_≤_, _<_};
 ghost use lib.ListN.{length};
 ghost use Rattle.sequences.specs.Lent.{atEntry, atExit};
-ghost use Rattle.meaning.specs.Scene.{edgeCount, triangleCount};
 ghost use Rattle.meaning.specs.MeshRows.{rowCount, meshRow, rowsIn};
 ghost use Rattle.scene_seams.specs.Alone.{tabledIn, tabledAtEntry};
 ghost use Rattle.scene_checks.specs.Facts.{Sound};
 ghost use Rattle.mesh_trees.specs.Forest.{Forest};
+ghost use Rattle.mesh_ordered.specs.Either.{OrdersLent};
 ghost use Rattle.mesh_keep.specs.Keeping.{KeptBy};
 use meaning::Kind;
 use meaning::RowPairs;
 use meaning::Wanted;
 use mesh_keep::Going;
 use mesh_keep::keep_row;
-use mesh_rows::row_places;
+use mesh_ordered::row_places;
 use scene_parts::vertex_count;
 
 // The pairs of the row of a number: its second places are put into scratch, and its pairs are judged one behind the other.
@@ -24,6 +24,8 @@ fn keep_numbered(
     edges: &[u32],
     triangles: &[u32],
     stands: &[u32],
+    edge_order: &[u32],
+    triangle_order: &[u32],
     boxes: &[i32],
     edge_levels: &[usize],
     edge_top: usize,
@@ -38,10 +40,10 @@ fn keep_numbered(
     most: usize,
     going: Going,
 ) -> Going
-    requires { ⌜ Forest (tabledIn positions edges triangles stands) (now boxes) (now «edge_levels») (now «triangle_levels»)
-        «edge_top» «triangle_top» × (row < rowCount (tabledIn positions edges triangles stands)) ⌝ }
-    requires { ⌜ (edgeCount (tabledIn positions edges triangles stands) ≤ length (now places))
-        × (triangleCount (tabledIn positions edges triangles stands) ≤ length (now places)) ⌝ }
+    requires { ⌜ Forest (tabledIn positions edges triangles stands) (now «edge_order») (now «triangle_order») (now boxes)
+        (now «edge_levels») (now «triangle_levels») «edge_top» «triangle_top»
+        × (row < rowCount (tabledIn positions edges triangles stands)) ⌝ }
+    requires { ⌜ OrdersLent (tabledIn positions edges triangles stands) (now «edge_order») (now «triangle_order») (length (now places)) ⌝ }
     requires { ⌜ Sound (tabledIn positions edges triangles stands) × (most ≤ length (now list)) × (most ≤ length (now words))
         × (going .count < 4611686018427387904) ⌝ }
     ensures { λ r. ⌜ KeptBy (tabledAtEntry positions edges triangles stands) wanted most
@@ -53,6 +55,8 @@ fn keep_numbered(
         edges,
         triangles,
         stands,
+        edge_order,
+        triangle_order,
         boxes,
         edge_levels,
         edge_top,
@@ -104,6 +108,8 @@ pub fn keep_stretch(
     edges: &[u32],
     triangles: &[u32],
     stands: &[u32],
+    edge_order: &[u32],
+    triangle_order: &[u32],
     boxes: &[i32],
     edge_levels: &[usize],
     edge_top: usize,
@@ -119,10 +125,10 @@ pub fn keep_stretch(
     most: usize,
     going: Going,
 ) -> Going
-    requires { ⌜ Forest (tabledIn positions edges triangles stands) (now boxes) (now «edge_levels») (now «triangle_levels»)
-        «edge_top» «triangle_top» × (first ≤ end) × (end ≤ rowCount (tabledIn positions edges triangles stands)) ⌝ }
-    requires { ⌜ (edgeCount (tabledIn positions edges triangles stands) ≤ length (now places))
-        × (triangleCount (tabledIn positions edges triangles stands) ≤ length (now places)) ⌝ }
+    requires { ⌜ Forest (tabledIn positions edges triangles stands) (now «edge_order») (now «triangle_order») (now boxes)
+        (now «edge_levels») (now «triangle_levels») «edge_top» «triangle_top» × (first ≤ end)
+        × (end ≤ rowCount (tabledIn positions edges triangles stands)) ⌝ }
+    requires { ⌜ OrdersLent (tabledIn positions edges triangles stands) (now «edge_order») (now «triangle_order») (length (now places)) ⌝ }
     requires { ⌜ Sound (tabledIn positions edges triangles stands) × (most ≤ length (now list)) × (most ≤ length (now words))
         × (going .count ≤ 0) ⌝ }
     ensures { λ r. ⌜ KeptBy (tabledAtEntry positions edges triangles stands) wanted most
@@ -137,6 +143,8 @@ pub fn keep_stretch(
             edges,
             triangles,
             stands,
+            edge_order,
+            triangle_order,
             boxes,
             edge_levels,
             edge_top,

@@ -70,7 +70,11 @@ pub record NearKind (s : Scene) (kind : Kind) (l : List ℤ) (t : List ℕ) (shi
   pub known : Known s
 
 pub record NearForest (s : Scene) (l : List ℤ) (e t : List ℕ) (edgeTop triangleTop shift : ℕ) : Type 0 where
-  pub forest : Forest s l e t edgeTop triangleTop
+  pub edgeOrder : List ℕ
+  pub triangleOrder : List ℕ
+  pub noEdges : length edgeOrder ≡ 0
+  pub noTriangles : length triangleOrder ≡ 0
+  pub forest : Forest s edgeOrder triangleOrder l e t edgeTop triangleTop
   pub edges : Nodes s EdgeEdge l e shift (edgeCount s) edgeTop
   pub triangles : Nodes s PointTriangle l t shift (triangleCount s) triangleTop
 
@@ -79,10 +83,10 @@ module _ {s : Scene} {l : List ℤ} {e t : List ℕ} {edgeTop triangleTop shift 
   known-here = record { few = so .forest .fewVertices; ends = so .forest .ends }
 
   pub vertex-near : (n : ℕ) → n ≡ triangleCount s → NearKind s PointTriangle l t shift n triangleTop 0
-  vertex-near n k = record { rows = vertex-kind (so .forest) n k; nodes = rw k (so .triangles); known = known-here }
+  vertex-near n k = record { rows = vertex-kind (so .forest) (so .noTriangles) n k; nodes = rw k (so .triangles); known = known-here }
 
   pub edge-near : (n offset : ℕ) → n ≡ edgeCount s → offset ≡ vertexCount s → NearKind s EdgeEdge l e shift n edgeTop offset
-  edge-near n offset k o = record { rows = edge-kind (so .forest) n offset k o; nodes = rw k (so .edges); known = known-here }
+  edge-near n offset k o = record { rows = edge-kind (so .forest) (so .noEdges) n offset k o; nodes = rw k (so .edges); known = known-here }
 
 -- the rows of a kind have at most 2^60 pairs
 pub near-most : {s : Scene} {kind : Kind} {l : List ℤ} {t : List ℕ} {shift parts top offset : ℕ} → NearKind s kind l t shift parts top offset

@@ -11,6 +11,7 @@ ghost use Rattle.meaning.specs.MeshRows.{rowCount};
 ghost use Rattle.meaning.specs.declared.RowPairs.the-variants.{Near};
 ghost use Rattle.scene_seams.specs.Alone.{tabledIn, tabledAtEntry};
 ghost use Rattle.mesh_trees.specs.Planting.{Plantable};
+ghost use Rattle.mesh_ordered.specs.Either.{OrdersLent};
 ghost use Rattle.mesh_stretch.specs.Stretching.{IsRowCount, StretchListed};
 ghost use Rattle.near_trees.specs.Frames.{framesRoom};
 ghost use Rattle.near_runs.specs.Near.{NearForest};
@@ -29,32 +30,74 @@ use scene_parts::vertex_count;
 // Where a level of a tree begins and how many nodes it has, for each of its levels.
 const LEVEL_NUMBERS: usize = 34;
 
-// How many vertices are looked at, and how many of them have moved off where cloth falls.
+// How many places are looked at, and how many of them have moved off where cloth falls.
 const SAMPLES: usize = 128;
 
-const FEW: usize = 4;
+const FEW: usize = 16;
 
-// Whether two vertices have left the place where they were on an axis, at the places of their start values: both are above it at the end, or both below.
-fn left_at(positions: &[i32], i: usize, j: usize) -> bool
-    requires { ⌜ (i + 3 < length (now positions)) × (j + 3 < length (now positions)) ⌝ }
+// Where the larger of two numbers stands, and where the smaller does.
+fn larger_of(positions: &[i32], i: usize, j: usize) -> usize
+    requires { ⌜ (i < length (now positions)) × (j < length (now positions)) ⌝ }
+    ensures { λ r. ⌜ r < length (atEntry positions) ⌝ }
 {
-    ((positions[i] < positions[i + 3])
-        & (positions[i] < positions[j + 3])
-        & (positions[j] < positions[i + 3])
-        & (positions[j] < positions[j + 3]))
-        | ((positions[i + 3] < positions[i])
-            & (positions[j + 3] < positions[i])
-            & (positions[i + 3] < positions[j])
-            & (positions[j + 3] < positions[j]))
+    if positions[i] < positions[j] { j } else { i }
 }
 
-// Whether a vertex and the next one have moved further than they are apart.
-fn moves_off(positions: &[i32], v: usize) -> bool
-    requires { ⌜ 6 * v + 11 < length (now positions) ⌝ }
+fn smaller_of(positions: &[i32], i: usize, j: usize) -> usize
+    requires { ⌜ (i < length (now positions)) × (j < length (now positions)) ⌝ }
+    ensures { λ r. ⌜ r < length (atEntry positions) ⌝ }
 {
-    let i = 6 * v;
-    let j = i + 6;
-    left_at(positions, i, j) | left_at(positions, i + 1, j + 1) | left_at(positions, i + 2, j + 2)
+    if positions[i] < positions[j] { i } else { j }
+}
+
+// Where the largest and the smallest of eight vertices on an axis at one time stand, from the place of the first one's number on.
+fn largest_of(positions: &[i32], at: usize) -> usize
+    requires { ⌜ at + 42 < length (now positions) ⌝ }
+    ensures { λ r. ⌜ r < length (atEntry positions) ⌝ }
+{
+    let a = larger_of(positions, at, at + 6);
+    let b = larger_of(positions, at + 12, at + 18);
+    let c = larger_of(positions, at + 24, at + 30);
+    let d = larger_of(positions, at + 36, at + 42);
+    let e = larger_of(positions, a, b);
+    larger_of(positions, e, larger_of(positions, c, d))
+}
+
+fn smallest_of(positions: &[i32], at: usize) -> usize
+    requires { ⌜ at + 42 < length (now positions) ⌝ }
+    ensures { λ r. ⌜ r < length (atEntry positions) ⌝ }
+{
+    let a = smaller_of(positions, at, at + 6);
+    let b = smaller_of(positions, at + 12, at + 18);
+    let c = smaller_of(positions, at + 24, at + 30);
+    let d = smaller_of(positions, at + 36, at + 42);
+    let e = smaller_of(positions, a, b);
+    smaller_of(positions, e, smaller_of(positions, c, d))
+}
+
+fn is_below(positions: &[i32], i: usize, j: usize) -> bool
+    requires { ⌜ (i < length (now positions)) × (j < length (now positions)) ⌝ }
+{
+    positions[i] < positions[j]
+}
+
+// Whether eight vertices that stand one behind the other have left the span where they were on an axis: all are above it at the end, or all below.
+fn left_at(positions: &[i32], at: usize) -> bool
+    requires { ⌜ at + 45 < length (now positions) ⌝ }
+{
+    let high = largest_of(positions, at);
+    let low = smallest_of(positions, at);
+    let high_end = largest_of(positions, at + 3);
+    let low_end = smallest_of(positions, at + 3);
+    is_below(positions, high, low_end) | is_below(positions, high_end, low)
+}
+
+// Whether they have moved further than they are apart on an axis.
+fn moves_off(positions: &[i32], v: usize) -> bool
+    requires { ⌜ 6 * v + 47 < length (now positions) ⌝ }
+{
+    let at = 6 * v;
+    left_at(positions, at) | left_at(positions, at + 1) | left_at(positions, at + 2)
 }
 
 fn one_more(found: usize, more: bool) -> usize
@@ -64,14 +107,14 @@ fn one_more(found: usize, more: bool) -> usize
     if more { found + 1 } else { found }
 }
 
-// Whether cloth falls: of some hundred vertices taken evenly a few have moved off. Near rows of cloth that hardly moves are found as fast by swept boxes,
+// Whether cloth falls: of some hundred places taken evenly an eighth has moved off. Near rows of cloth that hardly moves are found as fast by swept boxes,
 // and what stands ready then is less. It is a guess at what is faster, and changes no answer.
 fn falls(positions: &[i32]) -> bool {
     let vertices = vertex_count(positions);
     if vertices < SAMPLES {
         return false;
     }
-    let last = vertices - 1;
+    let last = vertices - 7;
     let stride = vertices / SAMPLES;
     let mut v = 0usize;
     let mut found = 0usize;
@@ -82,22 +125,29 @@ fn falls(positions: &[i32]) -> bool {
     FEW <= found
 }
 
-// Whether near rows are asked for and go by nodes of both times.
+// No order is lent.
+fn unordered(edge_order: &[u32], triangle_order: &[u32]) -> bool {
+    (edge_order.len() < 1) & (triangle_order.len() < 1)
+}
+
+// Whether near rows are asked for and go by nodes of both times. Where an order is lent the rows go by that.
 fn goes_near(
     positions: &[i32],
     edges: &[u32],
     triangles: &[u32],
+    edge_order: &[u32],
+    triangle_order: &[u32],
     boxes: &[i32],
     which: RowPairs,
 ) -> bool
     ensures { λ r. ⌜ (r ≡ true → GoesNear which (unsewnAtEntry positions edges triangles) (atEntry boxes)) ⌝ }
 {
+    let room = frames_room(positions, edges, triangles);
     match which {
         RowPairs::Listed => false,
-        RowPairs::Near => {
-            let room = frames_room(positions, edges, triangles);
-            falls(positions) & (room <= boxes.len())
-        }
+        RowPairs::Near => unordered(edge_order, triangle_order)
+            & falls(positions)
+            & (room <= boxes.len()),
     }
 }
 
@@ -213,6 +263,7 @@ fn count_near(
         × (framesRoom (tabledIn positions edges triangles stands) ≤ length (now boxes)) ⌝ }
     ensures { λ r. ⌜ IsRowCount Near (tabledAtEntry positions edges triangles stands) first end r ⌝ }
 {
+    let none = [0u32; 0];
     let mut edge_levels = [0usize; LEVEL_NUMBERS];
     let mut triangle_levels = [0usize; LEVEL_NUMBERS];
     plant_frames(positions, edges, triangles, boxes);
@@ -220,6 +271,8 @@ fn count_near(
         positions,
         edges,
         triangles,
+        &none,
+        &none,
         boxes,
         &mut edge_levels,
         &mut triangle_levels,
@@ -259,6 +312,7 @@ fn list_near(
     ensures { λ r. ⌜ StretchListed Near (tabledAtEntry positions edges triangles stands) first end room (atEntry list)
         (atExit list) r ⌝ }
 {
+    let none = [0u32; 0];
     let mut edge_levels = [0usize; LEVEL_NUMBERS];
     let mut triangle_levels = [0usize; LEVEL_NUMBERS];
     plant_frames(positions, edges, triangles, boxes);
@@ -266,6 +320,8 @@ fn list_near(
         positions,
         edges,
         triangles,
+        &none,
+        &none,
         boxes,
         &mut edge_levels,
         &mut triangle_levels,
@@ -294,6 +350,9 @@ pub fn count_stretch(
     edges: &[u32],
     triangles: &[u32],
     stands: &[u32],
+    edge_order: &[u32],
+    triangle_order: &[u32],
+    places: &mut [u32],
     boxes: &mut [i32],
     which: RowPairs,
     first: usize,
@@ -301,9 +360,19 @@ pub fn count_stretch(
 ) -> usize
     requires { ⌜ Plantable (tabledIn positions edges triangles stands) (now boxes) × (first ≤ end)
         × (end ≤ rowCount (tabledIn positions edges triangles stands)) ⌝ }
+    requires { ⌜ OrdersLent (tabledIn positions edges triangles stands) (now «edge_order») (now «triangle_order»)
+        (length (now places)) ⌝ }
     ensures { λ r. ⌜ IsRowCount which (tabledAtEntry positions edges triangles stands) first end r ⌝ }
 {
-    if goes_near(positions, edges, triangles, boxes, which) {
+    if goes_near(
+        positions,
+        edges,
+        triangles,
+        edge_order,
+        triangle_order,
+        boxes,
+        which,
+    ) {
         count_near(positions, edges, triangles, stands, boxes, first, end)
     } else {
         mesh_stretch::count_stretch(
@@ -311,6 +380,9 @@ pub fn count_stretch(
             edges,
             triangles,
             stands,
+            edge_order,
+            triangle_order,
+            places,
             boxes,
             which,
             first,
@@ -325,6 +397,9 @@ pub fn list_stretch(
     edges: &[u32],
     triangles: &[u32],
     stands: &[u32],
+    edge_order: &[u32],
+    triangle_order: &[u32],
+    places: &mut [u32],
     boxes: &mut [i32],
     which: RowPairs,
     first: usize,
@@ -334,11 +409,21 @@ pub fn list_stretch(
 ) -> ListAnswer
     requires { ⌜ Plantable (tabledIn positions edges triangles stands) (now boxes) × (first ≤ end)
         × (end ≤ rowCount (tabledIn positions edges triangles stands)) ⌝ }
+    requires { ⌜ OrdersLent (tabledIn positions edges triangles stands) (now «edge_order») (now «triangle_order»)
+        (length (now places)) ⌝ }
     requires { ⌜ room ≤ length (now list) ⌝ }
     ensures { λ r. ⌜ StretchListed which (tabledAtEntry positions edges triangles stands) first end room (atEntry list)
         (atExit list) r ⌝ }
 {
-    if goes_near(positions, edges, triangles, boxes, which) {
+    if goes_near(
+        positions,
+        edges,
+        triangles,
+        edge_order,
+        triangle_order,
+        boxes,
+        which,
+    ) {
         list_near(
             positions,
             edges,
@@ -356,6 +441,9 @@ pub fn list_stretch(
             edges,
             triangles,
             stands,
+            edge_order,
+            triangle_order,
+            places,
             boxes,
             which,
             first,

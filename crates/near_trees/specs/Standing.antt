@@ -50,9 +50,10 @@ plantable-still same can =
     }
 
 -- the trees of swept boxes are planted in front of them
-pub planted-from : {s : Scene} {b b′ : List ℤ} {e e′ t t′ : List ℕ} {edgeTop triangleTop : ℕ} → Planted s b b′ e e′ t t′ edgeTop triangleTop
+pub planted-from : {s : Scene} {m n : List ℕ} {b b′ : List ℤ} {e e′ t t′ : List ℕ} {edgeTop triangleTop : ℕ}
+    → Planted s m n b b′ e e′ t t′ edgeTop triangleTop
     → SameFrom b b′ (edgeNodes s + nodeRoom s)
-planted-from {s} {b} p =
+planted-from {s} {b = b} p =
     let fill : SameFrom b (p .boxes) (edgeNodes s + nodeRoom s) =
     record { at = λ i h. p .filled .kept .at i (omega arith); long = p .filled .kept .same } in
     let one = same-later {later = edgeNodes s + nodeRoom s} (omega arith) (grown-from (p .overEdges)) in
@@ -72,8 +73,8 @@ frames-stay so p =
 moved : {l : List ℤ} {a b count : ℕ} {want : ℕ → _} → a ≡ b → BoxesStand l b count want → BoxesStand l a count want
 moved e so = rw e so
 
-module _ {s : Scene} {b l : List ℤ} {e e′ t t′ : List ℕ} {edgeTop triangleTop : ℕ} (p : Planted s b l e e′ t t′ edgeTop triangleTop)
-    (forest : Forest s l e′ t′ edgeTop triangleTop) (frames : Frames s l) where
+module _ {s : Scene} {m n : List ℕ} {b l : List ℤ} {e e′ t t′ : List ℕ} {edgeTop triangleTop : ℕ}
+    (p : Planted s m n b l e e′ t t′ edgeTop triangleTop) (forest : Forest s m n l e′ t′ edgeTop triangleTop) (frames : Frames s l) where
   edge-level : (v : ℕ) → v < edgeTop → getD e′ (2 * suc v) 0 ≡ edgeNodes s + nodesUpTo (edgeCount s) v
   unfolding levelPlace
   edge-level v h = p .overEdges .levels .places (suc v) (omega arith)

@@ -1,8 +1,10 @@
--- `fill_at`: edges and triangles are joined from the vertices' boxes at that time.
+-- `fill_at`: edges and triangles are joined from the vertices' boxes at that time, by no order.
 use borrow.Author.Needs.{needs}
 use native.Mathlib.Omega.{arith}
+use mathlib.Core.Path.{refl}
 use Rattle.meaning.specs.Scene.{sceneOf}
-use Rattle.mesh_boxes.specs.Joining.{filled-as}
+use Rattle.mesh_boxes.specs.Led.{none-lent}
+use Rattle.mesh_boxes.specs.Joining.{filled-by, filled-as}
 use Rattle.frame_boxes.specs.Spots.{spots-alone}
 use Rattle.frame_boxes.proofs.fill_at.Statement.{statement}
 use Rattle.frame_boxes.proofs.fill_at.Tie as tie
@@ -12,21 +14,32 @@ fill-vertices-at-requires c κs = let start = c .before .before .before in (star
 
 join-parts-requires : tie.Need-join-parts-requires
 join-parts-requires c κs =
-    let start = c .before .before .before .before .before .before in
-    let can = start .pre .drawable in
-    record { ends = can .ends; corners = can .corners; room = omega (arith, can .room, c .before .before .fill-vertices-at .ensures .1 .same) }
+    let can = c .before .before .before .before .before .before .before .before .pre .drawable in (
+      record { ends = can .ends; corners = can .corners; room = omega (arith, can .room, c .before .before .before .before .fill-vertices-at .ensures .1 .same) },
+      none-lent _ _ refl,
+      none-lent _ _ refl,
+    )
 
 returns : tie.Need-returns
 returns c =
     λ w.
-    let start = c .before .before .before .before .before .before .before .before in
+    let start = c .before .before .before .before .before .before .before .before .before .before in
     let a = start .args in
-    let vertices = c .before .before .before .before .fill-vertices-at .ensures in
+    let vertices = c .before .before .before .before .before .before .fill-vertices-at .ensures in
     let can = start .pre .drawable in
     let s = sceneOf (a .positions .now) (a .edges .now) (a .triangles .now) w in
-    filled-as {s = s}
-    (record { ends = can .ends; corners = can .corners; room = can .room })
-    (spots-alone (a .frame) s (vertices .0)) (vertices .1) (c .before .join-parts .ensures w)
+    filled-as _ _ refl refl
+    (filled-by {s = s}
+    (record { ends = can .ends; corners = can .corners; room = can .room }) (none-lent _ _ refl) (none-lent _ _ refl)
+    (spots-alone (a .frame) s (vertices .0)) (vertices .1) (c .before .join-parts .ensures w))
 
 pub fill-at-spec : {M : Type 1} → statement M
-fill-at-spec = tie.close (tie.spec fill-vertices-at-requires join-parts-requires (λ c. search needs) returns)
+fill-at-spec =
+    tie.close
+    (tie.spec
+    fill-vertices-at-requires
+    (λ c. search needs)
+    (λ c. search needs)
+    join-parts-requires
+    (λ c. search needs)
+    returns)

@@ -8,34 +8,37 @@ use Rattle.meaning.specs.Scene.{sceneOf, vertexCount, edgeCount}
 use Rattle.scene_seams.specs.Alone.{onlyPositions, onlyEdges, onlyTriangles}
 use Rattle.meaning.specs.StoredBoxes.{boxAt, BoxesStand, KeptBehind}
 use Rattle.list_boxes.specs.Filling.{holds-none, holds-kept, holds-more, holds-all, kept-all, kept-wider, kept-more}
+use Rattle.mesh_boxes.specs.Led.{partOf, part-inside}
 use Rattle.mesh_boxes.specs.Joining.{joinedTriangle, triangle-stored-as, stands-itself, stands-less}
 use Rattle.mesh_boxes.proofs.join_triangles.Statement.{statement}
 use Rattle.mesh_boxes.proofs.join_triangles.Tie as tie
 
 abbrev Inv-loop : tie.InvT-loop
-Inv-loop positions edges triangles boxes₀ count j₀ boxes j =
-    (j ≤ count) × KeptBehind boxes₀ boxes (vertexCount (onlyPositions positions) + edgeCount (onlyEdges edges) + j)
+Inv-loop positions edges triangles order boxes₀ count k₀ boxes k =
+    (k ≤ count) × KeptBehind boxes₀ boxes (vertexCount (onlyPositions positions) + edgeCount (onlyEdges edges) + k)
     × BoxesStand boxes 0 (vertexCount (onlyPositions positions) + edgeCount (onlyEdges edges)) (boxAt boxes₀)
-    × BoxesStand boxes (vertexCount (onlyPositions positions) + edgeCount (onlyEdges edges)) j (joinedTriangle (onlyTriangles triangles) (boxAt boxes₀))
+    × BoxesStand boxes (vertexCount (onlyPositions positions) + edgeCount (onlyEdges edges)) k
+    (λ j. joinedTriangle (onlyTriangles triangles) (boxAt boxes₀) (partOf order j))
 
 abbrev μ-loop : tie.MeasureT-loop
-μ-loop positions edges triangles boxes₀ count j₀ boxes j = count - j
+μ-loop positions edges triangles order boxes₀ count k₀ boxes k = count - k
 
 loop-holds : tie.Need-loop-holds Inv-loop μ-loop
 loop-holds c = (omega arith, kept-all _ _, stands-itself _ _, holds-none _ _ _)
 
 store-triangle-requires : tie.Need-store-triangle-requires Inv-loop μ-loop
 store-triangle-requires c κs =
-    let start = c .before .before .before .before .before .before in
-    (omega arith, record { known = start .pre .0; behind = omega arith; room = omega (arith, start .pre .1) })
+    let start = c .before .before .before .before .before .before .before in
+    ((omega arith, start .pre .0 .1), record { known = start .pre .0 .0; behind = omega arith; room = omega (arith, start .pre .1) })
 
 loop-again : tie.Need-loop-again Inv-loop μ-loop
 loop-again c =
-    let start = c .before .before .before .before .before .before .before .before in
+    let start = c .before .before .before .before .before .before .before .before .before in
     let inv = c .before .before .before .before .loop .inv in
     let s = sceneOf (start .args .positions .now) (start .args .edges .now) (start .args .triangles .now) [] in
+    let k = c .before .before .before .before .loop .k in
     let stored =
-    triangle-stored-as s (start .pre .0) (c .before .before .before .before .loop .j) (omega arith) (stands-less (omega arith) (inv .2))
+    triangle-stored-as s (start .pre .0 .0) (partOf (start .args .order .now) k) (part-inside (start .pre .0 .1) k (omega arith)) (stands-less (omega arith) (inv .2))
     (c .before .store-triangle .ensures) in (
       omega arith,
       kept-more (inv .1) stored (omega arith) (omega arith),

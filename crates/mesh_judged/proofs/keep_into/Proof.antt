@@ -11,12 +11,12 @@ use Rattle.mesh_judged.proofs.keep_into.Tie as tie
 
 keep-stretch-requires : tie.Need-keep-stretch-requires
 keep-stretch-requires c κs =
-    let start = c .before .before .before .before .before .before .before .before .before .before .before .before in
+    let start = c .before .before .before .before .before .before .before .before .before .before .before .before .before .before in
     (start .pre .0, (start .pre .1 .0, (start .pre .1 .1 .0, start .pre .1 .1 .1, start .pre .1 .1 .2, omega (arith, ap (λ (g : Going). g .count) (c .before .before .before .none-yet .ensures)))))
 
 returns : tie.Need-returns
 returns c =
-    let start = c .before .before .before .before .before .before .before .before .before .before .before .before .before .before .before .before .before .before .before .before in
+    let start = c .before .before .before .before .before .before .before .before .before .before .before .before .before .before .before .before .before .before .before .before .before .before in
     let a = start .args in
     judged-into (a .which) (a .wanted) (tabled (a .positions .now) (a .edges .now) (a .triangles .now) (a .stands .now)) (a .first) (a .end) (c .before .before .before .before .before .before .before .before .before .before .before .none-yet .ensures) (c .before .before .before .before .before .before .before .keep-stretch .ensures) (c .told .ensures) (forest-sized (start .pre .0 .0)) (start .pre .0 .2)
 

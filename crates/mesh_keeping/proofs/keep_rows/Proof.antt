@@ -6,8 +6,8 @@ use lib.ListN.{length}
 use denote.Ref.{now}
 use Rattle.meaning.specs.Scene.{sceneIn}
 use Rattle.mesh_asked.specs.Asking.{lentOf}
-use Rattle.mesh_list.specs.Answering.{by-count, open-plantable, open-rows}
-use Rattle.mesh_keeping.specs.Kept.{open-sound, open-places, not-kept, rows-kept}
+use Rattle.mesh_list.specs.Answering.{by-count, open-plantable, open-lent, open-rows}
+use Rattle.mesh_keeping.specs.Kept.{open-sound, not-kept, rows-kept}
 use Rattle.mesh_keeping.proofs.keep_rows.Statement.{statement}
 use Rattle.mesh_keeping.proofs.keep_rows.Tie as tie
 
@@ -19,10 +19,9 @@ keep-there-requires c κs =
     let asked = by-count {s = s} (c .before .before .before .before .before .before .before .before .before .before .before .before .before .before .before .row-count .ensures) (c .before .before .before .before .before .before .before .before .before .before .before .before .ask-rows .ensures) in
     let passed = c .before .before .before .before .before .before .enum-told .given .1 in
     let there = open-rows asked passed in
-    let room = open-places (a .which) (a .wanted) s l (a .first) (a .end) asked passed in
     let fits = c .before .before .before .before .before .smaller .ensures in (
       (open-plantable asked passed (now (a .boxes)) refl, there .0, there .1),
-      ((omega (arith, room .0, c .before .before .before .before .before .before .before .before .before .places .given), omega (arith, room .1, c .before .before .before .before .before .before .before .before .before .places .given)), (open-sound (a .which) (a .wanted) s l (a .first) (a .end) asked passed, rw fits (omega arith), rw fits (omega arith))),
+      (open-lent asked passed _ (c .before .before .before .before .before .before .before .before .before .places .given), (open-sound (a .which) (a .wanted) s l (a .first) (a .end) asked passed, rw fits (omega arith), rw fits (omega arith))),
     )
 
 returns : tie.Need-returns

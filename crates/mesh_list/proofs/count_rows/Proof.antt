@@ -5,16 +5,17 @@ use lib.ListN.{length}
 use denote.Ref.{now}
 use Rattle.meaning.specs.Scene.{sceneIn}
 use Rattle.mesh_asked.specs.Asking.{lentOf}
-use Rattle.mesh_list.specs.Answering.{by-count, open-plantable, open-rows, not-counted, counted}
+use Rattle.mesh_list.specs.Answering.{by-count, open-plantable, open-lent, open-rows, not-counted, counted}
 use Rattle.mesh_list.proofs.count_rows.Statement.{statement}
 use Rattle.mesh_list.proofs.count_rows.Tie as tie
 
 count-stretch-requires : tie.Need-count-stretch-requires
 count-stretch-requires c κs =
-    let a = c .before .before .before .before .before .before .before .before .before .before .before .before .before .before .before .before .before .before .before .args in
-    let asked = by-count {s = sceneIn (a .positions) (a .edges) (a .triangles) (a .seams)} (c .before .before .before .before .before .before .before .before .before .before .before .row-count .ensures) (c .before .before .before .before .before .before .before .before .ask-rows .ensures) in
-    let there = open-rows asked (c .before .before .enum-told .given .1) in
-    (open-plantable asked (c .before .before .enum-told .given .1) (now (a .boxes)) refl, there .0, there .1)
+    let a = c .before .before .before .before .before .before .before .before .before .before .before .before .before .before .before .before .before .before .before .before .args in
+    let asked = by-count {s = sceneIn (a .positions) (a .edges) (a .triangles) (a .seams)} (c .before .before .before .before .before .before .before .before .before .before .before .before .row-count .ensures) (c .before .before .before .before .before .before .before .before .before .ask-rows .ensures) in
+    let there = open-rows asked (c .before .before .before .enum-told .given .1) in
+    let passed = c .before .before .before .enum-told .given .1 in
+    ((open-plantable asked passed (now (a .boxes)) refl, there .0, there .1), open-lent asked passed _ (c .before .before .before .before .before .before .places .given))
 
 returns : tie.Need-returns
 returns c =
@@ -25,10 +26,10 @@ returns c =
 
 returns-2 : tie.Need-returns-2
 returns-2 c =
-    let a = c .before .before .before .before .before .before .before .before .before .before .before .before .before .before .before .before .before .before .before .before .before .args in
+    let a = c .before .before .before .before .before .before .before .before .before .before .before .before .before .before .before .before .before .before .before .before .before .before .before .before .args in
     let s = sceneIn (a .positions) (a .edges) (a .triangles) (a .seams) in
     let l = lentOf (now (a .edge-order)) (now (a .triangle-order)) (length (now (a .table))) (length (now (a .places))) (length (now (a .boxes))) in
-    counted (a .which) s l (a .first) (a .end) (by-count {s = s} (c .before .before .before .before .before .before .before .before .before .before .before .before .before .row-count .ensures) (c .before .before .before .before .before .before .before .before .before .before .ask-rows .ensures)) (c .before .before .before .before .enum-told .given .1) _ (c .before .count-stretch .ensures)
+    counted (a .which) s l (a .first) (a .end) (by-count {s = s} (c .before .before .before .before .before .before .before .before .before .before .before .before .before .before .before .before .row-count .ensures) (c .before .before .before .before .before .before .before .before .before .before .before .before .before .ask-rows .ensures)) (c .before .before .before .before .before .before .before .enum-told .given .1) _ (c .before .before .before .count-stretch .ensures)
 
 pub count-rows-spec : {M : Type 1} → statement M
 count-rows-spec =

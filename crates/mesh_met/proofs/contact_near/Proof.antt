@@ -8,32 +8,32 @@ use Rattle.mesh_met.proofs.contact_near.Statement.{statement}
 use Rattle.mesh_met.proofs.contact_near.Tie as tie
 
 list-stretch-requires : tie.Need-list-stretch-requires
-list-stretch-requires c κs = (c .before .before .before .before .before .before .before .before .before .before .before .before .pre .0, omega (arith, c .before .before .room-for .ensures))
+list-stretch-requires c κs = let pre = c .before .before .before .before .before .before .before .before .before .before .before .before .before .before .before .before .pre in (pre .0, (pre .1 .0, omega (arith, c .before .before .before .room-for .ensures)))
 
 contact-mesh-entries-requires : tie.Need-contact-mesh-entries-requires
 contact-mesh-entries-requires c κs =
-    let room = c .before .before .before .before .before .before .before .before .before .before .before .before .room-for .ensures in
-    let few = plant-sized (c .before .before .before .before .before .before .before .before .before .before .before .before .before .before .before .before .before .before .before .before .before .before .pre .0 .0) in
-    let made = rows-made (c .before .before .before .before .before .before .before .before .before .list-stretch .ensures) {m = c .before .before .before .before .made .given .0 .0} (c .before .before .before .before .made .given .1) in (
-      c .before .before .before .before .before .before .before .before .before .before .before .before .before .before .before .before .before .before .before .before .before .before .pre .1,
-      made-room few (c .before .before .before .before .before .before .before .before .before .before .before .before .before .before .before .before .before .before .before .before .before .before .pre .0 .2) (rw room (omega arith)) made,
-      made-there few (c .before .before .before .before .before .before .before .before .before .before .before .before .before .before .before .before .before .before .before .before .before .before .pre .0 .2) (rw room (omega arith)) made,
+    let room = c .before .before .before .before .before .before .before .before .before .before .before .before .before .before .before .room-for .ensures in
+    let few = plant-sized (c .before .before .before .before .before .before .before .before .before .before .before .before .before .before .before .before .before .before .before .before .before .before .before .before .before .before .before .before .pre .0 .0) in
+    let made = rows-made (c .before .before .before .before .before .before .before .before .before .before .before .list-stretch .ensures) {m = c .before .before .before .before .made .given .0 .0} (c .before .before .before .before .made .given .1) in (
+      c .before .before .before .before .before .before .before .before .before .before .before .before .before .before .before .before .before .before .before .before .before .before .before .before .before .before .before .before .pre .1 .1,
+      made-room few (c .before .before .before .before .before .before .before .before .before .before .before .before .before .before .before .before .before .before .before .before .before .before .before .before .before .before .before .before .pre .0 .2) (rw room (omega arith)) made,
+      made-there few (c .before .before .before .before .before .before .before .before .before .before .before .before .before .before .before .before .before .before .before .before .before .before .before .before .before .before .before .before .pre .0 .2) (rw room (omega arith)) made,
       omega (arith, made .counts, made .fits, room),
       omega (arith, made .counts, made .fits, room),
     )
 
 returns : tie.Need-returns
 returns c =
-    let room = c .before .before .before .before .before .before .before .before .before .before .before .before .before .before .before .before .before .room-for .ensures in
+    let room = c .before .before .before .before .before .before .before .before .before .before .before .before .before .before .before .before .before .before .before .before .room-for .ensures in
     rw room at
-    (met-made (c .before .before .before .before .before .before .before .before .before .before .before .before .before .before .list-stretch .ensures) {m = c .before .before .before .before .before .before .before .before .before .made .given .0 .0} (plant-sized (c .before .before .before .before .before .before .before .before .before .before .before .before .before .before .before .before .before .before .before .before .before .before .before .before .before .before .before .pre .0 .0)) (c .before .before .before .before .before .before .before .before .before .before .before .before .before .before .before .before .before .before .before .before .before .before .before .before .before .before .before .pre .0 .2) (rw room (omega arith)) (c .before .before .before .before .before .before .before .before .before .made .given .1) (c .before .before .before .before .contact-mesh-entries .ensures .0)
+    (met-made (c .before .before .before .before .before .before .before .before .before .before .before .before .before .before .before .before .list-stretch .ensures) {m = c .before .before .before .before .before .before .before .before .before .made .given .0 .0} (plant-sized (c .before .before .before .before .before .before .before .before .before .before .before .before .before .before .before .before .before .before .before .before .before .before .before .before .before .before .before .before .before .before .before .before .before .pre .0 .0)) (c .before .before .before .before .before .before .before .before .before .before .before .before .before .before .before .before .before .before .before .before .before .before .before .before .before .before .before .before .before .before .before .before .before .pre .0 .2) (rw room (omega arith)) (c .before .before .before .before .before .before .before .before .before .made .given .1) (c .before .before .before .before .contact-mesh-entries .ensures .0)
     (c .before .before .before .before .contact-mesh-entries .ensures .1))
 
 returns-2 : tie.Need-returns-2
 returns-2 c =
-    let a = c .before .before .before .before .before .before .before .before .before .before .before .before .before .before .before .before .before .before .before .args in
-    rw (c .before .before .before .before .before .before .before .before .before .room-for .ensures) at
-    (met-without (c .before .before .before .before .before .before .list-stretch .ensures) {x = c .before .refusal .given .0 .0} {n = c .before .refusal .given .0 .1 .0} {v = now (a .words)} {c = now (a .contacts)} (c .before .refusal .given .1))
+    let a = c .before .before .before .before .before .before .before .before .before .before .before .before .before .before .before .before .before .before .before .before .before .before .before .before .before .args in
+    rw (c .before .before .before .before .before .before .before .before .before .before .before .before .room-for .ensures) at
+    (met-without (c .before .before .before .before .before .before .before .before .list-stretch .ensures) {x = c .before .refusal .given .0 .0} {n = c .before .refusal .given .0 .1 .0} {v = now (a .words)} {c = now (a .contacts)} (c .before .refusal .given .1))
 
 pub contact-near-spec : {M : Type 1} → statement M
 contact-near-spec =
@@ -48,7 +48,9 @@ contact-near-spec =
     (λ c. search needs)
     (λ c. search needs)
     (λ c. search needs)
+    (λ c. search needs)
     returns
+    (λ c. search needs)
     (λ c. search needs)
     (λ c. search needs)
     (λ c. search needs)

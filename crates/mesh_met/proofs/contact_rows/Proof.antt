@@ -5,19 +5,20 @@ use lib.ListN.{length}
 use denote.Ref.{now}
 use Rattle.meaning.specs.Scene.{sceneIn}
 use Rattle.mesh_asked.specs.Asking.{lentOf}
-use Rattle.mesh_list.specs.Answering.{by-count, open-plantable, open-rows}
+use Rattle.mesh_list.specs.Answering.{by-count, open-plantable, open-lent, open-rows}
 use Rattle.mesh_met.specs.Meeting.{open-accepted, not-met, met}
 use Rattle.mesh_met.proofs.contact_rows.Statement.{statement}
 use Rattle.mesh_met.proofs.contact_rows.Tie as tie
 
 contact-there-requires : tie.Need-contact-there-requires
 contact-there-requires c κs =
-    let a = c .before .before .before .before .before .before .before .before .before .before .before .before .before .before .before .before .before .before .before .before .before .before .before .before .before .args in
+    let a = c .before .before .before .before .before .before .before .before .before .before .before .before .before .before .before .before .before .before .before .before .before .before .before .before .before .before .args in
     let s = sceneIn (a .positions) (a .edges) (a .triangles) (a .seams) in
     let l = lentOf (now (a .edge-order)) (now (a .triangle-order)) (length (now (a .table))) (length (now (a .places))) (length (now (a .boxes))) in
-    let asked = by-count {s = s} (c .before .before .before .before .before .before .before .before .before .before .before .before .before .before .row-count .ensures) (c .before .before .before .before .before .before .before .before .before .before .before .ask-rows .ensures) in
-    let there = open-rows asked (c .before .before .before .before .before .enum-told .given .1) in
-    ((open-plantable asked (c .before .before .before .before .before .enum-told .given .1) (now (a .boxes)) refl, there .0, there .1), open-accepted (a .which) s l (a .first) (a .end) asked (c .before .before .before .before .before .enum-told .given .1))
+    let asked = by-count {s = s} (c .before .before .before .before .before .before .before .before .before .before .before .before .before .before .before .row-count .ensures) (c .before .before .before .before .before .before .before .before .before .before .before .before .ask-rows .ensures) in
+    let there = open-rows asked (c .before .before .before .before .before .before .enum-told .given .1) in
+    let passed = c .before .before .before .before .before .before .enum-told .given .1 in
+    ((open-plantable asked passed (now (a .boxes)) refl, there .0, there .1), (open-lent asked passed _ (c .before .before .before .before .before .before .before .before .before .places .given), open-accepted (a .which) s l (a .first) (a .end) asked passed))
 
 returns : tie.Need-returns
 returns c =
@@ -28,10 +29,10 @@ returns c =
 
 returns-2 : tie.Need-returns-2
 returns-2 c =
-    let a = c .before .before .before .before .before .before .before .before .before .before .before .before .before .before .before .before .before .before .before .before .before .before .before .before .before .before .before .before .before .before .before .before .before .args in
+    let a = c .before .before .before .before .before .before .before .before .before .before .before .before .before .before .before .before .before .before .before .before .before .before .before .before .before .before .before .before .before .before .before .before .before .before .before .before .args in
     let s = sceneIn (a .positions) (a .edges) (a .triangles) (a .seams) in
     let l = lentOf (now (a .edge-order)) (now (a .triangle-order)) (length (now (a .table))) (length (now (a .places))) (length (now (a .boxes))) in
-    met (a .which) s l (a .first) (a .end) (by-count {s = s} (c .before .before .before .before .before .before .before .before .before .before .before .before .before .before .before .before .before .before .before .before .before .before .row-count .ensures) (c .before .before .before .before .before .before .before .before .before .before .before .before .before .before .before .before .before .before .before .ask-rows .ensures)) (c .before .before .before .before .before .before .before .before .before .before .before .before .before .enum-told .given .1) (c .before .before .before .before .before .before .before .contact-there .ensures)
+    met (a .which) s l (a .first) (a .end) (by-count {s = s} (c .before .before .before .before .before .before .before .before .before .before .before .before .before .before .before .before .before .before .before .before .before .before .before .before .before .row-count .ensures) (c .before .before .before .before .before .before .before .before .before .before .before .before .before .before .before .before .before .before .before .before .before .before .ask-rows .ensures)) (c .before .before .before .before .before .before .before .before .before .before .before .before .before .before .before .before .enum-told .given .1) (c .before .before .before .before .before .before .before .before .before .contact-there .ensures)
 
 pub contact-rows-spec : {M : Type 1} → statement M
 contact-rows-spec =

@@ -11,13 +11,13 @@ use Rattle.mesh_met_kept.proofs.contact_near.Tie as tie
 
 keep-there-requires : tie.Need-keep-there-requires
 keep-there-requires c κs =
-    let start = c .before .before .before .before .before .before .before .before .before .before .before .before .before .before .before in
+    let start = c .before .before .before .before .before .before .before .before .before .before .before .before .before .before .before .before .before in
     let room = c .before .before .before .before .room-for .ensures in
     (start .pre .0, (start .pre .1 .0, (old-sound (start .pre .1 .1), omega (arith, room), omega (arith, room))))
 
 contact-hits-requires : tie.Need-contact-hits-requires
 contact-hits-requires c κs =
-    let start = c .before .before .before .before .before .before .before .before .before .before .before .before .before .before .before .before .before .before .before .before .before .before .before .before .before .before .before .before .before in
+    let start = c .before .before .before .before .before .before .before .before .before .before .before .before .before .before .before .before .before .before .before .before .before .before .before .before .before .before .before .before .before .before .before in
     let a = start .args in
     let s = tabled (a .positions .now) (a .edges .now) (a .triangles .now) (a .stands .now) in
     let room = c .before .before .before .before .before .before .before .before .before .before .before .before .before .before .before .before .before .before .room-for .ensures in
@@ -34,7 +34,7 @@ contact-hits-requires c κs =
 
 returns : tie.Need-returns
 returns c =
-    let start = c .before .before .before .before .before .before .before .before .before .before .before .before .before .before .before .before .before .before .before .before .before .before .before .before .before .before .before .before .before .before .before .before in
+    let start = c .before .before .before .before .before .before .before .before .before .before .before .before .before .before .before .before .before .before .before .before .before .before .before .before .before .before .before .before .before .before .before .before .before .before in
     let a = start .args in
     let s = tabled (a .positions .now) (a .edges .now) (a .triangles .now) (a .stands .now) in
     let room = c .before .before .before .before .before .before .before .before .before .before .before .before .before .before .before .before .before .before .before .before .before .room-for .ensures in
@@ -43,7 +43,7 @@ returns c =
 
 returns-2 : tie.Need-returns-2
 returns-2 c =
-    let a = c .before .before .before .before .before .before .before .before .before .before .before .before .before .before .before .before .before .before .before .before .before .before .before .before .before .before .args in
+    let a = c .before .before .before .before .before .before .before .before .before .before .before .before .before .before .before .before .before .before .before .before .before .before .before .before .before .before .before .before .args in
     let s = tabled (a .positions .now) (a .edges .now) (a .triangles .now) (a .stands .now) in
     rw (c .before .before .before .before .before .before .before .before .before .before .before .before .before .before .before .room-for .ensures) at
     (near-without (a .which) (a .wanted) s (a .first) (a .end) (c .before .before .before .before .before .before .before .before .before .before .keep-there .ensures) {x = c .before .refusal .given .0 .0} {n = c .before .refusal .given .0 .1 .0} {c = now (a .contacts)} (c .before .refusal .given .1))

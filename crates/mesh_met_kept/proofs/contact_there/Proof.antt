@@ -10,18 +10,18 @@ use Rattle.mesh_met_kept.proofs.contact_there.Tie as tie
 
 returns : tie.Need-returns
 returns c =
-    let a = c .before .before .before .before .before .before .before .before .before .args in
+    let a = c .before .before .before .before .before .before .before .before .before .before .before .args in
     kept-beyond (a .which) (a .wanted) (tabled (a .positions .now) (a .edges .now) (a .triangles .now) (a .stands .now)) (a .first) (a .end) (now (a .list)) (now (a .words)) (now (a .contacts)) (sym (c .before .beyond-old-range .ensures) ∙ c .if1 .taken)
 
 contact-near-requires : tie.Need-contact-near-requires
 contact-near-requires c κs =
-    let start = c .before .before .before .before .before .before .before .before .before .before .before .before .before .before in
+    let start = c .before .before .before .before .before .before .before .before .before .before .before .before .before .before .before .before in
     let a = start .args in
     (start .pre .0, (start .pre .1 .0, mesh-sound-within {s = tabled (a .positions .now) (a .edges .now) (a .triangles .now) (a .stands .now)} (start .pre .1 .1) (sym (c .before .before .before .before .before .before .beyond-old-range .ensures) ∙ c .before .before .before .before .before .if1 .left)))
 
 returns-2 : tie.Need-returns-2
 returns-2 c =
-    let a = c .before .before .before .before .before .before .before .before .before .before .before .before .before .before .before .before .before .before .before .before .before .before .before .before .args in
+    let a = c .before .before .before .before .before .before .before .before .before .before .before .before .before .before .before .before .before .before .before .before .before .before .before .before .before .before .args in
     kept-near (a .which) (a .wanted) (tabled (a .positions .now) (a .edges .now) (a .triangles .now) (a .stands .now)) (a .first) (a .end) (now (a .list)) (now (a .words)) (now (a .contacts)) (sym (c .before .before .before .before .before .before .before .before .before .before .before .before .before .before .before .before .beyond-old-range .ensures) ∙ c .before .before .before .before .before .before .before .before .before .before .before .before .before .before .before .if1 .left) (c .before .before .before .before .before .before .before .before .before .contact-near .ensures)
 
 pub contact-there-spec : {M : Type 1} → statement M

@@ -1,14 +1,12 @@
 -- `keep_contacts`: a refusal of what comes first is passed on, and the rows of an accepted mesh are judged and met, by the table of its seams.
 use borrow.Author.Needs.{needs}
-use native.Mathlib.Omega.{arith}
 use mathlib.Core.Path.{refl}
 use lib.ListN.{length}
 use denote.Ref.{now}
 use Rattle.meaning.specs.Scene.{sceneIn}
 use Rattle.mesh_asked.specs.Asking.{lentOf}
-use Rattle.mesh_list.specs.Answering.{by-count, open-plantable, open-rows}
+use Rattle.mesh_list.specs.Answering.{by-count, open-plantable, open-lent, open-rows}
 use Rattle.mesh_met.specs.Meeting.{open-accepted}
-use Rattle.mesh_keeping.specs.Kept.{open-places}
 use Rattle.mesh_met_kept.specs.Meeting.{not-met, met}
 use Rattle.mesh_met_kept.proofs.keep_contacts.Statement.{statement}
 use Rattle.mesh_met_kept.proofs.keep_contacts.Tie as tie
@@ -20,10 +18,9 @@ contact-there-requires c κs =
     let l = lentOf (now (a .edge-order)) (now (a .triangle-order)) (length (now (a .table))) (length (now (a .places))) (length (now (a .boxes))) in
     let asked = by-count {s = s} (c .before .before .before .before .before .before .before .before .before .before .before .before .before .before .before .row-count .ensures) (c .before .before .before .before .before .before .before .before .before .before .before .before .ask-rows .ensures) in
     let passed = c .before .before .before .before .before .before .enum-told .given .1 in
-    let there = open-rows asked passed in
-    let room = open-places (a .which) (a .wanted) s l (a .first) (a .end) asked passed in (
+    let there = open-rows asked passed in (
       (open-plantable asked passed (now (a .boxes)) refl, there .0, there .1),
-      ((omega (arith, room .0, c .before .before .before .before .before .before .before .before .before .places .given), omega (arith, room .1, c .before .before .before .before .before .before .before .before .before .places .given)), open-accepted (a .which) s l (a .first) (a .end) asked passed),
+      (open-lent asked passed _ (c .before .before .before .before .before .before .before .before .before .places .given), open-accepted (a .which) s l (a .first) (a .end) asked passed),
     )
 
 returns : tie.Need-returns

@@ -6,11 +6,19 @@ use Rattle.mesh_trees.specs.Forest.{planted-forest}
 use Rattle.mesh_stretch.proofs.list_stretch.Statement.{statement}
 use Rattle.mesh_stretch.proofs.list_stretch.Tie as tie
 
+plant-requires : tie.Need-plant-requires
+plant-requires c κs =
+    let pre = c .before .before .before .before .before .before .before .before .before .before .pre in
+    let can = pre .0 .0 in
+    ((search needs, omega arith, omega arith), (pre .1 .0 .edges, pre .1 .0 .triangles))
+
 list-grown-requires : tie.Need-list-grown-requires
 list-grown-requires c κs =
-    let start = c .before .before .before .before .before .before .before .before .before .before .before .before .before .before .before in (
-      (planted-forest (start .pre .0 .0) (omega arith) (omega arith) (c .before .before .before .before .before .before .before .plant .ensures (seamsOf (start .args .stands .now))), start .pre .0 .1, start .pre .0 .2),
-      start .pre .1,
+    let start = c .before .before .before .before .before .before .before .before .before .before .before .before .before .before .before .before .before .before .before in
+    let pre = start .pre in
+    let lent = pre .1 .0 in (
+      (planted-forest (pre .0 .0) (omega arith) (omega arith) (lent .edges) (lent .triangles) (c .before .before .before .before .before .before .before .before .plant .ensures (seamsOf (start .args .stands .now))), pre .0 .1, pre .0 .2),
+      pre .1,
     )
 
 pub list-stretch-spec : {M : Type 1} → statement M
@@ -19,10 +27,11 @@ list-stretch-spec =
     (tie.spec
     (λ c. search needs)
     (λ c. search needs)
-    (λ c κs. search needs)
+    plant-requires
     (λ c. search needs)
     (λ c. search needs)
     list-grown-requires
+    (λ c. search needs)
     (λ c. search needs)
     (λ c. search needs)
     (λ c. search needs))

@@ -8,12 +8,12 @@ use Rattle.mesh_trees.proofs.plant.Tie as tie
 
 grow-requires-2 : tie.Need-grow-requires-2
 grow-requires-2 c κs =
-    let start = c .before .before .before .before .before .before .before .before .before .before .before .before .before .before .before .before .before .before .before in
+    let start = c .before .before .before .before .before .before .before .before .before .before .before .before .before .before .before .before .before .before .before .before .before in
     let (apart, few, room) =
     last-fits (c .before .before .before .before .before .before .before .before .before .before .before .vertex-count .ensures) (c .before .before .before .before .before .before .before .before .before .before .edge-count .ensures) (c .before .before .before .before .before .before .before .before .before .triangle-count .ensures) (c .before .before .tree-room .ensures)
-    (start .pre .0)
+    (start .pre .0 .0)
     (c .before .before .before .before .before .before .grow .ensures .nodes .same ∙ c .before .before .before .before .before .before .before .before .before .before .before .before .before .fill .ensures [] .kept .same) in
-    (apart, few, room, start .pre .2)
+    (apart, few, room, start .pre .0 .2)
 
 returns : tie.Need-returns
 returns c =

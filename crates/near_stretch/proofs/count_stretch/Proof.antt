@@ -5,8 +5,8 @@ use Rattle.near_stretch.proofs.count_stretch.Tie as tie
 
 count-near-requires : tie.Need-count-near-requires
 count-near-requires c κs =
-    let start = c .before .before .before .before .before .before .before in
-    (start .pre .0, start .pre .1, start .pre .2, c .before .before .goes-near .ensures (c .before .if1 .taken) .room)
+    let pre = c .before .before .before .before .before .before .before .before .before .before .pre .0 in
+    (pre .0, pre .1, pre .2, c .before .before .goes-near .ensures (c .before .if1 .taken) .room)
 
 returns : tie.Need-returns
 returns c = rw (c .before .before .before .before .goes-near .ensures (c .before .before .before .if1 .taken) .near) (c .before .count-near .ensures)
@@ -20,5 +20,6 @@ count-stretch-spec =
     (λ c κs. search needs)
     (λ c. search needs)
     returns
+    (λ c. search needs)
     (λ c. search needs)
     (λ c. search needs))
