@@ -30,6 +30,12 @@ in_common() { # FUNCTION WORDS..
     top=$top bash -c '. "$top/tools/common" && "$@"' bash "$@"
 }
 
+# What runs a program of another processor here, with that processor's C library: the words before the program's, a line each. It fails where there is none.
+emulator_of() { # PROCESSOR
+    local emulator folder=/usr/$1-linux-gnu
+    emulator=$(command -v "qemu-$1" || command -v "qemu-$1-static") && [ -e "$folder/lib/libc.so.6" ] && printf '%s\n' "$emulator" -L "$folder"
+}
+
 # The C program of README.md into a folder as my.c; and the line that builds it there, as the page has it.
 c_of_readme() { # FOLDER
     # shellcheck disable=SC2016  # as it stands on the page

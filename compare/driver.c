@@ -123,6 +123,12 @@ static uint64_t answer(const struct question *q) {
     case 44:
         return makhnodri_keep_near_rows_slices(ROWS, q->asked[0], q->asked[1], (uint32_t)q->asked[2], LEND(MESH_LIST),
             LEND(MESH_WORDS), lent(MESH_TOLD));
+    case 45:
+        return makhnodri_keep_contacts_slices(ROWS, q->asked[0], q->asked[1], (uint32_t)q->asked[2], LEND(MESH_LIST),
+            LEND(MESH_WORDS), LEND(MESH_CONTACTS), lent(MESH_TOLD));
+    case 46:
+        return makhnodri_keep_near_contacts_slices(ROWS, q->asked[0], q->asked[1], (uint32_t)q->asked[2], LEND(MESH_LIST),
+            LEND(MESH_WORDS), LEND(MESH_CONTACTS), lent(MESH_TOLD));
     case 47: return makhnodri_pierced_at_start_rows_slices(ROWS, q->asked[0], q->asked[1], LEND(MESH_LIST), lent(MESH_TOLD));
     case 48: return makhnodri_pierced_at_end_rows_slices(ROWS, q->asked[0], q->asked[1], LEND(MESH_LIST), lent(MESH_TOLD));
     }

@@ -122,6 +122,7 @@ extern "C" {
  *     settle_rows, settle_near_rows                 8,192
  *     contact_rows, contact_near_rows               8,192
  *     keep_rows, keep_near_rows                    81,920
+ *     keep_contacts, keep_near_contacts            81,920
  *     pierced_at_start_rows, pierced_at_end_rows    3,584
  *
  * ---- An answer ----
@@ -504,6 +505,12 @@ uint32_t makhnodri_keep_rows_slices(MAKHNODRI_ROW_LISTS, size_t first, size_t en
                                      size_t list_length, uint8_t *words, size_t words_length, uint64_t told[MAKHNODRI_AT_LEAST(6)]);
 uint32_t makhnodri_keep_near_rows_slices(MAKHNODRI_ROW_LISTS, size_t first, size_t end, uint32_t wanted, uint64_t *list,
                                      size_t list_length, uint8_t *words, size_t words_length, uint64_t told[MAKHNODRI_AT_LEAST(6)]);
+uint32_t makhnodri_keep_contacts_slices(MAKHNODRI_ROW_LISTS, size_t first, size_t end, uint32_t wanted, uint64_t *list,
+                                     size_t list_length, uint8_t *words, size_t words_length, uint32_t *contacts,
+                                     size_t contacts_length, uint64_t told[MAKHNODRI_AT_LEAST(6)]);
+uint32_t makhnodri_keep_near_contacts_slices(MAKHNODRI_ROW_LISTS, size_t first, size_t end, uint32_t wanted, uint64_t *list,
+                                     size_t list_length, uint8_t *words, size_t words_length, uint32_t *contacts,
+                                     size_t contacts_length, uint64_t told[MAKHNODRI_AT_LEAST(6)]);
 uint32_t makhnodri_pierced_at_start_rows_slices(MAKHNODRI_ROW_LISTS, size_t first, size_t end, uint64_t *list, size_t list_length,
                                      uint64_t told[MAKHNODRI_AT_LEAST(1)]);
 uint32_t makhnodri_pierced_at_end_rows_slices(MAKHNODRI_ROW_LISTS, size_t first, size_t end, uint64_t *list, size_t list_length,
@@ -866,6 +873,25 @@ static inline uint32_t makhnodri_keep_near_rows(const makhnodri_mesh *mesh, makh
                                      uint64_t told[MAKHNODRI_AT_LEAST(6)]) {
     return makhnodri_keep_near_rows_slices(MAKHNODRI_ROW_LISTS_OF(mesh, scratch), first, end, wanted, list, list_length, words,
         words_length, told);
+}
+
+/*
+ * And the contact of each hit that is kept: that of entry i begins at contacts[5 * i], as of makhnodri_contact_rows; the rows of pairs that are
+ * kept and not hit stay as they were. 16 stands before 7, whichever words are asked for. Room is the smallest of list_length, words_length and
+ * contacts_length / 5, rounded down, and is needed for those that are kept. What is told is as of makhnodri_keep_rows.
+ */
+static inline uint32_t makhnodri_keep_contacts(const makhnodri_mesh *mesh, makhnodri_scratch *scratch, size_t first, size_t end,
+                                     uint32_t wanted, uint64_t *list, size_t list_length, uint8_t *words, size_t words_length,
+                                     uint32_t *contacts, size_t contacts_length, uint64_t told[MAKHNODRI_AT_LEAST(6)]) {
+    return makhnodri_keep_contacts_slices(MAKHNODRI_ROW_LISTS_OF(mesh, scratch), first, end, wanted, list, list_length, words,
+        words_length, contacts, contacts_length, told);
+}
+
+static inline uint32_t makhnodri_keep_near_contacts(const makhnodri_mesh *mesh, makhnodri_scratch *scratch, size_t first, size_t end,
+                                     uint32_t wanted, uint64_t *list, size_t list_length, uint8_t *words, size_t words_length,
+                                     uint32_t *contacts, size_t contacts_length, uint64_t told[MAKHNODRI_AT_LEAST(6)]) {
+    return makhnodri_keep_near_contacts_slices(MAKHNODRI_ROW_LISTS_OF(mesh, scratch), first, end, wanted, list, list_length, words,
+        words_length, contacts, contacts_length, told);
 }
 
 /*

@@ -36,11 +36,11 @@ static void *room_for(size_t count, size_t size) {
     return room;
 }
 
-/* a sheet of side x side vertices over a bar of two vertices, which stays where it is */
+/* a sheet of side x side vertices over a bar, a triangle that stands upright and stays where it is */
 static void make(void) {
-    vertices = side * side + 2;
+    vertices = side * side + 3;
     positions = room_for(6 * vertices, sizeof *positions);
-    uint32_t *triangles = room_for(6 * (side - 1) * (side - 1), sizeof *triangles), *edges = room_for(6 * side * side + 2, sizeof *edges);
+    uint32_t *triangles = room_for(6 * side * side, sizeof *triangles), *edges = room_for(6 * side * side, sizeof *edges);
     size_t t = 0, e = 0;
     for (size_t y = 0; y < side; y++)
         for (size_t x = 0; x < side; x++) {
@@ -53,7 +53,7 @@ static void make(void) {
             triangles[t++] = v + 1, triangles[t++] = below + 1, triangles[t++] = below;
         }
     uint32_t bar = (uint32_t)(side * side);
-    edges[e++] = bar, edges[e++] = bar + 1;
+    for (uint32_t k = 0; k < 3; k++) triangles[t++] = bar + k, edges[e++] = bar + k, edges[e++] = bar + (k + 1) % 3;
     mesh.positions = positions, mesh.positions_length = 6 * vertices;
     mesh.edges = edges, mesh.edges_length = e, mesh.triangles = triangles, mesh.triangles_length = t;
 }
@@ -62,10 +62,10 @@ static void make(void) {
 static void place(size_t v, int frame, int32_t at[3]) {
     int32_t x = (int32_t)(v % side), y = (int32_t)(v / side), half = (int32_t)side / 2;
     at[0] = STEP * x, at[1] = STEP * y;
-    at[2] = 1000 - FALL * frame + (x - half) * (x - half) + (y - half) * (y - half);
+    at[2] = 1000 - FALL * frame + ((x - half) * (x - half) + (y - half) * (y - half)) * 60 / (int32_t)side;
     if (v < side * side) return;
     at[0] = v == side * side ? -STEP : STEP * (int32_t)side + STEP;
-    at[1] = STEP * half + 33, at[2] = 5;
+    at[1] = STEP * half + 33, at[2] = v < side * side + 2 ? 5 : -2000;
 }
 
 static void set_frame(int frame) {
@@ -98,7 +98,7 @@ static void *judge(void *given) {
 int main(int words, char **word) {
     side = words > 1 ? (size_t)atol(word[1]) : 60;
     size_t threads = words > 2 ? (size_t)atol(word[2]) : 2;
-    if (side < 2 || side > 4000 || threads < 1 || threads > THREADS) return fprintf(stderr, "usage: mesh [SIDE [THREADS]]\n"), 2;
+    if (side < 2 || side > 2600 || threads < 1 || threads > THREADS) return fprintf(stderr, "usage: mesh [SIDE [THREADS]]\n"), 2;
     make();
     static part parts[THREADS];
     size_t rows = makhnodri_row_count(&mesh);

@@ -181,6 +181,10 @@ static void hold_meshes(void) {
     hold_mesh("keep_rows", makhnodri_keep_rows_slices(NO_SCENE, NO_HINTS, boxes, 192, 0, 0, 31, NULL, 0, NULL, 0, told), 0);
     hold_mesh("keep_near_rows, no boxes", makhnodri_keep_near_rows_slices(NO_SCENE, NO_HINTS, NULL, 0, 0, 0, 31, NULL, 0, NULL, 0, told), MAKHNODRI_SHORT_BUFFER);
     hold_mesh("keep_near_rows", makhnodri_keep_near_rows_slices(NO_SCENE, NO_HINTS, boxes, 192, 0, 0, 31, NULL, 0, NULL, 0, told), 0);
+    hold_mesh("keep_contacts, no boxes", makhnodri_keep_contacts_slices(NO_SCENE, NO_HINTS, NULL, 0, 0, 0, 31, NULL, 0, NULL, 0, NULL, 0, told), MAKHNODRI_SHORT_BUFFER);
+    hold_mesh("keep_contacts", makhnodri_keep_contacts_slices(NO_SCENE, NO_HINTS, boxes, 192, 0, 0, 31, NULL, 0, NULL, 0, NULL, 0, told), 0);
+    hold_mesh("keep_near_contacts, no boxes", makhnodri_keep_near_contacts_slices(NO_SCENE, NO_HINTS, NULL, 0, 0, 0, 31, NULL, 0, NULL, 0, NULL, 0, told), MAKHNODRI_SHORT_BUFFER);
+    hold_mesh("keep_near_contacts", makhnodri_keep_near_contacts_slices(NO_SCENE, NO_HINTS, boxes, 192, 0, 0, 31, NULL, 0, NULL, 0, NULL, 0, told), 0);
     for (size_t i = 0; i < 6; i++)
         if (told[i]) wrong = 1, puts("what was kept of no rows");
     hold_mesh("pierced_at_start_rows, no boxes", makhnodri_pierced_at_start_rows_slices(NO_SCENE, NO_HINTS, NULL, 0, 0, 0, NULL, 0, told), MAKHNODRI_SHORT_BUFFER);
@@ -204,6 +208,8 @@ static void hold_meshes(void) {
     hold_mesh("contact_near_rows of a struct", makhnodri_contact_near_rows(&mesh, &scratch, 0, 0, NULL, 0, NULL, 0, NULL, 0, told), 0);
     hold_mesh("keep_rows of a struct", makhnodri_keep_rows(&mesh, &scratch, 0, 0, MAKHNODRI_WANT_HITS, NULL, 0, NULL, 0, told), 0);
     hold_mesh("keep_near_rows of a struct", makhnodri_keep_near_rows(&mesh, &scratch, 0, 0, MAKHNODRI_WANT_HITS, NULL, 0, NULL, 0, told), 0);
+    hold_mesh("keep_contacts of a struct", makhnodri_keep_contacts(&mesh, &scratch, 0, 0, MAKHNODRI_WANT_HITS, NULL, 0, NULL, 0, NULL, 0, told), 0);
+    hold_mesh("keep_near_contacts of a struct", makhnodri_keep_near_contacts(&mesh, &scratch, 0, 0, MAKHNODRI_WANT_HITS, NULL, 0, NULL, 0, NULL, 0, told), 0);
     hold_mesh("pierced_at_start_rows of a struct", makhnodri_pierced_at_start_rows(&mesh, &scratch, 0, 0, NULL, 0, told), 0);
     hold_mesh("pierced_at_end_rows of a struct", makhnodri_pierced_at_end_rows(&mesh, &scratch, 0, 0, NULL, 0, told), 0);
 }

@@ -295,6 +295,12 @@ static void keep_rows(void) {
 static void keep_near_rows(void) {
     makhnodri_keep_near_rows_slices(ROWS, ALL, EVERY_WORD, entries, sizeof entries / sizeof entries[0], words, sizeof words, told_of_a_mesh);
 }
+static void keep_contacts(void) {
+    makhnodri_keep_contacts_slices(ROWS, ALL, EVERY_WORD, entries, sizeof entries / sizeof entries[0], words, sizeof words, contacts, sizeof contacts / sizeof contacts[0], told_of_a_mesh);
+}
+static void keep_near_contacts(void) {
+    makhnodri_keep_near_contacts_slices(ROWS, ALL, EVERY_WORD, entries, sizeof entries / sizeof entries[0], words, sizeof words, contacts, sizeof contacts / sizeof contacts[0], told_of_a_mesh);
+}
 static void pierced_at_start_rows(void) {
     makhnodri_pierced_at_start_rows_slices(ROWS, 0, MAKHNODRI_EDGE_LIMIT, entries, sizeof entries / sizeof entries[0], told_of_a_mesh);
 }
@@ -353,6 +359,8 @@ static const struct {
     {"contact_near_rows", contact_near_rows, 4},
     {"keep_rows", keep_rows, 4},
     {"keep_near_rows", keep_near_rows, 4},
+    {"keep_contacts", keep_contacts, 4},
+    {"keep_near_contacts", keep_near_contacts, 4},
     {"pierced_at_start_rows", pierced_at_start_rows, 4},
     {"pierced_at_end_rows", pierced_at_end_rows, 4},
 };

@@ -19,8 +19,8 @@ struct Cloth {
     std::vector<int32_t> positions;
     std::vector<uint32_t> edges, triangles;
 
-    // a sheet of side x side vertices over a bar of two vertices, which stays where it is
-    explicit Cloth(size_t side) : side(side), positions(6 * (side * side + 2)) {
+    // a sheet of side x side vertices over a bar, a triangle that stands upright and stays where it is
+    explicit Cloth(size_t side) : side(side), positions(6 * (side * side + 3)) {
         for (size_t y = 0; y < side; y++)
             for (size_t x = 0; x < side; x++) {
                 const auto v = static_cast<uint32_t>(side * y + x), below = v + static_cast<uint32_t>(side);
@@ -31,14 +31,17 @@ struct Cloth {
                 triangles.insert(triangles.end(), {v, v + 1, below, v + 1, below + 1, below});
             }
         const auto bar = static_cast<uint32_t>(side * side);
-        edges.insert(edges.end(), {bar, bar + 1});
+        edges.insert(edges.end(), {bar, bar + 1, bar + 1, bar + 2, bar + 2, bar});
+        triangles.insert(triangles.end(), {bar, bar + 1, bar + 2});
     }
 
     // where vertex v stands at the end of a frame; the sheet hangs through in the middle
     std::array<int32_t, 3> place(size_t v, int frame) const {
         const auto x = static_cast<int32_t>(v % side), y = static_cast<int32_t>(v / side), half = static_cast<int32_t>(side) / 2;
-        if (v >= side * side) return {v == side * side ? -STEP : STEP * static_cast<int32_t>(side) + STEP, STEP * half + 33, 5};
-        return {STEP * x, STEP * y, 1000 - FALL * frame + (x - half) * (x - half) + (y - half) * (y - half)};
+        if (v >= side * side)
+            return {v == side * side ? -STEP : STEP * static_cast<int32_t>(side) + STEP, STEP * half + 33, v < side * side + 2 ? 5 : -2000};
+        const int32_t sag = ((x - half) * (x - half) + (y - half) * (y - half)) * 60 / static_cast<int32_t>(side);
+        return {STEP * x, STEP * y, 1000 - FALL * frame + sag};
     }
 
     void set_frame(int frame) {
@@ -90,7 +93,7 @@ struct Part {
 
 int main(int words, char **word) {
     const long side = words > 1 ? std::atol(word[1]) : 60, threads = words > 2 ? std::atol(word[2]) : 2;
-    if (side < 2 || side > 4000 || threads < 1 || threads > 64) return std::fputs("usage: mesh [SIDE [THREADS]]\n", stderr), 2;
+    if (side < 2 || side > 2600 || threads < 1 || threads > 64) return std::fputs("usage: mesh [SIDE [THREADS]]\n", stderr), 2;
     Cloth cloth(static_cast<size_t>(side));
     std::vector<Part> parts(static_cast<size_t>(threads));
     const makhnodri_mesh mesh = cloth.mesh();

@@ -14,7 +14,7 @@ STEP, FRAMES, FALL = 100, 40, 70
 
 
 def cloth(side):
-    """A sheet of side x side vertices over a bar of two vertices, which stays where it is."""
+    """A sheet of side x side vertices over a bar, a triangle that stands upright and stays where it is."""
     edges, triangles = array.array("I"), array.array("I")
     for y in range(side):
         for x in range(side):
@@ -26,7 +26,9 @@ def cloth(side):
             if x + 1 < side and y + 1 < side:
                 edges.extend((v + 1, below))
                 triangles.extend((v, v + 1, below, v + 1, below + 1, below))
-    edges.extend((side * side, side * side + 1))
+    bar = side * side
+    edges.extend((bar, bar + 1, bar + 1, bar + 2, bar + 2, bar))
+    triangles.extend((bar, bar + 1, bar + 2))
     return edges, triangles
 
 
@@ -34,8 +36,8 @@ def place(side, v, frame):
     """Where vertex v stands at the end of a frame; the sheet hangs through in the middle."""
     x, y, half = v % side, v // side, side // 2
     if v >= side * side:
-        return (-STEP if v == side * side else STEP * side + STEP, STEP * half + 33, 5)
-    return STEP * x, STEP * y, 1000 - FALL * frame + (x - half) ** 2 + (y - half) ** 2
+        return -STEP if v == side * side else STEP * side + STEP, STEP * half + 33, 5 if v < side * side + 2 else -2000
+    return STEP * x, STEP * y, 1000 - FALL * frame + ((x - half) ** 2 + (y - half) ** 2) * 60 // side
 
 
 def first_hit(mesh, scratch, first, end):
@@ -49,7 +51,7 @@ def first_hit(mesh, scratch, first, end):
 
 def main(side=60, threads=2):
     edges, triangles = cloth(side)
-    vertices = side * side + 2
+    vertices = side * side + 3
     mesh = makhnodri.Mesh(array.array("i", bytes(24 * vertices)), edges, triangles)
     print(f"{vertices} vertices, {len(edges) // 2} edges, {len(triangles) // 3} triangles")
     scratches = [makhnodri.Scratch() for _ in range(threads)]

@@ -11,11 +11,17 @@ the right type one behind the other, and, where the call writes, may be written 
 arrays, of any number of dimensions). It is lent as it is and never copied. What is no such buffer is a TypeError, one that C would need longer a
 ValueError; a refusal of the library is `Refused`, and no lent number has changed then.
 
+A scene has at most 512 vertices. What is larger is a `Mesh`, of any size: its pairs are asked for by rows, a stretch at a time, by as many threads as
+one likes, each with a `Scratch` of its own.
+
 The library is libmakhnodri.so, which `./makhnodri library` makes: in the folder that MAKHNODRI_LIBRARY names, else in this module's folder, where an
 installed one has it, else in this module's repository, else where the system looks for libraries. What is proved of it, and what is trusted,
 include/makhnodri.h tells; this module is not proved, and is tested. While the library works, other Python threads go on; none may write what is lent
 meanwhile.
 """
+
+# what is stated of a function of the library, its types and its words, has no body: `_calls` makes it
+# mypy: disable-error-code="empty-body"
 
 from __future__ import annotations
 
@@ -81,7 +87,7 @@ class Word(enum.IntEnum):
         return self.name.lower()
 
 
-HIT, MISS, DEGENERATE, TOUCH, APART = Word
+HIT, MISS, DEGENERATE, TOUCH, APART = Word.HIT, Word.MISS, Word.DEGENERATE, Word.TOUCH, Word.APART
 
 
 class Kind(enum.IntEnum):
@@ -94,7 +100,7 @@ class Kind(enum.IntEnum):
         return self.name.lower()
 
 
-PT, EE = Kind
+PT, EE = Kind.PT, Kind.EE
 
 NO, YES = 0, 1
 
@@ -233,7 +239,7 @@ def mesh_entry_second(number: int) -> int:
 class Kept(typing.NamedTuple):
     """What is told of rows of which pairs were kept: how many are kept, how many there are, and how many of all of these have each word."""
 
-    count: int
+    count: int  # type: ignore[assignment]  # and not the method that a tuple has
     listed: int
     hits: int
     misses: int
@@ -445,7 +451,8 @@ class _FixedRead(_Fixed):
 class _Place:
     """A place or a piece, a number from 0 on."""
 
-    c, optional = (ctypes.c_size_t,), False
+    c: typing.Tuple[typing.Any, ...] = (ctypes.c_size_t,)
+    optional = False
 
     def __init__(self, name):
         self.name = name
@@ -461,7 +468,7 @@ class _Lists:
     """A `Scene`: four buffers that are only read."""
 
     name, optional, stated = "scene", False, "Scene"
-    parts = (_Read("positions", _INT32), _Read("edges", _UINT16), _Read("triangles", _UINT16), _Read("seams", _UINT16))
+    parts: typing.Tuple[_Read, ...] = (_Read("positions", _INT32), _Read("edges", _UINT16), _Read("triangles", _UINT16), _Read("seams", _UINT16))
     c = _Read.c * len(parts)
 
     def words(self, given, lent):
@@ -480,7 +487,7 @@ class _MeshLists(_Lists):
     """A `Mesh`: four buffers that are only read."""
 
     name, stated = "mesh", "Mesh"
-    parts = (_Read("positions", _INT32), _Read("edges", _UINT32), _Read("triangles", _UINT32), _Read("seams", _UINT32))
+    parts: typing.Tuple[_Read, ...] = (_Read("positions", _INT32), _Read("edges", _UINT32), _Read("triangles", _UINT32), _Read("seams", _UINT32))
 
     def words(self, given, lent):
         if not isinstance(given, Mesh):
@@ -1000,6 +1007,61 @@ def keep_near_rows(
     """As `keep_rows`, of the near ones."""
 
 
+@_calls_mesh(
+    "keep_contacts_slices",
+    _TOLD_KEPT,
+    _ROWS,
+    _SCRATCH,
+    *_STRETCH,
+    _WANTED,
+    _Write("list", _UINT64),
+    _WORDS,
+    _CONTACTS,
+    _Fixed("told", _UINT64, 6, optional=True),
+)
+def keep_contacts(
+    mesh: Mesh,
+    scratch: Scratch,
+    first: int,
+    end: int,
+    wanted: int,
+    list: WriteableBuffer,
+    words: WriteableBuffer,
+    contacts: WriteableBuffer,
+    told: typing.Optional[WriteableBuffer] = None,
+    /,
+) -> Kept:
+    """As `keep_rows`, and the contact of each hit that is kept: that of entry i begins at contacts[5 * i]. Refused with 16 before 7, whichever words are
+    asked for."""
+
+
+@_calls_mesh(
+    "keep_near_contacts_slices",
+    _TOLD_KEPT,
+    _ROWS,
+    _SCRATCH,
+    *_STRETCH,
+    _WANTED,
+    _Write("list", _UINT64),
+    _WORDS,
+    _CONTACTS,
+    _Fixed("told", _UINT64, 6, optional=True),
+)
+def keep_near_contacts(
+    mesh: Mesh,
+    scratch: Scratch,
+    first: int,
+    end: int,
+    wanted: int,
+    list: WriteableBuffer,
+    words: WriteableBuffer,
+    contacts: WriteableBuffer,
+    told: typing.Optional[WriteableBuffer] = None,
+    /,
+) -> Kept:
+    """As `keep_contacts`, of the near ones."""
+
+
 @_calls_mesh("pierced_at_start_rows_slices", _TOLD_COUNT, _ROWS, _SCRATCH, *_STRETCH, _Write("list", _UINT64), _Fixed("told", _UINT64, 1, optional=True))
 def pierced_at_start_rows(
     mesh: Mesh, scratch: Scratch, first: int, end: int, list: WriteableBuffer, told: typing.Optional[WriteableBuffer] = None, /
@@ -1064,7 +1126,8 @@ class Scene:
     def read(text: ReadableBuffer) -> Scene:
         """The scene of a text (docs/FORMAT.md), a buffer of bytes."""
         buffers, counts = _rooms()
-        read_scene(text, *buffers, counts)
+        positions, edges, triangles, seams = buffers
+        read_scene(text, positions, edges, triangles, seams, counts)
         return scene_in(buffers, counts)
 
     @staticmethod
@@ -1072,7 +1135,8 @@ class Scene:
         """The scene of two OBJ files (docs/FORMAT.md), one for the start and one for the end, buffers of bytes; in hundredths of their unit. A Refused
         tells the file and its line."""
         buffers, counts = _rooms()
-        import_scene(start, end, *buffers, _room(_INT32, BOXES_LENGTH), counts)
+        positions, edges, triangles, seams = buffers
+        import_scene(start, end, positions, edges, triangles, seams, _room(_INT32, BOXES_LENGTH), counts)
         return scene_in(buffers, counts)
 
     def listed(self) -> typing.List[Pair]:
@@ -1259,7 +1323,8 @@ class BoxedScene:
         """Of a text (docs/FORMAT.md), a buffer of bytes, which is read with its boxes."""
         self, (buffers, counts) = cls.__new__(cls), _rooms()
         self._boxes = _room(_INT32, BOXES_LENGTH)
-        read_boxed(text, *buffers, self._boxes, counts)
+        positions, edges, triangles, seams = buffers
+        read_boxed(text, positions, edges, triangles, seams, self._boxes, counts)
         self._scene = scene_in(buffers, counts)
         return self
 
@@ -1271,9 +1336,11 @@ class BoxedScene:
     @property
     def boxes(self) -> memoryview:
         """The boxes of all vertices, then edges, then triangles, six numbers each, the three lows first: a view that may not be written."""
-        scene = self._scene
-        parts = len(scene.positions) // 6 + len(scene.edges) // 2 + len(scene.triangles) // 3
+        parts = self._count("positions", 6) + self._count("edges", 2) + self._count("triangles", 3)
         return memoryview(self._boxes).toreadonly()[: 6 * parts]
+
+    def _count(self, name: str, size: int) -> int:
+        return len(getattr(self._scene, name)) // size
 
     def move_vertex(self, vertex: int, coordinates: _Numbers) -> None:
         """Sets one vertex's six coordinates, start x, y, z, end x, y, z. Refused with 5, 2 or 15, and nothing has changed then."""
@@ -1281,7 +1348,7 @@ class BoxedScene:
 
     def move_sewn(self, vertex: int, coordinates: _Numbers) -> None:
         """Moves a vertex with all that are sewn to it, to the same coordinates, so that no seam comes apart: refused with 5 or 2."""
-        together = [other for other in range(len(self._scene.positions) // 6) if stands_for(self._scene, other) == stands_for(self._scene, vertex)]
+        together = [other for other in range(self._count("positions", 6)) if stands_for(self._scene, other) == stands_for(self._scene, vertex)]
         seams, self._scene.seams = self._scene.seams, None  # boxes do not go by seams
         try:
             for other in (vertex, *together):
@@ -1351,7 +1418,9 @@ def series(text: ReadableBuffer, room: int = REPORT_ROOM) -> Told:
     """What is told of the series of a text (docs/FORMAT.md), a buffer of bytes, where each step's list has so much room."""
     buffers, counts = _rooms()
     entries, log, told = _room(_UINT32, room), _room(_UINT32, LOG_LENGTH), _room(_UINT64, TOLD_LENGTH)
-    count = tell_series(text, *buffers, _room(_INT32, BOXES_LENGTH), entries, counts, log, told)
+    positions, edges, triangles, seams = buffers
+    count = tell_series(text, positions, edges, triangles, seams, _room(_INT32, BOXES_LENGTH), entries, counts, log, told)
     last = scene_in(buffers, counts)
-    hits = [Hit(log[at], Pair.of_entry(log[at + 1])) for at in range(0, 2 * told[0], 2)]
-    return Told(hits, *told[1:], last, [Pair.of_entry(entry) for entry in entries[:count]])
+    logged = [Hit(log[at], Pair.of_entry(log[at + 1])) for at in range(0, 2 * told[0], 2)]
+    later, listed, hits, misses, touches, aparts, first = told[1:]
+    return Told(logged, later, listed, hits, misses, touches, aparts, first, last, [Pair.of_entry(entry) for entry in entries[:count]])

@@ -128,6 +128,37 @@ class Meshes(unittest.TestCase):
         self.assertGreater(min(seen, left), 50)
         self.assertRaises(OverflowError, makhnodri.keep_rows, Mesh(), scratch, 0, 0, 1 << 32, None, None)
 
+    def test_contacts_are_kept_with_their_pairs(self):
+        scratch, wanted, seen = Scratch(), makhnodri.WANT_HITS + makhnodri.WANT_TOUCHES, 0
+        for name, scene in scenes():
+            mesh = mesh_of(scene)
+            try:
+                found = scene.contacts()
+            except Refused as refused:
+                with self.assertRaises(Refused) as again:
+                    makhnodri.keep_contacts(mesh, scratch, 0, mesh.rows, wanted, None, None, None)
+                self.assertEqual((refused.number, again.exception.number), (16, 16), name)
+                continue
+            kept = [(pair, word, contact) for pair, word, contact in found if word in (makhnodri.HIT, makhnodri.TOUCH)]
+            for call in (makhnodri.keep_contacts, makhnodri.keep_near_contacts):
+                entries, words = array.array("Q", [9] * len(kept)), array.array("B", [9] * len(kept))
+                contacts = array.array("I", [9] * 5 * len(kept))
+                told = call(mesh, scratch, 0, mesh.rows, wanted, entries, words, contacts)
+                self.assertEqual((told.count, told.hits), (len(kept), sum(word == makhnodri.HIT for _, word, _ in kept)), name)
+                for place, (pair, word, contact) in enumerate(kept):
+                    row = contacts[5 * place : 5 * place + 5]
+                    self.assertEqual((Pair.of_mesh_entry(entries[place]), words[place]), (pair, word), name)
+                    if contact is None:
+                        self.assertEqual(list(row), [9] * 5, name)
+                    else:
+                        self.assertEqual((row[0], row[1], tuple(row[2 : 2 + len(contact.shares)])), (contact.piece, contact.k, contact.shares), name)
+                        seen += 1
+                if kept:
+                    with self.assertRaises(Refused) as refused:
+                        call(mesh, scratch, 0, mesh.rows, wanted, entries, words, contacts[1:])
+                    self.assertEqual((refused.exception.number, refused.exception.count), (7, len(kept)), name)
+        self.assertGreater(seen, 20)
+
     def test_edges_by_a_certificate(self):
         positions, triangles = sheet(4, 4)[0].positions, sheet(4, 4)[0].triangles
         corners = [tuple(triangles[at : at + 3]) for at in range(0, len(triangles), 3)]

@@ -11,7 +11,7 @@ const STEP: i32 = 100;
 const FRAMES: i32 = 40;
 const FALL: i32 = 70;
 
-/// A sheet of side x side vertices over a bar of two vertices, which stays where it is.
+/// A sheet of side x side vertices over a bar, a triangle that stands upright and stays where it is.
 fn cloth(side: u32) -> (Vec<u32>, Vec<u32>) {
     let (mut edges, mut triangles) = (vec![], vec![]);
     for (y, x) in (0..side).flat_map(|y| (0..side).map(move |x| (y, x))) {
@@ -24,7 +24,9 @@ fn cloth(side: u32) -> (Vec<u32>, Vec<u32>) {
             triangles.extend([v, v + 1, below, v + 1, below + 1, below]);
         }
     }
-    edges.extend([side * side, side * side + 1]);
+    let bar = side * side;
+    edges.extend([bar, bar + 1, bar + 1, bar + 2, bar + 2, bar]);
+    triangles.extend([bar, bar + 1, bar + 2]);
     (edges, triangles)
 }
 
@@ -32,9 +34,10 @@ fn cloth(side: u32) -> (Vec<u32>, Vec<u32>) {
 fn place(side: i32, v: i32, frame: i32) -> [i32; 3] {
     let (x, y, half) = (v % side, v / side, side / 2);
     if v >= side * side {
-        return [if v == side * side { -STEP } else { STEP * side + STEP }, STEP * half + 33, 5];
+        let (x, z) = (if v == side * side { -STEP } else { STEP * side + STEP }, if v < side * side + 2 { 5 } else { -2000 });
+        return [x, STEP * half + 33, z];
     }
-    [STEP * x, STEP * y, 1000 - FALL * frame + (x - half) * (x - half) + (y - half) * (y - half)]
+    [STEP * x, STEP * y, 1000 - FALL * frame + ((x - half) * (x - half) + (y - half) * (y - half)) * 60 / side]
 }
 
 /// What a thread works in, kept from frame to frame.
@@ -73,7 +76,7 @@ fn main() -> Result<(), Box<dyn std::error::Error>> {
     let mut words = std::env::args().skip(1).map(|word| word.parse::<u32>());
     let (side, threads) = (words.next().unwrap_or(Ok(60))?, words.next().unwrap_or(Ok(2))? as usize);
     let (edges, triangles) = cloth(side);
-    let vertices = (side * side + 2) as i32;
+    let vertices = (side * side + 3) as i32;
     println!("{vertices} vertices, {} edges, {} triangles", edges.len() / 2, triangles.len() / 3);
     let mut mesh = Mesh::new(vec![], edges, triangles);
     let mut parts: Vec<Part> = (0..threads).map(|_| Part::default()).collect();

@@ -40,7 +40,10 @@
 //!
 //! A [`BoxedScene`] keeps the boxes of its parts, for a program that drags one vertex after the other.
 //!
-//! A [`Mesh`] is a scene of any size: its list is asked for by rows, a stretch at a time, by as many threads as one likes.
+//! A [`Scene`] has at most 512 vertices, 1,024 edges and 512 triangles; what is larger is a [`Mesh`], of any size. Its list is asked for by rows, one
+//! for each vertex and each edge, a stretch at a time, by as many threads as one likes, each with a [`Scratch`] of its own; near rows,
+//! [`RowPairs::Near`], have every hit and every touch. The example `mesh` of this crate judges cloth that falls, frame after frame, and freezes at the
+//! first contact.
 //!
 //! A pair's two places are a vertex and a triangle, or two edges, each counted from 0 in its own kind: pt 3 0 is vertex 3 and
 //! triangle 0.

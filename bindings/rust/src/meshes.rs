@@ -259,6 +259,11 @@ fn counted(number: u32, told: [u64; 1]) -> Result<u64, RowsRefusal> {
     told_of(number, told).map(|[count]| count)
 }
 
+fn kept(number: u32, told: [u64; 6]) -> Result<KeptRows, RowsRefusal> {
+    let [count, listed, hits, misses, touches, aparts] = told_of(number, told)?;
+    Ok(KeptRows { count, listed, hits, misses, touches, aparts })
+}
+
 /// Each call checks the whole mesh first: 1, 2, 3, 15, 4, with [`PART_LIMIT`](crate::PART_LIMIT) for its sizes. After a refusal nothing lent has
 /// changed.
 impl Mesh<'_> {
@@ -383,8 +388,45 @@ impl Mesh<'_> {
             RowPairs::Listed => ask_rows!(self, scratch, makhnodri_keep_rows_slices, a, b, m, l.0, l.1, w.0, w.1, t),
             RowPairs::Near => ask_rows!(self, scratch, makhnodri_keep_near_rows_slices, a, b, m, l.0, l.1, w.0, w.1, t),
         };
-        let [count, listed, hits, misses, touches, aparts] = told_of(number, told)?;
-        Ok(KeptRows { count, listed, hits, misses, touches, aparts })
+        kept(number, told)
+    }
+
+    /// And the contact of each hit that is kept: that of entry i begins at `contacts[5 * i]`, as of [`Mesh::contact_rows`] of those pairs alone.
+    /// 16 comes before 7, whichever words are asked for.
+    ///
+    /// ```
+    /// use makhnodri::{Mesh, RowPairs, Scratch, Wanted};
+    ///
+    /// let positions = [0, 0, 0, 0, 0, 0, 4, 0, 0, 4, 0, 0, 0, 4, 0, 0, 4, 0, 1, 1, 1, 1, 1, -1];
+    /// let mesh = Mesh::new(&positions, &[], &[0, 1, 2]);
+    /// let (wanted, rows) = (Wanted { hits: true, ..Wanted::default() }, 0..mesh.row_count());
+    /// let (mut list, mut words, mut contact) = ([0; 1], [0; 1], [0; 5]);
+    /// let kept = mesh.keep_contacts(&mut Scratch::default(), RowPairs::Near, rows, wanted, &mut list, &mut words, &mut contact).unwrap();
+    /// assert_eq!((kept.count, contact[1]), (1, 1 << 19));
+    /// ```
+    #[allow(clippy::too_many_arguments)]
+    pub fn keep_contacts(
+        &self,
+        scratch: &mut Scratch,
+        which: RowPairs,
+        rows: Range<usize>,
+        wanted: Wanted,
+        list: &mut [u64],
+        words: &mut [u8],
+        contacts: &mut [u32],
+    ) -> Result<KeptRows, RowsRefusal> {
+        let (a, b, m, mut told) = (rows.start, rows.end, wanted.mask(), [0; 6]);
+        let (l, w) = ((list.as_mut_ptr(), list.len()), (words.as_mut_ptr(), words.len()));
+        let (c, t) = ((contacts.as_mut_ptr(), contacts.len()), told.as_mut_ptr());
+        let number = match which {
+            RowPairs::Listed => {
+                ask_rows!(self, scratch, makhnodri_keep_contacts_slices, a, b, m, l.0, l.1, w.0, w.1, c.0, c.1, t)
+            }
+            RowPairs::Near => {
+                ask_rows!(self, scratch, makhnodri_keep_near_contacts_slices, a, b, m, l.0, l.1, w.0, w.1, c.0, c.1, t)
+            }
+        };
+        kept(number, told)
     }
 
     /// The edges that are through a triangle at the start: an entry for each such edge and triangle, by edge and then by triangle. Rows are the

@@ -22,16 +22,27 @@ fn kind_of(which: RowPairs) -> lent::RowPairs {
     }
 }
 
-/// The entries and the words of a stretch, by the independent program.
-fn wanted(scene: &scene::Scene, which: RowPairs, rows: [usize; 2]) -> (Vec<u64>, Vec<u8>) {
+/// What a call over rows answers and leaves, by the independent program, with room for 40,000 pairs.
+fn independent(scene: &scene::Scene, call: Call, asked: [u64; 3]) -> (u64, Lent) {
     let mut lent = Lent::of_scene(scene);
     (lent.table, lent.places, lent.boxes) = (vec![0; lent.table_room()], vec![0; lent.place_room()], vec![0; lent.box_room()]);
-    (lent.list, lent.words, lent.told) = (vec![0; 40_000], vec![0; 40_000], vec![0]);
-    let ask = Ask { call: Call::Settle(kind_of(which)), asked: [rows[0] as u64, rows[1] as u64, 0], lent };
-    let (number, left) = Answering::default().answer(&ask, Wrong::Nothing);
+    (lent.list, lent.words, lent.told) = (vec![0; 40_000], vec![0; 40_000], vec![0; call.told()]);
+    lent.contacts = vec![7; if call.finds_contacts() { 200_000 } else { 0 }];
+    Answering::default().answer(&Ask { call, asked, lent }, Wrong::Nothing)
+}
+
+/// The entries and the words of a stretch, by the independent program.
+fn wanted(scene: &scene::Scene, which: RowPairs, rows: [usize; 2]) -> (Vec<u64>, Vec<u8>) {
+    let (number, left) = independent(scene, Call::Settle(kind_of(which)), [rows[0] as u64, rows[1] as u64, 0]);
     assert_eq!(number, 0);
     let count = left.told[0] as usize;
     (left.list[..count].to_vec(), left.words[..count].to_vec())
+}
+
+/// The four words by the bits of a number.
+fn words_of(mask: u64) -> Wanted {
+    let asked = |bit: u64| mask >> bit & 1 == 1;
+    Wanted { hits: asked(0), misses: asked(1), touches: asked(2), aparts: asked(3) }
 }
 
 /// In any cut, with an order or without: the same rows.
@@ -66,9 +77,7 @@ fn kept_rows_are_those_of_the_independent_program() {
     let (mut scratch, mut kept_some, mut left_some) = (Scratch::default(), 0, 0);
     for seed in 0..SEEDS {
         let scene = drawn(seed);
-        let (mesh, mask) = (mesh_of(&scene), seed % 16);
-        let asked = |bit: u64| mask >> bit & 1 == 1;
-        let asked_for = Wanted { hits: asked(0), misses: asked(1), touches: asked(2), aparts: asked(3) };
+        let (mesh, asked_for) = (mesh_of(&scene), words_of(seed % 16));
         for which in [RowPairs::Listed, RowPairs::Near] {
             let rows = mesh.row_count();
             let (entries, bytes) = wanted(&scene, which, [0, rows]);
@@ -92,6 +101,41 @@ fn kept_rows_are_those_of_the_independent_program() {
         }
     }
     assert!(kept_some > 100 && left_some > 100);
+}
+
+/// By every mask: the kept pairs, and in its row the contact of each hit among them; 16 where a coordinate is beyond the old range, before 7.
+#[test]
+fn kept_contacts_are_those_of_the_independent_program() {
+    let (mut scratch, mut rows_left, mut beyond) = (Scratch::default(), 0, 0);
+    for seed in 0..SEEDS {
+        let scene = drawn(seed);
+        let (mesh, asked_for) = (mesh_of(&scene), words_of(seed % 16));
+        for which in [RowPairs::Listed, RowPairs::Near] {
+            let rows = mesh.row_count();
+            let (number, left) =
+                independent(&scene, Call::KeepContacts(kind_of(which)), [0, rows as u64, asked_for.mask() as u64]);
+            let count = if number == 0 { left.told[0] as usize } else { 3 };
+            let (mut list, mut words, mut contacts) = (vec![0; count], vec![0; count], vec![7; CONTACT_LENGTH * count]);
+            let told = mesh.keep_contacts(&mut scratch, which, 0..rows, asked_for, &mut list, &mut words, &mut contacts);
+            if number > 0 {
+                assert_eq!(told, Err(RowsRefusal::Mesh(Refusal::BeyondOldRange)), "seed {seed}");
+                assert!(list == [0; 3] && words == [0; 3] && contacts == [7; 3 * CONTACT_LENGTH]);
+                beyond += 1;
+                continue;
+            }
+            let KeptRows { count: kept, listed, hits, misses, touches, aparts } = told.unwrap();
+            assert_eq!([kept, listed, hits, misses, touches, aparts], left.told[..], "seed {seed}");
+            assert_eq!((&list[..], &words[..]), (&left.list[..count], &left.words[..count]), "seed {seed}");
+            assert_eq!(contacts, left.contacts[..CONTACT_LENGTH * count], "seed {seed}");
+            rows_left += contacts.chunks_exact(CONTACT_LENGTH).filter(|row| **row != [7; CONTACT_LENGTH]).count();
+            if count > 0 {
+                let short = &mut contacts[1..];
+                let refused = mesh.keep_contacts(&mut scratch, which, 0..rows, asked_for, &mut list, &mut words, short);
+                assert_eq!(refused, Err(RowsRefusal::NoRoom { needed: count as u64 }));
+            }
+        }
+    }
+    assert!(rows_left > 50 && beyond > 0, "{rows_left} rows, {beyond} refused");
 }
 
 fn order(random: &mut Random, parts: usize) -> Vec<u32> {

@@ -43,11 +43,6 @@ pub fn calls() -> Vec<Call> {
     out
 }
 
-/// Those that the library has for C.
-pub fn exported() -> Vec<Call> {
-    calls().into_iter().filter(|call| !matches!(call, KeepContacts(_))).collect()
-}
-
 impl Call {
     /// Whether it goes over a stretch of rows.
     pub fn takes_rows(self) -> bool {

@@ -3,7 +3,7 @@
 use super::change::{damage, Damage};
 use super::question::*;
 use crate::mesh::answering::Answering;
-use crate::mesh::lent::{self as mesh, exported, Ask, RowPairs};
+use crate::mesh::lent::{self as mesh, Ask, RowPairs};
 use crate::mesh::making;
 use crate::mesh::wrong::{Wrong, ALL};
 use crate::scene::refusal::*;
@@ -12,7 +12,7 @@ use crate::scene::VERTEX_LIMIT;
 fn questions(asks: Vec<Ask>) -> Vec<Question> {
     let asked =
         |Ask { call, asked, lent }: Ask| Question { call: Call::Mesh(call), asked, lent: Lent { mesh: lent, ..Lent::default() } };
-    asks.into_iter().filter(|ask| exported().contains(&ask.call)).map(asked).collect()
+    asks.into_iter().map(asked).collect()
 }
 
 pub fn fixed() -> Vec<Question> {
@@ -46,7 +46,7 @@ fn refusals(call: mesh::Call) -> Vec<u64> {
 
 pub fn sorts() -> Vec<String> {
     let mut out = Vec::new();
-    for call in exported() {
+    for call in mesh::calls() {
         let name = call.name();
         let mut add = |sort: &str| out.push(format!("{name}: {sort}"));
         // a mesh alone is harmed by the calls over its rows
@@ -195,7 +195,7 @@ pub fn sorts_of(question: &Question, answer: &Answer) -> Vec<String> {
 // ---- wrong programs
 
 /// Those that show in the calls that the library has.
-const SHOWN: [Wrong; 26] = [
+const SHOWN: [Wrong; 27] = [
     Wrong::FarWhereEqual,
     Wrong::FarAtTheStart,
     Wrong::NearIsListed,
@@ -222,6 +222,7 @@ const SHOWN: [Wrong; 26] = [
     Wrong::ListedIsKept,
     Wrong::RoomForAll,
     Wrong::KeptInPlace,
+    Wrong::RowsInPlace,
 ];
 
 pub fn damages() -> Vec<Damage> {

@@ -91,19 +91,14 @@ pub fn calls() -> Vec<Call> {
     out.extend(STORED_CALLS);
     out.extend([Call::ReadBoxed, Call::ImportScene, Call::TellSeries]);
     out.extend([Time::Start, Time::End].map(Call::Pierced));
-    out.extend(mesh::exported().into_iter().map(Call::Mesh));
+    out.extend(mesh::calls().into_iter().map(Call::Mesh));
     out
 }
 
 impl Call {
-    /// As driver.c has it: the calls over meshes stand behind the others.
+    /// As driver.c has it.
     fn number(self) -> u64 {
-        let others = calls().iter().filter(|call| !matches!(call, Call::Mesh(_))).count();
-        let place = match self {
-            Call::Mesh(own) => mesh::calls().iter().position(|&call| call == own).map(|place| others + place),
-            _ => calls().iter().position(|&call| call == self),
-        };
-        place.expect("every call has its number") as u64
+        calls().iter().position(|&call| call == self).expect("every call has its number") as u64
     }
 
     pub fn asked(self) -> Option<Asked> {

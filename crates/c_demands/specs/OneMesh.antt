@@ -15,7 +15,7 @@ use Rattle.meaning.specs.Pierced.{piercedSays, PiercedDecided}
 use Rattle.meaning.specs.Mesh.{MeshAccepted}
 use Rattle.meaning.specs.MeshEdges.{edgesSay, EdgesChecked}
 use Rattle.meaning.specs.MeshRows.{Lent, rowCount, rowChecks, rowsIn, meshEntries, RowsCounted, RowsListed, RowsSettled, RowsContacts}
-use Rattle.meaning.specs.MeshRows.{kept, keptTold, keptSays, RowsKept}
+use Rattle.meaning.specs.MeshRows.{kept, keptTold, keptSays, RowsKept, ContactsKept}
 use Rattle.meaning.specs.PiercedRows.{PiercedListed}
 use Rattle.meaning.specs.MeshNumbers.{refusalOf, countLeft, keptLeft, edgesLeft, Left}
 use Rattle.meaning.specs.declared.Frame.{Frame}
@@ -23,11 +23,12 @@ use Rattle.meaning.specs.declared.KeptRows.{KeptRows}
 use Rattle.meaning.specs.declared.ListAnswer.{ListAnswer}
 use Rattle.meaning.specs.declared.RowPairs.{RowPairs}
 use Rattle.meaning.specs.declared.SceneAnswer.{SceneAnswer}
+use Rattle.meaning.specs.declared.Settled.{Settled}
 use Rattle.meaning.specs.declared.Wanted.{Wanted}
 use Rattle.meaning.specs.WholeContacts.{rangeCheck, contactRoom, rowsAfter, wordOf}
 use Rattle.meaning.specs.declared.WholeContact.{WholeContact}
 use Rattle.answers.specs.Answering.{one-answer}
-use Rattle.contact_entries.specs.Listed.{all-met-one}
+use Rattle.contact_entries.specs.Listed.{contactsOf, all-met-one}
 use Rattle.list_words.specs.OneResult.{all-judged-one}
 use Rattle.mesh_lent.specs.Answering.{one-accepted}
 use Rattle.mesh_edges.specs.Saying.{one-edges-answer}
@@ -128,6 +129,25 @@ one-rows-kept w m s l first end o o′ o″ b b′ b″ t t′ t″ r r′ p q =
       one-left p q same,
       p .right .list ∙ (λ i. leaves (same i) (meshEntries (kept m (words i) (rowsIn w s first end))) o) ∙ sym (q .right .list),
       p .right .bytes ∙ (λ i. leaves (same i) (map byteOf (kept m (words i) (words i))) b) ∙ sym (q .right .bytes),
+    )
+
+pub one-contacts-kept : (w : RowPairs) (m : Wanted) (s : Scene) (l : Lent) (first end : ℕ) (o o′ o″ b b′ b″ c c′ c″ t t′ t″ : List ℕ) (r r′ : ℕ)
+    → Left keptSays keptLeft (ContactsKept w m s l first end o o′ b b′ c c′) t t′ r
+    → Left keptSays keptLeft (ContactsKept w m s l first end o o″ b b″ c c″) t t″ r′
+    → ((r ≡ r′) × (t′ ≡ t″)) × (o′ ≡ o″) × (b′ ≡ b″) × (c′ ≡ c″)
+one-contacts-kept w m s l first end o o′ o″ b b′ b″ c c′ c″ t t′ t″ r r′ p q =
+    let words : p .right .words ≡ q .right .words =
+    all-judged-one s (rowsIn w s first end) (p .right .words) (q .right .words) (p .right .right) (q .right .right) in
+    let same : keptSays (p .answer) ≡ keptSays (q .answer) =
+    one-kept-said (keptTold m (q .right .words)) _ (keptSays (p .answer)) (keptSays (q .answer)) (rw words at (p .right .answer)) (q .right .answer) in
+    let met : p .right .contacts ≡ q .right .contacts =
+    all-met-one s (kept m (p .right .words) (rowsIn w s first end)) (p .right .contacts) (p .right .met)
+    ∙ ap (λ (ws : List Settled). contactsOf s (kept m ws (rowsIn w s first end))) words
+    ∙ sym (all-met-one s (kept m (q .right .words) (rowsIn w s first end)) (q .right .contacts) (q .right .met)) in (
+      one-left p q same,
+      p .right .list ∙ (λ i. leaves (same i) (meshEntries (kept m (words i) (rowsIn w s first end))) o) ∙ sym (q .right .list),
+      p .right .bytes ∙ (λ i. leaves (same i) (map byteOf (kept m (words i) (words i))) b) ∙ sym (q .right .bytes),
+      p .right .rows ∙ (λ i. rowsAfter (same i) (met i) c) ∙ sym (q .right .rows),
     )
 
 pub one-pierced-rows : (f : Frame) (s : Scene) (l : Lent) (first end : ℕ) (o o′ o″ t t′ t″ : List ℕ) (r r′ : ℕ)

@@ -8,7 +8,7 @@ ghost use Rattle.meaning.specs.Refusals.{sceneSays};
 ghost use Rattle.meaning.specs.List.{listSays};
 ghost use Rattle.meaning.specs.Mesh.{MeshAccepted};
 ghost use Rattle.meaning.specs.MeshEdges.{edgesSay, EdgesChecked};
-ghost use Rattle.meaning.specs.MeshRows.{lentAtEntry, keptSays, RowsCounted, RowsListed, RowsSettled, RowsContacts, RowsKept};
+ghost use Rattle.meaning.specs.MeshRows.{lentAtEntry, keptSays, RowsCounted, RowsListed, RowsSettled, RowsContacts, RowsKept, ContactsKept};
 ghost use Rattle.meaning.specs.PiercedRows.{PiercedListed};
 ghost use Rattle.meaning.specs.MeshNumbers.{refusalOf, countLeft, keptLeft, edgesLeft, wantedBy, Left};
 ghost use Rattle.meaning.specs.Numbers.{Numbered};
@@ -324,8 +324,8 @@ pub extern "C" fn makhnodri_contact_rows_slices(
     told: &mut [u64; 1],
 ) -> u32
     ensures { λ r. ⌜ Left listSays countLeft (RowsContacts Listed (sceneAtEntry positions edges triangles seams)
-        (lentAtEntry «edge_order» «triangle_order» table places boxes) first end (atEntry list) (atExit list) (atEntry words) (atExit words) (atEntry contacts) (atExit contacts))
-        (atEntry told) (atExit told) r ⌝ }
+        (lentAtEntry «edge_order» «triangle_order» table places boxes) first end (atEntry list) (atExit list) (atEntry words) (atExit words)
+        (atEntry contacts) (atExit contacts)) (atEntry told) (atExit told) r ⌝ }
 {
     let answer = mesh_met::contact_rows(
         positions,
@@ -367,8 +367,8 @@ pub extern "C" fn makhnodri_contact_near_rows_slices(
     told: &mut [u64; 1],
 ) -> u32
     ensures { λ r. ⌜ Left listSays countLeft (RowsContacts Near (sceneAtEntry positions edges triangles seams)
-        (lentAtEntry «edge_order» «triangle_order» table places boxes) first end (atEntry list) (atExit list) (atEntry words) (atExit words) (atEntry contacts) (atExit contacts))
-        (atEntry told) (atExit told) r ⌝ }
+        (lentAtEntry «edge_order» «triangle_order» table places boxes) first end (atEntry list) (atExit list) (atEntry words) (atExit words)
+        (atEntry contacts) (atExit contacts)) (atEntry told) (atExit told) r ⌝ }
 {
     let answer = mesh_met::contact_rows(
         positions,
@@ -472,6 +472,96 @@ pub extern "C" fn makhnodri_keep_near_rows_slices(
         end,
         list,
         words,
+    );
+    tell_kept(told, answer)
+}
+
+// Of the pairs of the rows those whose words are asked for, with the contact of each hit among them in its row, and the totals of all.
+#[no_mangle]
+pub extern "C" fn makhnodri_keep_contacts_slices(
+    positions: &[i32],
+    edges: &[u32],
+    triangles: &[u32],
+    seams: &[u32],
+    edge_order: &[u32],
+    triangle_order: &[u32],
+    table: &mut [u32],
+    places: &mut [u32],
+    boxes: &mut [i32],
+    first: usize,
+    end: usize,
+    wanted: u32,
+    list: &mut [u64],
+    words: &mut [u8],
+    contacts: &mut [u32],
+    told: &mut [u64; 6],
+) -> u32
+    ensures { λ r. ⌜ Left keptSays keptLeft (ContactsKept Listed (wantedBy wanted) (sceneAtEntry positions edges triangles seams)
+        (lentAtEntry «edge_order» «triangle_order» table places boxes) first end (atEntry list) (atExit list) (atEntry words) (atExit words)
+        (atEntry contacts) (atExit contacts)) (atEntry told) (atExit told) r ⌝ }
+{
+    let answer = mesh_met_kept::keep_contacts(
+        positions,
+        edges,
+        triangles,
+        seams,
+        edge_order,
+        triangle_order,
+        table,
+        places,
+        boxes,
+        RowPairs::Listed,
+        wanted_by(wanted),
+        first,
+        end,
+        list,
+        words,
+        contacts,
+    );
+    tell_kept(told, answer)
+}
+
+// The same of the near ones.
+#[no_mangle]
+pub extern "C" fn makhnodri_keep_near_contacts_slices(
+    positions: &[i32],
+    edges: &[u32],
+    triangles: &[u32],
+    seams: &[u32],
+    edge_order: &[u32],
+    triangle_order: &[u32],
+    table: &mut [u32],
+    places: &mut [u32],
+    boxes: &mut [i32],
+    first: usize,
+    end: usize,
+    wanted: u32,
+    list: &mut [u64],
+    words: &mut [u8],
+    contacts: &mut [u32],
+    told: &mut [u64; 6],
+) -> u32
+    ensures { λ r. ⌜ Left keptSays keptLeft (ContactsKept Near (wantedBy wanted) (sceneAtEntry positions edges triangles seams)
+        (lentAtEntry «edge_order» «triangle_order» table places boxes) first end (atEntry list) (atExit list) (atEntry words) (atExit words)
+        (atEntry contacts) (atExit contacts)) (atEntry told) (atExit told) r ⌝ }
+{
+    let answer = mesh_met_kept::keep_contacts(
+        positions,
+        edges,
+        triangles,
+        seams,
+        edge_order,
+        triangle_order,
+        table,
+        places,
+        boxes,
+        RowPairs::Near,
+        wanted_by(wanted),
+        first,
+        end,
+        list,
+        words,
+        contacts,
     );
     tell_kept(told, answer)
 }

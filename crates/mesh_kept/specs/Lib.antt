@@ -1,4 +1,2 @@
--- Totals of words, and what is kept of a list by its words.
+-- The tally of words one behind the other.
 pub mod Totals
-pub mod Kept
-pub mod KeptEntries

@@ -15,7 +15,7 @@ use Rattle.meaning.specs.declared.Refusal.the-variants.{NoRoom}
 use Rattle.meaning.specs.declared.ListAnswer as ListAnswers
 use Rattle.meaning.specs.declared.ListAnswer.{ListAnswer}
 use Rattle.answers.specs.Answering.{refuses, lets-pass, gives}
-use Rattle.mesh_entries.specs.Entering.{Entered, entered-wrote}
+use Rattle.mesh_entries.specs.Entering.{Entered, entered-none, entered-wrote}
 use Rattle.through_laws.specs.Listing.{entriesOf, countOf, entries-count, rowsOf, rows-entries}
 
 -- how many of the rows' are pierced
@@ -64,3 +64,16 @@ module _ (f : Frame) (s : Scene) (first end : ℕ) where
               wrote-front (entered-wrote (omega arith) wide w)
               ∙ ap (λ (l : List ℕ). written l o) (rows-entries f s first end);
         }
+
+    -- where there is none, nothing is written
+    pub through-none : n ≡ 0 → room ≤ length o
+        → ThroughListed (roomAsked f s first end room) f s first end o o (ListAnswers.the-variants.Listed (record { count = n }))
+    through-none e wide =
+        let short : length (rowsOf f s first end) ≡ 0 =
+        omega (arith, counted, e, entries-count f s (throughRows f s first end), ap length (rows-entries f s first end)) in
+        let none : rowsOf f s first end ≡ [] = nothing (rowsOf f s first end) short in
+        through-listed {m = 0} (omega arith) wide (rw none (entered-none room o 0))
+      where
+        nothing : (l : List ℕ) → length l ≡ 0 → l ≡ []
+        nothing [] h = refl
+        nothing (x ∷ l) h = absurd (omega (arith, h))

@@ -55,7 +55,7 @@ fn count_grown(
     )
 }
 
-// Counted first, and walked again where there is room.
+// Counted first, and walked again where there is room and something to write: mostly nothing is pierced.
 fn list_grown(
     positions: &[i32],
     edges: &[u32],
@@ -91,6 +91,9 @@ fn list_grown(
     );
     if room < count {
         return ListAnswer::Refused(Refusal::NoRoom, count);
+    }
+    if count == 0 {
+        return ListAnswer::Listed(Made { count });
     }
     walk_edges(
         positions,

@@ -16,9 +16,7 @@ use Rattle.meaning.specs.Mesh.{tableRoom, MeshAccepted}
 use Rattle.meaning.specs.MeshRows.{Lent, noOrder, rowCount, rowsIn, meshEntries, RowsCounted, RowsListed, RowsSettled, RowsContacts}
 use Rattle.meaning.specs.MeshRows.{kept, keptTold, keptSays, RowsKept, ContactsKept}
 use Rattle.meaning.specs.MeshEdges.{EdgesTold, edgesSay, EdgesAre, EdgesChecked, edgesChecks}
-use Rattle.meaning.specs.PiercedRows.{throughNumber, throughRows, yesOf, PiercedListed}
 use Rattle.meaning.specs.declared.EdgesAnswer.{EdgesAnswer}
-use Rattle.meaning.specs.declared.Frame.{Frame}
 use Rattle.meaning.specs.declared.KeptAnswer.{KeptAnswer}
 use Rattle.meaning.specs.declared.KeptRows.{KeptRows}
 use Rattle.meaning.specs.declared.ListAnswer.{ListAnswer}
@@ -185,17 +183,3 @@ module _ (w : RowPairs) (m : Wanted) (s : Scene) (l : Lent) (first end : ℕ) (w
           p .rows ∙ ap (λ (x : Outcome KeptRows). rowsAfter x (p .contacts) c) e,
         );
       }
-
--- ---- the edges that are through a triangle: row i is edge i's
-
-pub demand1-pierced : (f : Frame) (s : Scene) (l : Lent) (first end : ℕ) (o o′ : List ℕ) (r : ListAnswer) → (p : PiercedListed f s l first end o o′ r)
-    → AsDemanded
-    (RoomTable (Equals (length (yesOf (p .answers) (p .answers)))) s l (edgeCount s) first end (length o) (length (yesOf (p .answers) (p .answers))))
-    (o′ ≡ o)
-    (listSays r)
-demand1-pierced f s l first end o o′ r p =
-    let n = length (yesOf (p .answers) (p .answers)) in
-    record {
-      table = room-table (Equals n) (equals-one n) s l (edgeCount s) first end (listSays r) (length o) n (p .answer);
-      unchanged = λ m c e. left-alone e (map throughNumber (yesOf (p .answers) (throughRows f s first end))) (p .list);
-    }

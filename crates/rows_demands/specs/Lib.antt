@@ -5,10 +5,14 @@ pub mod Refused
 pub mod Demand1
 -- two results are one
 pub mod OneResult
+-- an order that is taken changes nothing
+pub mod AnyLent
 -- what a stretch of rows holds
 pub mod Stretches
 -- demand 2
 pub mod Demand2
+-- after a yes of check_edges: the list has the ee pairs of all sides
+pub mod AllSides
 -- the pairs whose words are asked for; stretches joined
 pub mod Kept
 -- demand 3
@@ -19,3 +23,5 @@ pub mod NearRows
 pub mod AsScene
 -- each promise shown of something
 pub mod Shown
+-- and of two triangles, their sides and orders of their edges
+pub mod ShownSides
