@@ -19,16 +19,16 @@ fn some_trials() -> impl Iterator<Item = Trial> {
     fixed().into_iter().chain((0..42).flat_map(seeded))
 }
 
-/// What crates/obj_cases must print of the same pairs was written by hand.
+/// What the proved reader must answer for the same pairs was written by hand.
 #[test]
 fn the_cases_of_the_proved_reader() {
-    let printed = std::fs::read_to_string(concat!(env!("CARGO_MANIFEST_DIR"), "/../crates/obj_cases/stdout")).unwrap();
+    let printed = std::fs::read_to_string(concat!(env!("CARGO_MANIFEST_DIR"), "/../bindings/tests/cases/imports.told")).unwrap();
     let lines: Vec<(&str, &str)> = printed.lines().filter_map(|line| line.split_once('\t')).collect();
     let cases = cases();
     for case in &cases {
         let own = match import(&case.start, &case.end) {
             Ok(scene) => format!("read\t{}\t{}\t{}\t0", scene.vertices.len(), scene.edges.len(), scene.triangles.len()),
-            // that program has no third field where there is no line
+            // there the third field is missing where there is no line
             Err(Refused { number: 14, third: 0, file: None }) => "refused\t14".into(),
             Err(refused) => refused_line(refused).trim_end().into(),
         };

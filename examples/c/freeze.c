@@ -41,7 +41,9 @@ static double place(uint32_t entry, const uint32_t *contact, int axis) {
     return (1 - time) * at(low, axis, 0) + (time - share) * at(low, axis, 1) + share * at(high, axis, 1);
 }
 
-int main(void) {
+int main(int argc, char **argv) {
+    (void)argv;
+    if (argc != 1) return fprintf(stderr, "usage: freeze < SCENE\n"), 2;
     size_t length = fread(text, 1, sizeof text, stdin);
     if (refused(makhnodri_read_scene(text, length, &buffers, &scene))) return 1;
     makhnodri_answer count = makhnodri_contact_scene(&scene, list, MAKHNODRI_REPORT_ROOM, words, MAKHNODRI_REPORT_ROOM, contacts,

@@ -29,7 +29,9 @@ static const char *word(makhnodri_answer answer) {
     return makhnodri_refusal(answer) ? "refused" : makhnodri_word(makhnodri_value(answer));
 }
 
-int main(void) {
+int main(int argc, char **argv) {
+    (void)argv;
+    if (argc != 1) return fprintf(stderr, "usage: scene < SCENE\n"), 2;
     makhnodri_scene scene = {0};
     size_t text_length = fread(text, 1, sizeof text, stdin);
     makhnodri_answer read = makhnodri_read_scene(text, text_length, &buffers, &scene);

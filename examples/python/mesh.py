@@ -70,4 +70,8 @@ def main(side=60, threads=2):
 
 
 if __name__ == "__main__":
-    main(*map(int, sys.argv[1:]))
+    words = sys.argv[1:]
+    if len(words) > 2 or not all(word.isdecimal() and int(word) > least for word, least in zip(words, (1, 0))):
+        print("usage: mesh.py [SIDE [THREADS]]", file=sys.stderr)
+        sys.exit(2)
+    main(*map(int, words))

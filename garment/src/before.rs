@@ -13,6 +13,11 @@ pub fn of_mesh(mesh: &Mesh, sewn: bool) -> Vec<String> {
     [nothing(mesh), still(mesh), unsewn(mesh, sewn), move_of(mesh)].into_iter().flatten().collect()
 }
 
+/// The same of one frame, which is a mesh at rest.
+pub fn of_frame(mesh: &Mesh, sewn: bool) -> Vec<String> {
+    [nothing(mesh), unsewn(mesh, sewn)].into_iter().flatten().collect()
+}
+
 /// No report of nothing passes for one of cloth that is clean.
 fn nothing(mesh: &Mesh) -> Option<String> {
     let words = "there are no faces, and so no pair: this report speaks of no cloth; export the faces too";
@@ -26,7 +31,7 @@ fn still(mesh: &Mesh) -> Option<String> {
 }
 
 /// How many vertices `--seams` would take for another.
-fn unsewn(mesh: &Mesh, sewn: bool) -> Option<String> {
+pub fn unsewn(mesh: &Mesh, sewn: bool) -> Option<String> {
     let lowest = if sewn { Vec::new() } else { seams::by_position(&mesh.positions) };
     let count = lowest.iter().zip(0..).filter(|&(&lowest, vertex)| lowest != vertex).count();
     let words = "vertices stand in one place with another, at the start and at the end, as along a seam: where cloth is sewn there, its faces are judged \
@@ -90,7 +95,10 @@ pub fn again(command: &Command, options: &Options, step: f64) -> String {
     words.push(format!("--step {step}"));
     words.extend(options.kept.iter().cloned());
     let places = command.places();
-    words.extend(places.iter().any(|name| name.len() > 1 && name.starts_with('-')).then(|| "--".to_string()));
+    // files of a body go up to the next option
+    let parted = matches!(command, Command::Series { .. }) && !options.body_files.is_empty();
+    let parted = parted || places.iter().any(|name| name.len() > 1 && name.starts_with('-'));
+    words.extend(parted.then(|| "--".to_string()));
     words.extend(places.into_iter().map(quoted));
     words.join(" ")
 }

@@ -15,6 +15,12 @@ impl Swept {
         Swept { low: [x.min(u), y.min(v), z.min(w)], high: [x.max(u), y.max(v), z.max(w)] }
     }
 
+    /// Of an edge or a triangle.
+    pub fn of_part(positions: &[[i32; 6]], part: &[u32]) -> Swept {
+        let boxes = part.iter().map(|&vertex| Swept::of_vertex(&positions[vertex as usize]));
+        boxes.reduce(Swept::joined).expect("a part has a vertex")
+    }
+
     pub fn joined(self, other: Swept) -> Swept {
         let axes = [0, 1, 2];
         Swept {
@@ -48,10 +54,7 @@ pub fn of_parts<const N: usize>(vertices: &[Swept], parts: &[[u32; N]]) -> Vec<S
 
 /// The boxes of a pair's parts.
 pub fn of_pair(mesh: &Mesh, pair: Pair) -> [Swept; 2] {
-    let joint = |part: &[u32]| {
-        let boxes = part.iter().map(|&vertex| Swept::of_vertex(&mesh.positions[vertex as usize]));
-        boxes.reduce(Swept::joined).expect("a part has a vertex")
-    };
+    let joint = |part: &[u32]| Swept::of_part(&mesh.positions, part);
     let (first, second) = (pair.first as usize, pair.second as usize);
     match pair.kind {
         Kind::PointTriangle => [joint(&[pair.first]), joint(&mesh.triangles[second])],

@@ -35,8 +35,8 @@ impl Choice {
         self.keeps_both(|of| of.of_pair(pair))
     }
 
-    pub fn keeps_through(&self, Through { edge, triangle }: Through) -> bool {
-        self.keeps_both(|of| [of.edges[edge as usize], of.triangles[triangle as usize]])
+    pub fn keeps_through(&self, through: Through) -> bool {
+        self.keeps_both(|of| of.of_through(through))
     }
 
     /// By the faces of the one part, and of the other.

@@ -4,23 +4,22 @@ use crate::choice::Choice;
 use crate::clean::{self, Pierced};
 use crate::digest::Digest;
 use crate::fault::Fault;
-use crate::judge::{Judge, Through, Which};
+use crate::judge::{Judge, Which};
 use crate::mesh::{self, Mesh};
 use crate::names::Names;
 use crate::obj::{self, Obj};
 use crate::progress::Bar;
 use crate::report::{About, Tally};
-use crate::rounding::{onto_grid, too_fine, Grid, Rounded};
-use crate::series::{self, Frames, Log};
+use crate::rounding::{onto_grid_on, Grid, Rounded};
 use crate::shares::{self, Closing, Counted, Of, Share};
 use crate::whereabouts::Whereabouts;
 use crate::whole::{self, Asked, Beside};
 use crate::words::{understood, Command, Options, USAGE};
-use crate::{before, edges, mark, scene_text, total};
+use crate::work::both;
+use crate::{before, edges, mark, of_frames, scene_text, total};
 use makhnodri::Settled;
 use std::ffi::OsString;
 use std::io::{stderr, stdout, BufWriter, Write};
-use std::thread;
 
 const DONE: u8 = 0;
 const NO_REPORT: u8 = 1;
@@ -30,13 +29,13 @@ const PIERCED: u8 = 4;
 
 /// What the status goes by: how many pairs are hit, and how often an edge is through a triangle at the start.
 #[derive(Default)]
-struct Ended {
+pub struct Ended {
     hits: u64,
     pierced: u64,
 }
 
 impl Ended {
-    fn of(tally: &Tally, pierced: &Pierced) -> Ended {
+    pub fn of(tally: &Tally, pierced: &Pierced) -> Ended {
         Ended { hits: tally.of(Settled::Hit), pierced: pierced.count }
     }
 }
@@ -71,8 +70,8 @@ fn done(command: &Command, options: &Options) -> Result<Ended, Vec<Fault>> {
         Command::Help => print(USAGE.as_bytes()).map(nothing).map_err(alone),
         Command::Version => print(format!("{}\n", makhnodri::VERSION).as_bytes()).map(nothing).map_err(alone),
         Command::Report { files } => report(command, files, options),
-        Command::Check { file } => check(command, file, options),
-        Command::Series { files } => series(command, files, options),
+        Command::Check { file } => of_frames::check(command, file, options),
+        Command::Series { files } => of_frames::series(command, files, options),
         Command::Rows { share, files } => rows(command, *share, files, options).map(|()| Ended::default()),
         Command::Total { files } => total(files, options),
         Command::Scene { files } => scene(command, files, options).map(nothing),
@@ -80,144 +79,51 @@ fn done(command: &Command, options: &Options) -> Result<Ended, Vec<Fault>> {
 }
 
 /// What is read of two files, or of four.
-struct Garment {
-    mesh: Mesh,
-    about: About,
-    names: Names,
-    grid: Grid,
+pub struct Garment {
+    pub mesh: Mesh,
+    pub about: About,
+    pub names: Names,
+    pub grid: Grid,
     /// The SHA-256 of each file, parted by commas.
     digests: String,
 }
 
 fn report(command: &Command, files: &[String; 2], options: &Options) -> Result<Ended, Vec<Fault>> {
-    let Garment { mesh, about, names, grid, .. } = read(command, files, options)?;
-    let choice = Choice::of(&mesh, &names, &options.body, &options.between);
-    let judge = Judge::new(&mesh).map_err(alone)?;
-    let pierced = start_checked(&judge, choice.as_ref(), "the start", options).map_err(alone)?;
+    let Garment { mut mesh, about, names, grid, .. } = read(command, files, options)?;
+    let choice = options.choice(&mesh, &names);
     let whereabouts = options.told_where.then(|| Whereabouts::new(&mesh, names, grid));
+    let judge = Judge::sparing(&mut mesh, options.mark.is_some()).map_err(alone)?;
+    let pierced = start_checked(&judge, choice.as_ref(), "the start", options).map_err(alone)?;
     let beside = Beside { choice, whereabouts, marked: options.mark.is_some() };
     let mut bar = Bar::new("judging", !options.quiet);
-    let asked = Asked { mesh: &mesh, about: &about, form: &options.form, which: options.which, beside: &beside };
+    let asked = Asked { mesh: judge.mesh(), about: &about, form: &options.form, which: options.which, beside: &beside };
     let told = whole::told(&asked, &judge, options.threads, &mut bar, buffered()).map_err(alone)?;
     drop(bar);
     options.note(|| note_of_pairs(options.which, told.tally.listed(), beside.choice.as_ref().map(|_| told.left)));
     if let Some(name) = &options.mark {
         let time = mark::write(name, &mesh, &grid, &told.marked).map_err(alone)?;
-        options.note(|| {
-            format!("{name} has the mesh at {time} of 1048576 from start to end, with {} pairs marked", told.marked.len())
-        });
+        options.note(|| note_of_mark(name, time, told.marked.len()));
     }
     Ok(Ended::of(&told.tally, &pierced))
 }
 
+pub fn note_of_mark(name: &str, time: u32, pairs: usize) -> String {
+    format!("{name} has the mesh at {time} of 1048576 from start to end, with {pairs} pairs marked")
+}
+
 /// Whether an edge is through a triangle at the start, said in one line.
-fn start_checked(judge: &Judge, choice: Option<&Choice>, what: &str, options: &Options) -> Result<Pierced, Fault> {
+pub fn start_checked(judge: &Judge, choice: Option<&Choice>, what: &str, options: &Options) -> Result<Pierced, Fault> {
     let mut bar = Bar::new("checking", !options.quiet);
     let pierced = clean::at_start(judge, choice, options.threads, &mut bar, |_| Ok(()))?;
     drop(bar);
-    options.note(|| pierced.words(what));
+    options.note(|| pierced.words(what, choice.is_some()));
     Ok(pierced)
-}
-
-/// One frame: every edge that is through a triangle.
-fn check(command: &Command, file: &str, options: &Options) -> Result<Ended, Vec<Fault>> {
-    let start = obj::read_file(file).map_err(alone)?;
-    let note = note_of_file(obj::shown_name(file), &start);
-    let end = Obj { places: start.places.clone(), ..Obj::default() };
-    let Garment { mesh, about, names, .. } = meshed(command, file, [start, end], note, options)?;
-    let choice = Choice::of(&mesh, &names, &options.body, &options.between);
-    let (mut found, mut bar) = (Vec::new(), Bar::new("checking", !options.quiet));
-    let keep = |some: &[Through]| {
-        found.extend_from_slice(some);
-        Ok(())
-    };
-    let judge = Judge::new(&mesh).map_err(alone)?;
-    let pierced = clean::at_start(&judge, choice.as_ref(), options.threads, &mut bar, keep).map_err(alone)?;
-    drop(bar);
-    let mut out = buffered();
-    clean::write(&found, &about, &options.form, &mut out)
-        .and_then(|()| out.flush())
-        .map_err(|error| alone(whole::unwritten(error)))?;
-    options.note(|| pierced.words("this frame"));
-    Ok(Ended::of(&Tally::default(), &pierced))
-}
-
-/// Many frames: the log of the first hits, and the totals over all steps.
-fn series(command: &Command, files: &[String], options: &Options) -> Result<Ended, Vec<Fault>> {
-    let names = frame_names(files)?;
-    let mut first = obj::read_file(&names[0]).map_err(alone)?;
-    let of_names = std::mem::take(&mut first.names);
-    options.all_known(&of_names)?;
-    let mut bar = Bar::new("reading", !options.quiet);
-    let bounds = series::bounds(&names, &first, options.threads, &mut bar).map_err(alone)?;
-    drop(bar);
-    let limit = makhnodri::COORDINATE_LIMIT;
-    let grid = Grid::of(&bounds, options.step, limit).map_err(alone)?;
-    let at_first = grid.frame(&first.places, limit).ok_or_else(|| alone(too_fine(grid.step, &bounds, limit)))?;
-    let positions = at_first.places.iter().map(|&[x, y, z]| [x, y, z, x, y, z]).collect();
-    let mesh = Mesh::new(positions, std::mem::take(&mut first.triangles));
-    let about = about(&mesh, grid.step);
-    let how = if options.step.is_none() { "chosen from all frames" } else { "given" };
-    options
-        .note(|| format!("a step is {} ({how}); the same grid again: {}", grid.step, before::again(command, options, grid.step)));
-    options.note(|| {
-        format!("{} frames of {} vertices, {} edges, {} triangles", names.len(), about.vertices, about.edges, about.triangles)
-    });
-    let choice = Choice::of(&mesh, &of_names, &options.body, &options.between);
-    let judge = Judge::new(&mesh).map_err(alone)?;
-    let pierced = start_checked(&judge, choice.as_ref(), "the first frame", options).map_err(alone)?;
-    drop(judge);
-    let asked = series::Asked {
-        mesh: &mesh,
-        lines: &first.lines,
-        choice: choice.as_ref(),
-        sewn: options.seams,
-        threads: options.threads,
-    };
-    let mut bar = Bar::new("judging", !options.quiet);
-    let log = series::judged(&asked, &Frames::new(&names, grid, limit), &mut bar).map_err(alone)?;
-    drop(bar);
-    let mut out = buffered();
-    let written = series::write(&log, &about, names.len(), choice.is_some(), &options.form, &mut out);
-    written.and_then(|()| out.flush()).map_err(|error| alone(whole::unwritten(error)))?;
-    options.note(|| note_of_series(&log, about.triangles == 0));
-    Ok(Ended::of(&log.tally, &pierced))
-}
-
-/// The frames as they are named, or as a list on standard input names them, a line each.
-fn frame_names(files: &[String]) -> Result<Vec<String>, Vec<Fault>> {
-    if files != [obj::STANDARD_INPUT] {
-        return Ok(files.to_vec());
-    }
-    let list = String::from_utf8(obj::bytes_of(obj::STANDARD_INPUT).map_err(alone)?);
-    let list = list.map_err(|_| alone(Fault::misunderstood("the list of frames on standard input is no UTF-8")))?;
-    let names: Vec<String> = list.lines().filter(|line| !line.is_empty()).map(str::to_string).collect();
-    if names.len() < 2 {
-        return Err(alone(Fault::misunderstood(format!(
-            "series wants two frames or more, and the list on standard input has {}",
-            names.len()
-        ))));
-    }
-    Ok(names)
-}
-
-fn note_of_series(log: &Log, empty: bool) -> String {
-    if empty {
-        return "there are no faces, and so no pair: this speaks of no cloth; export the faces too".to_string();
-    }
-    let (lengths, step) = log.farthest;
-    let moved = match step {
-        0 => "nothing moves: this speaks of no drape".to_string(),
-        _ => format!("the farthest move is {lengths:.2} edge lengths, in step {step}"),
-    };
-    let far = if lengths > before::FAR { before::TOO_FAR } else { "" };
-    format!("{} near pairs judged; {moved}{far}", log.tally.listed())
 }
 
 /// One share of the rows, with its closing line.
 fn rows(command: &Command, share: Share, files: &[String; 2], options: &Options) -> Result<(), Vec<Fault>> {
     let Garment { mesh, about, names, digests, .. } = read(command, files, options)?;
-    let choice = Choice::of(&mesh, &names, &options.body, &options.between);
+    let choice = options.choice(&mesh, &names);
     let beside = Beside { choice, ..Beside::default() };
     let asked = Asked { mesh: &mesh, about: &about, form: &options.form, which: options.which, beside: &beside };
     let judge = Judge::new(&mesh).map_err(alone)?;
@@ -243,7 +149,7 @@ fn total(files: &[String], options: &Options) -> Result<Ended, Vec<Fault>> {
     })?;
     options.note(|| format!("a step is {}, that of the {} shares", whole.step(), whole.count()));
     let told = whole.write(options.form.json, buffered()).map_err(alone)?;
-    options.note(|| told.pierced.words("the start"));
+    options.note(|| told.pierced.words("the start", told.chosen));
     Ok(Ended::of(&told.tally, &told.pierced))
 }
 
@@ -254,27 +160,27 @@ fn scene(command: &Command, files: &[String; 2], options: &Options) -> Result<()
 
 /// The mesh of two files, start first; what is wrong with either is told, and what is to be known before its report is read.
 fn read(command: &Command, files: &[String; 2], options: &Options) -> Result<Garment, Vec<Fault>> {
-    let (both, note, digests) = all_read(files, options, matches!(command, Command::Rows { .. }))?;
-    let mut garment = meshed(command, &files[0], both, note, options)?;
+    let (times, note, digests) = all_read(files, options, matches!(command, Command::Rows { .. }))?;
+    let mut garment = meshed(command, &files[0], times, note, options)?;
     garment.digests = digests;
-    if !options.quiet {
-        before::of_mesh(&garment.mesh, options.seams).iter().for_each(|words| tell(words));
-    }
+    options.tell_all(before::of_mesh(&garment.mesh, options.seams));
     Ok(garment)
 }
 
 /// Two times put onto one grid; the file is that of the first.
-fn meshed(command: &Command, file: &str, both: [Obj; 2], of_file: String, options: &Options) -> Result<Garment, Vec<Fault>> {
-    let [mut start, end] = both;
+pub fn meshed(command: &Command, file: &str, times: [Obj; 2], of_file: String, options: &Options) -> Result<Garment, Vec<Fault>> {
+    let [mut start, end] = times;
     let names = std::mem::take(&mut start.names);
     options.all_known(&names)?;
-    let (rounded, edges) = thread::scope(|scope| {
-        let edges = scope.spawn(|| edges::of(start.places.len(), &start.triangles));
-        let rounded = onto_grid(&start.places, &end.places, options.step, options.limit());
-        (rounded, edges.join().unwrap_or_else(|panic| std::panic::resume_unwind(panic)))
-    });
-    let rounded = rounded.map_err(|fault| alone(options.of_range(fault)))?;
-    let (grid, of_steps) = (Grid { step: rounded.step, middle: rounded.middle }, note_of_steps(&rounded, options.step.is_none()));
+    let (threads, half) = (options.threads, options.threads.div_ceil(2));
+    let (edges, rounded) = both(
+        threads,
+        || edges::made_on(start.places.len(), &start.triangles, half),
+        || onto_grid_on(half, &start.places, &end.places, options.step, options.limit(command)),
+    );
+    let rounded = rounded.map_err(alone)?;
+    let of_steps = note_of_steps(&rounded, options.step.is_none(), matches!(command, Command::Check { .. }));
+    let grid = Grid { step: rounded.step, middle: rounded.middle };
     let mesh = mesh::join_with(obj::shown_name(file), &mut start, &end, rounded, edges, options.seams).map_err(alone)?;
     let about = about(&mesh, grid.step);
     options.note(|| format!("{of_steps}; the same grid again: {}", before::again(command, options, grid.step)));
@@ -287,27 +193,30 @@ fn meshed(command: &Command, file: &str, both: [Obj; 2], of_file: String, option
 
 /// Start and end, with the body's own files behind the cloth's where there are any; what is to be noted of them, and their digests where they are wanted.
 fn all_read(files: &[String; 2], options: &Options, digested: bool) -> Result<([Obj; 2], String, String), Vec<Fault>> {
-    let (mut both, mut note, mut digests) = same_read(files, digested)?;
-    if let Some(files) = &options.body_files {
-        let (body, more, of_body) = same_read(files, digested)?;
+    let (mut times, mut note, mut digests) = same_read(files, digested, options.threads)?;
+    if let [from, to] = &options.body_files[..] {
+        let files = [from.clone(), to.clone()];
+        let (body, more, of_body) = same_read(&files, digested, options.threads)?;
         note += &more;
         digests = format!("{digests},{of_body}");
-        for ((file, cloth), body) in files.iter().zip(&mut both).zip(body) {
+        for ((file, cloth), body) in files.iter().zip(&mut times).zip(body) {
             cloth.join_body(obj::shown_name(file), body).map_err(alone)?;
         }
     }
-    Ok((both, note, digests))
+    Ok((times, note, digests))
 }
 
-fn same_read(files: &[String; 2], digested: bool) -> Result<([Obj; 2], String, String), Vec<Fault>> {
-    let [(start, one), (end, other)] = both_read(files, digested)?;
+fn same_read(files: &[String; 2], digested: bool, threads: usize) -> Result<([Obj; 2], String, String), Vec<Fault>> {
+    let [(start, one), (end, other)] = both_read(files, digested, threads)?;
     let [from, to] = files.each_ref().map(|name| obj::shown_name(name));
     mesh::same_faces([from, to], &start, &end).map_err(alone)?;
     let note = note_of_file(from, &start);
+    // faces, lines and names are those of the start
+    let end = Obj { places: end.places, ..Obj::default() };
     Ok(([start, end], note, format!("{one},{other}")))
 }
 
-fn about(mesh: &Mesh, step: f64) -> About {
+pub fn about(mesh: &Mesh, step: f64) -> About {
     let count = |length: usize| length as u64;
     About {
         vertices: count(mesh.positions.len()),
@@ -321,24 +230,21 @@ fn about(mesh: &Mesh, step: f64) -> About {
 /// What a file has, and its digest.
 type Read = (Obj, String);
 
-fn both_read(files: &[String; 2], digested: bool) -> Result<[Read; 2], Vec<Fault>> {
+fn both_read(files: &[String; 2], digested: bool, threads: usize) -> Result<[Read; 2], Vec<Fault>> {
     let read = |name: &String| {
         let bytes = obj::bytes_of(name)?;
-        let digest = if digested { Digest::of(&bytes) } else { String::new() };
-        Ok((obj::of_bytes(obj::shown_name(name), &bytes)?, digest))
+        let digest = || if digested { Digest::of(&bytes) } else { String::new() };
+        let (digest, obj) = both(threads / 2, digest, || obj::of_bytes_on(obj::shown_name(name), &bytes, threads.div_ceil(2)));
+        Ok((obj?, digest))
     };
-    let [from, to] = files;
-    let (start, end) = thread::scope(|scope| {
-        let end = scope.spawn(|| read(to));
-        (read(from), end.join().unwrap_or_else(|panic| std::panic::resume_unwind(panic)))
-    });
+    let (start, end) = both(threads, || read(&files[0]), || read(&files[1]));
     match (start, end) {
         (Ok(start), Ok(end)) => Ok([start, end]),
         (start, end) => Err([start.err(), end.err()].into_iter().flatten().collect()),
     }
 }
 
-fn note_of_file(name: &str, obj: &Obj) -> String {
+pub fn note_of_file(name: &str, obj: &Obj) -> String {
     let mut note = String::new();
     let cut = [(obj.noted.quads, "quads"), (obj.noted.larger, "larger faces")];
     for (count, what) in cut.iter().filter(|(count, _)| *count > 0) {
@@ -350,7 +256,7 @@ fn note_of_file(name: &str, obj: &Obj) -> String {
     note
 }
 
-fn note_of_pairs(which: Which, judged: u64, left: Option<u64>) -> String {
+pub fn note_of_pairs(which: Which, judged: u64, left: Option<u64>) -> String {
     let near = if which == Which::Near { "near " } else { "" };
     let Some(left) = left else {
         return format!("{judged} {near}pairs found, and as many judged");
@@ -359,10 +265,11 @@ fn note_of_pairs(which: Which, judged: u64, left: Option<u64>) -> String {
     format!("{} {near}pairs found: {judged} judged, {left} left out by --body, --body-files or --between{none}", judged + left)
 }
 
-fn note_of_steps(rounded: &Rounded, chosen: bool) -> String {
+/// One frame stands there as two times that are alike, and is counted once.
+fn note_of_steps(rounded: &Rounded, chosen: bool, one_frame: bool) -> String {
     let Rounded { positions, step, moved, farthest, fallen, least: _, middle: _ } = rounded;
     let how = if chosen { "chosen" } else { "given" };
-    let all = 6 * positions.len();
+    let (moved, all) = if one_frame { (moved / 2, 3 * positions.len()) } else { (*moved, 6 * positions.len()) };
     let mut note =
         format!("a step is {step} ({how}); {moved} of {all} coordinates were rounded, by at most {farthest:.3} of a step");
     if *fallen > 0 {
@@ -372,31 +279,24 @@ fn note_of_steps(rounded: &Rounded, chosen: bool) -> String {
 }
 
 impl Options {
-    /// Whether the library is asked for contacts: a time and a place are told in lines of contacts, behind words, and by a mesh that is marked.
+    /// Whether the library is asked for contacts: a time and a place are told in lines of contacts, behind words, and by a mesh that is marked. One frame
+    /// has no time.
     fn wants_contacts(&self) -> bool {
         self.form.contacts || self.told_where || self.mark.is_some()
     }
 
     /// The largest coordinate. Contacts are given in the range that coordinates had at first, and refused with 16 in a mesh of which any
     /// coordinate is beyond it: so the whole mesh is held to it, before a pair is asked for.
-    fn limit(&self) -> i32 {
-        if self.wants_contacts() {
+    pub fn limit(&self, command: &Command) -> i32 {
+        if self.wants_contacts() && !matches!(command, Command::Check { .. }) {
             makhnodri::CONTACT_LIMIT
         } else {
             makhnodri::COORDINATE_LIMIT
         }
     }
 
-    fn of_range(&self, fault: Fault) -> Fault {
-        if self.wants_contacts() {
-            Fault::new(format!("{}; contacts have less room than words, and are refused beyond it (16)", fault.words))
-        } else {
-            fault
-        }
-    }
-
     /// Each name that is asked for is one of the files'.
-    fn all_known(&self, names: &Names) -> Result<(), Vec<Fault>> {
+    pub fn all_known(&self, names: &Names) -> Result<(), Vec<Fault>> {
         let asked = self.body.iter().chain(self.between.iter().flatten());
         let unknown: Vec<Fault> = asked.filter(|name| names.known(name).is_none()).map(|name| misnamed(name, names)).collect();
         if unknown.is_empty() {
@@ -406,10 +306,20 @@ impl Options {
         }
     }
 
-    fn note(&self, words: impl FnOnce() -> String) {
+    pub fn note(&self, words: impl FnOnce() -> String) {
         if !self.quiet {
             tell(&words());
         }
+    }
+
+    pub fn tell_all(&self, words: impl IntoIterator<Item = String>) {
+        if !self.quiet {
+            words.into_iter().for_each(|words| tell(&words));
+        }
+    }
+
+    pub fn choice(&self, mesh: &Mesh, names: &Names) -> Option<Choice> {
+        Choice::of(mesh, names, &self.body, &self.between)
     }
 }
 
@@ -429,11 +339,11 @@ fn tell(words: &str) {
     let _ = writeln!(stderr(), "garment: {words}");
 }
 
-fn alone(fault: Fault) -> Vec<Fault> {
+pub fn alone(fault: Fault) -> Vec<Fault> {
     vec![fault]
 }
 
-fn buffered() -> BufWriter<std::io::Stdout> {
+pub fn buffered() -> BufWriter<std::io::Stdout> {
     BufWriter::with_capacity(1 << 16, stdout())
 }
 

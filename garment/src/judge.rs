@@ -2,17 +2,18 @@
 //! triangle. The list is the library's own, of a mesh of any size; so is the check that the edges are those of the faces. How pairs are asked for is known
 //! here and below, and nowhere else.
 
-use crate::boxes::{of_parts, of_vertices};
 use crate::choice::Choice;
+use crate::cutter::Cutter;
 use crate::fault::Fault;
-use crate::judging::{Packed, TOGETHER};
 use crate::mesh::Mesh;
 use crate::order;
 use crate::pairs::Pair;
-use crate::report::{place, Row, Tally};
-use makhnodri::{EdgesFound, MeshPair, OwnRefusal, RowsRefusal, Scratch, Settled};
+use crate::report::{pairs_of, place, Row, Tally};
+use makhnodri::{EdgesFound, RowsRefusal, Scratch, Settled, Wanted};
 use std::fmt::Display;
 use std::ops::Range;
+use std::sync::atomic::AtomicBool;
+use std::sync::atomic::Ordering::Relaxed;
 use std::sync::Mutex;
 
 pub use makhnodri::RowPairs as Which;
@@ -42,12 +43,29 @@ pub struct Answer {
     pub left: u64,
 }
 
+/// The pairs of some rows whose words are wanted, as the library wrote them: entries, the byte of each word, and where contacts are asked for their numbers.
+pub struct Found<'a> {
+    pub list: &'a [u64],
+    pub words: &'a [u8],
+    pub contacts: &'a [Row],
+}
+
+/// How many pairs there were: by their words those that were judged, and those that the choice left out; and how much of the room they took.
+#[derive(Clone, Copy, Debug, Default, PartialEq)]
+pub struct Counts {
+    pub tally: Tally,
+    pub left: u64,
+    pub filled: f64,
+}
+
 /// A mesh that the library takes, and whose edges it found to be whole.
 pub struct Judge<'a> {
     mesh: &'a Mesh,
     asked: makhnodri::Mesh<'a>,
     /// What threads work in that wait for a stretch.
     waiting: Mutex<Vec<Room>>,
+    /// Whether many pairs are of words that are kept, so that they are judged as fast with all others beside them.
+    many: AtomicBool,
 }
 
 /// What a thread works in.
@@ -56,25 +74,55 @@ struct Room {
     scratch: Scratch,
     list: Vec<u64>,
     words: Vec<u8>,
-    packed: Packed,
+    contacts: Vec<Row>,
 }
 
-/// Rows that are asked for at once: each call makes boxes and trees anew, which takes as long as some rows of the list.
-const STRETCHES: usize = 24;
+/// Stretches for each thread where there are several, so that all end at about the same time; and the fewest rows of one.
+const STRETCHES: usize = 3;
 const FEWEST: usize = 512;
+
+/// Pairs that a call has room for: at least so many, and one for so many parts of the mesh, beside what the library works in. More of them go in several
+/// calls, so that falling cloth, which lists thousands for a vertex, takes no more memory than any other.
+const ROOM: usize = 1 << 17;
+const PARTS: usize = 6;
+
+/// So many kept pairs the library holds in arrays of its own; where there are more, it judges all once more.
+const KEPT: usize = 8_192;
+/// Of this part of the rows, and fewer, so many are many.
+const SHORT: usize = 32;
 
 impl<'a> Judge<'a> {
     pub fn new(mesh: &'a Mesh) -> Result<Judge<'a>, Fault> {
-        let vertices = of_vertices(mesh);
-        let edge_order = order::lent(&of_parts(&vertices, &mesh.edges));
-        let triangle_order = order::lent(&of_parts(&vertices, &mesh.triangles));
-        let (positions, edges, triangles) =
-            (mesh.positions.as_flattened(), mesh.edges.as_flattened(), mesh.triangles.as_flattened());
-        let seams: Vec<u32> = mesh.sewn().flatten().collect();
-        let asked = makhnodri::Mesh::new(positions, edges, triangles).sewn(seams).ordered(edge_order, triangle_order);
         let mut room = Room::default();
-        whole_edges(mesh, &asked, &mut room.scratch)?;
-        Ok(Judge { mesh, asked, waiting: Mutex::new(vec![room]) })
+        whole_edges(mesh, &lent(mesh), &mut room.scratch)?;
+        Ok(Judge::of_whole(mesh, room))
+    }
+
+    /// The same; and what shows that the edges are those of the faces is let go, since the library has looked at it: the order, and the sides too, where
+    /// they are not `kept`.
+    pub fn sparing(mesh: &'a mut Mesh, kept: bool) -> Result<Judge<'a>, Fault> {
+        let mut room = Room::default();
+        whole_edges(mesh, &lent(mesh), &mut room.scratch)?;
+        mesh.order = Vec::new();
+        if !kept {
+            mesh.sides = Vec::new();
+        }
+        Ok(Judge::of_whole(mesh, room))
+    }
+
+    fn of_whole(mesh: &'a Mesh, room: Room) -> Judge<'a> {
+        let (edges, triangles) = (order::lent(&mesh.positions, &mesh.edges), order::lent(&mesh.positions, &mesh.triangles));
+        let asked = lent(mesh).ordered(edges, triangles);
+        Judge { mesh, asked, waiting: Mutex::new(vec![room]), many: AtomicBool::new(false) }
+    }
+
+    pub fn mesh(&self) -> &'a Mesh {
+        self.mesh
+    }
+
+    /// The mesh as the library is lent it.
+    pub fn lent(&self) -> &makhnodri::Mesh<'a> {
+        &self.asked
     }
 
     /// A row holds the pairs with the same first part: one for each vertex, then one for each edge. The rows in turn are the list.
@@ -82,74 +130,170 @@ impl<'a> Judge<'a> {
         self.asked.row_count()
     }
 
-    /// How many rows are well asked for in one piece.
-    pub fn length(&self) -> usize {
-        self.rows().div_ceil(STRETCHES).max(FEWEST)
+    /// All rows, cut as they are asked for.
+    pub fn cutter(&self, threads: usize) -> Cutter {
+        Cutter::new(self.rows(), self.mesh.positions.len(), threads)
     }
 
+    /// How many rows are well asked for in one piece, where nothing is learned from one to the next: each call makes boxes and trees anew, so there are few.
+    pub fn length(&self, threads: usize) -> usize {
+        let stretches = if threads > 1 { STRETCHES * threads } else { 1 };
+        self.rows().div_ceil(stretches).max(FEWEST)
+    }
+
+    /// How many pairs a call has room for.
+    fn most(&self) -> usize {
+        ROOM.max((self.rows() + self.mesh.triangles.len()) / PARTS)
+    }
+
+    /// All that came of some rows.
     pub fn asked(&self, rows: Range<usize>, question: &Question) -> Result<Answer, Fault> {
+        let mut answer = Answer::default();
+        let counts = self.each(rows, question, |found| {
+            answer.told.extend(pairs_of(found.list, found.words));
+            answer.contacts.extend(found.contacts);
+        })?;
+        (answer.tally, answer.left) = (counts.tally, counts.left);
+        Ok(answer)
+    }
+
+    /// The rows in turn, as many at a time as there is room for.
+    pub fn each(&self, rows: Range<usize>, question: &Question, take: impl FnMut(Found)) -> Result<Counts, Fault> {
         let mut room = self.waiting().pop().unwrap_or_default();
-        let answer = self.answered(rows, question, &mut room);
+        let counts = self.each_in(rows, question, &mut room, take);
         self.waiting().push(room);
-        answer
+        counts
     }
 
     fn waiting(&self) -> std::sync::MutexGuard<'_, Vec<Room>> {
         self.waiting.lock().expect("nobody panics who holds it")
     }
 
-    fn answered(&self, rows: Range<usize>, question: &Question, room: &mut Room) -> Result<Answer, Fault> {
-        let found = self.settled(rows, question.which, room)?;
-        let mut answer = Answer::default();
-        for (&entry, &byte) in room.list[..found].iter().zip(&room.words) {
-            let MeshPair { kind, first, second } = MeshPair::of_entry(entry);
-            let word = Settled::of_byte(byte).expect("the library writes words alone");
-            answer.take(Pair { kind, first, second }, word, question);
-        }
-        if question.contacts {
-            answer.contacts = contacts_of(self.mesh, &answer.told, &mut room.packed)?;
-        }
-        Ok(answer)
-    }
-
-    /// The entries of these rows and their words, in front of the room's lists, which grow to what is needed; and how many there are.
-    fn settled(&self, rows: Range<usize>, which: Which, room: &mut Room) -> Result<usize, Fault> {
-        loop {
-            match self.asked.settle_rows(&mut room.scratch, which, rows.clone(), &mut room.list, &mut room.words) {
-                Ok(count) => return Ok(count as usize),
-                Err(RowsRefusal::NoRoom { needed }) if needed as usize > room.list.len() => room.grow(needed as usize),
+    fn each_in(
+        &self,
+        rows: Range<usize>,
+        question: &Question,
+        room: &mut Room,
+        mut take: impl FnMut(Found),
+    ) -> Result<Counts, Fault> {
+        let (mut counts, mut next, mut length) = (Counts::default(), rows.start, rows.len());
+        room.fit(self.most(), question.contacts);
+        while next < rows.end {
+            let end = rows.end.min(next + length);
+            match self.called(next..end, question, room) {
+                Ok((count, some)) => {
+                    counts.join(some);
+                    take(room.found(count, question.contacts));
+                    next = end;
+                }
+                Err(RowsRefusal::NoRoom { needed }) if needed as usize > room.list.len() => match end - next {
+                    1 => room.fit(needed as usize, question.contacts),
+                    rows => length = fewer(rows, needed as usize, self.most()),
+                },
                 Err(refusal) => return Err(unlisted(refusal)),
             }
         }
+        Ok(counts)
     }
+
+    /// One call: how many pairs are wanted, which stand in front of the room's lists, and the counts of all.
+    fn called(&self, rows: Range<usize>, question: &Question, room: &mut Room) -> Result<(usize, Counts), RowsRefusal> {
+        let (Room { scratch, list, words, contacts }, which) = (&mut *room, question.which);
+        let contacts = contacts.as_flattened_mut();
+        if let Some(wanted) = question.kept().filter(|_| !self.many.load(Relaxed)) {
+            let short = rows.len() <= self.rows() / SHORT;
+            let kept = match question.contacts {
+                true => self.asked.keep_contacts(scratch, which, rows, wanted, list, words, contacts)?,
+                false => self.asked.keep_rows(scratch, which, rows, wanted, list, words)?,
+            };
+            self.many.fetch_or(short && kept.count as usize > KEPT, Relaxed);
+            let filled = kept.count as f64 / KEPT as f64;
+            return Ok((kept.count as usize, Counts { tally: Tally::of_rows(&kept), left: 0, filled }));
+        }
+        let count = match question.contacts {
+            true => self.asked.contact_rows(scratch, which, rows, list, words, contacts)?,
+            false => self.asked.settle_rows(scratch, which, rows, list, words)?,
+        };
+        let (wanted, counts) = room.chosen(count as usize, question);
+        Ok((wanted, Counts { filled: count as f64 / self.most() as f64, ..counts }))
+    }
+}
+
+/// So few rows that what is found in them has room, if it is spread evenly, and with some to spare.
+fn fewer(rows: usize, needed: usize, most: usize) -> usize {
+    (rows / (needed + needed / 4).div_ceil(most).max(2)).max(1)
 }
 
 impl Room {
-    /// A little more than is needed, since the next stretch is like this one.
-    fn grow(&mut self, needed: usize) {
-        let length = needed + needed / 4;
-        self.list.resize(length, 0);
-        self.words.resize(length, 0);
+    /// Room for so many pairs; what is not written to takes no memory.
+    fn fit(&mut self, pairs: usize, contacts: bool) {
+        if self.list.len() < pairs {
+            (self.list, self.words) = (vec![0; pairs], vec![0; pairs]);
+        }
+        if contacts && self.contacts.len() < self.list.len() {
+            self.contacts = vec![Row::default(); self.list.len()];
+        }
+    }
+
+    fn found(&self, count: usize, contacts: bool) -> Found<'_> {
+        let contacts = if contacts { &self.contacts[..count] } else { &[] };
+        Found { list: &self.list[..count], words: &self.words[..count], contacts }
+    }
+
+    /// Of so many pairs those that the choice keeps are counted by their words, and of these the wanted ones stand in front.
+    fn chosen(&mut self, count: usize, question: &Question) -> (usize, Counts) {
+        if question.choice.is_none() && question.wanted == [true; 4] {
+            return (count, Counts { tally: Tally::of_bytes(&self.words[..count]), ..Counts::default() });
+        }
+        let (mut counts, mut wanted) = (Counts::default(), 0);
+        for at in 0..count {
+            let word = Settled::of_byte(self.words[at]).expect("the library writes words alone");
+            if question.choice.is_some_and(|choice| !choice.keeps(Pair::of_entry(self.list[at]))) {
+                counts.left += 1;
+                continue;
+            }
+            counts.tally.add(word);
+            if question.wanted[place(word)] {
+                self.list[wanted] = self.list[at];
+                self.words[wanted] = self.words[at];
+                if question.contacts {
+                    self.contacts[wanted] = self.contacts[at];
+                }
+                wanted += 1;
+            }
+        }
+        (wanted, counts)
     }
 }
 
-/// The contact of each hit, in its place; of any other word nothing that counts. The range of the mesh was seen to before.
-fn contacts_of(mesh: &Mesh, told: &[(Pair, Settled)], packed: &mut Packed) -> Result<Vec<Row>, Fault> {
-    let hits: Vec<Pair> = told.iter().filter(|(_, word)| *word == Settled::Hit).map(|&(pair, _)| pair).collect();
-    let mut rows = Vec::with_capacity(hits.len());
-    for some in hits.chunks(TOGETHER) {
-        rows.extend(packed.contact(mesh, some).map_err(|refusal| refused(some, refusal))?.map(|(_, row)| row));
+impl Question<'_> {
+    /// The words that are kept, where others need not be seen: those that a choice leaves out are counted apart.
+    fn kept(&self) -> Option<Wanted> {
+        let [hits, misses, touches, aparts] = self.wanted;
+        let some = self.wanted != [true; 4] && self.choice.is_none();
+        some.then_some(Wanted { hits, misses, touches, aparts })
     }
-    let mut rows = rows.into_iter();
-    let of_word = |word: Settled| if word == Settled::Hit { rows.next().unwrap_or_default() } else { Row::default() };
-    Ok(told.iter().map(|&(_, word)| word).map(of_word).collect())
+}
+
+impl Counts {
+    fn join(&mut self, other: Counts) {
+        self.tally.join(other.tally);
+        self.left += other.left;
+        self.filled += other.filled;
+    }
+}
+
+/// As the library is lent it, without an order.
+fn lent(mesh: &Mesh) -> makhnodri::Mesh<'_> {
+    let (positions, edges, triangles) = (mesh.positions.as_flattened(), mesh.edges.as_flattened(), mesh.triangles.as_flattened());
+    let seams: Vec<u32> = mesh.sewn().flatten().collect();
+    makhnodri::Mesh::new(positions, edges, triangles).sewn(seams)
 }
 
 /// An edge that is dropped drops all its pairs, so the library looks at them: each side of each face is an edge, and none stands twice.
 fn whole_edges(mesh: &Mesh, asked: &makhnodri::Mesh, scratch: &mut Scratch) -> Result<(), Fault> {
-    asked.check_mesh(scratch).map_err(unlisted)?;
     if mesh.sides.is_empty() {
-        return Ok(());
+        return asked.check_mesh(scratch).map_err(unlisted);
     }
     match asked.check_edges(scratch, &mesh.sides, &mesh.order).map_err(unlisted)? {
         EdgesFound::Whole => Ok(()),
@@ -164,19 +308,6 @@ fn whole_edges(mesh: &Mesh, asked: &makhnodri::Mesh, scratch: &mut Scratch) -> R
 
 fn unlisted(refusal: impl Display) -> Fault {
     Fault::new(format!("the library refused the mesh ({refusal}): this is a fault of the program"))
-}
-
-impl Answer {
-    fn take(&mut self, pair: Pair, word: Settled, question: &Question) {
-        if question.choice.is_some_and(|choice| !choice.keeps(pair)) {
-            self.left += 1;
-            return;
-        }
-        self.tally.add(word);
-        if question.wanted[place(word)] {
-            self.told.push((pair, word));
-        }
-    }
 }
 
 /// An edge and a triangle.
@@ -205,22 +336,13 @@ impl Judge<'_> {
     }
 
     fn listed_through(&self, rows: Range<usize>, room: &mut Room) -> Result<usize, Fault> {
+        room.fit(self.most(), false);
         loop {
             match self.asked.pierced_at_start_rows(&mut room.scratch, rows.clone(), &mut room.list) {
                 Ok(count) => return Ok(count as usize),
-                Err(RowsRefusal::NoRoom { needed }) if needed as usize > room.list.len() => room.grow(needed as usize),
+                Err(RowsRefusal::NoRoom { needed }) if needed as usize > room.list.len() => room.fit(needed as usize, false),
                 Err(refusal) => return Err(unlisted(refusal)),
             }
         }
     }
-}
-
-/// Pairs that were asked for in one call, by the first of them, or the one among them that is at fault.
-fn refused(pairs: &[Pair], refusal: OwnRefusal) -> Fault {
-    let (at, what) = match refusal {
-        OwnRefusal::Entry { number, .. } => (number - 1, "the pair"),
-        _ => (0, "this pair and those behind it"),
-    };
-    let Pair { kind, first, second } = pairs[at];
-    Fault::new(format!("{kind} {first} {second}: the library refused {what} ({refusal}): this is a fault of the program"))
 }

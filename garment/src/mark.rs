@@ -1,6 +1,7 @@
-//! A mesh that any viewer shows, with a colour where it is hit or touches.
+//! A mesh that any viewer shows, with a colour where it is hit or touches, or where it is pierced.
 
 use crate::fault::Fault;
+use crate::judge::Through;
 use crate::mesh::Mesh;
 use crate::pairs::{Kind, Pair};
 use crate::rounding::Grid;
@@ -32,16 +33,18 @@ enum Colour {
     Clear,
     Touch,
     Hit,
+    Pierced,
 }
 
 impl Colour {
-    const ALL: [Colour; 3] = [Colour::Clear, Colour::Touch, Colour::Hit];
+    const ALL: [Colour; 4] = [Colour::Clear, Colour::Touch, Colour::Hit, Colour::Pierced];
 
     fn name(self) -> &'static str {
         match self {
             Colour::Clear => "clear",
             Colour::Touch => "touch",
             Colour::Hit => "hit",
+            Colour::Pierced => "pierced",
         }
     }
 
@@ -50,39 +53,66 @@ impl Colour {
         match self {
             Colour::Clear => [192, 192, 192],
             Colour::Touch => [255, 204, 0],
-            Colour::Hit => [255, 0, 0],
+            Colour::Hit | Colour::Pierced => [255, 0, 0],
         }
     }
 }
 
-/// Each part of a marked pair colours its vertices, and the faces that have it.
+/// The colour of each part that is marked. Those of vertices that are parts themselves stand apart from those of all vertices of a part.
 struct Coloured {
     vertices: Vec<Colour>,
+    points: Vec<Colour>,
+    edges: Vec<Colour>,
     faces: Vec<Colour>,
 }
 
-fn coloured(mesh: &Mesh, marked: &[Marked]) -> Coloured {
-    let mut vertices = vec![Colour::Clear; mesh.positions.len()];
-    let (mut points, mut edges) = (vertices.clone(), vec![Colour::Clear; mesh.edges.len()]);
-    let mut faces = vec![Colour::Clear; mesh.triangles.len()];
-    let raise = |slot: &mut Colour, colour: Colour| *slot = colour.max(*slot);
-    for &Marked { pair, time } in marked {
-        let colour = if time.is_some() { Colour::Hit } else { Colour::Touch };
-        written_vertices(mesh, pair).concat().iter().for_each(|&vertex| raise(&mut vertices[vertex as usize], colour));
-        let [first, second] = [pair.first, pair.second].map(|part| part as usize);
-        match pair.kind {
-            Kind::PointTriangle => {
-                raise(&mut points[first], colour);
-                raise(&mut faces[second], colour);
+impl Coloured {
+    fn clear(mesh: &Mesh) -> Coloured {
+        let clear = |count: usize| vec![Colour::Clear; count];
+        let [vertices, edges, faces] = [mesh.positions.len(), mesh.edges.len(), mesh.triangles.len()].map(clear);
+        Coloured { points: vertices.clone(), vertices, edges, faces }
+    }
+
+    fn of_hits(mesh: &Mesh, marked: &[Marked]) -> Coloured {
+        let mut coloured = Coloured::clear(mesh);
+        for &Marked { pair, time } in marked {
+            let colour = if time.is_some() { Colour::Hit } else { Colour::Touch };
+            raise(&mut coloured.vertices, &written_vertices(mesh, pair).concat(), colour);
+            match pair.kind {
+                Kind::PointTriangle => {
+                    raise(&mut coloured.points, &[pair.first], colour);
+                    raise(&mut coloured.faces, &[pair.second], colour);
+                }
+                Kind::EdgeEdge => raise(&mut coloured.edges, &[pair.first, pair.second], colour),
             }
-            Kind::EdgeEdge => [first, second].iter().for_each(|&edge| raise(&mut edges[edge], colour)),
         }
+        coloured.spread(mesh)
     }
-    for ((face, corners), sides) in faces.iter_mut().zip(&mesh.triangles).zip(mesh.sides()) {
-        corners.iter().for_each(|&vertex| raise(face, points[vertex as usize]));
-        sides.iter().for_each(|&edge| raise(face, edges[edge as usize]));
+
+    fn of_pierced(mesh: &Mesh, pierced: &[Through]) -> Coloured {
+        let mut coloured = Coloured::clear(mesh);
+        for &Through { edge, triangle } in pierced {
+            raise(&mut coloured.vertices, &mesh.edges[edge as usize], Colour::Pierced);
+            raise(&mut coloured.vertices, &mesh.triangles[triangle as usize], Colour::Pierced);
+            raise(&mut coloured.edges, &[edge], Colour::Pierced);
+            raise(&mut coloured.faces, &[triangle], Colour::Pierced);
+        }
+        coloured.spread(mesh)
     }
-    Coloured { vertices, faces }
+
+    /// Each part that is marked colours the faces that have it.
+    fn spread(mut self, mesh: &Mesh) -> Coloured {
+        for ((face, corners), sides) in self.faces.iter_mut().zip(&mesh.triangles).zip(mesh.sides()) {
+            let of_corners = corners.iter().map(|&vertex| self.points[vertex as usize]);
+            let of_sides = sides.iter().map(|&edge| self.edges[edge as usize]);
+            *face = of_corners.chain(of_sides).fold(*face, Colour::max);
+        }
+        self
+    }
+}
+
+fn raise(slots: &mut [Colour], parts: &[u32], colour: Colour) {
+    parts.iter().map(|&part| part as usize).for_each(|part| slots[part] = slots[part].max(colour));
 }
 
 /// The time of the first hit, in 2^20ths; the end where nothing is hit.
@@ -117,16 +147,23 @@ fn ends(name: &str, ending: &str) -> bool {
 /// Writes the mesh as it is at the time of its first hit, or at the end; hands back that time.
 pub fn write(name: &str, mesh: &Mesh, grid: &Grid, marked: &[Marked]) -> Result<u32, Fault> {
     let time = shown_time(marked);
-    let places = mesh.positions.iter().map(|position| grid.written(at(position, time)).join(" "));
-    let coloured = coloured(mesh, marked);
-    let text = if is_ply(name) { ply(mesh, places, &coloured) } else { obj(mesh, places, &coloured) };
-    fs::write(name, text).map_err(|error| Fault::of_file(name, &error))?;
-    Ok(time)
+    write_at(name, mesh, grid, time, &Coloured::of_hits(mesh, marked), "hit red, touch yellow").map(|()| time)
 }
 
-fn ply(mesh: &Mesh, places: impl Iterator<Item = String>, coloured: &Coloured) -> String {
+/// Writes the mesh as it is at the start.
+pub fn write_pierced(name: &str, mesh: &Mesh, grid: &Grid, pierced: &[Through]) -> Result<(), Fault> {
+    write_at(name, mesh, grid, 0, &Coloured::of_pierced(mesh, pierced), "pierced red")
+}
+
+fn write_at(name: &str, mesh: &Mesh, grid: &Grid, time: u32, coloured: &Coloured, legend: &str) -> Result<(), Fault> {
+    let places = mesh.positions.iter().map(|position| grid.written(at(position, time)).join(" "));
+    let text = if is_ply(name) { ply(mesh, places, coloured, legend) } else { obj(mesh, places, coloured, legend) };
+    fs::write(name, text).map_err(|error| Fault::of_file(name, &error))
+}
+
+fn ply(mesh: &Mesh, places: impl Iterator<Item = String>, coloured: &Coloured, legend: &str) -> String {
     let mut text = format!(
-        "ply\nformat ascii 1.0\ncomment hit red, touch yellow\nelement vertex {}\nproperty double x\nproperty double y\nproperty double z\n\
+        "ply\nformat ascii 1.0\ncomment {legend}\nelement vertex {}\nproperty double x\nproperty double y\nproperty double z\n\
          property uchar red\nproperty uchar green\nproperty uchar blue\nelement face {}\nproperty list uchar int vertex_indices\nend_header\n",
         mesh.positions.len(),
         mesh.triangles.len()
@@ -142,8 +179,8 @@ fn ply(mesh: &Mesh, places: impl Iterator<Item = String>, coloured: &Coloured) -
 }
 
 /// Vertices with their colours behind them, as many viewers read, and the faces in groups by their colour.
-fn obj(mesh: &Mesh, places: impl Iterator<Item = String>, coloured: &Coloured) -> String {
-    let mut text = String::from("# hit red, touch yellow\n");
+fn obj(mesh: &Mesh, places: impl Iterator<Item = String>, coloured: &Coloured, legend: &str) -> String {
+    let mut text = format!("# {legend}\n");
     for (place, colour) in places.zip(&coloured.vertices) {
         let [red, green, blue] = colour.bytes().map(|part| f64::from(part) / 255.0);
         writeln!(text, "v {place} {red:.3} {green:.3} {blue:.3}").expect("a string takes all");

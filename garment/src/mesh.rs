@@ -111,14 +111,18 @@ pub fn join_with(name: &str, start: &mut Obj, end: &Obj, rounded: Rounded, edges
     let mut mesh = Mesh::of_edges(positions, std::mem::take(&mut start.triangles), edges);
     if sewn {
         mesh.sew().map_err(|triangle| {
-            let twins = twins(&mesh, triangle);
             let (name, before) = start.behind_at(triangle).map_or((name, 0), |behind| (behind.file.as_str(), behind.vertices));
-            let in_file = twins.map(|vertex| vertex - before as u32);
-            let words = unsewable(in_file, distance([&start.places, &end.places], twins), least);
+            let words = unsewn(&mesh, triangle, before, [&start.places, &end.places], least);
             Fault::in_line(name, start.lines[triangle], words)
         })?;
     }
     Ok(mesh)
+}
+
+/// Why a triangle can't be sewn, and what helps: so many vertices stand before those of its file, and the least step with which all fits is known, or none.
+pub fn unsewn(mesh: &Mesh, triangle: usize, before: usize, times: [&[Place]; 2], least: Option<f64>) -> String {
+    let twins = twins(mesh, triangle);
+    unsewable(twins.map(|vertex| vertex - before as u32), distance(times, twins), least)
 }
 
 /// Two corners of a triangle that stand for one vertex, the lower number first.

@@ -1,5 +1,6 @@
 //! The names of objects and groups in an OBJ file, and which of them each triangle has.
 
+use crate::judge::Through;
 use crate::mesh::Mesh;
 use crate::pairs::{Kind, Pair};
 use std::collections::HashMap;
@@ -177,5 +178,10 @@ impl<T: Copy> OfParts<T> {
             Kind::PointTriangle => [self.vertices[first], self.triangles[second]],
             Kind::EdgeEdge => [self.edges[first], self.edges[second]],
         }
+    }
+
+    /// Of an edge and of a triangle.
+    pub fn of_through(&self, Through { edge, triangle }: Through) -> [T; 2] {
+        [self.edges[edge as usize], self.triangles[triangle as usize]]
     }
 }

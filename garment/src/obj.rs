@@ -5,6 +5,7 @@ use crate::fault::Fault;
 use crate::fields::{corner, fields, place, shown, Wrong};
 use crate::names::{Behind, Names};
 use crate::plain;
+use crate::work::in_order;
 use std::fs::File;
 use std::io::{self, Read};
 
@@ -29,6 +30,14 @@ pub struct Noted {
     pub loose: u64,
 }
 
+impl Noted {
+    fn join(&mut self, other: Noted) {
+        self.quads += other.quads;
+        self.larger += other.larger;
+        self.loose += other.loose;
+    }
+}
+
 /// Statements without a corner of a face: materials, texture, normals, how it is shown.
 const PASSED: [&[u8]; 17] = [
     b"s", b"mg", b"vt", b"vn", b"vp", b"usemtl", b"mtllib", b"usemap", b"maplib", b"lod", b"bevel", b"c_interp", b"d_interp",
@@ -51,7 +60,12 @@ pub fn shown_name(name: &str) -> &str {
 }
 
 pub fn read_file(name: &str) -> Result<Obj, Fault> {
-    of_bytes(shown_name(name), &bytes_of(name)?)
+    read_on(name, 1)
+}
+
+/// On so many threads.
+pub fn read_on(name: &str, threads: usize) -> Result<Obj, Fault> {
+    of_bytes_on(shown_name(name), &bytes_of(name)?, threads)
 }
 
 /// All of a file, or of standard input.
@@ -75,20 +89,86 @@ pub fn read(name: &str, input: impl Read) -> Result<Obj, Fault> {
 
 /// All of a file at once: its lines are looked at where they stand, and none is copied.
 pub fn of_bytes(name: &str, bytes: &[u8]) -> Result<Obj, Fault> {
-    let mut lines =
-        Lines { bytes: bytes.strip_prefix(b"\xef\xbb\xbf").unwrap_or(bytes), joined: Vec::new(), at: 0, first: 0, last: 0 };
-    let mut obj = Obj::default();
-    let mut corners = Vec::new();
-    while lines.at < lines.bytes.len() {
-        if let Some(end) = obj.plain_line(lines.bytes, lines.at, lines.last + 1) {
-            lines.pass_to(end);
-            continue;
-        }
-        let (line, first) = lines.statement();
-        obj.statement(line, first, &mut corners).map_err(|wrong| Fault::in_line(name, first, wrong))?;
-    }
+    of_bytes_on(name, bytes, 1)
+}
+
+/// Bytes that are read in one piece, where there are several threads.
+const PIECE: usize = 1 << 20;
+
+/// On so many threads, a piece of the file each.
+pub fn of_bytes_on(name: &str, bytes: &[u8], threads: usize) -> Result<Obj, Fault> {
+    in_pieces(name, bytes, if threads > 1 { PIECE } else { bytes.len() }, threads)
+}
+
+/// The same in pieces of about this length; one piece alone is read in its turn.
+pub fn in_pieces(name: &str, bytes: &[u8], length: usize, threads: usize) -> Result<Obj, Fault> {
+    let bytes = bytes.strip_prefix(b"\xef\xbb\xbf").unwrap_or(bytes);
+    let (mut obj, mut line) = (Obj::default(), 0);
+    let pieces = pieces(bytes, length);
+    let alone = |at: usize| if pieces.len() > 1 { Piece::read(pieces[at]) } else { None };
+    in_order(pieces.len(), threads.min(pieces.len()), alone, |at, piece| {
+        line = match piece {
+            Some(piece) if piece.fits(&obj) => obj.join_piece(piece, line),
+            _ => obj.lines_behind(name, pieces[at], line)?,
+        };
+        Ok(())
+    })?;
+    obj.names.face(obj.triangles.len());
     obj.known_corners(name)?;
     Ok(obj)
+}
+
+/// The file in pieces of about this length, each up to the end of a line with which a statement ends.
+fn pieces(bytes: &[u8], length: usize) -> Vec<&[u8]> {
+    let (mut out, mut rest) = (Vec::new(), bytes);
+    while !rest.is_empty() {
+        let behind = (length.min(rest.len())..rest.len()).find(|&at| ends_statement(&rest[..at]));
+        let (piece, behind) = rest.split_at(behind.unwrap_or(rest.len()));
+        out.push(piece);
+        rest = behind;
+    }
+    out
+}
+
+/// A line that ends in a backslash may go on; one that ends in CR alone may have LF behind it.
+fn ends_statement(bytes: &[u8]) -> bool {
+    let line = bytes.strip_suffix(b"\n").map(|line| line.strip_suffix(b"\r").unwrap_or(line));
+    line.is_some_and(|line| line.last() != Some(&b'\\'))
+}
+
+/// A piece of a file that was read without what stands before it: its lines count from 1, and what it says of names is kept, to be said in its turn.
+struct Piece {
+    obj: Obj,
+    /// Statements `o` and `g`, each with the count of triangles before it.
+    said: Vec<(usize, Vec<u8>)>,
+    lines: u64,
+}
+
+impl Piece {
+    /// Nothing where it must be read in its turn: a line is at fault, or counts vertices backwards.
+    fn read(bytes: &[u8]) -> Option<Piece> {
+        let (mut piece, mut lines) = (Piece { obj: Obj::default(), said: Vec::new(), lines: 0 }, Lines::of(bytes, 0));
+        let mut corners = Vec::new();
+        while lines.at < bytes.len() {
+            if let Some(end) = piece.obj.plain_line(bytes, lines.at, lines.last + 1) {
+                lines.pass_to(end);
+                continue;
+            }
+            let (line, first) = lines.statement();
+            match fields(line).next() {
+                Some(b"o" | b"g") => piece.said.push((piece.obj.triangles.len(), line.to_vec())),
+                Some(b"f") if line.contains(&b'-') => return None,
+                _ => piece.obj.statement(line, first, &mut corners).ok()?,
+            }
+        }
+        piece.lines = lines.last;
+        Some(piece)
+    }
+
+    /// Whether 32 bits count the vertices with these before them.
+    fn fits(&self, before: &Obj) -> bool {
+        before.places.len() + self.obj.places.len() <= u32::MAX as usize
+    }
 }
 
 impl Obj {
@@ -107,7 +187,6 @@ impl Obj {
                 self.triangles.extend(cutting::plain(corners, count));
                 self.noted.quads += (count == 4) as u64;
                 self.lines.resize(self.triangles.len(), line);
-                self.names.face(self.triangles.len());
                 Some(end)
             }
             _ => None,
@@ -124,16 +203,22 @@ impl Obj {
                 self.noted.loose += 1;
                 Ok(())
             }
-            Some(b"o") => {
-                self.names.object(line);
-                Ok(())
-            }
-            Some(b"g") => {
-                self.names.groups(rest);
+            Some(b"o" | b"g") => {
+                self.named(line);
                 Ok(())
             }
             Some(word) if PASSED.contains(&word) => Ok(()),
             Some(word) => Err(unknown(word)),
+        }
+    }
+
+    /// A name begins; the faces up to here have those before it.
+    fn named(&mut self, line: &[u8]) {
+        self.names.face(self.triangles.len());
+        let mut rest = fields(line);
+        match rest.next() {
+            Some(b"o") => self.names.object(line),
+            _ => self.names.groups(rest),
         }
     }
 
@@ -159,8 +244,36 @@ impl Obj {
         all_different(corners)?;
         self.triangles.extend(cutting::triangles(corners));
         self.lines.resize(self.triangles.len(), line);
-        self.names.face(self.triangles.len());
         Ok(())
+    }
+
+    /// Lines that stand behind this many, in their turn; hands back the number of the last.
+    fn lines_behind(&mut self, name: &str, bytes: &[u8], before: u64) -> Result<u64, Fault> {
+        let (mut lines, mut corners) = (Lines::of(bytes, before), Vec::new());
+        while lines.at < bytes.len() {
+            if let Some(end) = self.plain_line(bytes, lines.at, lines.last + 1) {
+                lines.pass_to(end);
+                continue;
+            }
+            let (line, first) = lines.statement();
+            self.statement(line, first, &mut corners).map_err(|wrong| Fault::in_line(name, first, wrong))?;
+        }
+        Ok(lines.last)
+    }
+
+    /// A piece that was read by itself, behind this many lines; hands back the number of its last.
+    fn join_piece(&mut self, piece: Piece, before: u64) -> u64 {
+        let triangles = self.triangles.len();
+        let Obj { places, triangles: faces, lines, noted, .. } = piece.obj;
+        self.noted.join(noted);
+        self.places.extend(places);
+        for (behind, statement) in piece.said {
+            self.triangles.extend(&faces[self.triangles.len() - triangles..behind]);
+            self.named(&statement);
+        }
+        self.triangles.extend(&faces[self.triangles.len() - triangles..]);
+        self.lines.extend(lines.iter().map(|line| before + line));
+        before + piece.lines
     }
 
     /// The body's mesh, from a file of its own, behind this one's.
@@ -240,6 +353,13 @@ struct Lines<'a> {
     /// The line in which a statement begins, and the last that was read.
     first: u64,
     last: u64,
+}
+
+impl<'a> Lines<'a> {
+    /// Of a piece of a file, behind this many lines.
+    fn of(bytes: &'a [u8], before: u64) -> Lines<'a> {
+        Lines { bytes, joined: Vec::new(), at: 0, first: before, last: before }
+    }
 }
 
 impl Lines<'_> {

@@ -16,6 +16,17 @@ pub fn kind_of(letters: &[u8]) -> Option<Kind> {
 }
 
 impl Pair {
+    /// The pair of an entry of a mesh's list.
+    pub fn of_entry(entry: u64) -> Pair {
+        let makhnodri::MeshPair { kind, first, second } = makhnodri::MeshPair::of_entry(entry);
+        Pair { kind, first, second }
+    }
+
+    pub fn entry(self) -> u64 {
+        let Pair { kind, first, second } = self;
+        makhnodri::MeshPair { kind, first, second }.entry()
+    }
+
     /// A pair of a scene, as the library names it.
     pub fn of_library(pair: makhnodri::Pair) -> Pair {
         Pair { kind: pair.kind, first: pair.first as u32, second: pair.second as u32 }

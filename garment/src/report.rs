@@ -2,7 +2,7 @@
 
 use crate::pairs::{Kind, Pair};
 use crate::whereabouts::{json_names, plain_names};
-use makhnodri::{Settled, CONTACT_LENGTH};
+use makhnodri::{KeptRows, Settled, CONTACT_LENGTH};
 use std::io::Write;
 
 /// The four words, in the order in which the totals name them.
@@ -43,6 +43,18 @@ impl Tally {
         let counts = [hit, miss, touch, apart];
         let told = counts.iter().try_fold(0u64, |sum, &count| sum.checked_add(count))?;
         Some(Tally { counts, not_hit: listed.checked_sub(told)? })
+    }
+
+    /// Of the words of so many pairs, as the library writes them.
+    pub fn of_bytes(words: &[u8]) -> Tally {
+        let counts = WORDS.map(|word| words.iter().filter(|&&byte| byte == word as u8).count() as u64);
+        assert_eq!(counts.iter().sum::<u64>(), words.len() as u64, "the library writes words alone");
+        Tally { counts, not_hit: 0 }
+    }
+
+    /// Of rows of which the library kept some pairs.
+    pub fn of_rows(rows: &KeptRows) -> Tally {
+        Tally { counts: [rows.hits, rows.misses, rows.touches, rows.aparts], not_hit: 0 }
     }
 
     pub fn add(&mut self, word: Settled) {
@@ -137,24 +149,22 @@ impl Form {
         self.line_with(pair, word, "", out);
     }
 
-    /// The lines of pairs, behind what is there. Pairs of a row have the same beginning, which is made once.
-    pub fn lines(&self, told: impl Iterator<Item = (Pair, Settled)>, out: &mut Vec<u8>) {
+    /// The lines of entries and the bytes of their words, as the library writes them, behind what is there. Pairs of a row have the same beginning, which is
+    /// made once.
+    pub fn lines(&self, list: &[u64], words: &[u8], out: &mut Vec<u8>) {
         if self.json {
-            return told.for_each(|(pair, word)| self.line(pair, word, out));
+            return pairs_of(list, words).for_each(|(pair, word)| self.line(pair, word, out));
         }
-        let shown = WORDS.map(|word| self.shown.contains(&word));
-        let (mut head, mut at) = (Head::default(), out.len());
-        for (pair, word) in told {
-            let word = place(word);
-            if shown[word] {
-                if out.len() - at < LONGEST {
-                    out.resize(at + ROOM, 0);
-                }
-                head.turn_to(pair);
-                at = head.line(pair.second, word, out, at);
-            }
+        let shown = BYTES.map(|word| word.is_some_and(|word| self.shown.contains(&word)));
+        let mut room = [0; TOGETHER * LONGEST];
+        for (list, words) in list.chunks(TOGETHER).zip(words.chunks(TOGETHER)) {
+            let turns = list.windows(2).filter(|two| two[0] >> 32 != two[1] >> 32).count();
+            let end = match 4 * turns > list.len() {
+                true => put_lines::<true>(list, words, &shown, &mut room),
+                false => put_lines::<false>(list, words, &shown, &mut room),
+            };
+            out.extend_from_slice(&room[..end]);
         }
-        out.truncate(at);
     }
 
     /// The same with more fields before its end.
@@ -262,15 +272,25 @@ const EIGHT: u32 = 100_000_000;
 /// The letter 0 in each byte.
 const ZEROS: u64 = 0x3030_3030_3030_3030;
 
-/// The eight digits of a number below 10^8, zeros before it and all, a byte each, the first one lowest: parted into two of four, four of two and eight of
-/// one, all at once. A multiplication and a shift are the division by 100, and by 10.
+/// The four digits of each number below 10,000, zeros before it and all, a byte each, the first one lowest.
+static FOURS: [u32; 10_000] = fours();
+
+const fn fours() -> [u32; 10_000] {
+    let mut fours = [0; 10_000];
+    let mut number = 0;
+    while number < 10_000 {
+        let n = number as u32;
+        fours[number] = n / 1_000 | (n / 100 % 10) << 8 | (n / 10 % 10) << 16 | (n % 10) << 24;
+        number += 1;
+    }
+    fours
+}
+
+/// The eight digits of a number below 10^8 in the same way.
 #[inline]
 fn eight_digits(number: u32) -> u64 {
-    let fours = u64::from(number / 10_000) | u64::from(number % 10_000) << 32;
-    let hundreds = (fours * 10_486) >> 20 & 0x0000_007f_0000_007f;
-    let twos = hundreds | (fours - 100 * hundreds) << 16;
-    let tens = (twos * 103) >> 10 & 0x000f_000f_000f_000f;
-    tens | (twos - 10 * tens) << 8
+    let high = number / 10_000;
+    u64::from(FOURS[high as usize]) | u64::from(FOURS[(number - 10_000 * high) as usize]) << 32
 }
 
 /// As letters, from the first that is not 0 on, and how many there are; 0 is one letter.
@@ -280,49 +300,62 @@ fn without_zeros(digits: u64) -> ([u8; 8], usize) {
     (((digits | ZEROS) >> (8 * zeros)).to_le_bytes(), 8 - zeros as usize)
 }
 
-/// The beginning of a line: kind and first number, with a tab behind each.
-#[derive(Default)]
-struct Head {
-    of: Option<(Kind, u32)>,
-    letters: [u8; 16],
-    length: usize,
+/// The pairs of entries, and their words, as the library writes them.
+pub fn pairs_of<'a>(list: &'a [u64], words: &'a [u8]) -> impl Iterator<Item = (Pair, Settled)> + 'a {
+    let word = |byte: u8| Settled::of_byte(byte).expect("the library writes words alone");
+    list.iter().zip(words).map(move |(&entry, &byte)| (Pair::of_entry(entry), word(byte)))
 }
 
-/// What ends the line of each word, in the order of `WORDS`, with room behind it.
-const ENDS: [(&[u8; 8], usize); 4] = [(b"\thit\n   ", 5), (b"\tmiss\n  ", 6), (b"\ttouch\n ", 7), (b"\tapart\n ", 7)];
+/// The word of each byte, and no more than three bits of it count.
+const BYTES: [Option<Settled>; 8] =
+    [Some(Settled::Hit), Some(Settled::Miss), None, Some(Settled::Touch), Some(Settled::Apart), None, None, None];
 
-/// Room for any line, and for many.
+/// What ends the line of each byte's word, with room behind it, and how many letters that is.
+const ENDS: [([u8; 8], usize); 8] = [
+    (*b"\thit\n   ", 5),
+    (*b"\tmiss\n  ", 6),
+    ([0; 8], 0),
+    (*b"\ttouch\n ", 7),
+    (*b"\tapart\n ", 7),
+    ([0; 8], 0),
+    ([0; 8], 0),
+    ([0; 8], 0),
+];
+
+/// Room for any line; and lines that are made in one go.
 const LONGEST: usize = 48;
-const ROOM: usize = 1 << 16;
+const TOGETHER: usize = 512;
 
-impl Head {
-    #[inline]
-    fn turn_to(&mut self, pair: Pair) {
-        if self.of == Some((pair.kind, pair.first)) {
-            return;
-        }
-        let [a, b] = match pair.kind {
-            Kind::PointTriangle => *b"pt",
-            Kind::EdgeEdge => *b"ee",
+/// The lines of so many entries, in front of the room; hands back where they end. Pieces of a fixed length are copied, one over the end of the other, since
+/// that takes no call. With `ANEW` the beginning is made for each line, which takes less where rows are short than to ask whether it must be.
+fn put_lines<const ANEW: bool>(list: &[u64], words: &[u8], shown: &[bool; 8], room: &mut [u8; TOGETHER * LONGEST]) -> usize {
+    let (mut head, mut of, mut length, mut end) = ([0; LONGEST], 0, 0, 0);
+    for (&entry, &word) in list.iter().zip(words) {
+        let (first, line) = ((entry >> 32) as u32, &mut room[end..end + LONGEST]);
+        let behind = if ANEW {
+            put_head(first, line)
+        } else {
+            if first != of || length == 0 {
+                (of, length) = (first, put_head(first, &mut head));
+            }
+            line[..16].copy_from_slice(&head[..16]);
+            length
         };
-        let mut letters = [0; 32];
-        [letters[0], letters[1], letters[2]] = [a, b, b'\t'];
-        let end = put_number(pair.first, &mut letters, 3);
-        letters[end] = b'\t';
-        self.letters.copy_from_slice(&letters[..16]);
-        (self.of, self.length) = (Some((pair.kind, pair.first)), end + 1);
+        let behind = put_number(entry as u32, line, behind);
+        let (letters, count) = ENDS[usize::from(word) % ENDS.len()];
+        line[behind..behind + 8].copy_from_slice(&letters);
+        end += if shown[usize::from(word) % shown.len()] { behind + count } else { 0 };
     }
+    end
+}
 
-    /// Writes a line, and hands back where it ends. Pieces of a fixed length are copied, one over the end of the other, since that takes no call; nothing
-    /// that was just written is read again.
-    #[inline]
-    fn line(&self, second: u32, word: usize, out: &mut [u8], at: usize) -> usize {
-        let (end, length) = ENDS[word];
-        out[at..at + 16].copy_from_slice(&self.letters);
-        let behind = put_number(second, out, at + self.length);
-        out[behind..behind + 8].copy_from_slice(end);
-        behind + length
-    }
+/// The beginning of a line: kind and first number, with a tab behind each; hands back where it ends.
+#[inline]
+fn put_head(first: u32, line: &mut [u8]) -> usize {
+    line[..4].copy_from_slice(if first >> 31 == 0 { b"pt\t " } else { b"ee\t " });
+    let end = put_number(first & 0x7fff_ffff, line, 3);
+    line[end] = b'\t';
+    end + 1
 }
 
 /// Writes a number, with anything behind it up to sixteen bytes, and hands back where it ends.

@@ -2,9 +2,9 @@
 
 use crate::fault::Fault;
 use crate::seams;
-use makhnodri::CONTACT_UNIT;
-use std::panic::resume_unwind;
-use std::thread;
+use crate::work::{both, in_order, stretch};
+use makhnodri::{CONTACT_UNIT, COORDINATE_LIMIT};
+use std::convert::Infallible;
 
 pub type Place = [f64; 3];
 
@@ -80,19 +80,53 @@ const COUNTED: f64 = (1u64 << 53) as f64;
 /// Each coordinate becomes the whole number of steps nearest to it, less the middle's. The middle is a whole number of steps too, so what
 /// lies on the grid stays on it, and another middle shifts all places alike. No coordinate may come out larger in size than `limit`.
 pub fn onto_grid(start: &[Place], end: &[Place], wanted: Option<f64>, limit: i32) -> Result<Rounded, Fault> {
-    let bounds = Bounds::of(start).with(&Bounds::of(end));
+    onto_grid_on(1, start, end, wanted, limit)
+}
+
+/// The same on so many threads.
+pub fn onto_grid_on(threads: usize, start: &[Place], end: &[Place], wanted: Option<f64>, limit: i32) -> Result<Rounded, Fault> {
+    let (of_start, of_end) = both(threads, || Bounds::of(start), || Bounds::of(end));
+    let bounds = of_start.with(&of_end);
     let grid = Grid::of(&bounds, wanted, limit)?;
-    let (from, to) = thread::scope(|scope| {
-        let to = scope.spawn(|| grid.frame(end, limit));
-        (grid.frame(start, limit), to.join().unwrap_or_else(|panic| resume_unwind(panic)))
+    let mut all = Some(Steps { positions: Vec::with_capacity(start.len()), ..Steps::default() });
+    let rounded = |piece: usize| {
+        let some = stretch(piece, TOGETHER, start.len());
+        grid.steps(&start[some.clone()], &end[some], limit)
+    };
+    let Ok(()) = in_order(start.len().div_ceil(TOGETHER), threads, rounded, |_, some| {
+        all = all.take().zip(some).map(|(all, some)| all.with(some));
+        Ok::<(), Infallible>(())
     });
-    let (from, to) = from.zip(to).ok_or_else(|| too_fine(grid.step, &bounds, limit))?;
-    let positions: Vec<[i32; 6]> =
-        from.places.iter().zip(&to.places).map(|(&[a, b, c], &[d, e, f])| [a, b, c, d, e, f]).collect();
-    let (moved, farthest) = (from.moved + to.moved, from.farthest.max(to.farthest));
-    let fallen = if moved > 0 { fallen(start, end, &positions) } else { 0 };
+    let Steps { positions, moved, farthest } = all.ok_or_else(|| too_fine(grid.step, &bounds, limit))?;
+    let fallen = if moved > 0 { fallen(start, end, &positions, threads) } else { 0 };
     let least = least_step_for(bounds.widest(), limit);
     Ok(Rounded { positions, step: grid.step, middle: grid.middle, moved, farthest, fallen, least })
+}
+
+/// Vertices that are rounded in one piece.
+const TOGETHER: usize = 1 << 15;
+
+/// Some vertices at both times on the grid.
+#[derive(Default)]
+struct Steps {
+    positions: Vec<[i32; 6]>,
+    moved: u64,
+    farthest: f64,
+}
+
+impl Steps {
+    fn with(mut self, behind: Steps) -> Steps {
+        self.positions.extend(behind.positions);
+        Steps { positions: self.positions, moved: self.moved + behind.moved, farthest: self.farthest.max(behind.farthest) }
+    }
+}
+
+impl Grid {
+    fn steps(&self, start: &[Place], end: &[Place], limit: i32) -> Option<Steps> {
+        let (from, to) = (self.frame(start, limit)?, self.frame(end, limit)?);
+        let positions = from.places.iter().zip(&to.places).map(|(&[a, b, c], &[d, e, f])| [a, b, c, d, e, f]).collect();
+        Some(Steps { positions, moved: from.moved + to.moved, farthest: from.farthest.max(to.farthest) })
+    }
 }
 
 /// One time on the grid.
@@ -104,9 +138,9 @@ pub struct Frame {
     pub farthest: f64,
 }
 
-fn fallen(start: &[Place], end: &[Place], positions: &[[i32; 6]]) -> u64 {
+fn fallen(start: &[Place], end: &[Place], positions: &[[i32; 6]], threads: usize) -> u64 {
     let apart = |a: usize, b: usize| start[a] != start[b] || end[a] != end[b];
-    let lowest = seams::by_position(positions);
+    let lowest = seams::by_position_on(positions, threads);
     lowest.iter().enumerate().filter(|&(vertex, &lowest)| apart(vertex, lowest as usize)).count() as u64
 }
 
@@ -174,7 +208,7 @@ pub fn parting_step(length: f64) -> Option<f64> {
     steps.filter_map(|text| text.parse().ok()).find(|&step: &f64| step <= length && step.is_normal())
 }
 
-fn least_step(bounds: &Bounds, limit: i32) -> Result<f64, Fault> {
+pub fn least_step(bounds: &Bounds, limit: i32) -> Result<f64, Fault> {
     least_step_for(bounds.widest(), limit)
         .ok_or_else(|| Fault::new("the vertices are too far apart, or too near each other, for a step to be chosen"))
 }
@@ -198,5 +232,6 @@ pub fn too_fine(step: f64, bounds: &Bounds, limit: i32) -> Fault {
     let width = bounds.widest();
     let room = 2 * limit;
     let fitting = least_step_for(width, limit).map_or(String::new(), |least| format!("; {least} is enough"));
-    Fault::new(format!("the mesh is {width} wide, and the room is {room} steps of {step}: take a larger --step{fitting}"))
+    let why = if limit < COORDINATE_LIMIT { "; contacts have less room than words, and are refused beyond it (16)" } else { "" };
+    Fault::new(format!("the mesh is {width} wide, and the room is {room} steps of {step}: take a larger --step{fitting}{why}"))
 }

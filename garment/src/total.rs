@@ -27,6 +27,8 @@ pub struct Whole {
 pub struct Told {
     pub tally: Tally,
     pub pierced: Pierced,
+    /// Whether pairs were left out.
+    pub chosen: bool,
 }
 
 /// Each share whole, all of one report, and every one there once; or all that is wrong.
@@ -143,8 +145,9 @@ impl Whole {
     }
 
     fn told(&self) -> Told {
-        let mut told = Told { tally: Tally::default(), pierced: Pierced::default() };
+        let mut told = Told { tally: Tally::default(), pierced: Pierced::default(), chosen: false };
         for Checked { closing, .. } in &self.shares {
+            told.chosen |= closing.left.is_some();
             told.tally.join(closing.tally);
             told.pierced.join(closing.pierced);
         }

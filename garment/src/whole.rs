@@ -3,17 +3,18 @@
 use crate::boxes;
 use crate::choice::Choice;
 use crate::fault::Fault;
-use crate::judge::{Answer, Judge, Question, Which};
+use crate::judge::{Counts, Found, Judge, Question, Which};
 use crate::mark::Marked;
 use crate::mesh::Mesh;
 use crate::pairs::Pair;
 use crate::progress::Bar;
-use crate::report::{About, Form, Row, Sums, Tally, Writer, WORDS};
+use crate::report::{pairs_of, About, Form, Row, Sums, Tally, Writer, WORDS};
 use crate::whereabouts::{self, ByNames, Time, Whereabouts};
-use crate::work::{in_order, stretch};
+use crate::work::in_turn;
 use makhnodri::Settled;
 use std::io::{self, Write};
 use std::ops::Range;
+use std::sync::Mutex;
 
 /// What is asked beside the words, or the contacts, of all listed pairs.
 #[derive(Default)]
@@ -55,6 +56,8 @@ impl Told {
 pub struct Judged {
     pub lines: Vec<u8>,
     pub told: Told,
+    /// How much of the room for its pairs they took.
+    filled: f64,
 }
 
 /// Writes the report, and hands back its totals.
@@ -65,22 +68,31 @@ pub fn report(mesh: &Mesh, about: &About, form: &Form, threads: usize, bar: &mut
 
 /// The same of what is asked beside it too.
 pub fn told(asked: &Asked, judge: &Judge, threads: usize, bar: &mut Bar, out: impl Write) -> Result<Told, Fault> {
-    let (rows, length) = (judge.rows(), judge.length());
-    let count = rows.div_ceil(length);
     let mut writer = Writer::begin(asked.form, asked.about, out).map_err(unwritten)?;
     let mut told = Told::default();
-    let work = |piece| judged(asked, judge, stretch(piece, length, rows));
-    in_order(count, threads, work, |piece, judged| {
-        let judged = judged?;
-        told.join(judged.told);
-        bar.make_room();
-        writer.lines(&judged.lines).map_err(unwritten)?;
-        if bar.follows_lines() {
-            writer.flush().map_err(unwritten)?;
-        }
-        bar.draw(piece + 1, count, told.tally.listed());
-        Ok(())
-    })?;
+    let cutter = Mutex::new(judge.cutter(threads));
+    let cut = || cutter.lock().expect("nobody panics who holds it");
+    let work = |some: Range<usize>| {
+        let judged = judged(asked, judge, some.clone())?;
+        cut().learn(&some, judged.filled);
+        Ok((some.end, judged))
+    };
+    in_turn(
+        threads,
+        || cut().next(),
+        work,
+        |judged: Result<(usize, Judged), Fault>| {
+            let (end, judged) = judged?;
+            told.join(judged.told);
+            bar.make_room();
+            writer.lines(&judged.lines).map_err(unwritten)?;
+            if bar.follows_lines() {
+                writer.flush().map_err(unwritten)?;
+            }
+            bar.draw(end, judge.rows(), told.tally.listed());
+            Ok(())
+        },
+    )?;
     bar.make_room();
     writer.end_with(&asked.sums(&told), told.tally).map_err(unwritten)?;
     Ok(told)
@@ -88,13 +100,15 @@ pub fn told(asked: &Asked, judge: &Judge, threads: usize, bar: &mut Bar, out: im
 
 /// The lines of a stretch of rows, and what they told.
 pub fn judged(asked: &Asked, judge: &Judge, rows: Range<usize>) -> Result<Judged, Fault> {
-    let Answer { told, contacts, tally, left } = judge.asked(rows, &asked.question())?;
-    let mut judged = Judged { lines: Vec::new(), told: Told { tally, left, ..Told::default() } };
-    if asked.wants_contacts() {
-        told.into_iter().zip(contacts).for_each(|((pair, word), row)| judged.contact(asked, pair, word, row));
-    } else {
-        asked.form.lines(told.into_iter(), &mut judged.lines);
-    }
+    let mut judged = Judged::default();
+    let Counts { tally, left, filled } = judge.each(rows, &asked.question(), |Found { list, words, contacts }| {
+        if asked.wants_contacts() {
+            pairs_of(list, words).zip(contacts).for_each(|((pair, word), &row)| judged.contact(asked, pair, word, row));
+        } else {
+            asked.form.lines(list, words, &mut judged.lines);
+        }
+    })?;
+    (judged.told.tally, judged.told.left, judged.filled) = (tally, left, filled);
     Ok(judged)
 }
 

@@ -9,6 +9,7 @@ use crate::shares::Share;
 use crate::work;
 use makhnodri::Settled;
 use std::ffi::OsString;
+use std::iter::Peekable;
 
 /// What `--help` prints; the manual page and the completion are made from the same file.
 pub const USAGE: &str = include_str!("usage.txt");
@@ -31,8 +32,8 @@ pub struct Options {
     pub body: Vec<String>,
     /// Two names each.
     pub between: Vec<[String; 2]>,
-    /// The body's own files, start and end.
-    pub body_files: Option<[String; 2]>,
+    /// The body's own files: start and end; of a frame one; of a series one that rests, or one for each frame. None where it has none.
+    pub body_files: Vec<String>,
     /// The options that say what the report is, as they were given; not how it is made, nor the step.
     pub kept: Vec<String>,
 }
@@ -49,11 +50,14 @@ pub enum Command {
     Version,
 }
 
+/// A word of the command line, or what is wrong with it.
+type Word = Result<String, String>;
+
 /// The command and its options, which may stand anywhere; behind `--` all are files.
 pub fn understood(words: impl Iterator<Item = OsString>) -> Result<(Command, Options), String> {
     let mut options = Options::none();
     let (mut plain, mut given, mut asked, mut only_files) = (Vec::new(), Vec::new(), None, false);
-    let mut words = words.map(|word| word.into_string().map_err(|word| format!("{word:?} is no UTF-8")));
+    let mut words = words.map(|word| word.into_string().map_err(|word| format!("{word:?} is no UTF-8"))).peekable();
     while let Some(word) = words.next().transpose()? {
         if only_files || !word.starts_with('-') || word == "-" {
             plain.push(word);
@@ -63,10 +67,11 @@ pub fn understood(words: impl Iterator<Item = OsString>) -> Result<(Command, Opt
             "--" => only_files = true,
             "--help" | "-h" => asked = Some(Command::Help),
             "--version" => asked = Some(Command::Version),
+            BODY_FILES => given.push(options.take_files(plain.first().map(String::as_str), &mut words)?),
             _ => given.push(options.take(&word, &mut words)?),
         }
     }
-    let command = asked.map_or_else(|| command_of(plain), Ok)?;
+    let command = asked.map_or_else(|| command_of(plain), Ok).map_err(|wrong| wrong + &options.swallowed())?;
     if let Some(name) = given.iter().find(|name| !command.takes(name)) {
         return Err(format!("{name} says nothing to this command"));
     }
@@ -102,14 +107,27 @@ impl Command {
         }
     }
 
+    /// How many files a body has here, where it has some.
+    fn body_files(&self) -> Option<usize> {
+        match self {
+            Command::Check { .. } => Some(1),
+            // as many as there are frames, which a list may name, or one
+            Command::Series { .. } => None,
+            _ => Some(2),
+        }
+    }
+
     /// Whether an option does anything here; one that does not is refused, since whoever gave it waits for something.
     fn takes(&self, option: &str) -> bool {
         let taken: &[&str] = match self {
             Command::Report { .. } => return true,
-            Command::Check { .. } => &["--step", "--seams", "--json", "--body", "--between", "--threads", "--quiet"],
-            Command::Series { .. } => {
-                &["--step", "--seams", "--json", "--body", "--between", "--no-hits", "--threads", "--quiet"]
-            }
+            Command::Check { .. } => &[
+                "--step", "--seams", "--json", "--where", "--mark", "--body", "--body-files", "--between", "--threads", "--quiet",
+            ],
+            Command::Series { .. } => &[
+                "--step", "--seams", "--json", "--where", "--mark", "--body", "--body-files", "--between", "--no-hits",
+                "--threads", "--quiet",
+            ],
             Command::Rows { .. } => &[
                 "--step", "--seams", "--contacts", "--near", "--only", "--body", "--body-files", "--between", "--threads",
                 "--quiet",
@@ -162,8 +180,8 @@ fn exactly<const N: usize>(what: &str, name: &str, plain: Vec<String>) -> Result
 /// The options that a value follows.
 const WITH_VALUE: [&str; 5] = ["--step", "--threads", "--only", "--mark", "--body"];
 
-/// Those that two values follow.
-const WITH_TWO: [&str; 2] = ["--between", "--body-files"];
+const BETWEEN: &str = "--between";
+const BODY_FILES: &str = "--body-files";
 
 /// The options that change nothing of what is reported, or that are told apart from the others.
 const NOT_KEPT: [&str; 4] = ["--step", "--threads", "--quiet", "--mark"];
@@ -182,15 +200,18 @@ impl Options {
             mark: None,
             body: Vec::new(),
             between: Vec::new(),
-            body_files: None,
+            body_files: Vec::new(),
             kept: Vec::new(),
         }
     }
 
     /// Takes an option, with the value that stands behind it, and hands back its name.
-    fn take(&mut self, word: &str, rest: &mut impl Iterator<Item = Result<String, String>>) -> Result<String, String> {
-        if WITH_TWO.contains(&word) {
-            return self.take_two(word, rest);
+    fn take(&mut self, word: &str, rest: &mut impl Iterator<Item = Word>) -> Word {
+        if word == BETWEEN {
+            let both = [next_value(BETWEEN, "two values", rest)?, next_value(BETWEEN, "two values", rest)?];
+            self.kept.push(both.iter().fold(BETWEEN.to_string(), |words, name| words + " " + &quoted(name)));
+            self.between.push(both);
+            return Ok(BETWEEN.to_string());
         }
         let (name, within) = match word.split_once('=') {
             Some((name, value)) if WITH_VALUE.contains(&name) => (name, Some(value.to_string())),
@@ -210,15 +231,32 @@ impl Options {
         }
     }
 
-    fn take_two(&mut self, name: &str, rest: &mut impl Iterator<Item = Result<String, String>>) -> Result<String, String> {
-        let both = [next_value(name, "two values", rest)?, next_value(name, "two values", rest)?];
-        let [one, other] = both.each_ref().map(|value| quoted(value));
-        self.kept.push(format!("{name} {one} {other}"));
-        match name {
-            "--between" => self.between.push(both),
-            _ => self.body_files = Some(both),
+    /// Two files, of a check one; of a series all up to the next option, since a shell may have written them out.
+    fn take_files(&mut self, command: Option<&str>, rest: &mut Peekable<impl Iterator<Item = Word>>) -> Word {
+        let is_file = |word: &Word| word.as_ref().is_ok_and(|word| !word.starts_with('-') || word == obj::STANDARD_INPUT);
+        let (wants, count) = match command {
+            Some("check") => ("a file", 1),
+            Some("series") => ("a file, or one for each frame", 1),
+            _ => ("two values", 2),
+        };
+        let mut files = Vec::new();
+        while files.len() < count {
+            files.push(next_value(BODY_FILES, wants, rest)?);
         }
-        Ok(name.to_string())
+        while let Some(file) = rest.next_if(|word| command == Some("series") && is_file(word)) {
+            files.push(file?);
+        }
+        self.kept.push(files.iter().fold(BODY_FILES.to_string(), |words, file| words + " " + &quoted(file)));
+        self.body_files = files;
+        Ok(BODY_FILES.to_string())
+    }
+
+    /// What may have become of files that are missed.
+    fn swallowed(&self) -> String {
+        match self.body_files.len() {
+            0 | 1 => String::new(),
+            count => format!("; {BODY_FILES} has taken {count} files: let -- stand behind the last of them"),
+        }
     }
 
     fn keep(&mut self, name: &str, value: &str) {
@@ -230,10 +268,14 @@ impl Options {
     /// Of all files that are named, one at most is standard input, none is written over, and none is passed over since another was named.
     fn of_files(&self, command: &Command, given: &[String]) -> Result<(), String> {
         let twice = |name: &&str| given.iter().filter(|given| given == name).count() > 1;
-        if let Some(name) = ["--body-files", "--mark"].into_iter().find(twice) {
+        if let Some(name) = [BODY_FILES, "--mark"].into_iter().find(twice) {
             return Err(format!("{name} stands here twice"));
         }
-        let named: Vec<&str> = command.places().into_iter().chain(self.body_files.iter().flatten().map(String::as_str)).collect();
+        let bodies = self.body_files.len();
+        if let Some(count) = command.body_files().filter(|&count| bodies != 0 && bodies != count) {
+            return Err(format!("a body has {count} files here, and {BODY_FILES} names {bodies}"));
+        }
+        let named: Vec<&str> = command.places().into_iter().chain(self.body_files.iter().map(String::as_str)).collect();
         if named.iter().filter(|&&name| name == obj::STANDARD_INPUT).count() > 1 {
             return Err("standard input is one file, and - stands here twice".to_string());
         }
@@ -265,7 +307,7 @@ impl Options {
     }
 }
 
-fn next_value(name: &str, wants: &str, rest: &mut impl Iterator<Item = Result<String, String>>) -> Result<String, String> {
+fn next_value(name: &str, wants: &str, rest: &mut impl Iterator<Item = Word>) -> Word {
     rest.next().transpose()?.ok_or_else(|| format!("{name} wants {wants}"))
 }
 

@@ -24,20 +24,20 @@ pub record Taken (s : Scene) (l : Lent) : Type 0 where
 
 module _ (s : Scene) (l l′ : Lent) (here : Taken s l) (there : Taken s l′) (first end : ℕ) where
   -- then nothing else that is lent is asked for
-  as-lent : {A : Type 0} (Right : A → Type 0) (more : List Check) (o : Outcome A) → Answers (rowChecks s l′ (rowCount s) first end more) Right o
-      → Answers (rowChecks s l (rowCount s) first end more) Right o
-  as-lent Right more o p = rw (here .enough, here .ordered) (rw (there .enough, there .ordered) at p)
+  pub as-lent : {A : Type 0} (Right : A → Type 0) (rows : ℕ) (more : List Check) (o : Outcome A) → Answers (rowChecks s l′ rows first end more) Right o
+      → Answers (rowChecks s l rows first end more) Right o
+  as-lent Right rows more o p = rw (here .enough, here .ordered) (rw (there .enough, there .ordered) at p)
 
   module _ (w : RowPairs) where
     pub counted-alike : (r r′ : ListAnswer) → RowsCounted w s l first end r → RowsCounted w s l′ first end r′ → r ≡ r′
-    counted-alike r r′ p q = one-counting w s l first end r r′ p (as-lent (λ n. n ≡ length (rowsIn w s first end)) [] (listSays r′) q)
+    counted-alike r r′ p q = one-counting w s l first end r r′ p (as-lent (λ n. n ≡ length (rowsIn w s first end)) (rowCount s) [] (listSays r′) q)
 
     pub listed-alike : (o o′ o″ : List ℕ) (r r′ : ListAnswer) → RowsListed w s l first end o o′ r → RowsListed w s l′ first end o o″ r′
         → (r ≡ r′) × (o′ ≡ o″)
     listed-alike o o′ o″ r r′ p q =
         one-listing w s l first end o o′ o″ r r′ p
         (record {
-          answer = as-lent (λ n. n ≡ length (rowsIn w s first end)) (roomCheck (length o) (length (rowsIn w s first end)) ∷ []) (listSays r′) (q .answer);
+          answer = as-lent (λ n. n ≡ length (rowsIn w s first end)) (rowCount s) (roomCheck (length o) (length (rowsIn w s first end)) ∷ []) (listSays r′) (q .answer);
           list = q .list;
         })
 
@@ -47,7 +47,7 @@ module _ (s : Scene) (l l′ : Lent) (here : Taken s l) (there : Taken s l′) (
         one-settling w s l first end o o′ o″ b b′ b″ r r′ p
         (record {
           answer =
-              as-lent (λ n. n ≡ length (rowsIn w s first end)) (roomCheck (min (length o) (length b)) (length (rowsIn w s first end)) ∷ []) (listSays r′)
+              as-lent (λ n. n ≡ length (rowsIn w s first end)) (rowCount s) (roomCheck (min (length o) (length b)) (length (rowsIn w s first end)) ∷ []) (listSays r′)
               (q .answer);
           list = q .list;
           words = q .words;
@@ -61,7 +61,7 @@ module _ (s : Scene) (l l′ : Lent) (here : Taken s l) (there : Taken s l′) (
         one-meeting w s l first end o o′ o″ b b′ b″ c c′ c″ r r′ p
         (record {
           answer =
-              as-lent (λ n. n ≡ length (rowsIn w s first end)) (rangeCheck s ∷ roomCheck (contactRoom o b c) (length (rowsIn w s first end)) ∷ [])
+              as-lent (λ n. n ≡ length (rowsIn w s first end)) (rowCount s) (rangeCheck s ∷ roomCheck (contactRoom o b c) (length (rowsIn w s first end)) ∷ [])
               (listSays r′) (q .answer);
           list = q .list;
           contacts = q .contacts;
@@ -79,7 +79,7 @@ module _ (s : Scene) (l l′ : Lent) (here : Taken s l) (there : Taken s l′) (
             words = q .words;
             right = q .right;
             answer =
-                as-lent (λ t. t ≡ keptTold m (q .words)) (roomCheck (min (length o) (length b)) (length (kept m (q .words) (q .words))) ∷ [])
+                as-lent (λ t. t ≡ keptTold m (q .words)) (rowCount s) (roomCheck (min (length o) (length b)) (length (kept m (q .words) (q .words))) ∷ [])
                 (keptSays r′) (q .answer);
             list = q .list;
             bytes = q .bytes;
@@ -93,7 +93,7 @@ module _ (s : Scene) (l l′ : Lent) (here : Taken s l) (there : Taken s l′) (
             words = q .words;
             right = q .right;
             answer =
-                as-lent (λ t. t ≡ keptTold m (q .words)) (rangeCheck s ∷ roomCheck (contactRoom o b c) (length (kept m (q .words) (q .words))) ∷ [])
+                as-lent (λ t. t ≡ keptTold m (q .words)) (rowCount s) (rangeCheck s ∷ roomCheck (contactRoom o b c) (length (kept m (q .words) (q .words))) ∷ [])
                 (keptSays r′) (q .answer);
             list = q .list;
             bytes = q .bytes;

@@ -91,6 +91,15 @@ fn aside(random: &mut Random, most: f64) -> f64 {
 }
 
 impl Cloth {
+    /// The same cloth with its faces, and so its triangles and edges, in another order.
+    pub fn in_any_order(mut self, seed: u64) -> Cloth {
+        let mut random = Random::new(seed);
+        for last in (1..self.faces.len()).rev() {
+            self.faces.swap(last, random.below(last + 1));
+        }
+        self
+    }
+
     pub fn objs(&self) -> [String; 2] {
         [obj(&self.start, &self.faces), obj(&self.end, &self.faces)]
     }

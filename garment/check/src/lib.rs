@@ -1,5 +1,6 @@
 //! What the tests and the measuring have in common: cloth that is made, and other ways to the same answers.
 
+pub mod beside;
 pub mod cells;
 pub mod clocks;
 pub mod cloth;

@@ -1,6 +1,8 @@
-//! usage: measure FOLDER [VERTICES..]
-//! What the program takes on garments that are made, as it is called and by its parts; and its judging over a cubic's. FOLDER takes the files.
-//! Times by parts are the processor's, so that what else runs on the machine is not in them.
+//! usage: measure FOLDER [called] [parts] [former] [grid] [order] [near] [sheet] [folds] [tight] [drape] [VERTICES..]
+//! What the program takes on garments that are made, as it is called and by its parts; its judging over a cubic's; and each part over what it was: reading,
+//! edges, seams and lines as they were made, pairs by a grid and judged in scenes of 128. All tables, where none is named. FOLDER takes the files.
+//! Where GARMENT_BEFORE names an earlier program, it is called beside this one. Times by parts are the processor's, so that what else runs on the machine
+//! is not in them.
 
 use compare::ways::cubic::{self, Moving};
 use garment::edges;
@@ -13,12 +15,13 @@ use garment::report::Form;
 use garment::rounding::onto_grid;
 use garment::seams;
 use garment::work::{all_cores, stretch};
+use garment_check::beside::{measured, Beside};
 use garment_check::clocks::{run, taken, Run};
 use garment_check::cloth::{cloth, drape, obj as cloth_text, Kind as ClothKind, KINDS};
 use garment_check::former;
 use garment_check::grid::Finder;
 use garment_check::ways::{made, mesh_of};
-use makhnodri::COORDINATE_LIMIT;
+use makhnodri::{Settled, COORDINATE_LIMIT};
 use std::hint::black_box;
 use std::process::Command;
 
@@ -29,16 +32,133 @@ const ROUNDS: usize = 9;
 
 fn main() {
     let words: Vec<String> = std::env::args().skip(1).collect();
-    let [folder, sizes @ ..] = &words[..] else {
-        eprintln!("usage: measure FOLDER [VERTICES..]");
+    let [folder, rest @ ..] = &words[..] else {
+        eprintln!(
+            "usage: measure FOLDER [called] [parts] [former] [grid] [order] [near] [sheet] [folds] [tight] [drape] [VERTICES..]"
+        );
         std::process::exit(2);
     };
-    let sizes: Vec<usize> = sizes.iter().map(|size| size.parse().expect("a count of vertices")).collect();
+    let (sizes, words): (Vec<&String>, Vec<&String>) = rest.iter().partition(|word| word.parse::<usize>().is_ok());
+    let (sorts, tables): (Vec<&String>, Vec<&String>) = words.into_iter().partition(|word| SORTS.contains(&word.as_str()));
+    let sorted = |name: &str| sorts.is_empty() || sorts.iter().any(|sort| name.starts_with(sort.as_str()));
+    let sizes: Vec<usize> = sizes.iter().filter_map(|size| size.parse().ok()).collect();
     let sizes = if sizes.is_empty() { vec![20_000, 100_000] } else { sizes };
-    as_called(folder, &sizes);
-    by_parts(&sizes);
-    beside_former(&sizes);
-    near_beside_listed(&sizes);
+    let asked = |table: &str| tables.is_empty() || tables.iter().any(|asked| *asked == table);
+    let all: [(&str, &dyn Fn()); 6] = [
+        ("called", &|| as_called(folder, &sizes)),
+        ("parts", &|| by_parts(&sizes)),
+        ("former", &|| beside_former(&sizes)),
+        ("grid", &|| beside_grid(&sizes, &sorted)),
+        ("order", &|| in_any_order(&sizes)),
+        ("near", &|| near_beside_listed(&sizes)),
+    ];
+    all.iter().filter(|(table, _)| asked(table)).for_each(|(_, print)| print());
+}
+
+/// The table beside the grid is of all of these, or of those that are named.
+const SORTS: [&str; 4] = ["sheet", "folds", "tight", "drape"];
+
+/// What is measured of a size: the texts of its files, and in how many stretches its rows are asked for.
+struct Garment {
+    name: String,
+    texts: Box<dyn Fn() -> [String; 2]>,
+    stretches: usize,
+}
+
+/// Cloth that is made, and two frames of a drape that falls, whose list is so long that it goes in more stretches.
+fn garments(size: usize) -> Vec<Garment> {
+    let frame = move |at| {
+        let (places, faces) = drape(size, at, 1);
+        cloth_text(&places, &faces)
+    };
+    let of_kind = |kind: ClothKind| Garment {
+        name: format!("{} {size}", kind.name),
+        texts: Box::new(move || cloth(kind, size, 1).objs()),
+        stretches: STRETCHES,
+    };
+    let falling = Garment {
+        name: format!("drape {size}"),
+        texts: Box::new(move || [0, 1].map(frame)),
+        stretches: STRETCHES * (size / 80_000).max(1),
+    };
+    KINDS.into_iter().map(of_kind).chain([falling]).collect()
+}
+
+/// Stretches of the rows, each asked for in one call.
+const STRETCHES: usize = 8;
+
+/// Rounds end behind so many seconds.
+const LONG: f64 = 4.0;
+
+/// Finding and judging by the grid and by scenes of 128 pairs, and by the library's rows: ns of processor time a listed pair, and the ratios.
+fn beside_grid(sizes: &[usize], sorted: &dyn Fn(&str) -> bool) {
+    println!("\none thread, ns of its processor time a listed pair: by the grid, its pairs in scenes of 128, rows listed, rows judged, near rows judged, hits");
+    println!("and touches kept of near rows; then rows listed over the grid, judging over scenes of 128, near rows and kept ones over grid and scenes of 128;");
+    println!("ms of a call for no rows, and of all edges that are through a triangle at the start");
+    println!(
+        "  {:<16}{:>12}{:>12}{:>8}{:>8}{:>8}{:>8}{:>8}{:>8}{:>9}{:>7}{:>7}{:>7}{:>9}{:>9}",
+        "",
+        "listed",
+        "near",
+        "grid",
+        "scenes",
+        "list",
+        "settle",
+        "near",
+        "kept",
+        "find",
+        "judge",
+        "near",
+        "kept",
+        "call",
+        "pierced"
+    );
+    let all = sizes.iter().flat_map(|&size| garments(size)).filter(|garment| sorted(&garment.name));
+    for Garment { name, texts, stretches } in all {
+        let mesh = mesh_of(&texts(), None, false).expect("a mesh");
+        let judge = Judge::new(&mesh).expect("a mesh");
+        let row = rounds(|| measured(&mesh, &judge, judge.rows().div_ceil(stretches)));
+        let each = |seconds: f64| format!("{:>8.1}", 1e9 * seconds / row.listed as f64);
+        let times = [row.grid, row.packed, row.list, row.settle, row.near_settle, row.near_keep].map(each).concat();
+        println!(
+            "  {name:<16}{:>12}{:>12}{times}{:>9.3}{:>7.3}{:>7.3}{:>7.3}{:>9.2}{:>9.1}",
+            row.listed,
+            row.near,
+            row.find(),
+            row.judge(),
+            row.near(),
+            row.kept(),
+            1e3 * row.call,
+            1e3 * row.pierced
+        );
+    }
+}
+
+/// Faces in any order: pairs found by the grid, and rows listed with the order that is lent and without one, in seconds.
+fn in_any_order(sizes: &[usize]) {
+    println!("\none thread, faces in any order: seconds of its processor time by the grid, rows listed with an order lent and without, and over the grid");
+    println!("  {:<16}{:>12}{:>10}{:>10}{:>10}{:>10}{:>10}", "", "listed", "grid", "order", "none", "order", "none");
+    for &size in sizes {
+        for kind in KINDS {
+            let mesh = made(&cloth(kind, size, 1).in_any_order(2));
+            let judge = Judge::new(&mesh).expect("a mesh");
+            assert!(!judge.lent().edge_order.is_empty(), "an order is lent");
+            let (listed, [grid, order, none]) = garment_check::beside::in_order(&mesh, judge.lent());
+            let name = format!("{} {size}", kind.name);
+            println!("  {name:<16}{listed:>12}{grid:>10.2}{order:>10.2}{none:>10.2}{:>10.2}{:>10.2}", order / grid, none / grid);
+        }
+    }
+}
+
+fn rounds(work: impl Fn() -> Beside) -> Beside {
+    let (began, mut best) = (taken(), work());
+    for _ in 1..ROUNDS {
+        if (taken() - began).as_secs_f64() > LONG {
+            break;
+        }
+        best = best.shortest(work());
+    }
+    best
 }
 
 /// Vertices of the drape that is measured, for each size that is asked for: its list has a thousand pairs and more a vertex.
@@ -125,6 +245,7 @@ fn former_and_now(kind: ClothKind, size: usize) -> [[f64; 2]; 4] {
     let finder = Finder::new(&mesh);
     let pairs = finder.in_rows(0..finder.rows());
     let told: Vec<_> = pairs.iter().map(|&pair| (pair, settle(&mesh, pair).expect("a word"))).collect();
+    let (list, words) = as_written(&told);
     let form = Form::default();
     let mut out = Vec::new();
     let before = || {
@@ -135,10 +256,15 @@ fn former_and_now(kind: ClothKind, size: usize) -> [[f64; 2]; 4] {
     let mut out = Vec::new();
     let now = || {
         out.clear();
-        form.lines(told.iter().copied(), &mut out);
+        form.lines(&list, &words, &mut out);
         out.len()
     };
     [reading, edging, sewing, in_turns(before, now)]
+}
+
+/// Pairs and words as the library writes them.
+fn as_written(told: &[(Pair, Settled)]) -> (Vec<u64>, Vec<u8>) {
+    told.iter().map(|&(pair, word)| (pair.entry(), word as u8)).unzip()
 }
 
 /// The shortest time of some work, in seconds, and what came of it.
@@ -178,10 +304,11 @@ fn parts_of(kind: ClothKind, size: usize) {
     let (celling, finder) = shortest(|| Finder::new(&mesh));
     let (finding, pairs) = shortest(|| finder.in_rows(0..finder.rows()));
     let (judging, cubing) = both_ways(&mesh, &pairs);
-    let words: Vec<_> = pairs.iter().map(|&pair| settle(&mesh, pair).expect("a word")).collect();
+    let told: Vec<_> = pairs.iter().map(|&pair| (pair, settle(&mesh, pair).expect("a word"))).collect();
+    let (list, words) = as_written(&told);
     let (writing, _) = shortest(|| {
         let mut lines = Vec::new();
-        Form::default().lines(pairs.iter().copied().zip(words.iter().copied()), &mut lines);
+        Form::default().lines(&list, &words, &mut lines);
         lines.len()
     });
     let [reading, meshing, celling, finding, writing] =

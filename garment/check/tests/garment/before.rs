@@ -1,6 +1,6 @@
 //! What is said before a report: each thing where it is so, and nowhere else.
 
-use garment::before::{again, of_mesh, FAR};
+use garment::before::{again, of_frame, of_mesh, FAR};
 use garment::mesh::Mesh;
 use garment::words::understood;
 use garment_check::ways::mesh_of;
@@ -68,6 +68,45 @@ fn vertices_in_one_place_are_counted_where_they_are_not_sewn() {
     assert_eq!(counted(true), None);
 }
 
+/// A frame rests, so only what it is and what is in one place is told of it.
+#[test]
+fn what_is_told_of_a_frame() {
+    let lines = |mesh: &Mesh, sewn: bool| {
+        let lines = of_frame(mesh, sewn);
+        assert!(lines.len() <= 2, "{lines:?}");
+        [NO_FACES, UNSEWN].map(|words| lines.iter().filter(|line| line.contains(words)).count())
+    };
+    assert_eq!(lines(&moved(0, "f 1 2 3\n"), false), [0, 0]);
+    assert_eq!(lines(&moved(0, ""), false), [1, 0]);
+    let text = "v 0 0 0\nv 4 0 0\nv 0 4 0\nv 0 0 0\nf 1 2 3\nf 4 2 3\n".to_string();
+    let twice = |sewn: bool| mesh_of(&[text.clone(), text.clone()], Some(1.0), sewn).expect("a mesh");
+    assert_eq!((lines(&twice(false), false), lines(&twice(true), true)), ([0, 1], [0, 0]));
+}
+
+/// How many files a body has goes by the command.
+#[test]
+fn files_of_a_body() {
+    let words = |line: &[&str]| line.iter().map(OsString::from).collect::<Vec<_>>().into_iter();
+    let files = |line: &[&str]| understood(words(line)).map(|(_, options)| options.body_files);
+    assert_eq!(files(&["--body-files", "a", "b", "c", "d"]), Ok(vec!["a".into(), "b".into()]));
+    assert_eq!(files(&["check", "--body-files", "a", "c"]), Ok(vec!["a".into()]));
+    assert_eq!(files(&["series", "c", "d", "e", "--body-files", "a"]), Ok(vec!["a".into()]));
+    assert_eq!(files(&["series", "c", "d", "--body-files", "a", "-", "--quiet"]), Ok(vec!["a".into(), "-".into()]));
+    assert_eq!(files(&["series", "c", "d"]), Ok(Vec::new()));
+    for (line, told) in [
+        (&["series", "--body-files", "a", "c", "d"][..], "and here are 0; --body-files has taken 3 files: let -- stand behind"),
+        (&["series", "c", "d", "--body-files"], "--body-files wants a file, or one for each frame"),
+        (&["check", "c", "--body-files"], "--body-files wants a file"),
+        (&["--body-files", "a", "b", "check", "c"], "a body has 1 files here, and --body-files names 2"),
+        (&["--body-files", "a"], "--body-files wants two values"),
+        (&["total", "--body-files", "a", "b", "c"], "--body-files says nothing to this command"),
+        (&["series", "c", "d", "--body-files", "a", "--body-files", "b"], "--body-files stands here twice"),
+    ] {
+        let wrong = files(line).expect_err("not understood");
+        assert!(wrong.contains(told), "{line:?}: {wrong}");
+    }
+}
+
 /// The command that repeats a run, from its words; understood, it is the same run on that grid.
 #[test]
 fn the_command_that_repeats_a_run() {
@@ -83,6 +122,14 @@ fn the_command_that_repeats_a_run() {
         (&["--where", "--mark", "x.ply", "--body", "A b", "a", "b"], "garment --step 0.0001 --where --body='A b' a b"),
         (&["--between", "a", "b c", "d", "e"], "garment --step 0.0001 --between a 'b c' d e"),
         (&["scene", "--body-files", "-", "-x", "d", "e"], "garment scene --step 0.0001 --body-files - -x d e"),
+        (&["check", "--body-files", "b", "d", "--where"], "garment check --step 0.0001 --body-files b --where d"),
+        (&["series", "c", "d", "--body-files", "b"], "garment series --step 0.0001 --body-files b -- c d"),
+        (&["series", "--body-files", "a", "b", "--", "c", "d"], "garment series --step 0.0001 --body-files a b -- c d"),
+        (
+            &["series", "--body-files", "a", "b", "--json", "c", "d"],
+            "garment series --step 0.0001 --body-files a b --json -- c d",
+        ),
+        (&["--body-files", "a", "b", "c", "d", "--near"], "garment --step 0.0001 --body-files a b --near c d"),
     ] {
         let (command, options) = understood(words(line)).expect("understood");
         assert_eq!(again(&command, &options, 1e-4), wanted);

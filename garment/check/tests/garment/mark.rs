@@ -1,5 +1,7 @@
 //! A marked mesh, parsed back: its places, its colours and its groups.
 
+use garment::clean::Found;
+use garment::judge::Judge;
 use garment::mark;
 use garment::mesh::Mesh;
 use garment::obj;
@@ -9,7 +11,7 @@ use garment::whole::Beside;
 use garment_check::cloth::{cloth, KINDS};
 use garment_check::dressed::parts;
 use garment_check::exact;
-use garment_check::ways::{named, told};
+use garment_check::ways::{named, no_bar, told};
 use makhnodri::{Settled, CONTACT_UNIT};
 use std::fs;
 use std::path::PathBuf;
@@ -147,6 +149,49 @@ fn files_parsed_back() {
     }
     println!("faces clear, of touches, of hits: {ranks:?}");
     assert!(ranks.iter().all(|&count| count > 0), "{ranks:?}");
+}
+
+/// A frame in tight folds, with every edge that is through a triangle by the independent program: their vertices are red, and each face that is such a
+/// triangle or has such an edge is in a group.
+#[test]
+fn what_is_pierced_is_marked() {
+    let text = cloth(KINDS[2], 300, 5).objs()[0].clone();
+    let (mesh, _, grid) = named(&[text.clone(), text], None, false).expect("it is read");
+    let scene = exact::scene(&mesh);
+    let (mut vertices, mut faces) = (vec![false; mesh.positions.len()], vec![false; mesh.triangles.len()]);
+    for (at, edge) in mesh.edges.iter().enumerate() {
+        for triangle in (0..mesh.triangles.len()).filter(|&triangle| exact::pierced(&scene, at, triangle)) {
+            edge.iter().chain(&mesh.triangles[triangle]).for_each(|&vertex| vertices[vertex as usize] = true);
+            let has = |corners: &[u32; 3]| edge.iter().all(|end| corners.contains(end));
+            faces.iter_mut().zip(&mesh.triangles).for_each(|(face, corners)| *face |= has(corners));
+            faces[triangle] = true;
+        }
+    }
+    let found = Found::of(&Judge::new(&mesh).expect("a mesh"), None, 2, &mut no_bar()).expect("it is decided");
+    let [obj_file, ply_file] = ["pierced.obj", "pierced.ply"].map(File::new);
+    for file in [&obj_file, &ply_file] {
+        mark::write_pierced(file.name(), &mesh, &grid, &found.kept).expect("it is written");
+    }
+    let text = fs::read_to_string(&obj_file.0).expect("it is there");
+    let written = obj::read("marked.obj", text.as_bytes()).expect("it is read again");
+    same_places(&mesh, &grid, 0, &written.places);
+    let red: Vec<bool> =
+        text.lines().filter(|line| line.starts_with("v ")).map(|line| line.ends_with(" 1.000 0.000 0.000")).collect();
+    assert_eq!(red, vertices);
+    let mut groups: Vec<(String, [u32; 3])> = faces
+        .iter()
+        .zip(&mesh.triangles)
+        .map(|(&face, &corners)| (if face { "pierced" } else { "clear" }.to_string(), corners))
+        .collect();
+    groups.sort_by(|one, other| one.0.cmp(&other.0));
+    let sets = written.names.of_triangles.iter().zip(&written.triangles);
+    assert_eq!(sets.map(|(&set, &corners)| (written.names.of_set(set).collect(), corners)).collect::<Vec<_>>(), groups);
+    let text = fs::read_to_string(&ply_file.0).expect("it is there");
+    let (_, body) = text.split_once("end_header\n").expect("a head");
+    let red: Vec<bool> = body.lines().take(vertices.len()).map(|line| line.ends_with(" 255 0 0")).collect();
+    assert_eq!(red, vertices);
+    let count = |all: &[bool]| all.iter().filter(|is| **is).count();
+    assert!((10..vertices.len() - 10).contains(&count(&vertices)) && count(&faces) > 10, "{}", count(&vertices));
 }
 
 /// Marking changes nothing of a report.

@@ -1,7 +1,7 @@
 //! OBJ files as exporters write them, and each thing that cannot be read, by its line.
 
 use compare::numbers::random::Random;
-use garment::obj::{read, Noted, Obj};
+use garment::obj::{in_pieces, read, Noted, Obj};
 use garment::pairs::{Kind, Pair};
 use garment::report::{Form, WORDS};
 use garment_check::former;
@@ -167,7 +167,9 @@ fn damaged_files() {
                 _ => bytes.truncate(at),
             }
         }
-        assert_eq!(read("m.obj", &bytes[..]), former::read("m.obj", &bytes[..]), "{}", bytes.escape_ascii());
+        let (whole, length) = (read("m.obj", &bytes[..]), 1 + random.below(60));
+        assert_eq!(whole, former::read("m.obj", &bytes[..]), "{}", bytes.escape_ascii());
+        assert_eq!(in_pieces("m.obj", &bytes, length, 2), whole, "pieces of {length}: {}", bytes.escape_ascii());
         match read("m.obj", &bytes[..]) {
             Err(fault) => {
                 assert!(fault.words.starts_with("m.obj:"), "{fault}");
@@ -183,6 +185,25 @@ fn damaged_files() {
         }
     }
     assert!(read_all > 500 && told > 500, "{read_all} read, {told} told");
+}
+
+/// Files in pieces of any length, on any number of threads, are the same: names, lines that go on, vertices counted backwards, and what is told.
+#[test]
+fn pieces_are_read_as_the_whole() {
+    let lines: [&[u8]; 16] = [
+        b"v 1 2 3\n", b"v 1e1 2 3 1\r\n", b"v 4 \\\n5 6\n", b"f 1 2 3\n", b"f 1/1 2/1 3/1 4/1\r\n", b"f -1 -2 -3\n",
+        b"f 1 2 3 4 5\n", b"o one\n", b"g two three\n", b"g\n", b"l 1 2\n", b"# a comment \\\n", b"\n", b"usemtl cloth\\\n",
+        b"f 1 \\\r\n2 3\r\n", b"v 1 2 3\r",
+    ];
+    for seed in 0..3_000 {
+        let mut random = Random::new(seed);
+        let mut bytes = b"v 0 0 0\nv 1 0 0\nv 0 1 0\nv 1 1 0\nv 2 1 0\n".to_vec();
+        (0..random.below(40)).for_each(|_| bytes.extend_from_slice(random.pick(&lines)));
+        bytes.extend_from_slice(random.pick(&[b"".as_slice(), b"", b"", b"f 1 2 999\n", b"v 1 2\n", b"what\n"]));
+        let (whole, length, threads) = (read("m.obj", &bytes[..]), 1 + random.below(200), 1 + random.below(3));
+        assert_eq!(whole, former::read("m.obj", &bytes[..]), "{}", bytes.escape_ascii());
+        assert_eq!(in_pieces("m.obj", &bytes, length, threads), whole, "pieces of {length}: {}", bytes.escape_ascii());
+    }
 }
 
 /// A decimal of up to so many digits, plain or not so plain.
@@ -251,10 +272,11 @@ fn lines_are_written_as_digit_by_digit() {
         let pairs: Vec<(Pair, Settled)> = numbers
             .windows(2)
             .enumerate()
-            .map(|(at, two)| (Pair { kind: kinds[at / 7 % 2], first: two[at % 2], second: two[1] }, WORDS[at % 4]))
+            .map(|(at, two)| (Pair { kind: kinds[at / 7 % 2], first: two[at % 2] & 0x7fff_ffff, second: two[1] }, WORDS[at % 4]))
             .collect();
+        let (list, words): (Vec<u64>, Vec<u8>) = pairs.iter().map(|&(pair, word)| (pair.entry(), word as u8)).unzip();
         let (mut lines, mut by_digits, mut one_by_one) = (b"before\n".to_vec(), b"before\n".to_vec(), b"before\n".to_vec());
-        form.lines(pairs.iter().copied(), &mut lines);
+        form.lines(&list, &words, &mut lines);
         pairs.iter().for_each(|&(pair, word)| former::line(&form, pair, word, &mut by_digits));
         pairs.iter().for_each(|&(pair, word)| form.line(pair, word, &mut one_by_one));
         assert_eq!(String::from_utf8(lines), String::from_utf8(by_digits.clone()));

@@ -1,2 +1,0 @@
--- The one statement that the program's own functions share.
-pub mod Between
