@@ -208,12 +208,12 @@ impl<'a> Mesh<'a> {
 }
 
 impl Scratch {
-    /// As long as the mesh needs it, so that 12 is never met.
+    /// As long as the mesh needs it, so that 12 is never met; and with room for the nodes of both times, by which near rows are found faster.
     fn fit(&mut self, mesh: &Mesh) {
         let [vertices, edges, triangles] = [mesh.positions.len() / 6, mesh.edges.len() / 2, mesh.triangles.len() / 3];
         let table = if mesh.seams.is_empty() { 0 } else { vertices };
         let places = edges + triangles + 2 * (mesh.edge_order.len() + mesh.triangle_order.len());
-        let boxes = 6 * (vertices + edges + triangles + edges / 15 + 16 + triangles / 15 + 16);
+        let boxes = 6 * (vertices + edges + triangles + 3 * (edges / 15 + 16 + triangles / 15 + 16));
         self.table.resize(self.table.len().max(table), 0);
         self.places.resize(self.places.len().max(places), 0);
         self.boxes.resize(self.boxes.len().max(boxes), 0);

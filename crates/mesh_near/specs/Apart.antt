@@ -53,7 +53,7 @@ and-second : (x y : Bool) → (T y → T x) → x && y ≡ y
 and-second x y h = and-comm x y ∙ and-first y x h
 
 module _ (p a b : ℤ) where
-  below-smaller : ltZ p (smaller a b) ≡ ltZ p a && ltZ p b
+  pub below-smaller : ltZ p (smaller a b) ≡ ltZ p a && ltZ p b
   below-smaller = by (compared a b)
     where
       by : {c : Bool} → Compared a b c → ltZ p (cond c a b) ≡ ltZ p a && ltZ p b
@@ -62,7 +62,7 @@ module _ (p a b : ℤ) where
       by (reversed h) =
           sym (and-second (ltZ p a) (ltZ p b) (λ t. let k : p <ℤ b = ltZ-yes t in let m : p <ℤ a = omega (arith, ord) in m .lt))
 
-  larger-below : ltZ (larger a b) p ≡ ltZ a p && ltZ b p
+  pub larger-below : ltZ (larger a b) p ≡ ltZ a p && ltZ b p
   larger-below = by (compared a b)
     where
       by : {c : Bool} → Compared a b c → ltZ (cond c b a) p ≡ ltZ a p && ltZ b p
@@ -74,7 +74,7 @@ module _ (p a b : ℤ) where
 -- ---- the code's tests are the boxes'
 
 -- tests of both times, regrouped by their time
-both-times : (a b x y : Bool) → (a && x) && (b && y) ≡ (a && b) && (x && y)
+pub both-times : (a b x y : Bool) → (a && x) && (b && y) ≡ (a && b) && (x && y)
 both-times true true x y = refl
 both-times true false x y = and-false x
 both-times false b x y = refl
@@ -84,7 +84,7 @@ both x y x′ y′ = ltZ x y && ltZ x′ y′
 
 -- numbers at the start, and at the end
 module _ (p a b c p′ a′ b′ c′ : ℤ) where
-  under-three : both p a p′ a′ && both p b p′ b′ && both p c p′ c′
+  pub under-three : both p a p′ a′ && both p b p′ b′ && both p c p′ c′
       ≡ ltZ p (smaller (smaller a b) c) && ltZ p′ (smaller (smaller a′ b′) c′)
   under-three =
       ap (λ (t : Bool). t && both p c p′ c′) (both-times (ltZ p a) (ltZ p b) (ltZ p′ a′) (ltZ p′ b′))
@@ -92,7 +92,7 @@ module _ (p a b c p′ a′ b′ c′ : ℤ) where
       ∙ sym (λ i. (below-smaller p (smaller a b) c ∙ ap (λ (t : Bool). t && ltZ p c) (below-smaller p a b)) i
       && (below-smaller p′ (smaller a′ b′) c′ ∙ ap (λ (t : Bool). t && ltZ p′ c′) (below-smaller p′ a′ b′)) i)
 
-  three-under : both a p a′ p′ && both b p b′ p′ && both c p c′ p′
+  pub three-under : both a p a′ p′ && both b p b′ p′ && both c p c′ p′
       ≡ ltZ (larger (larger a b) c) p && ltZ (larger (larger a′ b′) c′) p′
   three-under =
       ap (λ (t : Bool). t && both c p c′ p′) (both-times (ltZ a p) (ltZ b p) (ltZ a′ p′) (ltZ b′ p′))

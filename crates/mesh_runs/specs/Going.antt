@@ -28,9 +28,9 @@ soughtLeft w s kind i l base row from ps count c =
     sifted (λ j. goesWith l base row from j && passes w s kind i j) (entryOf kind i) (drop c (take count ps))
 
 module _ (w : RowPairs) {s : Scene} {kind : Kind} {i : ℕ} {l : List ℤ} {base row from : ℕ} {ps : List ℕ} {count : ℕ}
-    (so : Sought s kind i l base row from ps count) where
+    (so : Sought w s kind i l base row from ps count) where
   pub sought-starts : (most at : ℕ) (o : List ℕ) → Entering most o at (kindEntries w s kind i) o at (soughtLeft w s kind i l base row from ps count 0)
-  sought-starts most at o = entering-as (so .whole w) (entering-starts most o at (kindEntries w s kind i))
+  sought-starts most at o = entering-as (so .whole) (entering-starts most o at (kindEntries w s kind i))
 
   sought-next : (c : ℕ) → c < count → drop c (take count ps) ≡ getD ps c 0 ∷ drop (c + 1) (take count ps)
   sought-next c h =
@@ -61,10 +61,10 @@ module _ (w : RowPairs) {s : Scene} {kind : Kind} {i : ℕ} {l : List ℤ} {base
 -- ---- how many pairs some rows have
 
 pub sought-few : (w : RowPairs) {s : Scene} {kind : Kind} {l : List ℤ} {base : ℕ} (offset first end : ℕ) {ps : List ℕ} {count : ℕ}
-    → AllSought s kind l base offset first end ps count → (i : ℕ) → i ≤ end
+    → AllSought w s kind l base offset first end ps count → (i : ℕ) → i ≤ end
     → length (gather (kindEntries w s kind) first i) ≤ (i - first) * partLimit
 sought-few w {s} {kind} offset first end so i h =
-    gather-short (kindEntries w s kind) partLimit first i (λ j p q. so j p (omega arith) .few w)
+    gather-short (kindEntries w s kind) partLimit first i (λ j p q. so j p (omega arith) .few)
 
 pub kind-few : (w : RowPairs) {s : Scene} {kind : Kind} {l : List ℤ} {t : List ℕ} {parts top offset : ℕ} → KindTree s kind l t parts top offset
     → (first i : ℕ) → i ≤ firstCount s kind → length (gather (kindEntries w s kind) first i) ≤ (i - first) * partLimit

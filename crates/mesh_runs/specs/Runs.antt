@@ -88,18 +88,18 @@ kindEntries w s kind i = meshEntries (partRow w s kind i)
 abbrev pub goesWith : List ℤ → (base row from : ℕ) → ℕ → Bool
 goesWith l base row from j = leb from j && meetBoxes (boxAt l row) (boxAt l (base + j))
 
-pub record Sought (s : Scene) (kind : Kind) (i : ℕ) (l : List ℤ) (base row from : ℕ) (ps : List ℕ) (count : ℕ) : Type 0 where
+pub record Sought (w : RowPairs) (s : Scene) (kind : Kind) (i : ℕ) (l : List ℤ) (base row from : ℕ) (ps : List ℕ) (count : ℕ) : Type 0 where
   pub room : count ≤ length ps
   pub inside : 6 * row + 5 < length l
   pub reach : (c : ℕ) → c < count → 6 * (base + getD ps c 0) + 5 < length l
   pub asked : (c : ℕ) → c < count → Askable s kind i (getD ps c 0)
-  pub whole : (w : RowPairs) → kindEntries w s kind i
+  pub whole : kindEntries w s kind i
       ≡ sifted (λ j. goesWith l base row from j && passes w s kind i j) (entryOf kind i) (take count ps)
-  pub few : (w : RowPairs) → length (kindEntries w s kind i) ≤ partLimit
+  pub few : length (kindEntries w s kind i) ≤ partLimit
 
-abbrev pub AllSought : Scene → Kind → List ℤ → (base offset first end : ℕ) → List ℕ → ℕ → Type 0
-AllSought s kind l base offset first end ps count =
-    (i : ℕ) → first ≤ i → i < end → Sought s kind i l base (offset + i) (secondFrom kind i) ps count
+abbrev pub AllSought : RowPairs → Scene → Kind → List ℤ → (base offset first end : ℕ) → List ℕ → ℕ → Type 0
+AllSought w s kind l base offset first end ps count =
+    (i : ℕ) → first ≤ i → i < end → Sought w s kind i l base (offset + i) (secondFrom kind i) ps count
 
 -- of the second parts those in front are passed by
 chosen-skipped : (m : ℕ → Bool) (g : ℕ → ℕ) (n b a : ℕ) → a ≤ b → ((j : ℕ) → a ≤ j → j < b → j < n → m j ≡ false)
@@ -115,8 +115,8 @@ chosen-skipped m g n b =
     ∙ next (omega arith) (λ j low high few. none j (omega arith) high few))
     (le-or-lt n a))
 
--- a place that goes with the row was found
-same-test : (goes met found pass : Bool) → goes ≡ true → (found ≡ false → met ≡ false) → ((goes && met) && pass) && found ≡ pass && met
+-- a place that goes with the row and is entered was found
+same-test : (goes met found pass : Bool) → goes ≡ true → (found ≡ false → met && pass ≡ false) → ((goes && met) && pass) && found ≡ pass && met
 same-test true true true true e h = refl
 same-test true true true false e h = refl
 same-test true true false true e h = sym (h refl)
@@ -129,25 +129,26 @@ not-yet : (goes met found pass : Bool) → goes ≡ false → ((goes && met) && 
 not-yet goes met found pass e = rw e refl
 
 module _ {s : Scene} {kind : Kind} {i : ℕ} {l : List ℤ} {t : List ℕ} {parts top row from : ℕ} (so : RowTree s kind i l t parts top row from)
-    (m : ℕ → Bool) (covers : (j : ℕ) → m j ≡ false → rowMeets l t row j ≡ false) (start : ℕ) (before : start ≤ from) where
-  abbrev sought : RowPairs → ℕ → Bool
-  sought w j = goesWith l (getD t 0 0) row from j && passes w s kind i j
+    (w : RowPairs) (m : ℕ → Bool) (covers : (j : ℕ) → j < parts → m j ≡ false → rowMeets l t row j && passes w s kind i j ≡ false)
+    (start : ℕ) (before : start ≤ from) where
+  abbrev sought : ℕ → Bool
+  sought j = goesWith l (getD t 0 0) row from j && passes w s kind i j
 
-  from-found : (w : RowPairs) → kindEntries w s kind i ≡ sifted (sought w) (entryOf kind i) (placesFrom m parts start)
-  from-found w =
+  from-found : kindEntries w s kind i ≡ sifted sought (entryOf kind i) (placesFrom m parts start)
+  from-found =
       let g = entryOf kind i in
       whole-row so meshNumber w
       ∙ sifted-chosen (passes w s kind i) (rowMeets l t row) g parts from
       ∙ sym (gather-same
-      (λ j. one (sought w j && m j) (g j))
+      (λ j. one (sought j && m j) (g j))
       (λ j. one (passes w s kind i j && rowMeets l t row j) (g j))
       from parts
       (λ j low high.
       ap (λ (b : Bool). one b (g j))
-      (same-test (leb from j) (rowMeets l t row j) (m j) (passes w s kind i j) (le-leb from j low) (covers j))))
-      ∙ sym (chosen-skipped (λ j. sought w j && m j) g parts from start before
+      (same-test (leb from j) (rowMeets l t row j) (m j) (passes w s kind i j) (le-leb from j low) (covers j high))))
+      ∙ sym (chosen-skipped (λ j. sought j && m j) g parts from start before
       (λ j low high there. not-yet (leb from j) (rowMeets l t row j) (m j) (passes w s kind i j) (lt-leb from j high)))
-      ∙ sym (sifted-chosen (sought w) m g parts start)
+      ∙ sym (sifted-chosen sought m g parts start)
 
   module _ (ps : List ℕ) (count : ℕ) (room : count ≤ length ps) (stand : take count ps ≡ placesFrom m parts start) where
     found-below : (c : ℕ) → c < count → getD ps c 0 < parts
@@ -158,7 +159,7 @@ module _ {s : Scene} {kind : Kind} {i : ℕ} {l : List ℤ} {t : List ℕ} {part
         let there = places-exactly m parts start it .0 (subst (λ (k : List ℕ). List·Memᴰ it k) stand member) in
         omega (arith, there .1, getD-take count ps c 0 h)
 
-    pub row-sought : Sought s kind i l (getD t 0 0) row from ps count
+    pub row-sought : Sought w s kind i l (getD t 0 0) row from ps count
     unfolding nodesAt
     row-sought =
         record {
@@ -166,27 +167,30 @@ module _ {s : Scene} {kind : Kind} {i : ℕ} {l : List ℤ} {t : List ℕ} {part
           inside = so .inside;
           reach = λ c h. omega (arith, found-below c h, so .tree .inside 0 (omega arith));
           asked = λ c h. row-askable so (getD ps c 0) (found-below c h);
-          whole = λ w. from-found w ∙ ap (sifted (sought w) (entryOf kind i)) (sym stand);
-          few = λ w. omega (arith, row-few so meshNumber w, so .few);
+          whole = from-found ∙ ap (sifted sought (entryOf kind i)) (sym stand);
+          few = omega (arith, row-few so meshNumber w, so .few);
         }
 
 -- the first second part of a later row is no earlier
-from-rises : (kind : Kind) (i j : ℕ) → i ≤ j → secondFrom kind i ≤ secondFrom kind j
+pub from-rises : (kind : Kind) (i j : ℕ) → i ≤ j → secondFrom kind i ≤ secondFrom kind j
 unfolding secondFrom
 from-rises PointTriangle i j h = omega arith
 from-rises EdgeEdge i j h = omega arith
 
 -- the places that the covering box meets serve each row of the run
-pub run-sought : {s : Scene} {kind : Kind} {l : List ℤ} {t : List ℕ} {parts top offset : ℕ} → KindTree s kind l t parts top offset
+pub run-sought : (w : RowPairs) {s : Scene} {kind : Kind} {l : List ℤ} {t : List ℕ} {parts top offset : ℕ} → KindTree s kind l t parts top offset
     → (first end : ℕ) → first < end → end ≤ firstCount s kind → (b : Box) → Covers b l (offset + first) (end - first)
     → {o o′ : List ℕ} {from n : ℕ} → from ≡ secondFrom kind first → n ≤ length o
     → Entered (length o) o 0 (placesFrom (boxMeets b l t) parts from) o′ n
-    → AllSought s kind l (getD t 0 0) offset first end o′ n
-run-sought {s} {kind} {l} {t} {parts} {top} {offset} so first end some most b covers {o} {o′} {from} {n} begins fits found i low high =
+    → AllSought w s kind l (getD t 0 0) offset first end o′ n
+run-sought w {s} {kind} {l} {t} {parts} {top} {offset} so first end some most b covers {o} {o′} {from} {n} begins fits found i low high =
     let wrote = entered-wrote fits (omega arith) found in
     let place : offset + first + (i - first) ≡ offset + i = omega arith in
-    row-sought (so .row i (omega arith)) (boxMeets b l t)
-    (λ j e. subst (λ (k : ℕ). meetBoxes (boxAt l k) (boxAt l (getD t 0 0 + j)) ≡ false) place (covers .misses (i - first) (omega arith) (boxAt l (getD t 0 0 + j)) e))
+    row-sought (so .row i (omega arith)) w (boxMeets b l t)
+    (λ j h e.
+    ap (λ (met : Bool). met && passes w s kind i j)
+    (subst (λ (k : ℕ). meetBoxes (boxAt l k) (boxAt l (getD t 0 0 + j)) ≡ false) place
+    (covers .misses (i - first) (omega arith) (boxAt l (getD t 0 0 + j)) e)))
     from (omega (arith, begins, from-rises kind first i low)) o′ n
     (omega (arith, entered-length found))
     (wrote .front)

@@ -101,7 +101,7 @@ fn enter_sought(
     most: usize,
     at: usize,
 ) -> usize
-    requires { ⌜ Sought (tabledIn positions edges triangles stands) kind i (now boxes) base row from (now places) count ⌝ }
+    requires { ⌜ Sought which (tabledIn positions edges triangles stands) kind i (now boxes) base row from (now places) count ⌝ }
     requires { ⌜ (most ≤ length (now list)) × (at < 4611686018427387904) ⌝ }
     ensures { λ r. ⌜ Entered most (atEntry list) at
         (meshEntries (partRow which (tabledAtEntry positions edges triangles stands) kind i)) (atExit list) r ⌝ }
@@ -131,7 +131,7 @@ fn enter_sought(
 }
 
 // The rows of a run, by the places that were found for it.
-fn enter_run(
+pub fn enter_run(
     positions: &[i32],
     edges: &[u32],
     triangles: &[u32],
@@ -149,7 +149,7 @@ fn enter_run(
     most: usize,
     at: usize,
 ) -> usize
-    requires { ⌜ AllSought (tabledIn positions edges triangles stands) kind (now boxes) base offset first end (now places)
+    requires { ⌜ AllSought which (tabledIn positions edges triangles stands) kind (now boxes) base offset first end (now places)
         count × (first ≤ end) × (end ≤ first + 16) × (end ≤ 1073741824) × (offset ≤ 1073741824) ⌝ }
     requires { ⌜ (most ≤ length (now list)) × (at ≤ 2305843009213693952) ⌝ }
     ensures { λ r. ⌜ Entered most (atEntry list) at
@@ -183,7 +183,7 @@ fn enter_run(
 }
 
 // The rows of a run, each by a walk of its own.
-fn enter_alone(
+pub fn enter_alone(
     positions: &[i32],
     edges: &[u32],
     triangles: &[u32],
@@ -306,7 +306,7 @@ fn walk_run(
 }
 
 // Where the run ends that begins with a row.
-fn run_end(first: usize, end: usize) -> usize
+pub fn run_end(first: usize, end: usize) -> usize
     requires { ⌜ (first < end) × (first < 1073741824) ⌝ }
     ensures { λ r. ⌜ (first < r) × (r ≤ end) × (r ≤ first + 16) ⌝ }
 {

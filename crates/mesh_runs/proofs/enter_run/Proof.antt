@@ -40,7 +40,7 @@ enter-sought-requires c κs =
     let loop = c .before .before .before .loop in
     let below = c .before .before .loop-test .taken in
     let few = sought-few (a .which) (a .offset) (a .first) (a .end) (pre .0) (loop .i) (omega arith) in (
-      subst (λ (f : ℕ). Sought s (a .kind) (loop .i) (a .boxes .now) (a .base) (a .offset + loop .i) f (a .places .now) (a .count)) (sym (c .before .first-second .ensures)) (pre .0 (loop .i) (loop .inv .1 .past) below),
+      subst (λ (f : ℕ). Sought (a .which) s (a .kind) (loop .i) (a .boxes .now) (a .base) (a .offset + loop .i) f (a .places .now) (a .count)) (sym (c .before .first-second .ensures)) (pre .0 (loop .i) (loop .inv .1 .past) below),
       (omega (arith, start .pre .1, entered-length (loop .inv .1 .done)), omega (arith, start .pre .1, pre .2, loop .inv .1 .done .counts)),
     )
 

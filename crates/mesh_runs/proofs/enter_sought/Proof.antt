@@ -45,7 +45,7 @@ enter-found-requires c κs =
     let loop = c .before .before .before .before .before .loop in
     let so = start .pre .0 in (
       λ e. subst (λ (j : ℕ). Askable s (a .kind) (a .i) j) (sym (c .before .before .wide .ensures)) (so .asked (loop .c) (c .before .before .before .before .loop-test .taken)),
-      (omega (arith, start .pre .1, entering-length (loop .inv .1)), omega (arith, start .pre .1, entering-place (loop .inv .1), so .few (a .which))),
+      (omega (arith, start .pre .1, entering-length (loop .inv .1)), omega (arith, start .pre .1, entering-place (loop .inv .1), so .few)),
     )
 
 loop-less : tie.Need-loop-less Inv-loop μ-loop

@@ -13,7 +13,7 @@ enter-run-requires c κs =
     let pre = start .pre .0 in
     let found = c .before .before .before .before .before .before .find-met .ensures in
     let asked = c .before .before .before .before .before .before .before .before .before .first-second .ensures in (
-      (run-sought (pre .0) (a .first) (a .end) (pre .1) (pre .3) _ (c .before .before .before .before .before .before .before .before .before .before .before .join-rows .ensures) asked (omega (arith, c .before .before .before .if1 .taken, entered-length found)) found, omega (arith, pre .1), pre .2, omega (arith, pre .3, pre .0 .fewRows), pre .0 .low),
+      (run-sought (a .which) (pre .0) (a .first) (a .end) (pre .1) (pre .3) _ (c .before .before .before .before .before .before .before .before .before .before .before .join-rows .ensures) asked (omega (arith, c .before .before .before .if1 .taken, entered-length found)) found, omega (arith, pre .1), pre .2, omega (arith, pre .3, pre .0 .fewRows), pre .0 .low),
       start .pre .1,
     )
 

@@ -1,0 +1,84 @@
+-- `walk_kind`: the runs passed are entered.
+use native.Mathlib.Omega.{arith}
+use Prim.Native.Nat.{_-_, _≤_}
+use mathlib.Core.Path.{_≡_, refl, _∙_}
+use lib.ListN.{length}
+use Rattle.meaning.specs.declared.RowPairs.the-variants.{Near}
+use Rattle.scene_seams.specs.Alone.{tabled}
+use Rattle.mesh_entries.specs.Entering.{EnteringUpTo, up-to-starts, entered-length}
+use Rattle.mesh_runs.specs.Runs.{kindEntries}
+use Rattle.mesh_runs.specs.Going.{kind-few}
+use Rattle.mesh_runs.specs.Stretch.{run-entered}
+use Rattle.near_runs.proofs.walk_kind.Statement.{statement}
+use Rattle.near_runs.proofs.walk_kind.Tie as tie
+
+abbrev Inv-loop : tie.InvT-loop
+Inv-loop positions edges triangles stands boxes levels shift parts top kind offset first end places₀ list₀ most at k₀ i₀ places list k i =
+    (length places ≡ length places₀)
+    × (i ≤ end)
+    × EnteringUpTo (kindEntries Near (tabled positions edges triangles stands) kind) most list₀ at first list k i
+
+abbrev μ-loop : tie.MeasureT-loop
+μ-loop positions edges triangles stands boxes levels shift parts top kind offset first end places₀ list₀ most at k₀ i₀ places list k i = end - i
+
+loop-holds : tie.Need-loop-holds Inv-loop μ-loop
+loop-holds c = (refl, c .before .before .before .before .before .before .pre .0 .1, up-to-starts _ _ _ _)
+
+run-end-requires : tie.Need-run-end-requires Inv-loop μ-loop
+run-end-requires c κs =
+    let pre = c .before .before .before .before .before .before .before .before .pre .0 in
+    let below = c .loop-test .taken in
+    (below, omega (arith, pre .2, pre .0 .rows .fewRows, c .before .loop .inv .2 .past))
+
+walk-run-requires : tie.Need-walk-run-requires Inv-loop μ-loop
+walk-run-requires c κs =
+    let start = c .before .before .before .before .before .before .before .before .before .before .before in
+    let a = start .args in
+    let pre = start .pre .0 in
+    let loop = c .before .before .before .before .loop in
+    let below = c .before .before .before .loop-test .taken in
+    let next = c .before .before .run-end .ensures in
+    let past = loop .inv .2 .past in
+    let rows = pre .0 .rows .fewRows in
+    let last = pre .2 in
+    let few = kind-few Near (pre .0 .rows) (a .first) (loop .i) (omega arith) in (
+      (pre .0, next .0, next .2, omega (arith, next .0, next .1)),
+      (omega (arith, start .pre .1, entered-length (loop .inv .2 .done)), omega (arith, start .pre .1, loop .inv .2 .done .counts)),
+    )
+
+loop-less : tie.Need-loop-less Inv-loop μ-loop
+loop-less c = let next = c .before .before .before .before .before .before .before .run-end .ensures in omega (arith, next .0, next .1)
+
+loop-again : tie.Need-loop-again Inv-loop μ-loop
+loop-again c =
+    let next = c .before .before .before .before .before .before .before .run-end .ensures in
+    let loop = c .before .before .before .before .before .before .before .before .before .loop in
+    (c .before .before .before .places .given ∙ loop .inv .0, next .1, run-entered _ (omega (arith, next .0)) (loop .inv .2) (c .before .before .before .before .walk-run .ensures))
+
+same-length : tie.Need-same-length Inv-loop μ-loop
+same-length c = c .before .loop .inv .0
+
+same-length-2 : tie.Need-same-length-2 Inv-loop μ-loop
+same-length-2 c = entered-length (c .before .loop .inv .2 .done)
+
+returns : tie.Need-returns Inv-loop μ-loop
+returns c =
+    let a = c .before .before .before .before .before .before .before .before .args in
+    let loop = c .before .loop in
+    let all : loop .i ≡ a .end = omega (arith, c .loop-test .left, loop .inv .1) in
+    rw all at (loop .inv .2 .done)
+
+pub walk-kind-spec : {M : Type 1} → statement M
+walk-kind-spec =
+    tie.close
+    (tie.spec
+    Inv-loop
+    μ-loop
+    loop-holds
+    run-end-requires
+    walk-run-requires
+    loop-less
+    loop-again
+    same-length
+    same-length-2
+    returns)

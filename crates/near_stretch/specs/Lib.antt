@@ -1,0 +1,2 @@
+-- A stretch of near rows by nodes of both times.
+pub mod Planting

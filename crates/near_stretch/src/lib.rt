@@ -1,0 +1,455 @@
+// A stretch of rows of a mesh: near rows of cloth that falls go by nodes of both times where the scratch has room for these, all others as in mesh_stretch.
+// What is promised is the same.
+
+ghost use Prim.Native.Nat.{_+_, _*_, _≤_, _<_};
+ghost use mathlib.Core.Bool.{true};
+ghost use mathlib.Core.Path.{_≡_};
+ghost use lib.ListN.{length};
+ghost use Rattle.sequences.specs.Lent.{atEntry, atExit};
+ghost use Rattle.meaning.specs.Scene.{unsewnAtEntry};
+ghost use Rattle.meaning.specs.MeshRows.{rowCount};
+ghost use Rattle.meaning.specs.declared.RowPairs.the-variants.{Near};
+ghost use Rattle.scene_seams.specs.Alone.{tabledIn, tabledAtEntry};
+ghost use Rattle.mesh_trees.specs.Planting.{Plantable};
+ghost use Rattle.mesh_ordered.specs.Either.{OrdersLent};
+ghost use Rattle.mesh_stretch.specs.Stretching.{IsRowCount, StretchListed};
+ghost use Rattle.near_trees.specs.Frames.{framesRoom};
+ghost use Rattle.near_runs.specs.Near.{NearForest};
+ghost use Rattle.near_stretch.specs.Planting.{GoesNear};
+use meaning::ListAnswer;
+use meaning::Made;
+use meaning::Refusal;
+use meaning::RowPairs;
+use mesh_trees::plant;
+use near_runs::walk_near;
+use near_trees::frames_room;
+use near_trees::node_room;
+use near_trees::plant_frames;
+use scene_parts::vertex_count;
+
+// Where a level of a tree begins and how many nodes it has, for each of its levels.
+const LEVEL_NUMBERS: usize = 34;
+
+// How many places are looked at, and how many of them have moved off where cloth falls.
+const SAMPLES: usize = 128;
+
+const FEW: usize = 16;
+
+// Where the larger of two numbers stands, and where the smaller does.
+fn larger_of(positions: &[i32], i: usize, j: usize) -> usize
+    requires { ⌜ (i < length (now positions)) × (j < length (now positions)) ⌝ }
+    ensures { λ r. ⌜ r < length (atEntry positions) ⌝ }
+{
+    if positions[i] < positions[j] { j } else { i }
+}
+
+fn smaller_of(positions: &[i32], i: usize, j: usize) -> usize
+    requires { ⌜ (i < length (now positions)) × (j < length (now positions)) ⌝ }
+    ensures { λ r. ⌜ r < length (atEntry positions) ⌝ }
+{
+    if positions[i] < positions[j] { i } else { j }
+}
+
+// Where the largest and the smallest of eight vertices on an axis at one time stand, from the place of the first one's number on.
+fn largest_of(positions: &[i32], at: usize) -> usize
+    requires { ⌜ at + 42 < length (now positions) ⌝ }
+    ensures { λ r. ⌜ r < length (atEntry positions) ⌝ }
+{
+    let a = larger_of(positions, at, at + 6);
+    let b = larger_of(positions, at + 12, at + 18);
+    let c = larger_of(positions, at + 24, at + 30);
+    let d = larger_of(positions, at + 36, at + 42);
+    let e = larger_of(positions, a, b);
+    larger_of(positions, e, larger_of(positions, c, d))
+}
+
+fn smallest_of(positions: &[i32], at: usize) -> usize
+    requires { ⌜ at + 42 < length (now positions) ⌝ }
+    ensures { λ r. ⌜ r < length (atEntry positions) ⌝ }
+{
+    let a = smaller_of(positions, at, at + 6);
+    let b = smaller_of(positions, at + 12, at + 18);
+    let c = smaller_of(positions, at + 24, at + 30);
+    let d = smaller_of(positions, at + 36, at + 42);
+    let e = smaller_of(positions, a, b);
+    smaller_of(positions, e, smaller_of(positions, c, d))
+}
+
+fn is_below(positions: &[i32], i: usize, j: usize) -> bool
+    requires { ⌜ (i < length (now positions)) × (j < length (now positions)) ⌝ }
+{
+    positions[i] < positions[j]
+}
+
+// Whether eight vertices that stand one behind the other have left the span where they were on an axis: all are above it at the end, or all below.
+fn left_at(positions: &[i32], at: usize) -> bool
+    requires { ⌜ at + 45 < length (now positions) ⌝ }
+{
+    let high = largest_of(positions, at);
+    let low = smallest_of(positions, at);
+    let high_end = largest_of(positions, at + 3);
+    let low_end = smallest_of(positions, at + 3);
+    is_below(positions, high, low_end) | is_below(positions, high_end, low)
+}
+
+// Whether they have moved further than they are apart on an axis.
+fn moves_off(positions: &[i32], v: usize) -> bool
+    requires { ⌜ 6 * v + 47 < length (now positions) ⌝ }
+{
+    let at = 6 * v;
+    left_at(positions, at) | left_at(positions, at + 1) | left_at(positions, at + 2)
+}
+
+fn one_more(found: usize, more: bool) -> usize
+    requires { ⌜ found < 9223372036854775808 ⌝ }
+    ensures { λ r. ⌜ r ≤ found + 1 ⌝ }
+{
+    if more { found + 1 } else { found }
+}
+
+// Whether cloth falls: of some hundred places taken evenly an eighth has moved off. Near rows of cloth that hardly moves are found as fast by swept boxes,
+// and what stands ready then is less. It is a guess at what is faster, and changes no answer.
+fn falls(positions: &[i32]) -> bool {
+    let vertices = vertex_count(positions);
+    if vertices < SAMPLES {
+        return false;
+    }
+    let last = vertices - 7;
+    let stride = vertices / SAMPLES;
+    let mut v = 0usize;
+    let mut found = 0usize;
+    while v < last {
+        found = one_more(found, moves_off(positions, v));
+        v += stride;
+    }
+    FEW <= found
+}
+
+// No order is lent.
+fn unordered(edge_order: &[u32], triangle_order: &[u32]) -> bool {
+    (edge_order.len() < 1) & (triangle_order.len() < 1)
+}
+
+// Whether near rows are asked for and go by nodes of both times. Where an order is lent the rows go by that.
+fn goes_near(
+    positions: &[i32],
+    edges: &[u32],
+    triangles: &[u32],
+    edge_order: &[u32],
+    triangle_order: &[u32],
+    boxes: &[i32],
+    which: RowPairs,
+) -> bool
+    ensures { λ r. ⌜ (r ≡ true → GoesNear which (unsewnAtEntry positions edges triangles) (atEntry boxes)) ⌝ }
+{
+    let room = frames_room(positions, edges, triangles);
+    match which {
+        RowPairs::Listed => false,
+        RowPairs::Near => unordered(edge_order, triangle_order)
+            & falls(positions)
+            & (room <= boxes.len()),
+    }
+}
+
+// How many pairs the near rows have, by a walk that enters none.
+fn count_grown(
+    positions: &[i32],
+    edges: &[u32],
+    triangles: &[u32],
+    stands: &[u32],
+    boxes: &[i32],
+    edge_levels: &[usize],
+    edge_top: usize,
+    triangle_levels: &[usize],
+    triangle_top: usize,
+    shift: usize,
+    first: usize,
+    end: usize,
+) -> usize
+    requires { ⌜ NearForest (tabledIn positions edges triangles stands) (now boxes) (now «edge_levels») (now «triangle_levels»)
+        «edge_top» «triangle_top» shift × (first ≤ end) × (end ≤ rowCount (tabledIn positions edges triangles stands)) ⌝ }
+    ensures { λ r. ⌜ IsRowCount Near (tabledAtEntry positions edges triangles stands) first end r ⌝ }
+{
+    let mut none = [0u64; 0];
+    walk_near(
+        positions,
+        edges,
+        triangles,
+        stands,
+        boxes,
+        edge_levels,
+        edge_top,
+        triangle_levels,
+        triangle_top,
+        shift,
+        first,
+        end,
+        &mut none,
+        0,
+    )
+}
+
+// The pairs of the near rows are counted first, and walked again where there is room.
+fn list_grown(
+    positions: &[i32],
+    edges: &[u32],
+    triangles: &[u32],
+    stands: &[u32],
+    boxes: &[i32],
+    edge_levels: &[usize],
+    edge_top: usize,
+    triangle_levels: &[usize],
+    triangle_top: usize,
+    shift: usize,
+    first: usize,
+    end: usize,
+    list: &mut [u64],
+    room: usize,
+) -> ListAnswer
+    requires { ⌜ NearForest (tabledIn positions edges triangles stands) (now boxes) (now «edge_levels») (now «triangle_levels»)
+        «edge_top» «triangle_top» shift × (first ≤ end) × (end ≤ rowCount (tabledIn positions edges triangles stands)) ⌝ }
+    requires { ⌜ room ≤ length (now list) ⌝ }
+    ensures { λ r. ⌜ StretchListed Near (tabledAtEntry positions edges triangles stands) first end room (atEntry list)
+        (atExit list) r ⌝ }
+{
+    let count = count_grown(
+        positions,
+        edges,
+        triangles,
+        stands,
+        boxes,
+        edge_levels,
+        edge_top,
+        triangle_levels,
+        triangle_top,
+        shift,
+        first,
+        end,
+    );
+    if room < count {
+        return ListAnswer::Refused(Refusal::NoRoom, count);
+    }
+    walk_near(
+        positions,
+        edges,
+        triangles,
+        stands,
+        boxes,
+        edge_levels,
+        edge_top,
+        triangle_levels,
+        triangle_top,
+        shift,
+        first,
+        end,
+        list,
+        room,
+    );
+    ListAnswer::Listed(Made { count })
+}
+
+// How many pairs a stretch of near rows has.
+fn count_near(
+    positions: &[i32],
+    edges: &[u32],
+    triangles: &[u32],
+    stands: &[u32],
+    boxes: &mut [i32],
+    first: usize,
+    end: usize,
+) -> usize
+    requires { ⌜ Plantable (tabledIn positions edges triangles stands) (now boxes) × (first ≤ end)
+        × (end ≤ rowCount (tabledIn positions edges triangles stands))
+        × (framesRoom (tabledIn positions edges triangles stands) ≤ length (now boxes)) ⌝ }
+    ensures { λ r. ⌜ IsRowCount Near (tabledAtEntry positions edges triangles stands) first end r ⌝ }
+{
+    let none = [0u32; 0];
+    let mut edge_levels = [0usize; LEVEL_NUMBERS];
+    let mut triangle_levels = [0usize; LEVEL_NUMBERS];
+    plant_frames(positions, edges, triangles, boxes);
+    let tops = plant(
+        positions,
+        edges,
+        triangles,
+        &none,
+        &none,
+        boxes,
+        &mut edge_levels,
+        &mut triangle_levels,
+    );
+    count_grown(
+        positions,
+        edges,
+        triangles,
+        stands,
+        boxes,
+        &edge_levels,
+        tops.edges,
+        &triangle_levels,
+        tops.triangles,
+        node_room(positions, edges, triangles),
+        first,
+        end,
+    )
+}
+
+// The entries of a stretch of near rows.
+fn list_near(
+    positions: &[i32],
+    edges: &[u32],
+    triangles: &[u32],
+    stands: &[u32],
+    boxes: &mut [i32],
+    first: usize,
+    end: usize,
+    list: &mut [u64],
+    room: usize,
+) -> ListAnswer
+    requires { ⌜ Plantable (tabledIn positions edges triangles stands) (now boxes) × (first ≤ end)
+        × (end ≤ rowCount (tabledIn positions edges triangles stands))
+        × (framesRoom (tabledIn positions edges triangles stands) ≤ length (now boxes)) ⌝ }
+    requires { ⌜ room ≤ length (now list) ⌝ }
+    ensures { λ r. ⌜ StretchListed Near (tabledAtEntry positions edges triangles stands) first end room (atEntry list)
+        (atExit list) r ⌝ }
+{
+    let none = [0u32; 0];
+    let mut edge_levels = [0usize; LEVEL_NUMBERS];
+    let mut triangle_levels = [0usize; LEVEL_NUMBERS];
+    plant_frames(positions, edges, triangles, boxes);
+    let tops = plant(
+        positions,
+        edges,
+        triangles,
+        &none,
+        &none,
+        boxes,
+        &mut edge_levels,
+        &mut triangle_levels,
+    );
+    list_grown(
+        positions,
+        edges,
+        triangles,
+        stands,
+        boxes,
+        &edge_levels,
+        tops.edges,
+        &triangle_levels,
+        tops.triangles,
+        node_room(positions, edges, triangles),
+        first,
+        end,
+        list,
+        room,
+    )
+}
+
+// How many pairs a stretch of rows has.
+pub fn count_stretch(
+    positions: &[i32],
+    edges: &[u32],
+    triangles: &[u32],
+    stands: &[u32],
+    edge_order: &[u32],
+    triangle_order: &[u32],
+    places: &mut [u32],
+    boxes: &mut [i32],
+    which: RowPairs,
+    first: usize,
+    end: usize,
+) -> usize
+    requires { ⌜ Plantable (tabledIn positions edges triangles stands) (now boxes) × (first ≤ end)
+        × (end ≤ rowCount (tabledIn positions edges triangles stands)) ⌝ }
+    requires { ⌜ OrdersLent (tabledIn positions edges triangles stands) (now «edge_order») (now «triangle_order»)
+        (length (now places)) ⌝ }
+    ensures { λ r. ⌜ IsRowCount which (tabledAtEntry positions edges triangles stands) first end r ⌝ }
+{
+    if goes_near(
+        positions,
+        edges,
+        triangles,
+        edge_order,
+        triangle_order,
+        boxes,
+        which,
+    ) {
+        count_near(positions, edges, triangles, stands, boxes, first, end)
+    } else {
+        mesh_stretch::count_stretch(
+            positions,
+            edges,
+            triangles,
+            stands,
+            edge_order,
+            triangle_order,
+            places,
+            boxes,
+            which,
+            first,
+            end,
+        )
+    }
+}
+
+// The entries of a stretch of rows, in front of a lent list with so much room; 7 with their count where they are more.
+pub fn list_stretch(
+    positions: &[i32],
+    edges: &[u32],
+    triangles: &[u32],
+    stands: &[u32],
+    edge_order: &[u32],
+    triangle_order: &[u32],
+    places: &mut [u32],
+    boxes: &mut [i32],
+    which: RowPairs,
+    first: usize,
+    end: usize,
+    list: &mut [u64],
+    room: usize,
+) -> ListAnswer
+    requires { ⌜ Plantable (tabledIn positions edges triangles stands) (now boxes) × (first ≤ end)
+        × (end ≤ rowCount (tabledIn positions edges triangles stands)) ⌝ }
+    requires { ⌜ OrdersLent (tabledIn positions edges triangles stands) (now «edge_order») (now «triangle_order»)
+        (length (now places)) ⌝ }
+    requires { ⌜ room ≤ length (now list) ⌝ }
+    ensures { λ r. ⌜ StretchListed which (tabledAtEntry positions edges triangles stands) first end room (atEntry list)
+        (atExit list) r ⌝ }
+{
+    if goes_near(
+        positions,
+        edges,
+        triangles,
+        edge_order,
+        triangle_order,
+        boxes,
+        which,
+    ) {
+        list_near(
+            positions,
+            edges,
+            triangles,
+            stands,
+            boxes,
+            first,
+            end,
+            list,
+            room,
+        )
+    } else {
+        mesh_stretch::list_stretch(
+            positions,
+            edges,
+            triangles,
+            stands,
+            edge_order,
+            triangle_order,
+            places,
+            boxes,
+            which,
+            first,
+            end,
+            list,
+            room,
+        )
+    }
+}
