@@ -390,6 +390,10 @@ static inline size_t makhnodri_box_room(const makhnodri_mesh *mesh) {
     size_t vertices = mesh->positions_length / 6, edges = mesh->edges_length / 2, triangles = mesh->triangles_length / 3;
     return 6 * (vertices + edges + triangles + edges / 15 + 16 + triangles / 15 + 16);
 }
+/* No call asks for so much; near rows of cloth that falls are found faster with it. */
+static inline size_t makhnodri_near_box_room(const makhnodri_mesh *mesh) {
+    return makhnodri_box_room(mesh) + 12 * (mesh->edges_length / 2 / 15 + 16 + mesh->triangles_length / 3 / 15 + 16);
+}
 
 /* How many rows a mesh has: row v is vertex v's, with triangles; row vertices + e is edge e's, with the edges behind it. */
 static inline size_t makhnodri_row_count(const makhnodri_mesh *mesh) { return mesh->positions_length / 6 + mesh->edges_length / 2; }
