@@ -280,7 +280,7 @@ const fn fours() -> [u32; 10_000] {
     let mut number = 0;
     while number < 10_000 {
         let n = number as u32;
-        fours[number] = n / 1_000 | (n / 100 % 10) << 8 | (n / 10 % 10) << 16 | (n % 10) << 24;
+        fours[number] = (n / 1_000) | ((n / 100 % 10) << 8) | ((n / 10 % 10) << 16) | ((n % 10) << 24);
         number += 1;
     }
     fours
