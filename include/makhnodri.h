@@ -117,12 +117,12 @@ extern "C" {
  *     import_scene     48,128      tell_series                176,384
  *     pierced_at_start, pierced_at_end              3,328
  *     check_mesh          512      check_edges                    768
- *     count_rows, count_near_rows                   8,192
- *     list_rows, list_near_rows                     8,192
- *     settle_rows, settle_near_rows                 8,192
- *     contact_rows, contact_near_rows               8,192
- *     keep_rows, keep_near_rows                   114,688
- *     keep_contacts, keep_near_contacts           114,688
+ *     count_rows, count_near_rows                  16,384
+ *     list_rows, list_near_rows                    16,384
+ *     settle_rows, settle_near_rows                16,384
+ *     contact_rows, contact_near_rows              16,384
+ *     keep_rows, keep_near_rows                   131,072
+ *     keep_contacts, keep_near_contacts           131,072
  *     pierced_at_start_rows, pierced_at_end_rows    3,584
  *
  * ---- An answer ----
