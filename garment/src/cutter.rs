@@ -8,35 +8,39 @@ pub struct Cutter {
     /// Where the rows of the second kind begin, which have another count of pairs.
     border: usize,
     next: usize,
+    /// The first stretch of a kind, and the longest of all.
+    first: usize,
     longest: usize,
-    /// How much of the room a row took, of each kind, in the last stretch that is known.
-    taken: [Option<f64>; 2],
+    /// Of each kind how many rows the last stretch had that is known, and how much of the room a row took.
+    known: [Option<(usize, f64)>; 2],
 }
 
-/// Before anything is known a stretch is so much shorter than the longest.
-const CAREFUL: usize = 16;
-/// A stretch is as long as fills so much of the room.
+/// A stretch is as long as fills so much of the room, if its rows are like those before it; and so many times as long as the last at most.
 const FILLED: f64 = 0.75;
+const LONGER: usize = 8;
 /// Fewer rows cost less than what each call begins with.
 const FEWEST: usize = 256;
 /// Stretches for each thread, so that all end at about the same time. One thread alone needs no more than one.
 const FOR_A_THREAD: usize = 3;
 
 impl Cutter {
-    pub fn new(rows: usize, border: usize, threads: usize) -> Cutter {
+    /// The first stretch is so short that what is found in it has room whatever it is.
+    pub fn new(rows: usize, border: usize, first: usize, threads: usize) -> Cutter {
         let longest = if threads > 1 { rows.div_ceil(FOR_A_THREAD * threads).max(FEWEST) } else { rows };
-        Cutter { rows, border, next: 0, longest, taken: [None; 2] }
+        Cutter { rows, border, next: 0, first: first.max(FEWEST), longest, known: [None; 2] }
     }
 
     /// Of the rows of a stretch, how much of the room they took.
     pub fn learn(&mut self, rows: &Range<usize>, filled: f64) {
-        self.taken[(rows.start >= self.border) as usize] = Some(filled / rows.len().max(1) as f64);
+        self.known[(rows.start >= self.border) as usize] = Some((rows.len(), filled / rows.len().max(1) as f64));
     }
 
     fn length(&self, second: bool) -> usize {
-        match self.taken[second as usize] {
-            None => (self.longest / CAREFUL).max(FEWEST),
-            Some(each) => ((FILLED / each.max(1e-12)) as usize).max(FEWEST).min(self.longest),
+        match self.known[second as usize] {
+            None => self.first,
+            Some((last, each)) => {
+                ((FILLED / each.max(1e-12)) as usize).min(LONGER * last.max(self.first)).max(FEWEST).min(self.longest)
+            }
         }
     }
 }

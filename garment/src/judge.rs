@@ -86,6 +86,9 @@ const FEWEST: usize = 512;
 const ROOM: usize = 1 << 17;
 const PARTS: usize = 6;
 
+/// More pairs than this a row seldom has.
+const IN_A_ROW: usize = 1_024;
+
 /// So many kept pairs the library holds in arrays of its own; where there are more, it judges all once more.
 const KEPT: usize = 8_192;
 /// Of this part of the rows, and fewer, so many are many.
@@ -132,7 +135,7 @@ impl<'a> Judge<'a> {
 
     /// All rows, cut as they are asked for.
     pub fn cutter(&self, threads: usize) -> Cutter {
-        Cutter::new(self.rows(), self.mesh.positions.len(), threads)
+        Cutter::new(self.rows(), self.mesh.positions.len(), self.most() / IN_A_ROW, threads)
     }
 
     /// How many rows are well asked for in one piece, where nothing is learned from one to the next: each call makes boxes and trees anew, so there are few.

@@ -1,4 +1,4 @@
-//! usage: measure FOLDER [called] [parts] [former] [grid] [order] [near] [sheet] [folds] [tight] [drape] [VERTICES..]
+//! usage: measure FOLDER [called] [parts] [former] [grid] [order] [sheet] [folds] [tight] [drape] [VERTICES..]
 //! What the program takes on garments that are made, as it is called and by its parts; its judging over a cubic's; and each part over what it was: reading,
 //! edges, seams and lines as they were made, pairs by a grid and judged in scenes of 128. All tables, where none is named. FOLDER takes the files.
 //! Where GARMENT_BEFORE names an earlier program, it is called beside this one. Times by parts are the processor's, so that what else runs on the machine
@@ -6,7 +6,7 @@
 
 use compare::ways::cubic::{self, Moving};
 use garment::edges;
-use garment::judge::{Judge, Question, Which};
+use garment::judge::Judge;
 use garment::judging::{settle, Packed, TOGETHER};
 use garment::mesh::{self, Mesh};
 use garment::obj;
@@ -14,7 +14,7 @@ use garment::pairs::{Kind, Pair};
 use garment::report::Form;
 use garment::rounding::onto_grid;
 use garment::seams;
-use garment::work::{all_cores, stretch};
+use garment::work::all_cores;
 use garment_check::beside::{measured, Beside};
 use garment_check::clocks::{run, taken, Run};
 use garment_check::cloth::{cloth, drape, obj as cloth_text, Kind as ClothKind, KINDS};
@@ -33,9 +33,7 @@ const ROUNDS: usize = 9;
 fn main() {
     let words: Vec<String> = std::env::args().skip(1).collect();
     let [folder, rest @ ..] = &words[..] else {
-        eprintln!(
-            "usage: measure FOLDER [called] [parts] [former] [grid] [order] [near] [sheet] [folds] [tight] [drape] [VERTICES..]"
-        );
+        eprintln!("usage: measure FOLDER [called] [parts] [former] [grid] [order] [sheet] [folds] [tight] [drape] [VERTICES..]");
         std::process::exit(2);
     };
     let (sizes, words): (Vec<&String>, Vec<&String>) = rest.iter().partition(|word| word.parse::<usize>().is_ok());
@@ -44,13 +42,12 @@ fn main() {
     let sizes: Vec<usize> = sizes.iter().filter_map(|size| size.parse().ok()).collect();
     let sizes = if sizes.is_empty() { vec![20_000, 100_000] } else { sizes };
     let asked = |table: &str| tables.is_empty() || tables.iter().any(|asked| *asked == table);
-    let all: [(&str, &dyn Fn()); 6] = [
+    let all: [(&str, &dyn Fn()); 5] = [
         ("called", &|| as_called(folder, &sizes)),
         ("parts", &|| by_parts(&sizes)),
         ("former", &|| beside_former(&sizes)),
         ("grid", &|| beside_grid(&sizes, &sorted)),
         ("order", &|| in_any_order(&sizes)),
-        ("near", &|| near_beside_listed(&sizes)),
     ];
     all.iter().filter(|(table, _)| asked(table)).for_each(|(_, print)| print());
 }
@@ -160,50 +157,6 @@ fn rounds(work: impl Fn() -> Beside) -> Beside {
     }
     best
 }
-
-/// Vertices of the drape that is measured, for each size that is asked for: its list has a thousand pairs and more a vertex.
-const OF_A_DRAPE: usize = 10;
-
-/// Finding and judging all listed pairs and the near ones, in turns, and whether an edge is through a triangle at the start: ms of processor time.
-fn near_beside_listed(sizes: &[usize]) {
-    println!("\none thread, find and judge: ms of its processor time");
-    println!("  {:<16}{:>12}{:>12}{:>10}{:>10}{:>7}{:>10}", "", "listed", "near", "listed", "near", "ratio", "pierced");
-    for &size in sizes {
-        for kind in KINDS {
-            both_lists(&format!("{} {size}", kind.name), &made(&cloth(kind, size, 1)));
-        }
-        let count = size / OF_A_DRAPE;
-        let texts = [0, 1].map(|frame| {
-            let (places, faces) = drape(count, frame, 1);
-            cloth_text(&places, &faces)
-        });
-        both_lists(&format!("drape {count}"), &mesh_of(&texts, None, false).expect("a mesh"));
-    }
-}
-
-fn both_lists(name: &str, mesh: &Mesh) {
-    let judge = Judge::new(mesh).expect("a mesh");
-    let asked = |which: Which| {
-        let question = Question { which, choice: None, wanted: [true, false, false, false], contacts: false };
-        let pieces = judge.rows().div_ceil(ROWS);
-        let answer = |piece: usize| judge.asked(stretch(piece, ROWS, judge.rows()), &question).expect("words").tally.listed();
-        (0..pieces).map(answer).sum::<u64>()
-    };
-    let [listed, near] = in_turns(|| asked(Which::Listed), || asked(Which::Near));
-    let (piercing, _) = shortest(|| judge.pierced(0..judge.edge_rows(), None).expect("decided").len());
-    println!(
-        "  {name:<16}{:>12}{:>12}{:>10.1}{:>10.1}{:>7.3}{:>10.1}",
-        asked(Which::Listed),
-        asked(Which::Near),
-        1e3 * listed,
-        1e3 * near,
-        near / listed,
-        1e3 * piercing
-    );
-}
-
-/// Rows that are asked for in one piece.
-const ROWS: usize = 4_096;
 
 /// The shortest times of two ways to the same, in turns.
 fn in_turns<T, U>(mut one: impl FnMut() -> T, mut other: impl FnMut() -> U) -> [f64; 2] {
@@ -368,21 +321,27 @@ fn as_called(folder: &str, sizes: &[usize]) {
             run(&beside("make-garment"), &[kind.name, &size.to_string(), "1", &files[0], &files[1]])
                 .unwrap_or_else(|error| panic!("{error}"));
             let pairs = pairs_of(&files);
-            for threads in [1, all_cores()] {
+            for (threads, program) in
+                [1, all_cores()].into_iter().flat_map(|threads| programs().map(move |program| (threads, program)))
+            {
                 let count = threads.to_string();
                 let words = ["--quiet", "--threads", &count, &files[0], &files[1]];
-                let runs: Vec<Run> =
-                    (0..3).map(|_| run(&beside("garment"), &words).unwrap_or_else(|error| panic!("{error}"))).collect();
+                let runs: Vec<Run> = (0..3).map(|_| run(&program, &words).unwrap_or_else(|error| panic!("{error}"))).collect();
                 let least = |figure: fn(&Run) -> f64| runs.iter().map(figure).fold(f64::MAX, f64::min);
                 let (seconds, processor, memory) =
                     (least(|run| run.seconds), least(|run| run.processor_seconds), least(|run| run.mebibytes));
                 println!(
-                    "  {name:<16}{pairs:>10}{threads:>9}{seconds:>10.2}{processor:>20.2}{:>20.0}{memory:>8.0}",
+                    "  {name:<16}{pairs:>10}{threads:>9}{seconds:>10.2}{processor:>20.2}{:>20.0}{memory:>8.0}  {program}",
                     pairs as f64 / processor
                 );
             }
         }
     }
+}
+
+/// An earlier program where one is named, and this one.
+fn programs() -> impl Iterator<Item = String> {
+    std::env::var("GARMENT_BEFORE").ok().into_iter().chain([beside("garment")])
 }
 
 /// A program in this one's folder.

@@ -6,6 +6,7 @@ mod clean;
 mod contacts;
 mod drapes;
 mod in_order;
+mod kept;
 mod larger;
 mod mark;
 mod meshes;
