@@ -30,7 +30,7 @@ impl Files {
     }
 
     /// Whether what a frame is read from can be read a second time: a pipe can't.
-    fn last(&self, at: usize) -> bool {
+    fn stays(&self, at: usize) -> bool {
         let is_file = |name: &String| name != obj::STANDARD_INPUT && fs::metadata(name).is_ok_and(|about| about.is_file());
         let body = self.body.get(at).filter(|_| self.body.len() > 1);
         is_file(&self.frames[at]) && body.is_none_or(is_file)
@@ -127,7 +127,7 @@ impl Frames {
         let read = |at: usize| {
             let frame = self.read(at + 1)?;
             let bounds = frame.bounds;
-            if held.fetch_add(frame.bytes(), Relaxed) + frame.bytes() <= self.room || !self.files.last(at + 1) {
+            if held.fetch_add(frame.bytes(), Relaxed) + frame.bytes() <= self.room || !self.files.stays(at + 1) {
                 self.slot(at + 1).frame = Some(Arc::new(frame));
             }
             Ok(bounds)

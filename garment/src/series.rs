@@ -127,11 +127,11 @@ pub fn judged(asked: &Asked, frames: &Frames, bar: &mut Bar) -> Result<Log, Faul
 }
 
 fn step(asked: &Asked, frames: &Frames, at: usize, threads: usize) -> Result<Step, Fault> {
-    let (mesh, grid) = frames.of_step(asked.mesh, at, asked.sewn)?;
+    let (mut mesh, grid) = frames.of_step(asked.mesh, at, asked.sewn)?;
     frames.behind(at);
     let moved = before::farthest_move(&mesh).map_or(0.0, |(_, lengths)| lengths);
     let mut step = Step { number: at + 1, moved, sewn: mesh.seams(), ..Step::default() };
-    let judge = Judge::new(&mesh)?;
+    let judge = Judge::sparing(&mut mesh, asked.marked)?;
     let question = asked.question();
     let (rows, length) = (judge.rows(), judge.length(threads));
     in_order(
@@ -139,7 +139,7 @@ fn step(asked: &Asked, frames: &Frames, at: usize, threads: usize) -> Result<Ste
         threads,
         |piece| judge.asked(stretch(piece, length, rows), &question),
         |_, answer| {
-            step.take(asked, &mesh, &grid, answer?);
+            step.take(asked, judge.mesh(), &grid, answer?);
             Ok::<(), Fault>(())
         },
     )?;
