@@ -395,6 +395,14 @@ static inline size_t makhnodri_near_box_room(const makhnodri_mesh *mesh) {
     return makhnodri_box_room(mesh) + 12 * (mesh->edges_length / 2 / 15 + 16 + mesh->triangles_length / 3 / 15 + 16);
 }
 
+/*
+ * Nor for so much: entries of list_rows, settle_rows and contact_rows, and of near rows, are held in it until it is known that a list of so many
+ * has room for all of them. Without it such rows are walked twice.
+ */
+static inline size_t makhnodri_held_place_room(const makhnodri_mesh *mesh, size_t list_length) {
+    return makhnodri_place_room(mesh) + 2 * list_length;
+}
+
 /* How many rows a mesh has: row v is vertex v's, with triangles; row vertices + e is edge e's, with the edges behind it. */
 static inline size_t makhnodri_row_count(const makhnodri_mesh *mesh) { return mesh->positions_length / 6 + mesh->edges_length / 2; }
 

@@ -611,6 +611,7 @@ def _calls_mesh(symbol: str, given: typing.Any, *arguments: typing.Any) -> typin
     function, last = _functions[symbol], arguments[-1]
     function.restype = ctypes.c_uint32
     wanted = len(arguments) - last.optional
+    listing = symbol.startswith(("list_", "settle_", "contact_"))
 
     def made(stated):
         @functools.wraps(stated)
@@ -621,7 +622,7 @@ def _calls_mesh(symbol: str, given: typing.Any, *arguments: typing.Any) -> typin
                 lent = (*lent[:wanted], _room(_UINT64, last.length))
             with _Lent() as held:
                 for scratch in (one for one in lent if isinstance(one, Scratch) and isinstance(lent[0], Mesh)):
-                    scratch.fit(lent[0])
+                    scratch.fit(lent[0], next((len(one) for argument, one in zip(arguments, lent) if listing and argument.name == "list"), 0))
                 number = function(*(word for argument, one in zip(arguments, lent) for word in argument.words(one, held)))
             told = memoryview(lent[-1]).cast("B").cast("Q") if last.optional else ()
             if number:
@@ -1258,6 +1259,12 @@ def place_room(mesh: Mesh) -> int:
     return mesh._length("edges") // 2 + mesh._length("triangles") // 3 + 2 * (mesh._length("edge_order") + mesh._length("triangle_order"))
 
 
+def held_place_room(mesh: Mesh, list_length: int) -> int:
+    """How many numbers of places hold the entries of a list until it is known that all of them fit; no call asks for so many, and rows are walked twice
+    without them."""
+    return place_room(mesh) + 2 * list_length
+
+
 def box_room(mesh: Mesh) -> int:
     """How many numbers the boxes of a scratch need."""
     vertices, edges, triangles = mesh._length("positions") // 6, mesh._length("edges") // 2, mesh._length("triangles") // 3
@@ -1269,6 +1276,10 @@ def near_box_room(mesh: Mesh) -> int:
     return box_room(mesh) + 12 * (mesh._length("edges") // 2 // 15 + 16 + mesh._length("triangles") // 3 // 15 + 16)
 
 
+# The most entries that are held: with more the scratch would be larger than the list that it is for.
+_HELD = 1 << 23
+
+
 class Scratch:
     """What a call over a mesh works in: it grows as a mesh needs it, and nothing is kept in it from call to call. Each thread has its own."""
 
@@ -1277,9 +1288,10 @@ class Scratch:
     def __init__(self) -> None:
         self.table, self.places, self.boxes = _room(_UINT32, 0), _room(_UINT32, 0), _room(_INT32, 0)
 
-    def fit(self, mesh: Mesh) -> None:
-        """Makes it as long as this mesh needs it, near rows that are found faster with more too."""
-        for name, numbers, room in (("table", _UINT32, table_room(mesh)), ("places", _UINT32, place_room(mesh)), ("boxes", _INT32, near_box_room(mesh))):
+    def fit(self, mesh: Mesh, list_length: int = 0) -> None:
+        """Makes it as long as this mesh needs it, and near rows and a list of this length, which are found faster with more."""
+        places = held_place_room(mesh, min(list_length, _HELD))
+        for name, numbers, room in (("table", _UINT32, table_room(mesh)), ("places", _UINT32, places), ("boxes", _INT32, near_box_room(mesh))):
             if len(getattr(self, name)) < room:
                 setattr(self, name, _room(numbers, room))
 

@@ -208,17 +208,21 @@ impl<'a> Mesh<'a> {
 }
 
 impl Scratch {
-    /// As long as the mesh needs it, so that 12 is never met; and with room for the nodes of both times, by which near rows are found faster.
-    fn fit(&mut self, mesh: &Mesh) {
+    /// As long as the mesh needs it, so that 12 is never met; with room for the nodes of both times, by which near rows are found faster; and with room to
+    /// hold the entries of a list of this length until it is known that all of them fit, since rows are walked twice without it.
+    fn fit(&mut self, mesh: &Mesh, list: usize) {
         let [vertices, edges, triangles] = [mesh.positions.len() / 6, mesh.edges.len() / 2, mesh.triangles.len() / 3];
         let table = if mesh.seams.is_empty() { 0 } else { vertices };
-        let places = edges + triangles + 2 * (mesh.edge_order.len() + mesh.triangle_order.len());
+        let places = edges + triangles + 2 * (mesh.edge_order.len() + mesh.triangle_order.len()) + 2 * list.min(HELD);
         let boxes = 6 * (vertices + edges + triangles + 3 * (edges / 15 + 16 + triangles / 15 + 16));
         self.table.resize(self.table.len().max(table), 0);
         self.places.resize(self.places.len().max(places), 0);
         self.boxes.resize(self.boxes.len().max(boxes), 0);
     }
 }
+
+/// The most entries that are held: with more the scratch would be larger than the list that it is for.
+const HELD: usize = 1 << 23;
 
 // SAFETY: each pointer goes with the length of its slice; a slice's pointer is neither null nor out of line, and what is lent to be
 // written is borrowed by `&mut`, so it overlaps nothing else.
@@ -230,8 +234,8 @@ macro_rules! ask_mesh {
 }
 
 macro_rules! ask_rows {
-    ($mesh:expr, $scratch:expr, $function:ident $(, $more:expr)*) => {{
-        $scratch.fit($mesh);
+    ($mesh:expr, $scratch:expr, $list:expr, $function:ident $(, $more:expr)*) => {{
+        $scratch.fit($mesh, $list);
         let Mesh { edge_order: eo, triangle_order: to, .. } = $mesh;
         let Scratch { table: st, places: sp, boxes: sb } = $scratch;
         ask_mesh!($mesh, $function, eo.as_ptr(), eo.len(), to.as_ptr(), to.len(), st.as_mut_ptr(), st.len(), sp.as_mut_ptr(), sp.len(), sb.as_mut_ptr(), sb.len() $(, $more)*)
@@ -269,7 +273,7 @@ fn kept(number: u32, told: [u64; 6]) -> Result<KeptRows, RowsRefusal> {
 impl Mesh<'_> {
     /// May this mesh be used?
     pub fn check_mesh(&self, scratch: &mut Scratch) -> Result<(), Refusal> {
-        scratch.fit(self);
+        scratch.fit(self, 0);
         heard(ask_mesh!(self, makhnodri_check_mesh_slices, scratch.table.as_mut_ptr(), scratch.table.len()))
     }
 
@@ -277,7 +281,7 @@ impl Mesh<'_> {
     /// 1, 1 to 2, 2 to 0, and in `order` the edges by their ends, the lower end first; both are looked at. 18 where one is of another length,
     /// or the order is none.
     pub fn check_edges(&self, scratch: &mut Scratch, sides: &[u32], order: &[u32]) -> Result<EdgesFound, Refusal> {
-        scratch.fit(self);
+        scratch.fit(self, 0);
         let mut told = [0; 2];
         let (s, o) = ((sides.as_ptr(), sides.len()), (order.as_ptr(), order.len()));
         let (t, p) = ((scratch.table.as_mut_ptr(), scratch.table.len()), (scratch.places.as_mut_ptr(), scratch.places.len()));
@@ -296,8 +300,8 @@ impl Mesh<'_> {
     pub fn count_rows(&self, scratch: &mut Scratch, which: RowPairs, rows: Range<usize>) -> Result<u64, Refusal> {
         let (a, b, mut told) = (rows.start, rows.end, [0; 1]);
         let number = match which {
-            RowPairs::Listed => ask_rows!(self, scratch, makhnodri_count_rows_slices, a, b, told.as_mut_ptr()),
-            RowPairs::Near => ask_rows!(self, scratch, makhnodri_count_near_rows_slices, a, b, told.as_mut_ptr()),
+            RowPairs::Listed => ask_rows!(self, scratch, 0, makhnodri_count_rows_slices, a, b, told.as_mut_ptr()),
+            RowPairs::Near => ask_rows!(self, scratch, 0, makhnodri_count_near_rows_slices, a, b, told.as_mut_ptr()),
         };
         counted(number, told).map_err(RowsRefusal::refusal)
     }
@@ -312,8 +316,8 @@ impl Mesh<'_> {
     ) -> Result<u64, RowsRefusal> {
         let (a, b, mut told, l) = (rows.start, rows.end, [0; 1], (list.as_mut_ptr(), list.len()));
         let number = match which {
-            RowPairs::Listed => ask_rows!(self, scratch, makhnodri_list_rows_slices, a, b, l.0, l.1, told.as_mut_ptr()),
-            RowPairs::Near => ask_rows!(self, scratch, makhnodri_list_near_rows_slices, a, b, l.0, l.1, told.as_mut_ptr()),
+            RowPairs::Listed => ask_rows!(self, scratch, l.1, makhnodri_list_rows_slices, a, b, l.0, l.1, told.as_mut_ptr()),
+            RowPairs::Near => ask_rows!(self, scratch, l.1, makhnodri_list_near_rows_slices, a, b, l.0, l.1, told.as_mut_ptr()),
         };
         counted(number, told)
     }
@@ -331,10 +335,10 @@ impl Mesh<'_> {
         let (l, w) = ((list.as_mut_ptr(), list.len()), (words.as_mut_ptr(), words.len()));
         let number = match which {
             RowPairs::Listed => {
-                ask_rows!(self, scratch, makhnodri_settle_rows_slices, a, b, l.0, l.1, w.0, w.1, told.as_mut_ptr())
+                ask_rows!(self, scratch, l.1, makhnodri_settle_rows_slices, a, b, l.0, l.1, w.0, w.1, told.as_mut_ptr())
             }
             RowPairs::Near => {
-                ask_rows!(self, scratch, makhnodri_settle_near_rows_slices, a, b, l.0, l.1, w.0, w.1, told.as_mut_ptr())
+                ask_rows!(self, scratch, l.1, makhnodri_settle_near_rows_slices, a, b, l.0, l.1, w.0, w.1, told.as_mut_ptr())
             }
         };
         counted(number, told)
@@ -354,8 +358,8 @@ impl Mesh<'_> {
         let (w, c) = ((words.as_mut_ptr(), words.len()), (contacts.as_mut_ptr(), contacts.len()));
         let t = told.as_mut_ptr();
         let number = match which {
-            RowPairs::Listed => ask_rows!(self, scratch, makhnodri_contact_rows_slices, a, b, l.0, l.1, w.0, w.1, c.0, c.1, t),
-            RowPairs::Near => ask_rows!(self, scratch, makhnodri_contact_near_rows_slices, a, b, l.0, l.1, w.0, w.1, c.0, c.1, t),
+            RowPairs::Listed => ask_rows!(self, scratch, l.1, makhnodri_contact_rows_slices, a, b, l.0, l.1, w.0, w.1, c.0, c.1, t),
+            RowPairs::Near => ask_rows!(self, scratch, l.1, makhnodri_contact_near_rows_slices, a, b, l.0, l.1, w.0, w.1, c.0, c.1, t),
         };
         counted(number, told)
     }
@@ -385,8 +389,8 @@ impl Mesh<'_> {
         let (l, w) = ((list.as_mut_ptr(), list.len()), (words.as_mut_ptr(), words.len()));
         let t = told.as_mut_ptr();
         let number = match which {
-            RowPairs::Listed => ask_rows!(self, scratch, makhnodri_keep_rows_slices, a, b, m, l.0, l.1, w.0, w.1, t),
-            RowPairs::Near => ask_rows!(self, scratch, makhnodri_keep_near_rows_slices, a, b, m, l.0, l.1, w.0, w.1, t),
+            RowPairs::Listed => ask_rows!(self, scratch, 0, makhnodri_keep_rows_slices, a, b, m, l.0, l.1, w.0, w.1, t),
+            RowPairs::Near => ask_rows!(self, scratch, 0, makhnodri_keep_near_rows_slices, a, b, m, l.0, l.1, w.0, w.1, t),
         };
         kept(number, told)
     }
@@ -420,10 +424,10 @@ impl Mesh<'_> {
         let (c, t) = ((contacts.as_mut_ptr(), contacts.len()), told.as_mut_ptr());
         let number = match which {
             RowPairs::Listed => {
-                ask_rows!(self, scratch, makhnodri_keep_contacts_slices, a, b, m, l.0, l.1, w.0, w.1, c.0, c.1, t)
+                ask_rows!(self, scratch, 0, makhnodri_keep_contacts_slices, a, b, m, l.0, l.1, w.0, w.1, c.0, c.1, t)
             }
             RowPairs::Near => {
-                ask_rows!(self, scratch, makhnodri_keep_near_contacts_slices, a, b, m, l.0, l.1, w.0, w.1, c.0, c.1, t)
+                ask_rows!(self, scratch, 0, makhnodri_keep_near_contacts_slices, a, b, m, l.0, l.1, w.0, w.1, c.0, c.1, t)
             }
         };
         kept(number, told)
@@ -438,13 +442,13 @@ impl Mesh<'_> {
         list: &mut [u64],
     ) -> Result<u64, RowsRefusal> {
         let (a, b, mut told, l) = (edges.start, edges.end, [0; 1], (list.as_mut_ptr(), list.len()));
-        counted(ask_rows!(self, scratch, makhnodri_pierced_at_start_rows_slices, a, b, l.0, l.1, told.as_mut_ptr()), told)
+        counted(ask_rows!(self, scratch, 0, makhnodri_pierced_at_start_rows_slices, a, b, l.0, l.1, told.as_mut_ptr()), told)
     }
 
     /// The same at the end.
     pub fn pierced_at_end_rows(&self, scratch: &mut Scratch, edges: Range<usize>, list: &mut [u64]) -> Result<u64, RowsRefusal> {
         let (a, b, mut told, l) = (edges.start, edges.end, [0; 1], (list.as_mut_ptr(), list.len()));
-        counted(ask_rows!(self, scratch, makhnodri_pierced_at_end_rows_slices, a, b, l.0, l.1, told.as_mut_ptr()), told)
+        counted(ask_rows!(self, scratch, 0, makhnodri_pierced_at_end_rows_slices, a, b, l.0, l.1, told.as_mut_ptr()), told)
     }
 }
 
