@@ -30,8 +30,12 @@ use mesh_runs::walk_kind;
 use mesh_seams::wide;
 use scene_parts::vertex_count;
 
-// The places that there is room for in a run of rows.
+// The places that there is room for in a run of rows, the numbers of the boxes that are spread for it, and their marks.
 const RUN_PLACES: usize = 1024;
+
+const RUN_SIX: usize = 1536;
+
+const RUN_MARKS: usize = 256;
 
 // The entries of a row, whose second places stand in front of a list.
 fn enter_places(
@@ -109,7 +113,7 @@ fn walk_led(
     k
 }
 
-// The rows of a kind from one up to another, by the order that is lent, or run by run where it is empty.
+// The rows of a kind from one up to another, by the order that is lent, or run by run where it is empty. Where there is no row no room is made.
 fn walk_either(
     positions: &[i32],
     edges: &[u32],
@@ -138,8 +142,13 @@ fn walk_either(
     ensures { λ r. ⌜ Entered most (atEntry list) at
         (gather (kindEntries which (tabledAtEntry positions edges triangles stands) kind) first end) (atExit list) r ⌝ }
 {
+    if end <= first {
+        return at;
+    }
     if order.len() == 0 {
         let mut near = [0u32; RUN_PLACES];
+        let mut six = [0i32; RUN_SIX];
+        let mut marks = [false; RUN_MARKS];
         walk_kind(
             positions,
             edges,
@@ -155,6 +164,8 @@ fn walk_either(
             first,
             end,
             &mut near,
+            &mut six,
+            &mut marks,
             list,
             most,
             at,

@@ -1,4 +1,4 @@
-// Near rows in runs: the tree is walked once for four rows, with the boxes that hold their first parts at the start and at the end, and what is far from
+// Near rows in runs: the tree is walked once for eight rows, with the boxes that hold their first parts at the start and at the end, and what is far from
 // these at both times is passed by. Each row then goes over the places found. More than there is room for, and the rows go alone, by swept boxes.
 
 ghost use Prim.Native.Nat.{ℕ, _+_, _*_, _-_, _≤_, _<_};
@@ -36,8 +36,13 @@ use near_walk::find_near;
 use pierced_pair::places::place_of;
 use scene_parts::vertex_count;
 
-// The places that there is room for, and the numbers of a run's boxes: that of the start, that of the end, and one vertex's.
+// The places that there is room for, the numbers of the boxes that are spread for a run, and their marks; and the numbers of a run's boxes: that of the
+// start, that of the end, and one vertex's.
 const RUN_PLACES: usize = 1024;
+
+const RUN_SIX: usize = 1536;
+
+const RUN_MARKS: usize = 256;
 
 const OWN_NUMBERS: usize = 18;
 
@@ -182,12 +187,15 @@ fn walk_run(
     first: usize,
     end: usize,
     places: &mut [u32],
+    six: &mut [i32],
+    marks: &mut [bool],
     list: &mut [u64],
     most: usize,
     at: usize,
 ) -> usize
     requires { ⌜ NearKind (tabledIn positions edges triangles stands) kind (now boxes) (now levels) shift parts top offset
         × (first < end) × (end ≤ first + 16) × (end ≤ firstCount (tabledIn positions edges triangles stands) kind) ⌝ }
+    requires { ⌜ (1536 ≤ length (now six)) × (256 ≤ length (now marks)) ⌝ }
     requires { ⌜ (most ≤ length (now list)) × (at ≤ 2305843009213693952) ⌝ }
     ensures { λ r. ⌜ Entered most (atEntry list) at
         (gather (kindEntries Near (tabledAtEntry positions edges triangles stands) kind) first end) (atExit list) r ⌝ }
@@ -234,6 +242,8 @@ fn walk_run(
             end,
             places,
             count,
+            six,
+            marks,
             list,
             most,
             at,
@@ -276,6 +286,8 @@ fn walk_kind(
     first: usize,
     end: usize,
     places: &mut [u32],
+    six: &mut [i32],
+    marks: &mut [bool],
     list: &mut [u64],
     most: usize,
     at: usize,
@@ -283,6 +295,7 @@ fn walk_kind(
     requires { ⌜ NearKind (tabledIn positions edges triangles stands) kind (now boxes) (now levels) shift parts top offset
         × (first ≤ end)
         × (end ≤ first + (firstCount (tabledIn positions edges triangles stands) kind - first)) ⌝ }
+    requires { ⌜ (1536 ≤ length (now six)) × (256 ≤ length (now marks)) ⌝ }
     requires { ⌜ (most ≤ length (now list)) × (at ≤ 1152921504606846976) ⌝ }
     ensures { λ r. ⌜ Entered most (atEntry list) at
         (gather (kindEntries Near (tabledAtEntry positions edges triangles stands) kind) first end) (atExit list) r ⌝ }
@@ -306,6 +319,8 @@ fn walk_kind(
             i,
             next,
             places,
+            six,
+            marks,
             list,
             most,
             k,
@@ -339,6 +354,8 @@ pub fn walk_near(
         (meshEntries (rowsIn Near (tabledAtEntry positions edges triangles stands) first end)) (atExit list) r ⌝ }
 {
     let mut places = [0u32; RUN_PLACES];
+    let mut six = [0i32; RUN_SIX];
+    let mut marks = [false; RUN_MARKS];
     let vertices = vertex_count(positions);
     let middle = kinds_meet(vertices, first, end);
     let k = walk_kind(
@@ -356,6 +373,8 @@ pub fn walk_near(
         first,
         middle,
         &mut places,
+        &mut six,
+        &mut marks,
         list,
         most,
         0,
@@ -375,6 +394,8 @@ pub fn walk_near(
         behind(middle, vertices),
         behind(end, vertices),
         &mut places,
+        &mut six,
+        &mut marks,
         list,
         most,
         k,

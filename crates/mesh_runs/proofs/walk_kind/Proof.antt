@@ -12,60 +12,78 @@ use Rattle.mesh_runs.proofs.walk_kind.Statement.{statement}
 use Rattle.mesh_runs.proofs.walk_kind.Tie as tie
 
 abbrev Inv-loop : tie.InvT-loop
-Inv-loop positions edges triangles stands boxes levels parts top which kind offset first end places₀ list₀ most at k₀ i₀ places list k i =
+Inv-loop positions edges triangles stands boxes levels parts top which kind offset first end places₀ six₀ marks₀ list₀ most at k₀ i₀ places six marks list k i =
     (length places ≡ length places₀)
+    × (length six ≡ length six₀)
+    × (length marks ≡ length marks₀)
     × (i ≤ end)
     × EnteringUpTo (kindEntries which (tabled positions edges triangles stands) kind) most list₀ at first list k i
 
 abbrev μ-loop : tie.MeasureT-loop
-μ-loop positions edges triangles stands boxes levels parts top which kind offset first end places₀ list₀ most at k₀ i₀ places list k i = end - i
+μ-loop positions edges triangles stands boxes levels parts top which kind offset first end places₀ six₀ marks₀ list₀ most at k₀ i₀ places six marks list k i = end - i
 
 loop-holds : tie.Need-loop-holds Inv-loop μ-loop
-loop-holds c = (refl, c .before .before .before .before .before .before .pre .0 .1, up-to-starts _ _ _ _)
+loop-holds c = (refl, refl, refl, c .before .before .before .before .before .before .before .pre .0 .1, up-to-starts _ _ _ _)
 
 run-end-requires : tie.Need-run-end-requires Inv-loop μ-loop
 run-end-requires c κs =
-    let pre = c .before .before .before .before .before .before .before .before .pre .0 in
+    let pre = c .before .before .before .before .before .before .before .before .before .pre .0 in
     let below = c .loop-test .taken in
-    (below, omega (arith, pre .2, pre .0 .fewRows, c .before .loop .inv .2 .past))
+    (below, omega (arith, pre .2, pre .0 .fewRows, c .before .loop .inv .4 .past))
 
 walk-run-requires : tie.Need-walk-run-requires Inv-loop μ-loop
 walk-run-requires c κs =
-    let start = c .before .before .before .before .before .before .before .before .before .before .before in
+    let start = c .before .before .before .before .before .before .before .before .before .before .before .before .before .before in
     let a = start .args in
     let pre = start .pre .0 in
-    let loop = c .before .before .before .before .loop in
-    let below = c .before .before .before .loop-test .taken in
-    let next = c .before .before .run-end .ensures in
-    let past = loop .inv .2 .past in
+    let lent = start .pre .1 .0 in
+    let room = start .pre .1 .1 in
+    let loop = c .before .before .before .before .before .before .loop in
+    let below = c .before .before .before .before .before .loop-test .taken in
+    let next = c .before .before .before .before .run-end .ensures in
+    let past = loop .inv .4 .past in
     let rows = pre .0 .fewRows in
     let last = pre .2 in
     let few = kind-few (a .which) (pre .0) (a .first) (loop .i) (omega arith) in (
       (pre .0, next .0, next .2, omega (arith, next .0, next .1)),
-      (omega (arith, start .pre .1, entered-length (loop .inv .2 .done)), omega (arith, start .pre .1, loop .inv .2 .done .counts)),
+      (
+        (omega (arith, lent .0, loop .inv .1), omega (arith, lent .1, loop .inv .2)),
+        (omega (arith, room .0, entered-length (loop .inv .4 .done)), omega (arith, room .1, loop .inv .4 .done .counts)),
+      ),
     )
 
 loop-less : tie.Need-loop-less Inv-loop μ-loop
-loop-less c = let next = c .before .before .before .before .before .before .before .run-end .ensures in omega (arith, next .0, next .1)
+loop-less c = let next = c .before .before .before .before .before .before .before .before .before .before .before .before .run-end .ensures in omega (arith, next .0, next .1)
 
 loop-again : tie.Need-loop-again Inv-loop μ-loop
 loop-again c =
-    let next = c .before .before .before .before .before .before .before .run-end .ensures in
-    let loop = c .before .before .before .before .before .before .before .before .before .loop in
-    (c .before .before .before .places .given ∙ loop .inv .0, next .1, run-entered _ (omega (arith, next .0)) (loop .inv .2) (c .before .before .before .before .walk-run .ensures))
+    let next = c .before .before .before .before .before .before .before .before .before .before .before .before .run-end .ensures in
+    let loop = c .before .before .before .before .before .before .before .before .before .before .before .before .before .before .loop in (
+      c .before .before .before .before .before .before .places .given ∙ loop .inv .0,
+      c .before .before .before .before .six .given ∙ loop .inv .1,
+      c .before .before .before .marks .given ∙ loop .inv .2,
+      next .1,
+      run-entered _ (omega (arith, next .0)) (loop .inv .4) (c .before .before .before .before .before .before .before .walk-run .ensures),
+    )
 
 same-length : tie.Need-same-length Inv-loop μ-loop
 same-length c = c .before .loop .inv .0
 
 same-length-2 : tie.Need-same-length-2 Inv-loop μ-loop
-same-length-2 c = entered-length (c .before .loop .inv .2 .done)
+same-length-2 c = c .before .loop .inv .1
+
+same-length-3 : tie.Need-same-length-3 Inv-loop μ-loop
+same-length-3 c = c .before .loop .inv .2
+
+same-length-4 : tie.Need-same-length-4 Inv-loop μ-loop
+same-length-4 c = entered-length (c .before .loop .inv .4 .done)
 
 returns : tie.Need-returns Inv-loop μ-loop
 returns c =
-    let a = c .before .before .before .before .before .before .before .before .args in
+    let a = c .before .before .before .before .before .before .before .before .before .args in
     let loop = c .before .loop in
-    let all : loop .i ≡ a .end = omega (arith, c .loop-test .left, loop .inv .1) in
-    rw all at (loop .inv .2 .done)
+    let all : loop .i ≡ a .end = omega (arith, c .loop-test .left, loop .inv .3) in
+    rw all at (loop .inv .4 .done)
 
 pub walk-kind-spec : {M : Type 1} → statement M
 walk-kind-spec =
@@ -80,4 +98,6 @@ walk-kind-spec =
     loop-again
     same-length
     same-length-2
+    same-length-3
+    same-length-4
     returns)
