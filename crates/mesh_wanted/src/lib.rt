@@ -19,11 +19,17 @@ use mesh_keep::keep_row;
 use mesh_ordered::row_places;
 use mesh_ordered::walk_rows;
 use scene_parts::vertex_count;
+use tally::Tally;
 
-// The rows of a block, and the pairs that there is room for: two runs of rows, on cloth that moves far.
-const BLOCK_ROWS: usize = 8;
-
+// The pairs of a block that there is room for, and the rows of a block: two runs of rows on cloth that moves far, and many where a row has few pairs.
 const BLOCK_PAIRS: usize = 4096;
+
+const FEW_ROWS: usize = 8;
+
+const MANY_ROWS: usize = 64;
+
+// How many pairs a row has where blocks are short.
+const DENSE_PAIRS: u64 = 16;
 
 // The pairs of the row of a number: its second places are put into scratch, and its pairs are judged one behind the other.
 fn keep_numbered(
@@ -171,7 +177,7 @@ fn keep_alone(
     so_far
 }
 
-// A block of rows: their entries are listed in an array of its own, as the rows of a list are found, and judged from there; alone where they are more than
+// A block of rows: their entries are listed in a lent array, as the rows of a list are found, and judged from there; alone where they are more than
 // there is room for.
 fn keep_block(
     positions: &[i32],
@@ -189,6 +195,7 @@ fn keep_block(
     first: usize,
     end: usize,
     places: &mut [u32],
+    own: &mut [u64],
     wanted: Wanted,
     list: &mut [u64],
     words: &mut [u8],
@@ -201,11 +208,11 @@ fn keep_block(
     requires { ⌜ OrdersLent (tabledIn positions edges triangles stands) (now «edge_order») (now «triangle_order») (length (now places)) ⌝ }
     requires { ⌜ Sound (tabledIn positions edges triangles stands) × (most ≤ length (now list)) × (most ≤ length (now words))
         × (going .count + length (rowsIn which (tabledIn positions edges triangles stands) first end) < 4611686018427387904) ⌝ }
+    requires { ⌜ 4096 ≤ length (now own) ⌝ }
     ensures { λ r. ⌜ KeptBy (tabledAtEntry positions edges triangles stands) wanted most
         (rowsIn which (tabledAtEntry positions edges triangles stands) first end) (atEntry list) (atEntry words) going
         (atExit list) (atExit words) r ⌝ }
 {
-    let mut own = [0u64; BLOCK_PAIRS];
     let count = walk_rows(
         positions,
         edges,
@@ -222,7 +229,7 @@ fn keep_block(
         first,
         end,
         places,
-        &mut own,
+        own,
         BLOCK_PAIRS,
     );
     if count <= BLOCK_PAIRS {
@@ -231,7 +238,7 @@ fn keep_block(
             edges,
             triangles,
             stands,
-            &own,
+            own,
             count,
             wanted,
             list,
@@ -266,18 +273,38 @@ fn keep_block(
 }
 
 // Where the block ends that begins with a row.
-fn block_end(first: usize, end: usize) -> usize
-    requires { ⌜ (first < end) × (end ≤ 4294967296) ⌝ }
+fn block_end(first: usize, rows: usize, end: usize) -> usize
+    requires { ⌜ (first < end) × (end ≤ 4294967296) × (0 < rows) × (rows ≤ 64) ⌝ }
     ensures { λ r. ⌜ (first < r) × (r ≤ end) ⌝ }
 {
-    if first + BLOCK_ROWS < end {
-        first + BLOCK_ROWS
+    if first + rows < end {
+        first + rows
     } else {
         end
     }
 }
 
-// The rows of a stretch, block by block.
+// How many pairs are listed so far.
+fn listed_so_far(going: Going) -> u64 {
+    let counted: Tally = going.tally;
+    counted.listed
+}
+
+// How many rows the next block has, by the rows of the last and what was listed before and after it. It is a guess at what is faster, and changes no answer.
+fn block_rows(rows: usize, before: u64, after: u64) -> usize
+    ensures { λ r. ⌜ (0 < r) × (r ≤ 64) ⌝ }
+{
+    if after < before {
+        return FEW_ROWS;
+    }
+    if (after - before) / DENSE_PAIRS < rows as u64 {
+        MANY_ROWS
+    } else {
+        FEW_ROWS
+    }
+}
+
+// The rows of a stretch, block by block: each as long as the pairs of the last one make it.
 pub fn keep_stretch(
     positions: &[i32],
     edges: &[u32],
@@ -310,10 +337,13 @@ pub fn keep_stretch(
         (rowsIn which (tabledAtEntry positions edges triangles stands) first end) (atEntry list) (atEntry words) going
         (atExit list) (atExit words) r ⌝ }
 {
+    let mut own = [0u64; BLOCK_PAIRS];
     let mut so_far = going;
+    let mut rows = FEW_ROWS;
     let mut row = first;
     while row < end {
-        let next = block_end(row, end);
+        let next = block_end(row, rows, end);
+        let before = listed_so_far(so_far);
         so_far = keep_block(
             positions,
             edges,
@@ -330,12 +360,14 @@ pub fn keep_stretch(
             row,
             next,
             places,
+            &mut own,
             wanted,
             list,
             words,
             most,
             so_far,
         );
+        rows = block_rows(next - row, before, listed_so_far(so_far));
         row = next;
     }
     so_far

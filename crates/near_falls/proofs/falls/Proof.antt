@@ -2,8 +2,8 @@
 use borrow.Author.Needs.{needs}
 use native.Mathlib.Omega.{arith}
 use Prim.Native.Nat.{_-_, _≤_}
-use Rattle.near_stretch.proofs.falls.Statement.{statement}
-use Rattle.near_stretch.proofs.falls.Tie as tie
+use Rattle.near_falls.proofs.falls.Statement.{statement}
+use Rattle.near_falls.proofs.falls.Tie as tie
 
 abbrev Inv-loop : tie.InvT-loop
 Inv-loop positions vertices last stride v₀ found₀ v found = found ≤ v
