@@ -60,8 +60,8 @@ module _ (s : Scene) {o o′ : List ℕ} {r : ℕ} where
 pub told-as : {p : List ℤ} {e t w w′ : List ℕ} {o o′ : List ℕ} {n : ℕ} → w ≡ w′ → SceneTold (sceneOf p e t w) o o′ n → SceneTold (sceneOf p e t w′) o o′ n
 told-as {p} {e} {t} {o} {o′} {n} same r = subst (λ (l : List ℕ). SceneTold (sceneOf p e t l) o o′ n) same r
 
--- the program's own list has room for 3,072 pairs
-pub own-room : roomOf (replicate 3072 0) ≡ reportRoom
+-- the program's own list has room for the pairs of a report
+pub own-room : roomOf (replicate reportRoom 0) ≡ reportRoom
 own-room = refl
 
 -- a list that had no room

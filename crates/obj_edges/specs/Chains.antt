@@ -13,17 +13,26 @@ use borrow.Author.Tests.{eqb-true, eqb-false, eq-eqb}
 use Rattle.sequences.specs.Parts.{take-next}
 use Rattle.sequences.specs.Wrote.{Wrote, wrote-two}
 use Rattle.sequences.specs.Pick.{pick, pick-true, pick-false, either, both, one-of, or-true}
+use Rattle.meaning.specs.Limits.{vertexLimit, edgeLimit}
 use Rattle.meaning.specs.ObjFile.{joined}
 
--- where the table stands: behind the ends of as many edges as there may be, and of three more
+-- the edges that a draft has ends for: as many as there may be, and three more of the face that is one too many
+abbrev pub mostEdges : ℕ
+mostEdges = edgeLimit + 3
+
+-- the sums of two vertices are below this
+abbrev pub sums : ℕ
+sums = 2 * vertexLimit
+
+-- where the table stands: behind the ends of the edges
 abbrev pub lastsAt : ℕ
-lastsAt = 2_054
+lastsAt = 2 * mostEdges
 
 abbrev pub befores : ℕ
-befores = 3_078
+befores = lastsAt + sums
 
 abbrev pub tabled : ℕ
-tabled = 4_105
+tabled = befores + mostEdges
 
 abbrev pub sumAt : List ℕ → ℕ → ℕ
 sumAt o e = getD o (2 * e) 0 + getD o (2 * e + 1) 0
@@ -34,7 +43,7 @@ lastWith o k zero = 0
 lastWith o k (suc n) = pick (eqb (sumAt o n) k) (suc n) (lastWith o k n)
 
 pub record Knows (o : List ℕ) (n : ℕ) : Type 0 where
-  pub lasts : (k : ℕ) → k < 1_024 → getD o (lastsAt + k) 0 ≡ lastWith o k n
+  pub lasts : (k : ℕ) → k < sums → getD o (lastsAt + k) 0 ≡ lastWith o k n
   pub before : (e : ℕ) → e < n → getD o (befores + e) 0 ≡ lastWith o (sumAt o e) e
 
 -- a table that knows no edges
@@ -165,7 +174,7 @@ pub record Searching (a b : ℕ) (o : List ℕ) (n e : ℕ) : Type 0 where
   pub sum : (j : ℕ) → e ≡ suc j → sumAt o j ≡ a + b
   pub within : e ≤ n
 
-pub search-starts : (a b : ℕ) (o : List ℕ) (n : ℕ) → Knows o n → a + b < 1_024 → 2 * n ≤ length o → Searching a b o n (getD o (lastsAt + (a + b)) 0)
+pub search-starts : (a b : ℕ) (o : List ℕ) (n : ℕ) → Knows o n → a + b < sums → 2 * n ≤ length o → Searching a b o n (getD o (lastsAt + (a + b)) 0)
 search-starts a b o n known small room =
     let e : lastWith o (a + b) n ≡ getD o (lastsAt + (a + b)) 0 = sym (known .lasts (a + b) small) in
     subst (Searching a b o n) e
@@ -219,7 +228,7 @@ abbrev pub entered : List ℕ → ℕ → ℕ → ℕ → List ℕ
 entered o n a b =
     set (set (set (set o (befores + n) (getD o (lastsAt + (a + b)) 0)) (lastsAt + (a + b)) (n + 1)) (2 * n) a) (2 * n + 1) b
 
-module _ (o : List ℕ) (n a b : ℕ) (small : a + b < 1_024) (few : n ≤ 1_026) (room : tabled ≤ length o) where
+module _ (o : List ℕ) (n a b : ℕ) (small : a + b < sums) (few : n ≤ edgeLimit + 2) (room : tabled ≤ length o) where
   abbrev o₁ : List ℕ
   o₁ = set o (befores + n) (getD o (lastsAt + (a + b)) 0)
 
@@ -269,7 +278,7 @@ module _ (o : List ℕ) (n a b : ℕ) (small : a + b < 1_024) (few : n ≤ 1_026
   old-lasts k m h = last-agree o (entered o n a b) k m (λ i u. old-sums i (omega (arith, u, h)))
 
   module _ (known : Knows o n) where
-    new-last : (k : ℕ) → k < 1_024 → eqb (a + b) k ≡ true → getD (entered o n a b) (lastsAt + k) 0 ≡ lastWith (entered o n a b) k (n + 1)
+    new-last : (k : ℕ) → k < sums → eqb (a + b) k ≡ true → getD (entered o n a b) (lastsAt + k) 0 ≡ lastWith (entered o n a b) k (n + 1)
     new-last k h t =
         let same : a + b ≡ k = eqb-true (a + b) k t in
         let stored : getD (entered o n a b) (lastsAt + (a + b)) 0 ≡ n + 1 =
@@ -279,7 +288,7 @@ module _ (o : List ℕ) (n a b : ℕ) (small : a + b < 1_024) (few : n ≤ 1_026
         ∙ stored
         ∙ sym (next-here (entered o n a b) k n (new-sum ∙ same))
 
-    other-last : (k : ℕ) → k < 1_024 → eqb (a + b) k ≡ false → getD (entered o n a b) (lastsAt + k) 0 ≡ lastWith (entered o n a b) k (n + 1)
+    other-last : (k : ℕ) → k < sums → eqb (a + b) k ≡ false → getD (entered o n a b) (lastsAt + k) 0 ≡ lastWith (entered o n a b) k (n + 1)
     other-last k h f =
         let not-same : a + b ≡ k → ⊥ = eqb-false (a + b) k f in
         elsewhere (lastsAt + k) (λ e. omega (arith, e)) (λ e. omega (arith, e)) (λ e. not-same (omega (arith, e))) (λ e. omega (arith, e))

@@ -6,8 +6,9 @@ use Prim.Native.Nat.{ℕ, _+_, _*_, _≤_, _<_}
 use native.Mathlib.Omega.{arith}
 use lib.ListN.{length, take}
 use Rattle.sequences.specs.Pick.{pick, pick-true, pick-false}
+use Rattle.meaning.specs.Limits.{edgeLimit}
 use Rattle.meaning.specs.ObjFile.{joined, withSide, withSides}
-use Rattle.obj_edges.specs.Chains.{tabled, Knows, entered, knows-more, entered-front, entered-long}
+use Rattle.obj_edges.specs.Chains.{sums, tabled, Knows, entered, knows-more, entered-front, entered-long}
 
 -- so many edges stand in front and the table behind knows them
 pub record Tabled (o : List ℕ) (count most : ℕ) : Type 0 where
@@ -28,11 +29,11 @@ pub record SidesAdded (a b c : ℕ) (o : List ℕ) (count : ℕ) (o′ : List �
   pub same : length o′ ≡ length o
   pub knows : Knows o′ r
 
-module _ (a b : ℕ) (o : List ℕ) (count : ℕ) {t : Bool} (is : t ≡ joined a b (take (2 * count) o)) (known : Tabled o count 1_026) where
+module _ (a b : ℕ) (o : List ℕ) (count : ℕ) {t : Bool} (is : t ≡ joined a b (take (2 * count) o)) (known : Tabled o count (edgeLimit + 2)) where
   pub side-there : t ≡ true → SideAdded a b o count o count
   side-there e = record { front = sym (pick-true _ _ (sym is ∙ e)); more = omega arith; same = refl; knows = known .knows }
 
-  pub side-new : a + b < 1_024 → t ≡ false → SideAdded a b o count (entered o count a b) (count + 1)
+  pub side-new : a + b < sums → t ≡ false → SideAdded a b o count (entered o count a b) (count + 1)
   side-new small e =
       record {
         front = entered-front o count a b small (known .few) (known .room) ∙ sym (pick-false _ _ (sym is ∙ e));

@@ -3,27 +3,33 @@
 ghost use Prim.Native.Nat.{_+_, _*_, _≤_, _<_};
 ghost use lib.ListN.{length, take};
 ghost use mathlib.Core.Path.{_≡_};
+ghost use Rattle.meaning.specs.Limits.{vertexLimit, edgeLimit};
 ghost use Rattle.meaning.specs.ObjFile.{joined};
-ghost use Rattle.obj_edges.specs.Chains.{entered};
+ghost use Rattle.obj_edges.specs.Chains.{sums, entered};
 ghost use Rattle.obj_edges.specs.Sides.{Tabled, SideAdded, SidesAdded};
 ghost use Rattle.sequences.specs.Lent.{atEntry, atExit};
+use meaning::EDGE_LIMIT;
+use meaning::VERTEX_LIMIT;
 
-// Where the last edges with a sum stand: behind the ends of 1,024 edges and of three more.
-const LASTS: usize = 2054;
+// The edges that a draft has ends for: as many as there may be, and three more of the face that is one too many.
+const MOST_EDGES: usize = EDGE_LIMIT + 3;
 
-// Where the edges before stand: behind a place for each sum, of which the largest is 1,021.
-const BEFORES: usize = 3078;
+// Where the last edges with a sum stand: behind the ends of the edges.
+const LASTS: usize = 2 * MOST_EDGES;
+
+// Where the edges before stand: behind a place for each sum of two vertices.
+const BEFORES: usize = LASTS + 2 * VERTEX_LIMIT;
 
 // The same for an edge that is counted from 1.
-const BEFORE: usize = 3077;
+const BEFORE: usize = BEFORES - 1;
 
 // How long a draft of edges is with its table.
-pub const TABLED: usize = 4105;
+pub const TABLED: usize = BEFORES + MOST_EDGES;
 
 // Whether two vertices are the ends of one of so many edges. Those with the same sum are looked at, from the last to the first.
 fn is_joined(edges: &[u16], count: usize, a: u16, b: u16) -> bool
-    requires { ⌜ Tabled (now edges) count 1_026 ⌝ }
-    requires { ⌜ a + b < 1_024 ⌝ }
+    requires { ⌜ Tabled (now edges) count (edgeLimit + 2) ⌝ }
+    requires { ⌜ a + b < sums ⌝ }
     ensures { λ r. ⌜ r ≡ joined a b (take (2 * count) (atEntry edges)) ⌝ }
 {
     let mut e = edges[LASTS + (a as usize + b as usize)] as usize;
@@ -40,8 +46,8 @@ fn is_joined(edges: &[u16], count: usize, a: u16, b: u16) -> bool
 
 // An edge goes behind so many others, and into the table.
 fn enter(edges: &mut [u16], count: usize, a: u16, b: u16)
-    requires { ⌜ Tabled (now edges) count 1_026 ⌝ }
-    requires { ⌜ a + b < 1_024 ⌝ }
+    requires { ⌜ Tabled (now edges) count (edgeLimit + 2) ⌝ }
+    requires { ⌜ a + b < sums ⌝ }
     ensures { λ _. ⌜ atExit edges ≡ entered (atEntry edges) count a b ⌝ }
 {
     let last = LASTS + (a as usize + b as usize);
@@ -53,8 +59,8 @@ fn enter(edges: &mut [u16], count: usize, a: u16, b: u16)
 
 // One side, behind so many edges; the number of edges then.
 fn add_side(edges: &mut [u16], count: usize, a: u16, b: u16) -> usize
-    requires { ⌜ Tabled (now edges) count 1_026 ⌝ }
-    requires { ⌜ a + b < 1_024 ⌝ }
+    requires { ⌜ Tabled (now edges) count (edgeLimit + 2) ⌝ }
+    requires { ⌜ a + b < sums ⌝ }
     ensures { λ r. ⌜ SideAdded a b (atEntry edges) count (atExit edges) r ⌝ }
 {
     if is_joined(edges, count, a, b) {
@@ -66,8 +72,8 @@ fn add_side(edges: &mut [u16], count: usize, a: u16, b: u16) -> usize
 
 // The three sides of a face, behind so many edges; the number of edges then.
 pub fn add_sides(edges: &mut [u16], count: usize, a: u16, b: u16, c: u16) -> usize
-    requires { ⌜ Tabled (now edges) count 1_024 ⌝ }
-    requires { ⌜ (a < 512) × (b < 512) × (c < 512) ⌝ }
+    requires { ⌜ Tabled (now edges) count edgeLimit ⌝ }
+    requires { ⌜ (a < vertexLimit) × (b < vertexLimit) × (c < vertexLimit) ⌝ }
     ensures { λ r. ⌜ SidesAdded a b c (atEntry edges) count (atExit edges) r ⌝ }
 {
     let one = add_side(edges, count, a, b);

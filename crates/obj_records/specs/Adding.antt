@@ -136,7 +136,7 @@ module _ (c : SceneCounts) (a b d : ℕ) {j : Judged} (judged : FaceFault c (a -
       )
 
   pub sides-ready : {e : List ℕ} → Bounded c → tabled ≤ length e → Knows e (c .edges) → j ≡ Judgements.the-variants.Good
-      → Tabled e (c .edges) 1_024 × ((a - 1 < 512) × (b - 1 < 512) × (d - 1 < 512))
+      → Tabled e (c .edges) edgeLimit × ((a - 1 < vertexLimit) × (b - 1 < vertexLimit) × (d - 1 < vertexLimit))
   sides-ready bounded room known q =
       let (u, v, w) = face-known q in (
         record { knows = known; few = bounded .edges; room = room },

@@ -1,11 +1,11 @@
 // A vertex or a face of an OBJ file, below the records above it: its first fault; or it goes to its place in a draft, a face with the edges that it
 // brings.
-ghost use Prim.Native.Nat.{_+_, _≤_, _<_};
+ghost use Prim.Native.Nat.{_+_, _*_, _≤_, _<_};
 ghost use lib.ListN.{length};
 ghost use mathlib.Core.List.{[], _∷_};
 ghost use mathlib.Core.Path.{_≡_};
 ghost use Rattle.sequences.specs.Wrote.{Wrote};
-ghost use Rattle.meaning.specs.Limits.{coordinateLimit};
+ghost use Rattle.meaning.specs.Limits.{coordinateLimit, vertexLimit};
 ghost use Rattle.meaning.specs.ObjFile.{signed};
 ghost use Rattle.text_line.specs.Above.{Bounded};
 ghost use Rattle.obj_edges.specs.Chains.{Knows};
@@ -98,7 +98,7 @@ pub fn add_vertex(
     z: Hundredths,
     positions: &mut [i32],
 ) -> Added
-    requires { ⌜ 3072 ≤ length (now positions) ⌝ }
+    requires { ⌜ 6 * vertexLimit ≤ length (now positions) ⌝ }
     ensures { λ r. ⌜ VertexAdded c x y z (atEntry positions) (atExit positions) r ⌝ }
 {
     match judge_vertex(c, x, y, z) {

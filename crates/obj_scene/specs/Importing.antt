@@ -26,6 +26,7 @@ use Rattle.meaning.specs.declared.WhichFile.the-variants.{Start, End}
 use Rattle.meaning.specs.declared.ImportAnswer.{ImportAnswer}
 use Rattle.meaning.specs.declared.ImportAnswer.the-variants.{Read, Refused, RefusedIn}
 use Rattle.text_line.specs.Above.{Bounded, lengths-count}
+use Rattle.obj_edges.specs.Chains.{tabled}
 use Rattle.obj_records.specs.Adding.{FaceRoom}
 use Rattle.obj_draft.specs.Drafting.{Drafted, DraftRoom}
 use Rattle.obj_draft.specs.Reading.{DraftRead, DraftIs}
@@ -33,11 +34,11 @@ use Rattle.obj_scene.specs.Between.{six-each}
 use Rattle.obj_scene.specs.Ending.{Lent, Untouched, EndRead, EndDiffers, EndIs, EndImported}
 
 -- the arrays of a draft have room
-pub own-room : DraftRoom (replicate 3072 (pos 0)) (replicate 4105 0) (replicate 1536 0)
+pub own-room : DraftRoom (replicate (6 * vertexLimit) (pos 0)) (replicate tabled 0) (replicate (3 * triangleLimit) 0)
 own-room =
     record {
-      positions = omega (arith, length-replicate {A = ℤ} 3072 (pos 0));
-      faces = record { sides = omega (arith, length-replicate {A = ℕ} 4105 0); corners = omega (arith, length-replicate {A = ℕ} 1536 0) };
+      positions = omega (arith, length-replicate {A = ℤ} (6 * vertexLimit) (pos 0));
+      faces = record { sides = omega (arith, length-replicate {A = ℕ} tabled 0); corners = omega (arith, length-replicate {A = ℕ} (3 * triangleLimit) 0) };
     }
 
 pub lent-room : (lent : Scene) → shortBuffer lent ≡ false → Lent (lent .positions) (lent .edges) (lent .triangles)

@@ -6,7 +6,7 @@ use mathlib.Core.Path.{_≡_, ap, _∙_}
 use native.Mathlib.Omega.{arith}
 use lib.ListN.{length, length-append}
 use borrow.Author.Tests.{ltb-false}
-use Rattle.meaning.specs.Limits.{seamLimit}
+use Rattle.meaning.specs.Limits.{vertexLimit, edgeLimit, triangleLimit, seamLimit}
 use Rattle.meaning.specs.Scene.{Scene, Accepted, seamCount, wrongShape}
 use Rattle.answers.specs.Below.{or-left, or-rest}
 use Rattle.scene_checks.specs.Facts.{Sized, accepted-sized, accepted-coordinate}
@@ -20,10 +20,10 @@ pub record Shaped (s : Scene) : Type 0 where
   pub twos : length (s .edges) ≡ 2 * (length (s .edges) / 2)
   pub threes : length (s .triangles) ≡ 3 * (length (s .triangles) / 3)
   pub pairs : length (s .seams) ≡ 2 * (length (s .seams) / 2)
-  pub fewPositions : length (s .positions) ≤ 3_072
-  pub fewEnds : length (s .edges) ≤ 2_048
-  pub fewCorners : length (s .triangles) ≤ 1_536
-  pub fewSewn : length (s .seams) ≤ 1_024
+  pub fewPositions : length (s .positions) ≤ 6 * vertexLimit
+  pub fewEnds : length (s .edges) ≤ 2 * edgeLimit
+  pub fewCorners : length (s .triangles) ≤ 3 * triangleLimit
+  pub fewSewn : length (s .seams) ≤ 2 * seamLimit
   pub coordinates : Coordinates (s .positions)
 
 pub shaped : {s : Scene} → Accepted s → Shaped s

@@ -1,8 +1,9 @@
 // How long the lines of a scene are: one look over its numbers, and nothing written.
 
-ghost use Prim.Native.Nat.{_≤_};
+ghost use Prim.Native.Nat.{_*_, _≤_};
 ghost use mathlib.Core.Path.{_≡_};
 ghost use lib.ListN.{length};
+ghost use Rattle.meaning.specs.Limits.{vertexLimit, edgeLimit};
 ghost use Rattle.meaning.specs.Scene.{sceneAtEntry, sceneIn, Accepted};
 ghost use Rattle.saved_numbers.specs.Marked.{Coordinates};
 ghost use Rattle.meaning.specs.Saved.{savedText};
@@ -12,8 +13,8 @@ use saved_numbers::coordinate_length;
 use saved_numbers::number_length;
 
 fn coordinates_length(positions: &[i32]) -> usize
-    requires { ⌜ (length (now positions) ≤ 3072) × Coordinates (now positions) ⌝ }
-    ensures { λ r. ⌜ (r ≡ fieldsLong (atEntry positions)) × (r ≤ 24576) ⌝ }
+    requires { ⌜ (length (now positions) ≤ 6 * vertexLimit) × Coordinates (now positions) ⌝ }
+    ensures { λ r. ⌜ (r ≡ fieldsLong (atEntry positions)) × (r ≤ 48 * vertexLimit) ⌝ }
 {
     let mut total: usize = 0;
     let mut i = 0;
@@ -25,8 +26,8 @@ fn coordinates_length(positions: &[i32]) -> usize
 }
 
 fn numbers_length(list: &[u16]) -> usize
-    requires { ⌜ length (now list) ≤ 2048 ⌝ }
-    ensures { λ r. ⌜ (r ≡ numbersLong (atEntry list)) × (r ≤ 12288) ⌝ }
+    requires { ⌜ length (now list) ≤ 2 * edgeLimit ⌝ }
+    ensures { λ r. ⌜ (r ≡ numbersLong (atEntry list)) × (r ≤ 12 * edgeLimit) ⌝ }
 {
     let mut total: usize = 0;
     let mut i = 0;

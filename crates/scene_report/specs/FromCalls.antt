@@ -49,8 +49,8 @@ accepted-sewable {s} a =
 pub accepted-tabled : {s : Scene} {t₀ t : List ℕ} {found : Bool} → Accepted s → Sewn (s .positions) (s .seams) t₀ found t → seamsOf t ≡ s .seams
 accepted-tabled a w = w .tells (w .finds ∙ a .sewnWell)
 
--- the program's own buffers have room for 3,072 pairs
-pub own-room : min (roomOf (replicate 3072 0)) (length (replicate {A = ℕ} 3072 0)) ≡ reportRoom
+-- the program's own buffers have room for the pairs of a report
+pub own-room : min (roomOf (replicate reportRoom 0)) (length (replicate {A = ℕ} reportRoom 0)) ≡ reportRoom
 own-room = refl
 
 -- a list that was made and judged
