@@ -11,6 +11,7 @@ ghost use Rattle.scene_seams.specs.Alone.{tabledIn, tabledAtEntry};
 ghost use Rattle.scene_checks.specs.Facts.{Sound};
 ghost use Rattle.mesh_trees.specs.Forest.{Forest};
 ghost use Rattle.mesh_ordered.specs.Either.{OrdersLent};
+ghost use Rattle.near_either.specs.Ready.{NodesReady};
 ghost use Rattle.mesh_judged.specs.Judged.{noneYet, toldOf, KeptInto, KeptOwn};
 use meaning::KeptRows;
 use meaning::RowPairs;
@@ -67,6 +68,7 @@ pub fn keep_into(
     edge_top: usize,
     triangle_levels: &[usize],
     triangle_top: usize,
+    shift: usize,
     which: RowPairs,
     first: usize,
     end: usize,
@@ -78,7 +80,9 @@ pub fn keep_into(
 ) -> KeptRows
     requires { ⌜ Forest (tabledIn positions edges triangles stands) (now «edge_order») (now «triangle_order») (now boxes)
         (now «edge_levels») (now «triangle_levels») «edge_top» «triangle_top» × (first ≤ end)
-        × (end ≤ rowCount (tabledIn positions edges triangles stands)) ⌝ }
+        × (end ≤ rowCount (tabledIn positions edges triangles stands))
+        × NodesReady which (tabledIn positions edges triangles stands) (now boxes) (now «edge_levels») (now «triangle_levels»)
+        «edge_top» «triangle_top» shift ⌝ }
     requires { ⌜ OrdersLent (tabledIn positions edges triangles stands) (now «edge_order») (now «triangle_order») (length (now places)) ⌝ }
     requires { ⌜ Sound (tabledIn positions edges triangles stands) × (most ≤ length (now list))
         × (most ≤ length (now words)) ⌝ }
@@ -98,6 +102,7 @@ pub fn keep_into(
         edge_top,
         triangle_levels,
         triangle_top,
+        shift,
         which,
         first,
         end,
@@ -140,6 +145,7 @@ pub fn keep_own(
     edge_top: usize,
     triangle_levels: &[usize],
     triangle_top: usize,
+    shift: usize,
     which: RowPairs,
     first: usize,
     end: usize,
@@ -151,7 +157,9 @@ pub fn keep_own(
 ) -> KeptRows
     requires { ⌜ Forest (tabledIn positions edges triangles stands) (now «edge_order») (now «triangle_order») (now boxes)
         (now «edge_levels») (now «triangle_levels») «edge_top» «triangle_top» × (first ≤ end)
-        × (end ≤ rowCount (tabledIn positions edges triangles stands)) ⌝ }
+        × (end ≤ rowCount (tabledIn positions edges triangles stands))
+        × NodesReady which (tabledIn positions edges triangles stands) (now boxes) (now «edge_levels») (now «triangle_levels»)
+        «edge_top» «triangle_top» shift ⌝ }
     requires { ⌜ OrdersLent (tabledIn positions edges triangles stands) (now «edge_order») (now «triangle_order») (length (now places)) ⌝ }
     requires { ⌜ Sound (tabledIn positions edges triangles stands) × (room ≤ length (now list))
         × (room ≤ length (now words)) ⌝ }
@@ -172,6 +180,7 @@ pub fn keep_own(
         edge_top,
         triangle_levels,
         triangle_top,
+        shift,
         which,
         first,
         end,

@@ -11,6 +11,7 @@ ghost use Rattle.scene_checks.specs.Facts.{Sound};
 ghost use Rattle.mesh_trees.specs.Planting.{Plantable};
 ghost use Rattle.mesh_trees.specs.Forest.{Forest};
 ghost use Rattle.mesh_ordered.specs.Either.{OrdersLent};
+ghost use Rattle.near_either.specs.Ready.{NodesReady};
 ghost use Rattle.mesh_keeping.specs.Kept.{StretchKept};
 use meaning::KeptAnswer;
 use meaning::Refusal;
@@ -23,6 +24,7 @@ use mesh_judged::OWN_ENTRIES;
 use mesh_judged::keep_into;
 use mesh_judged::keep_own;
 use mesh_trees::plant;
+use near_either::plant_nodes;
 use scene_parts::asked::smaller;
 
 // Where a level of a tree begins and how many nodes it has, for each of its levels.
@@ -41,6 +43,7 @@ fn keep_grown(
     edge_top: usize,
     triangle_levels: &[usize],
     triangle_top: usize,
+    shift: usize,
     which: RowPairs,
     first: usize,
     end: usize,
@@ -52,7 +55,9 @@ fn keep_grown(
 ) -> KeptAnswer
     requires { ⌜ Forest (tabledIn positions edges triangles stands) (now «edge_order») (now «triangle_order») (now boxes)
         (now «edge_levels») (now «triangle_levels») «edge_top» «triangle_top» × (first ≤ end)
-        × (end ≤ rowCount (tabledIn positions edges triangles stands)) ⌝ }
+        × (end ≤ rowCount (tabledIn positions edges triangles stands))
+        × NodesReady which (tabledIn positions edges triangles stands) (now boxes) (now «edge_levels») (now «triangle_levels»)
+        «edge_top» «triangle_top» shift ⌝ }
     requires { ⌜ OrdersLent (tabledIn positions edges triangles stands) (now «edge_order») (now «triangle_order») (length (now places)) ⌝ }
     requires { ⌜ Sound (tabledIn positions edges triangles stands) × (room ≤ length (now list))
         × (room ≤ length (now words)) ⌝ }
@@ -71,6 +76,7 @@ fn keep_grown(
         edge_top,
         triangle_levels,
         triangle_top,
+        shift,
         which,
         first,
         end,
@@ -98,6 +104,7 @@ fn keep_grown(
         edge_top,
         triangle_levels,
         triangle_top,
+        shift,
         which,
         first,
         end,
@@ -138,6 +145,15 @@ pub fn keep_there(
 {
     let mut edge_levels = [0usize; LEVEL_NUMBERS];
     let mut triangle_levels = [0usize; LEVEL_NUMBERS];
+    let shift = plant_nodes(
+        positions,
+        edges,
+        triangles,
+        edge_order,
+        triangle_order,
+        boxes,
+        which,
+    );
     let tops = plant(
         positions,
         edges,
@@ -160,6 +176,7 @@ pub fn keep_there(
         tops.edges,
         &triangle_levels,
         tops.triangles,
+        shift,
         which,
         first,
         end,

@@ -10,6 +10,7 @@ ghost use Rattle.scene_checks.specs.Facts.{Sound};
 ghost use Rattle.mesh_trees.specs.Forest.{Forest};
 ghost use Rattle.mesh_ordered.specs.Either.{OrdersLent};
 ghost use Rattle.mesh_keep.specs.Keeping.{KeptBy};
+ghost use Rattle.near_either.specs.Ready.{NodesReady};
 use meaning::Kind;
 use meaning::RowPairs;
 use meaning::Wanted;
@@ -17,7 +18,7 @@ use mesh_keep::Going;
 use mesh_keep::keep_entries;
 use mesh_keep::keep_row;
 use mesh_ordered::row_places;
-use mesh_ordered::walk_rows;
+use near_either::walk_ready;
 use scene_parts::vertex_count;
 use tally::Tally;
 
@@ -191,6 +192,7 @@ fn keep_block(
     edge_top: usize,
     triangle_levels: &[usize],
     triangle_top: usize,
+    shift: usize,
     which: RowPairs,
     first: usize,
     end: usize,
@@ -204,7 +206,9 @@ fn keep_block(
 ) -> Going
     requires { ⌜ Forest (tabledIn positions edges triangles stands) (now «edge_order») (now «triangle_order») (now boxes)
         (now «edge_levels») (now «triangle_levels») «edge_top» «triangle_top» × (first ≤ end)
-        × (end ≤ rowCount (tabledIn positions edges triangles stands)) ⌝ }
+        × (end ≤ rowCount (tabledIn positions edges triangles stands))
+        × NodesReady which (tabledIn positions edges triangles stands) (now boxes) (now «edge_levels») (now «triangle_levels»)
+        «edge_top» «triangle_top» shift ⌝ }
     requires { ⌜ OrdersLent (tabledIn positions edges triangles stands) (now «edge_order») (now «triangle_order») (length (now places)) ⌝ }
     requires { ⌜ Sound (tabledIn positions edges triangles stands) × (most ≤ length (now list)) × (most ≤ length (now words))
         × (going .count + length (rowsIn which (tabledIn positions edges triangles stands) first end) < 4611686018427387904) ⌝ }
@@ -213,7 +217,7 @@ fn keep_block(
         (rowsIn which (tabledAtEntry positions edges triangles stands) first end) (atEntry list) (atEntry words) going
         (atExit list) (atExit words) r ⌝ }
 {
-    let count = walk_rows(
+    let count = walk_ready(
         positions,
         edges,
         triangles,
@@ -225,6 +229,7 @@ fn keep_block(
         edge_top,
         triangle_levels,
         triangle_top,
+        shift,
         which,
         first,
         end,
@@ -304,7 +309,8 @@ fn block_rows(rows: usize, before: u64, after: u64) -> usize
     }
 }
 
-// The rows of a stretch, block by block: each as long as the pairs of the last one make it.
+// The rows of a stretch, block by block: each as long as the pairs of the last one make it. Near rows go by nodes of both times where their shift is
+// not 0.
 pub fn keep_stretch(
     positions: &[i32],
     edges: &[u32],
@@ -317,6 +323,7 @@ pub fn keep_stretch(
     edge_top: usize,
     triangle_levels: &[usize],
     triangle_top: usize,
+    shift: usize,
     which: RowPairs,
     first: usize,
     end: usize,
@@ -329,7 +336,9 @@ pub fn keep_stretch(
 ) -> Going
     requires { ⌜ Forest (tabledIn positions edges triangles stands) (now «edge_order») (now «triangle_order») (now boxes)
         (now «edge_levels») (now «triangle_levels») «edge_top» «triangle_top» × (first ≤ end)
-        × (end ≤ rowCount (tabledIn positions edges triangles stands)) ⌝ }
+        × (end ≤ rowCount (tabledIn positions edges triangles stands))
+        × NodesReady which (tabledIn positions edges triangles stands) (now boxes) (now «edge_levels») (now «triangle_levels»)
+        «edge_top» «triangle_top» shift ⌝ }
     requires { ⌜ OrdersLent (tabledIn positions edges triangles stands) (now «edge_order») (now «triangle_order») (length (now places)) ⌝ }
     requires { ⌜ Sound (tabledIn positions edges triangles stands) × (most ≤ length (now list)) × (most ≤ length (now words))
         × (going .count ≤ 0) ⌝ }
@@ -356,6 +365,7 @@ pub fn keep_stretch(
             edge_top,
             triangle_levels,
             triangle_top,
+            shift,
             which,
             row,
             next,

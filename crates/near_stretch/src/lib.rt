@@ -2,11 +2,8 @@
 // What is promised is the same.
 
 ghost use Prim.Native.Nat.{_≤_};
-ghost use mathlib.Core.Bool.{true};
-ghost use mathlib.Core.Path.{_≡_};
 ghost use lib.ListN.{length};
 ghost use Rattle.sequences.specs.Lent.{atEntry, atExit};
-ghost use Rattle.meaning.specs.Scene.{unsewnAtEntry};
 ghost use Rattle.meaning.specs.MeshRows.{rowCount};
 ghost use Rattle.meaning.specs.declared.RowPairs.the-variants.{Near};
 ghost use Rattle.scene_seams.specs.Alone.{tabledIn, tabledAtEntry};
@@ -15,46 +12,18 @@ ghost use Rattle.mesh_ordered.specs.Either.{OrdersLent};
 ghost use Rattle.mesh_stretch.specs.Stretching.{IsRowCount, StretchListed};
 ghost use Rattle.near_trees.specs.Frames.{framesRoom};
 ghost use Rattle.near_runs.specs.Near.{NearForest};
-ghost use Rattle.near_stretch.specs.Planting.{GoesNear};
 use meaning::ListAnswer;
 use meaning::Made;
 use meaning::Refusal;
 use meaning::RowPairs;
 use mesh_trees::plant;
-use near_falls::falls;
+use near_either::goes_near;
 use near_runs::walk_near;
-use near_trees::frames_room;
 use near_trees::node_room;
 use near_trees::plant_frames;
 
 // Where a level of a tree begins and how many nodes it has, for each of its levels.
 const LEVEL_NUMBERS: usize = 34;
-
-// No order is lent.
-fn unordered(edge_order: &[u32], triangle_order: &[u32]) -> bool {
-    (edge_order.len() < 1) & (triangle_order.len() < 1)
-}
-
-// Whether near rows are asked for and go by nodes of both times. Where an order is lent the rows go by that.
-fn goes_near(
-    positions: &[i32],
-    edges: &[u32],
-    triangles: &[u32],
-    edge_order: &[u32],
-    triangle_order: &[u32],
-    boxes: &[i32],
-    which: RowPairs,
-) -> bool
-    ensures { λ r. ⌜ (r ≡ true → GoesNear which (unsewnAtEntry positions edges triangles) (atEntry boxes)) ⌝ }
-{
-    let room = frames_room(positions, edges, triangles);
-    match which {
-        RowPairs::Listed => false,
-        RowPairs::Near => unordered(edge_order, triangle_order)
-            & falls(positions)
-            & (room <= boxes.len()),
-    }
-}
 
 // How many pairs the near rows have, by a walk that enters none.
 fn count_grown(

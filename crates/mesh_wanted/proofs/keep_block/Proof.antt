@@ -10,8 +10,8 @@ use Rattle.mesh_wanted.specs.Stretch.{forest-sized, block-of, block-pair
 use Rattle.mesh_wanted.proofs.keep_block.Statement.{statement}
 use Rattle.mesh_wanted.proofs.keep_block.Tie as tie
 
-walk-rows-requires : tie.Need-walk-rows-requires
-walk-rows-requires c κs = let p = c .before .before .before .before .before .before .before .before .before .before .before .before .before .pre in (p .0, (p .1 .0, p .1 .1 .1))
+walk-ready-requires : tie.Need-walk-ready-requires
+walk-ready-requires c κs = let p = c .before .before .before .before .before .before .before .before .before .before .before .before .before .pre in (p .0, (p .1 .0, p .1 .1 .1))
 
 keep-entries-requires : tie.Need-keep-entries-requires
 keep-entries-requires c κs =
@@ -19,7 +19,7 @@ keep-entries-requires c κs =
     let p = c .before .before .before .before .before .before .before .before .before .before .before .before .before .before .before .before .before .before .before .before .before .before .pre in
     let sound = p .1 .1 .0 in
     let s = tabled (a .positions .now) (a .edges .now) (a .triangles .now) (a .stands .now) in
-    let walked = c .before .before .before .before .before .before .before .before .walk-rows .ensures in (
+    let walked = c .before .before .before .before .before .before .before .before .walk-ready .ensures in (
       (sound .0, block-of (a .which) s (forest-sized (p .0 .0)) (a .first) (a .end) (p .0 .2) walked (c .before .before .before .if1 .taken) (p .1 .1 .1)),
       (sound .1, sound .2, omega (arith, sound .3, walked .counts, mesh-entries-length (rowsIn (a .which) s (a .first) (a .end)))),
     )
@@ -27,14 +27,14 @@ keep-entries-requires c κs =
 keep-alone-requires : tie.Need-keep-alone-requires
 keep-alone-requires c κs =
     let p = c .before .before .before .before .before .before .before .before .before .before .before .before .before .before .before .before .before .before .before .before .before .before .pre in
-    (p .0, (lent-as (p .1 .0) (omega arith), p .1 .1 .0))
+    ((p .0 .0, p .0 .1, p .0 .2), (lent-as (p .1 .0) (omega arith), p .1 .1 .0))
 
 returns : tie.Need-returns
 returns c =
     let a = c .before .before .before .before .before .before .before .before .before .before .before .before .before .before .before .before .before .before .before .before .before .before .before .before .before .before .before .args in
     let p = c .before .before .before .before .before .before .before .before .before .before .before .before .before .before .before .before .before .before .before .before .before .before .before .before .before .before .before .pre in
     let s = tabled (a .positions .now) (a .edges .now) (a .triangles .now) (a .stands .now) in
-    kept-as (block-pairs (a .which) s (forest-sized (p .0 .0)) (a .first) (a .end) (p .0 .2) (c .before .before .before .before .before .before .before .before .before .before .before .before .before .walk-rows .ensures) (c .before .before .before .before .before .before .before .before .if1 .taken) (p .1 .1 .1)) (c .before .before .before .before .keep-entries .ensures)
+    kept-as (block-pairs (a .which) s (forest-sized (p .0 .0)) (a .first) (a .end) (p .0 .2) (c .before .before .before .before .before .before .before .before .before .before .before .before .before .walk-ready .ensures) (c .before .before .before .before .before .before .before .before .if1 .taken) (p .1 .1 .1)) (c .before .before .before .before .keep-entries .ensures)
 
 returns-2 : tie.Need-returns-2
 returns-2 c = c .before .before .before .before .before .before .keep-alone .ensures
@@ -43,7 +43,7 @@ pub keep-block-spec : {M : Type 1} → statement M
 keep-block-spec =
     tie.close
     (tie.spec
-    walk-rows-requires
+    walk-ready-requires
     keep-entries-requires
     keep-alone-requires
     (λ c. search needs)

@@ -12,7 +12,7 @@ use Rattle.mesh_wanted.proofs.keep_stretch.Statement.{statement}
 use Rattle.mesh_wanted.proofs.keep_stretch.Tie as tie
 
 abbrev Inv-loop : tie.InvT-loop
-Inv-loop positions edges triangles stands edge-order triangle-order boxes edge-levels edge-top triangle-levels triangle-top which first end places₀ wanted list₀ words₀ most own₀ so-far₀ rows₀ row₀ places list words own so-far rows row =
+Inv-loop positions edges triangles stands edge-order triangle-order boxes edge-levels edge-top triangle-levels triangle-top shift which first end places₀ wanted list₀ words₀ most own₀ so-far₀ rows₀ row₀ places list words own so-far rows row =
     (length places ≡ length places₀)
     × StretchGoing which (tabled positions edges triangles stands) wanted most first end list₀ words₀ so-far₀ list words so-far row
     × (0 < rows)
@@ -20,7 +20,7 @@ Inv-loop positions edges triangles stands edge-order triangle-order boxes edge-l
     × (length own ≡ 4096)
 
 abbrev μ-loop : tie.MeasureT-loop
-μ-loop positions edges triangles stands edge-order triangle-order boxes edge-levels edge-top triangle-levels triangle-top which first end places₀ wanted list₀ words₀ most own₀ so-far₀ rows₀ row₀ places list words own so-far rows row = end - row
+μ-loop positions edges triangles stands edge-order triangle-order boxes edge-levels edge-top triangle-levels triangle-top shift which first end places₀ wanted list₀ words₀ most own₀ so-far₀ rows₀ row₀ places list words own so-far rows row = end - row
 
 loop-holds : tie.Need-loop-holds Inv-loop μ-loop
 loop-holds c = (search needs, stretch-starts _ _ _ _ _ _ _ _ _ (c .before .before .before .before .before .before .before .before .before .before .pre .0 .1), omega arith, omega arith, refl)
@@ -41,7 +41,7 @@ keep-block-requires c κs =
     let ends = c .before .before .before .before .before .block-end .ensures in
     let p = c .before .before .before .before .before .before .before .before .before .before .before .before .before .before .before .before .before .before .pre in
     let sound = p .1 .1 in (
-      (p .0 .0, omega (arith, ends .0), omega (arith, p .0 .2, ends .1)),
+      (p .0 .0, omega (arith, ends .0), omega (arith, p .0 .2, ends .1), p .0 .3),
       (lent-as (p .1 .0) (so .0), ((sound .0, omega (arith, sound .1, entered-length (so .1 .done .list)), omega (arith, sound .2, entered-length (so .1 .done .bytes)), stretch-few (so .1) next (omega (arith, ends .0)) (p .0 .0) (omega (arith, p .0 .2, ends .1)) (sound .3)), omega (arith, so .4))),
     )
 

@@ -7,7 +7,7 @@ use Rattle.scene_seams.specs.Table.{seamsOf}
 use Rattle.mesh_boxes.specs.Led.{none-lent}
 use Rattle.frame_boxes.specs.Grove.{other-seams}
 use Rattle.near_trees.specs.Standing.{plantable-still}
-use Rattle.near_stretch.specs.Planting.{near-forest}
+use Rattle.near_either.specs.Ready.{near-forest}
 use Rattle.near_stretch.proofs.count_near.Statement.{statement}
 use Rattle.near_stretch.proofs.count_near.Tie as tie
 
