@@ -12,8 +12,8 @@ use meaning::RowPairs;
 use meaning::SceneAnswer;
 use mesh_asked::ask_rows;
 use mesh_asked::row_count;
-use near_stretch::count_stretch;
-use near_stretch::list_stretch;
+use mesh_stretch::count_stretch;
+use mesh_stretch::list_stretch;
 
 // How many pairs the rows from one up to another have: all that are listed, or the near ones.
 pub fn count_rows(

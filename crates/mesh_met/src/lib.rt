@@ -24,7 +24,7 @@ use meaning::SceneAnswer;
 use mesh_asked::ask_rows;
 use mesh_asked::row_count;
 use mesh_contacts::contact_mesh_entries;
-use near_stretch::list_stretch;
+use mesh_stretch::list_stretch;
 use scene_parts::asked::smaller;
 
 // How many pairs the three lent lists have room for.

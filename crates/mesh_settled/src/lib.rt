@@ -15,8 +15,8 @@ use meaning::RowPairs;
 use meaning::SceneAnswer;
 use mesh_asked::ask_rows;
 use mesh_asked::row_count;
+use mesh_stretch::list_stretch;
 use mesh_words::settle_mesh_entries;
-use near_stretch::list_stretch;
 use scene_parts::asked::smaller;
 
 // Of an accepted mesh whose seams stand in a table.

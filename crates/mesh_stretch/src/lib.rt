@@ -1,6 +1,6 @@
 // A stretch of rows of a mesh whose seams stand in a table: the scratch is prepared, the rows are walked, and their entries are written where there is room
 // for all of them. Nothing is written to the list before that is known: until then they are held in scratch, and where that is too short for them they are
-// walked again.
+// walked again. Near rows of cloth that falls go by nodes of both times where the scratch has room for these.
 
 ghost use Prim.Native.Nat.{_+_, _*_, _≤_, _<_};
 ghost use mathlib.Core.Bool.{true};
@@ -13,6 +13,7 @@ ghost use Rattle.mesh_trees.specs.Planting.{Plantable};
 ghost use Rattle.mesh_trees.specs.Forest.{Forest};
 ghost use Rattle.mesh_entries.specs.Entering.{Entered};
 ghost use Rattle.mesh_ordered.specs.Either.{OrdersLent};
+ghost use Rattle.near_either.specs.Ready.{NodesReady};
 ghost use Rattle.mesh_stretch.specs.Stretching.{IsRowCount, StretchListed};
 ghost use Rattle.mesh_stretch.specs.Holding.{KeptFrom, BlockHeld, RowsHeld};
 use meaning::ListAnswer;
@@ -22,10 +23,11 @@ use meaning::RowPairs;
 use mesh_held::Walked;
 use mesh_held::hold_walked;
 use mesh_held::take_held;
-use mesh_ordered::walk_rows;
 use mesh_parts::edge_count;
 use mesh_parts::triangle_count;
 use mesh_trees::plant;
+use near_either::plant_nodes;
+use near_either::walk_ready;
 
 // Where a level of a tree begins and how many nodes it has, for each of its levels.
 const LEVEL_NUMBERS: usize = 34;
@@ -48,6 +50,7 @@ fn count_grown(
     edge_top: usize,
     triangle_levels: &[usize],
     triangle_top: usize,
+    shift: usize,
     which: RowPairs,
     first: usize,
     end: usize,
@@ -55,12 +58,14 @@ fn count_grown(
 ) -> usize
     requires { ⌜ Forest (tabledIn positions edges triangles stands) (now «edge_order») (now «triangle_order») (now boxes)
         (now «edge_levels») (now «triangle_levels») «edge_top» «triangle_top» × (first ≤ end)
-        × (end ≤ rowCount (tabledIn positions edges triangles stands)) ⌝ }
+        × (end ≤ rowCount (tabledIn positions edges triangles stands))
+        × NodesReady which (tabledIn positions edges triangles stands) (now boxes) (now «edge_levels») (now «triangle_levels»)
+        «edge_top» «triangle_top» shift ⌝ }
     requires { ⌜ OrdersLent (tabledIn positions edges triangles stands) (now «edge_order») (now «triangle_order») (length (now places)) ⌝ }
     ensures { λ r. ⌜ IsRowCount which (tabledAtEntry positions edges triangles stands) first end r ⌝ }
 {
     let mut none = [0u64; 0];
-    walk_rows(
+    walk_ready(
         positions,
         edges,
         triangles,
@@ -72,6 +77,7 @@ fn count_grown(
         edge_top,
         triangle_levels,
         triangle_top,
+        shift,
         which,
         first,
         end,
@@ -115,6 +121,7 @@ fn walk_block(
     edge_top: usize,
     triangle_levels: &[usize],
     triangle_top: usize,
+    shift: usize,
     which: RowPairs,
     first: usize,
     end: usize,
@@ -124,13 +131,15 @@ fn walk_block(
 ) -> usize
     requires { ⌜ Forest (tabledIn positions edges triangles stands) (now «edge_order») (now «triangle_order») (now boxes)
         (now «edge_levels») (now «triangle_levels») «edge_top» «triangle_top» × (first ≤ end)
-        × (end ≤ rowCount (tabledIn positions edges triangles stands)) ⌝ }
+        × (end ≤ rowCount (tabledIn positions edges triangles stands))
+        × NodesReady which (tabledIn positions edges triangles stands) (now boxes) (now «edge_levels») (now «triangle_levels»)
+        «edge_top» «triangle_top» shift ⌝ }
     requires { ⌜ OrdersLent (tabledIn positions edges triangles stands) (now «edge_order») (now «triangle_order») front
         × (front ≤ length (now places)) × (4096 ≤ length (now own)) ⌝ }
     ensures { λ r. ⌜ Entered 4096 (atEntry own) 0 (meshEntries (rowsIn which (tabledAtEntry positions edges triangles stands) first end))
         (atExit own) r × KeptFrom front (atEntry places) (atExit places) ⌝ }
 {
-    walk_rows(
+    walk_ready(
         positions,
         edges,
         triangles,
@@ -142,6 +151,7 @@ fn walk_block(
         edge_top,
         triangle_levels,
         triangle_top,
+        shift,
         which,
         first,
         end,
@@ -164,6 +174,7 @@ fn hold_block(
     edge_top: usize,
     triangle_levels: &[usize],
     triangle_top: usize,
+    shift: usize,
     which: RowPairs,
     first: usize,
     end: usize,
@@ -174,7 +185,9 @@ fn hold_block(
 ) -> Walked
     requires { ⌜ Forest (tabledIn positions edges triangles stands) (now «edge_order») (now «triangle_order») (now boxes)
         (now «edge_levels») (now «triangle_levels») «edge_top» «triangle_top» × (first ≤ end)
-        × (end ≤ rowCount (tabledIn positions edges triangles stands)) ⌝ }
+        × (end ≤ rowCount (tabledIn positions edges triangles stands))
+        × NodesReady which (tabledIn positions edges triangles stands) (now boxes) (now «edge_levels») (now «triangle_levels»)
+        «edge_top» «triangle_top» shift ⌝ }
     requires { ⌜ OrdersLent (tabledIn positions edges triangles stands) (now «edge_order») (now «triangle_order») front
         × (front ≤ length (now places)) × (4096 ≡ length (now own)) × (before .count < 4611686018427387904)
         × (before .held ≡ true → front + 2 * before .count ≤ length (now places)) ⌝ }
@@ -193,6 +206,7 @@ fn hold_block(
         edge_top,
         triangle_levels,
         triangle_top,
+        shift,
         which,
         first,
         end,
@@ -220,6 +234,7 @@ fn hold_rows(
     edge_top: usize,
     triangle_levels: &[usize],
     triangle_top: usize,
+    shift: usize,
     which: RowPairs,
     first: usize,
     end: usize,
@@ -228,7 +243,9 @@ fn hold_rows(
 ) -> Walked
     requires { ⌜ Forest (tabledIn positions edges triangles stands) (now «edge_order») (now «triangle_order») (now boxes)
         (now «edge_levels») (now «triangle_levels») «edge_top» «triangle_top» × (first ≤ end)
-        × (end ≤ rowCount (tabledIn positions edges triangles stands)) ⌝ }
+        × (end ≤ rowCount (tabledIn positions edges triangles stands))
+        × NodesReady which (tabledIn positions edges triangles stands) (now boxes) (now «edge_levels») (now «triangle_levels»)
+        «edge_top» «triangle_top» shift ⌝ }
     requires { ⌜ OrdersLent (tabledIn positions edges triangles stands) (now «edge_order») (now «triangle_order») front
         × (front ≤ length (now places)) ⌝ }
     ensures { λ r. ⌜ RowsHeld which (tabledAtEntry positions edges triangles stands) first end (atExit places) front (r .count) (r .held) ⌝ }
@@ -254,6 +271,7 @@ fn hold_rows(
             edge_top,
             triangle_levels,
             triangle_top,
+            shift,
             which,
             row,
             next,
@@ -282,6 +300,7 @@ fn list_grown(
     edge_top: usize,
     triangle_levels: &[usize],
     triangle_top: usize,
+    shift: usize,
     which: RowPairs,
     first: usize,
     end: usize,
@@ -291,7 +310,9 @@ fn list_grown(
 ) -> ListAnswer
     requires { ⌜ Forest (tabledIn positions edges triangles stands) (now «edge_order») (now «triangle_order») (now boxes)
         (now «edge_levels») (now «triangle_levels») «edge_top» «triangle_top» × (first ≤ end)
-        × (end ≤ rowCount (tabledIn positions edges triangles stands)) ⌝ }
+        × (end ≤ rowCount (tabledIn positions edges triangles stands))
+        × NodesReady which (tabledIn positions edges triangles stands) (now boxes) (now «edge_levels») (now «triangle_levels»)
+        «edge_top» «triangle_top» shift ⌝ }
     requires { ⌜ OrdersLent (tabledIn positions edges triangles stands) (now «edge_order») (now «triangle_order») (length (now places)) ⌝ }
     requires { ⌜ room ≤ length (now list) ⌝ }
     ensures { λ r. ⌜ StretchListed which (tabledAtEntry positions edges triangles stands) first end room (atEntry list)
@@ -312,6 +333,7 @@ fn list_grown(
         edge_top,
         triangle_levels,
         triangle_top,
+        shift,
         which,
         first,
         end,
@@ -326,7 +348,7 @@ fn list_grown(
         take_held(places, front, count, list);
         return ListAnswer::Listed(Made { count });
     }
-    walk_rows(
+    walk_ready(
         positions,
         edges,
         triangles,
@@ -338,6 +360,7 @@ fn list_grown(
         edge_top,
         triangle_levels,
         triangle_top,
+        shift,
         which,
         first,
         end,
@@ -369,6 +392,15 @@ pub fn count_stretch(
 {
     let mut edge_levels = [0usize; LEVEL_NUMBERS];
     let mut triangle_levels = [0usize; LEVEL_NUMBERS];
+    let shift = plant_nodes(
+        positions,
+        edges,
+        triangles,
+        edge_order,
+        triangle_order,
+        boxes,
+        which,
+    );
     let tops = plant(
         positions,
         edges,
@@ -391,6 +423,7 @@ pub fn count_stretch(
         tops.edges,
         &triangle_levels,
         tops.triangles,
+        shift,
         which,
         first,
         end,
@@ -423,6 +456,15 @@ pub fn list_stretch(
 {
     let mut edge_levels = [0usize; LEVEL_NUMBERS];
     let mut triangle_levels = [0usize; LEVEL_NUMBERS];
+    let shift = plant_nodes(
+        positions,
+        edges,
+        triangles,
+        edge_order,
+        triangle_order,
+        boxes,
+        which,
+    );
     let tops = plant(
         positions,
         edges,
@@ -445,6 +487,7 @@ pub fn list_stretch(
         tops.edges,
         &triangle_levels,
         tops.triangles,
+        shift,
         which,
         first,
         end,

@@ -7,13 +7,13 @@ use Rattle.mesh_stretch.specs.Stretching.{walked-count}
 use Rattle.mesh_stretch.proofs.count_grown.Statement.{statement}
 use Rattle.mesh_stretch.proofs.count_grown.Tie as tie
 
-walk-rows-requires : tie.Need-walk-rows-requires
-walk-rows-requires c κs = let pre = c .before .before .before .before .before .before .before .before .before .before .pre in (pre .0, (pre .1, omega arith))
+walk-ready-requires : tie.Need-walk-ready-requires
+walk-ready-requires c κs = let pre = c .before .before .before .before .before .before .before .before .before .before .pre in (pre .0, (pre .1, omega arith))
 
 returns : tie.Need-returns
 returns c =
     let a = c .before .before .before .before .before .before .before .before .before .before .before .before .before .before .args in
-    walked-count (rowsIn (a .which) (tabled (a .positions .now) (a .edges .now) (a .triangles .now) (a .stands .now)) (a .first) (a .end)) (c .before .before .before .walk-rows .ensures)
+    walked-count (rowsIn (a .which) (tabled (a .positions .now) (a .edges .now) (a .triangles .now) (a .stands .now)) (a .first) (a .end)) (c .before .before .before .walk-ready .ensures)
 
 pub count-grown-spec : {M : Type 1} → statement M
-count-grown-spec = tie.close (tie.spec (λ c. search needs) walk-rows-requires (λ c. search needs) returns)
+count-grown-spec = tie.close (tie.spec (λ c. search needs) walk-ready-requires (λ c. search needs) returns)

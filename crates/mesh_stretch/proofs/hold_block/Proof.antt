@@ -12,7 +12,7 @@ walk-block-requires : tie.Need-walk-block-requires
 walk-block-requires c κs = let pre = c .before .before .before .before .before .before .before .before .before .before .before .pre in (pre .0, (pre .1 .0, pre .1 .1, omega (arith, pre .1 .2)))
 
 add-hold-walked : tie.Need-add-hold-walked
-add-hold-walked c = let start = c .before .before .before .before .before .before .before .before .before .before .before .before .before .before .before .before .before .before .before in omega (arith, start .pre .1 .1, start .pre .1 .3, start .good .1 .1 .1 .1 .1 .1 .1 .1 .1 .1 .1 .1 .1 .1 .0 .1)
+add-hold-walked c = let start = c .before .before .before .before .before .before .before .before .before .before .before .before .before .before .before .before .before .before .before in omega (arith, start .pre .1 .1, start .pre .1 .3, start .good .1 .1 .1 .1 .1 .1 .1 .1 .1 .1 .1 .1 .1 .1 .1 .0 .1)
 
 hold-walked-requires : tie.Need-hold-walked-requires
 hold-walked-requires c κs =
@@ -24,7 +24,7 @@ hold-walked-requires c κs =
     let long = mesh-entries-length (rowsIn (a .which) s (a .first) (a .end)) in
     (λ yes. omega (arith, start .pre .1 .4 yes, walked .1 .same), omega (arith, walked .0 .counts))
 
-add-count : tie.Need-add-t29
+add-count : tie.Need-add-t30
 add-count c =
     let start = c .before .before .before .before .before .before .before .before .before .before .before .before .before .before .before .before .before .before .before .before .before .before .before in
     let a = start .args in

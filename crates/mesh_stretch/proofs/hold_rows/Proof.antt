@@ -12,7 +12,7 @@ use Rattle.mesh_stretch.proofs.hold_rows.Statement.{statement}
 use Rattle.mesh_stretch.proofs.hold_rows.Tie as tie
 
 abbrev Inv-loop : tie.InvT-loop
-Inv-loop positions edges triangles stands edge-order triangle-order boxes edge-levels edge-top triangle-levels triangle-top which first end places₀ front own₀ so-far₀ rows₀ row₀ places own so-far rows row =
+Inv-loop positions edges triangles stands edge-order triangle-order boxes edge-levels edge-top triangle-levels triangle-top shift which first end places₀ front own₀ so-far₀ rows₀ row₀ places own so-far rows row =
     (length places ≡ length places₀)
     × (4096 ≡ length own)
     × ((0 < rows) × (rows ≤ 64))
@@ -20,7 +20,7 @@ Inv-loop positions edges triangles stands edge-order triangle-order boxes edge-l
     × RowsHeld which (tabled positions edges triangles stands) first row places front (so-far .count) (so-far .held)
 
 abbrev μ-loop : tie.MeasureT-loop
-μ-loop positions edges triangles stands edge-order triangle-order boxes edge-levels edge-top triangle-levels triangle-top which first end places₀ front own₀ so-far₀ rows₀ row₀ places own so-far rows row = end - row
+μ-loop positions edges triangles stands edge-order triangle-order boxes edge-levels edge-top triangle-levels triangle-top shift which first end places₀ front own₀ so-far₀ rows₀ row₀ places own so-far rows row = end - row
 
 loop-holds : tie.Need-loop-holds Inv-loop μ-loop
 loop-holds c = let start = c .before .before .before .before .before .before .before .before in (refl, refl, (omega arith, omega arith), (omega arith, start .pre .0 .1), rows-held-starts _ _ _ _ _ (start .pre .1 .1))
@@ -41,7 +41,7 @@ hold-block-requires c κs =
     let loop = c .before .before .before .before .loop in
     let ends = c .before .before .block-end .ensures in
     let few = rows-few (a .which) (tabled (a .positions .now) (a .edges .now) (a .triangles .now) (a .stands .now)) (start .pre .0 .0) (a .first) (loop .row) (omega (arith, start .pre .0 .2, loop .inv .3 .1)) in (
-      (start .pre .0 .0, omega (arith, ends .0), omega (arith, ends .1, start .pre .0 .2)),
+      (start .pre .0 .0, omega (arith, ends .0), omega (arith, ends .1, start .pre .0 .2), start .pre .0 .3),
       (start .pre .1 .0, omega (arith, start .pre .1 .1, loop .inv .0), loop .inv .1, omega (arith, few, loop .inv .4 .counts), λ yes. omega (arith, loop .inv .4 .counts, loop .inv .4 .holds yes .room, mesh-entries-length (rowsIn (a .which) (tabled (a .positions .now) (a .edges .now) (a .triangles .now) (a .stands .now)) (a .first) (loop .row)))),
     )
 
@@ -64,7 +64,7 @@ loop-again c =
     let loop = c .before .before .before .before .before .before .before .before .before .before .before .loop in
     let ends = c .before .before .before .before .before .before .before .before .before .block-end .ensures in
     let block = c .before .before .before .before .before .before .hold-block in
-    (block .ensures .same ∙ loop .inv .0, loop .inv .1 ∙ sym (block .kept .1 .1 .1 .1 .1 .1 .1 .1 .1 .1 .1 .1 .1 .1 .1 .1 .0), c .block-rows .ensures, (omega (arith, loop .inv .3 .0, ends .0), ends .1), block .ensures .held _ (loop .inv .3 .0) (loop .inv .4))
+    (block .ensures .same ∙ loop .inv .0, loop .inv .1 ∙ sym (block .kept .1 .1 .1 .1 .1 .1 .1 .1 .1 .1 .1 .1 .1 .1 .1 .1 .1 .0), c .block-rows .ensures, (omega (arith, loop .inv .3 .0, ends .0), ends .1), block .ensures .held _ (loop .inv .3 .0) (loop .inv .4))
 
 same-length : tie.Need-same-length Inv-loop μ-loop
 same-length c = c .before .loop .inv .0

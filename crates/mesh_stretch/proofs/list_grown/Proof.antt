@@ -41,10 +41,10 @@ returns-2 c =
     stretch-listed (a .which) s (a .first) (a .end) (a .room) (walked .counts) (a .list .now) (c .before .before .before .before .before .before .if1 .left)
     (c .before .before .take-held .ensures (meshEntries (rowsIn (a .which) s (a .first) (a .end))) (omega (arith, walked .counts)) (walked .holds (c .before .before .before .before .before .if2 .taken)))
 
-walk-rows-requires : tie.Need-walk-rows-requires
-walk-rows-requires c κs =
+walk-ready-requires : tie.Need-walk-ready-requires
+walk-ready-requires c κs =
     let pre = c .before .before .before .before .before .before .before .before .before .before .before .before .before .before .before .before .before .before .before .pre in
-    (pre .0, (lent-as (pre .1 .0) (c .before .before .before .before .before .before .hold-rows .kept .1 .1 .1 .1 .1 .1 .1 .1 .1 .1 .1 .1 .1 .1 .0), pre .1 .1))
+    (pre .0, (lent-as (pre .1 .0) (c .before .before .before .before .before .before .hold-rows .kept .1 .1 .1 .1 .1 .1 .1 .1 .1 .1 .1 .1 .1 .1 .1 .0), pre .1 .1))
 
 returns-3 : tie.Need-returns-3
 returns-3 c =
@@ -54,7 +54,7 @@ returns-3 c =
     let counted = c .before .before .before .before .before .before .before .before .before .before .before .hold-rows .ensures .counts in
     let fits = c .before .before .before .before .before .before .before .before .if1 .left in
     stretch-listed (a .which) s (a .first) (a .end) (a .room) counted (a .list .now) fits
-    (walked-list (rowsIn (a .which) s (a .first) (a .end)) (omega arith) (start .pre .1 .1) (c .before .before .before .before .walk-rows .ensures))
+    (walked-list (rowsIn (a .which) s (a .first) (a .end)) (omega arith) (start .pre .1 .1) (c .before .before .before .before .walk-ready .ensures))
 
 pub list-grown-spec : {M : Type 1} → statement M
 list-grown-spec =
@@ -73,7 +73,7 @@ list-grown-spec =
     (λ c. search needs)
     (λ c. search needs)
     returns-2
-    walk-rows-requires
+    walk-ready-requires
     (λ c. search needs)
     (λ c. search needs)
     returns-3)
