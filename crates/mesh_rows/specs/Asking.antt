@@ -80,9 +80,6 @@ askable s kind i j h k low few ends corners =
 -- ---- the answer
 
 module _ (w : RowPairs) (s : Scene) (kind : Kind) (i j : ℕ) {found : Bool} where
-  pub not-found : found ≡ false → false ≡ found && passes w s kind i j
-  not-found e = rw e
-
   pub found-sharing : {shared : Bool} → found ≡ true → shared ≡ shares s kind i j → shared ≡ true → false ≡ found && passes w s kind i j
   found-sharing e made t = rw (e, ← made, t)
 

@@ -43,7 +43,28 @@ fn left_out(
     }
 }
 
-// Whether a part was found, shares no vertex with the row's, and is not left out. Most that share one are found, so that is asked first.
+// Whether a pair shares no vertex, and is not left out. Most that share one are found, so that is asked first.
+fn passes_through(
+    positions: &[i32],
+    edges: &[u32],
+    triangles: &[u32],
+    stands: &[u32],
+    which: RowPairs,
+    kind: Kind,
+    i: usize,
+    j: usize,
+) -> bool
+    requires { ⌜ Askable (tabledIn positions edges triangles stands) kind i j ⌝ }
+    ensures { λ r. ⌜ r ≡ passes which (tabledAtEntry positions edges triangles stands) kind i j ⌝ }
+{
+    if shares_vertex(positions, edges, triangles, stands, kind, i, j) {
+        false
+    } else {
+        !left_out(positions, edges, triangles, stands, which, kind, i, j)
+    }
+}
+
+// Whether a part was found and its pair passes. Most parts that are looked at are not found: for these nothing is called.
 fn is_listed(
     positions: &[i32],
     edges: &[u32],
@@ -59,11 +80,7 @@ fn is_listed(
     ensures { λ r. ⌜ r ≡ found && passes which (tabledAtEntry positions edges triangles stands) kind i j ⌝ }
 {
     if found {
-        if shares_vertex(positions, edges, triangles, stands, kind, i, j) {
-            false
-        } else {
-            !left_out(positions, edges, triangles, stands, which, kind, i, j)
-        }
+        passes_through(positions, edges, triangles, stands, which, kind, i, j)
     } else {
         false
     }

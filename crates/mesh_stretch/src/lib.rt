@@ -32,10 +32,12 @@ use near_either::walk_ready;
 // Where a level of a tree begins and how many nodes it has, for each of its levels.
 const LEVEL_NUMBERS: usize = 34;
 
-// The pairs that there is room for in a block of rows; and cloth is thin where a row has fewer than these.
+// The pairs that there is room for in a block of rows; and cloth is thin, or thick, where a row has fewer than these, or not fewer.
 const BLOCK_PAIRS: usize = 4096;
 
 const THIN: usize = 16;
+
+const THICK: usize = 256;
 
 // How many pairs the rows have, by a walk that enters none.
 fn count_grown(
@@ -105,7 +107,10 @@ pub fn block_rows(rows: usize, pairs: usize) -> usize
     requires { ⌜ rows ≤ 4294967296 ⌝ }
     ensures { λ r. ⌜ (0 < r) × (r ≤ 64) ⌝ }
 {
-    if pairs < THIN * rows { 64 } else { 8 }
+    if pairs < THIN * rows {
+        return 64;
+    }
+    if pairs < THICK * rows { 8 } else { 2 }
 }
 
 // A block of rows is walked in the front of the scratch; what is held behind it stays.
@@ -255,7 +260,7 @@ fn hold_rows(
         count: 0,
         held: true,
     };
-    let mut rows = 8usize;
+    let mut rows = 2usize;
     let mut row = first;
     while row < end {
         let next = block_end(row, end, rows);

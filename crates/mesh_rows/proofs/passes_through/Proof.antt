@@ -1,0 +1,30 @@
+-- `passes_through`: the vertices first, then how far.
+use mathlib.Core.Path.{refl}
+use Rattle.scene_seams.specs.Alone.{tabled}
+use Rattle.mesh_rows.specs.Asking.{found-sharing, found-apart}
+use Rattle.mesh_rows.proofs.passes_through.Statement.{statement}
+use Rattle.mesh_rows.proofs.passes_through.Tie as tie
+
+shares-vertex-requires : tie.Need-shares-vertex-requires
+shares-vertex-requires c κs = c .before .before .before .pre .there
+
+left-out-requires : tie.Need-left-out-requires
+left-out-requires c κs = c .before .before .before .before .before .pre .spanned
+
+returns : tie.Need-returns
+returns c =
+    let a = c .before .before .before .before .before .args in
+    found-sharing (a .which) (tabled (a .positions .now) (a .edges .now) (a .triangles .now) (a .stands .now)) (a .kind) (a .i) (a .j) refl
+    (c .before .shares-vertex .ensures)
+    (c .if1 .taken)
+
+returns-2 : tie.Need-returns-2
+returns-2 c =
+    let a = c .before .before .before .before .before .before .args in
+    found-apart (a .which) (tabled (a .positions .now) (a .edges .now) (a .triangles .now) (a .stands .now)) (a .kind) (a .i) (a .j) refl
+    (c .before .before .shares-vertex .ensures)
+    (c .before .if1 .left)
+    (c .left-out .ensures)
+
+pub passes-through-spec : {M : Type 1} → statement M
+passes-through-spec = tie.close (tie.spec shares-vertex-requires left-out-requires returns returns-2)
