@@ -199,10 +199,10 @@ module _ {a b : ℕ} {o : List ℕ} {n e : ℕ} (i : Searching a b o n e) (room 
     search-found t = sym (step ∙ or-true (upTo a b o (e - 1)) (here a b (getD o (2 * e - 2) 0) (getD o (2 * e - 1) 0)) t)
 
     pub search-goes : Knows o n → here a b (getD o (2 * e - 2) 0) (getD o (2 * e - 1) 0) ≡ false
-        → Searching a b o n (getD o (3_077 + e) 0) × (getD o (3_077 + e) 0 < e)
+        → Searching a b o n (getD o (befores - 1 + e) 0) × (getD o (befores - 1 + e) 0 < e)
     search-goes known f =
-        let place : befores + (e - 1) ≡ 3_077 + e = omega arith in
-        let next : lastWith o (a + b) (e - 1) ≡ getD o (3_077 + e) 0 =
+        let place : befores + (e - 1) ≡ befores - 1 + e = omega arith in
+        let next : lastWith o (a + b) (e - 1) ≡ getD o (befores - 1 + e) 0 =
         sym (sym (ap (λ (k : ℕ). getD o k 0) place)
         ∙ known .before (e - 1) (omega (arith, i .within))
         ∙ ap (λ (k : ℕ). lastWith o k (e - 1)) (i .sum (e - 1) top)) in

@@ -10,7 +10,7 @@ put-found-requires c κs =
     let start = c .before .before .before .before .before .before .before .before in
     let a = start .args in
     let read = c .before .wide .ensures in
-    (λ e. rw read (start .pre .2 (both (a .found) (leb (a .from) (c .before .wide .result)) e .0)), start .pre .1)
+    (λ e. rw (← read) at (start .pre .2 (both (a .found) (leb (a .from) (c .before .wide .result)) e .0)), start .pre .1)
 
 returns : tie.Need-returns
 returns c = rw (c .before .before .before .before .wide .ensures) at (c .before .before .put-found .ensures)
