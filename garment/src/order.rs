@@ -6,7 +6,7 @@ use crate::curve;
 /// Parts of a run.
 const RUN: usize = 16;
 /// A run of a sheet's parts, row by row, is some eight to sixteen times as long as one of them. One of parts that stand in any order is as long as the mesh.
-const SCATTERED: i64 = 32;
+const SCATTERED: i64 = 20;
 /// Runs that are looked at, spread over all.
 const LOOKED_AT: usize = 4_096;
 
