@@ -43,7 +43,7 @@ fn left_out(
     }
 }
 
-// Whether a part was found, shares no vertex with the row's, and is not left out. Most that share one are found, so that is asked first.
+// Whether a part that was found shares no vertex with the row's, and is not left out.
 fn is_listed(
     positions: &[i32],
     edges: &[u32],
@@ -53,23 +53,18 @@ fn is_listed(
     kind: Kind,
     i: usize,
     j: usize,
-    found: bool,
 ) -> bool
-    requires { ⌜ (found ≡ true → Askable (tabledIn positions edges triangles stands) kind i j) ⌝ }
-    ensures { λ r. ⌜ r ≡ found && passes which (tabledAtEntry positions edges triangles stands) kind i j ⌝ }
+    requires { ⌜ Askable (tabledIn positions edges triangles stands) kind i j ⌝ }
+    ensures { λ r. ⌜ r ≡ passes which (tabledAtEntry positions edges triangles stands) kind i j ⌝ }
 {
-    if found {
-        if shares_vertex(positions, edges, triangles, stands, kind, i, j) {
-            false
-        } else {
-            !left_out(positions, edges, triangles, stands, which, kind, i, j)
-        }
-    } else {
+    if shares_vertex(positions, edges, triangles, stands, kind, i, j) {
         false
+    } else {
+        !left_out(positions, edges, triangles, stands, which, kind, i, j)
     }
 }
 
-// A part that was found is entered, and counted, if its pair is listed.
+// A part that was found is entered, and counted, if its pair is listed. Most that a walk comes by are not found: these are passed by at once.
 pub fn enter_found(
     positions: &[i32],
     edges: &[u32],
@@ -90,19 +85,13 @@ pub fn enter_found(
         (one (found && passes which (tabledAtEntry positions edges triangles stands) kind i j) (entryOf kind i j))
         (atExit list) r ⌝ }
 {
-    if is_listed(
-        positions,
-        edges,
-        triangles,
-        stands,
-        which,
-        kind,
-        i,
-        j,
-        found,
-    ) {
-        put_below(list, most, k, kind, i, j);
-        k + 1
+    if found {
+        if is_listed(positions, edges, triangles, stands, which, kind, i, j) {
+            put_below(list, most, k, kind, i, j);
+            k + 1
+        } else {
+            k
+        }
     } else {
         k
     }
@@ -177,19 +166,13 @@ pub fn put_found(
     ensures { λ r. ⌜ Entered (length (atEntry places)) (atEntry places) k
         (one (found && passes which (tabledAtEntry positions edges triangles stands) kind i j) j) (atExit places) r ⌝ }
 {
-    if is_listed(
-        positions,
-        edges,
-        triangles,
-        stands,
-        which,
-        kind,
-        i,
-        j,
-        found,
-    ) {
-        put_place(places, k, j);
-        k + 1
+    if found {
+        if is_listed(positions, edges, triangles, stands, which, kind, i, j) {
+            put_place(places, k, j);
+            k + 1
+        } else {
+            k
+        }
     } else {
         k
     }

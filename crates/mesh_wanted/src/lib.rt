@@ -20,7 +20,7 @@ use mesh_ordered::row_places;
 use mesh_ordered::walk_rows;
 use scene_parts::vertex_count;
 
-// The rows of a block, and the pairs that there is room for: two runs of rows, on cloth that moves far.
+// The rows of a block, and the pairs that there is room for: a run of rows, on cloth that moves far.
 const BLOCK_ROWS: usize = 8;
 
 const BLOCK_PAIRS: usize = 4096;
