@@ -396,11 +396,12 @@ static inline size_t makhnodri_near_box_room(const makhnodri_mesh *mesh) {
 }
 
 /*
- * Nor for so much: entries of list_rows, settle_rows and contact_rows, and of near rows, are held in it until it is known that a list of so many
- * has room for all of them. Without it such rows are walked twice.
+ * Nor, where it is more than makhnodri_place_room, for so much: entries of list_rows, settle_rows and contact_rows, and of near rows, are held in
+ * the places until it is known that a list of so many has room for all of them. Where they do not fit there, such rows are walked twice.
  */
 static inline size_t makhnodri_held_place_room(const makhnodri_mesh *mesh, size_t list_length) {
-    return makhnodri_place_room(mesh) + 2 * list_length;
+    size_t held = 2 * (mesh->edge_order_length + mesh->triangle_order_length + list_length), asked = makhnodri_place_room(mesh);
+    return held < asked ? asked : held;
 }
 
 /* How many rows a mesh has: row v is vertex v's, with triangles; row vertices + e is edge e's, with the edges behind it. */

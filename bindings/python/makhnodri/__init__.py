@@ -1260,9 +1260,9 @@ def place_room(mesh: Mesh) -> int:
 
 
 def held_place_room(mesh: Mesh, list_length: int) -> int:
-    """How many numbers of places hold the entries of a list until it is known that all of them fit; no call asks for so many, and rows are walked twice
-    without them."""
-    return place_room(mesh) + 2 * list_length
+    """How many numbers of places hold the entries of a list until it is known that all of them fit; no call asks for more than ``place_room``, and rows are
+    walked twice without them."""
+    return max(place_room(mesh), 2 * (mesh._length("edge_order") + mesh._length("triangle_order") + list_length))
 
 
 def box_room(mesh: Mesh) -> int:

@@ -213,7 +213,8 @@ impl Scratch {
     fn fit(&mut self, mesh: &Mesh, list: usize) {
         let [vertices, edges, triangles] = [mesh.positions.len() / 6, mesh.edges.len() / 2, mesh.triangles.len() / 3];
         let table = if mesh.seams.is_empty() { 0 } else { vertices };
-        let places = edges + triangles + 2 * (mesh.edge_order.len() + mesh.triangle_order.len()) + 2 * list.min(HELD);
+        let orders = 2 * (mesh.edge_order.len() + mesh.triangle_order.len());
+        let places = orders + (edges + triangles).max(2 * list.min(HELD));
         let boxes = 6 * (vertices + edges + triangles + 3 * (edges / 15 + 16 + triangles / 15 + 16));
         self.table.resize(self.table.len().max(table), 0);
         self.places.resize(self.places.len().max(places), 0);

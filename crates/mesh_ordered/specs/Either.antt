@@ -33,6 +33,12 @@ pub record OrdersLent (s : Scene) (edgeOrder triangleOrder : List ℕ) (n : ℕ)
   pub triangles : OrderLent (triangleCount s) triangleOrder
   pub room : edgeCount s + triangleCount s + 2 * (length edgeOrder + length triangleOrder) ≤ n
 
+-- the same where rows are entered as they are found: a list of n numbers is needed for sorting by an order alone
+pub record OrdersRoomed (s : Scene) (edgeOrder triangleOrder : List ℕ) (n : ℕ) : Type 0 where
+  pub edges : OrderLent (edgeCount s) edgeOrder
+  pub triangles : OrderLent (triangleCount s) triangleOrder
+  pub room : 2 * (length edgeOrder + length triangleOrder) ≤ n
+
 module _ {s : Scene} {p q : List ℕ} {l : List ℤ} {e t : List ℕ} {edgeTop triangleTop : ℕ} (so : Forest s p q l e t edgeTop triangleTop) where
   pub vertex-either : (n : ℕ) → n ≡ triangleCount s → EitherTree s PointTriangle l t n triangleTop 0 q
   unfolding firstCount secondCount secondBox
@@ -96,3 +102,20 @@ module _ {s : Scene} {p q : List ℕ} {n : ℕ} (lent : OrdersLent s p q n) wher
 
   pub lent-as : {m : ℕ} → m ≡ n → OrdersLent s p q m
   lent-as e = record { edges = lent .edges; triangles = lent .triangles; room = omega (arith, lent .room) }
+
+  pub lent-roomed : OrdersRoomed s p q n
+  lent-roomed = record { edges = lent .edges; triangles = lent .triangles; room = omega (arith, lent .room) }
+
+  -- what sorting needs is a front of it
+  pub front-roomed : OrdersRoomed s p q (2 * (length p + length q))
+  front-roomed = record { edges = lent .edges; triangles = lent .triangles; room = omega arith }
+
+module _ {s : Scene} {p q : List ℕ} {n : ℕ} (lent : OrdersRoomed s p q n) where
+  pub triangle-sorting : (parts : ℕ) → parts ≡ triangleCount s → length q ≢ 0 → 2 * parts ≤ n
+  triangle-sorting parts e some = omega (arith, lent .room, lent .triangles .order some .whole)
+
+  pub edge-sorting : (parts : ℕ) → parts ≡ edgeCount s → length p ≢ 0 → 2 * parts ≤ n
+  edge-sorting parts e some = omega (arith, lent .room, lent .edges .order some .whole)
+
+  pub roomed-as : {m : ℕ} → m ≡ n → OrdersRoomed s p q m
+  roomed-as e = record { edges = lent .edges; triangles = lent .triangles; room = omega (arith, lent .room) }

@@ -15,7 +15,7 @@ ghost use Rattle.mesh_entries.specs.Entering.{Entered};
 ghost use Rattle.mesh_rows.specs.Rows.{partRow, entryOf, SecondsPut};
 ghost use Rattle.mesh_runs.specs.Runs.{kindEntries};
 ghost use Rattle.mesh_order_rows.specs.Led.{LedTree};
-ghost use Rattle.mesh_ordered.specs.Either.{EitherTree, OrdersLent};
+ghost use Rattle.mesh_ordered.specs.Either.{EitherTree, OrdersLent, OrdersRoomed};
 use meaning::Kind;
 use meaning::RowPairs;
 use mesh_entries::put_below;
@@ -217,7 +217,7 @@ pub fn walk_rows(
     requires { ⌜ Forest (tabledIn positions edges triangles stands) (now «edge_order») (now «triangle_order») (now boxes)
         (now «edge_levels») (now «triangle_levels») «edge_top» «triangle_top» × (first ≤ end)
         × (end ≤ rowCount (tabledIn positions edges triangles stands)) ⌝ }
-    requires { ⌜ OrdersLent (tabledIn positions edges triangles stands) (now «edge_order») (now «triangle_order») (length (now places))
+    requires { ⌜ OrdersRoomed (tabledIn positions edges triangles stands) (now «edge_order») (now «triangle_order») (length (now places))
         × (most ≤ length (now list)) ⌝ }
     ensures { λ r. ⌜ Entered most (atEntry list) 0
         (meshEntries (rowsIn which (tabledAtEntry positions edges triangles stands) first end)) (atExit list) r ⌝ }

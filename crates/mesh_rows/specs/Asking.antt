@@ -79,10 +79,17 @@ askable s kind i j h k low few ends corners =
 
 -- ---- the answer
 
-module _ (w : RowPairs) (s : Scene) (kind : Kind) (i j : ℕ) {found : Bool} where
-  pub found-sharing : {shared : Bool} → found ≡ true → shared ≡ shares s kind i j → shared ≡ true → false ≡ found && passes w s kind i j
-  found-sharing e made t = rw (e, ← made, t)
+module _ (w : RowPairs) (s : Scene) (kind : Kind) (i j : ℕ) where
+  pub sharing-fails : {shared : Bool} → shared ≡ shares s kind i j → shared ≡ true → false ≡ passes w s kind i j
+  sharing-fails made t = rw (← made, t)
 
-  pub found-apart : {shared out : Bool} → found ≡ true → shared ≡ shares s kind i j → shared ≡ false → out ≡ leftOut w s kind i j
-      → not out ≡ found && passes w s kind i j
-  found-apart e made t p = rw (e, ← made, t, ← p)
+  pub apart-passes : {shared out : Bool} → shared ≡ shares s kind i j → shared ≡ false → out ≡ leftOut w s kind i j
+      → not out ≡ passes w s kind i j
+  apart-passes made t p = rw (← made, t, ← p)
+
+  -- asked where the part was found alone
+  pub not-found : {found : Bool} → found ≡ false → false ≡ found && passes w s kind i j
+  not-found e = rw e
+
+  pub found-asked : {found asked : Bool} → found ≡ true → asked ≡ passes w s kind i j → asked ≡ found && passes w s kind i j
+  found-asked e made = rw (e, made)

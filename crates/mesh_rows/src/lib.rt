@@ -43,8 +43,8 @@ fn left_out(
     }
 }
 
-// Whether a pair shares no vertex, and is not left out. Most that share one are found, so that is asked first.
-fn passes_through(
+// Whether a part that was found shares no vertex with the row's, and is not left out.
+fn is_listed(
     positions: &[i32],
     edges: &[u32],
     triangles: &[u32],
@@ -64,29 +64,7 @@ fn passes_through(
     }
 }
 
-// Whether a part was found and its pair passes. Most parts that are looked at are not found: for these nothing is called.
-fn is_listed(
-    positions: &[i32],
-    edges: &[u32],
-    triangles: &[u32],
-    stands: &[u32],
-    which: RowPairs,
-    kind: Kind,
-    i: usize,
-    j: usize,
-    found: bool,
-) -> bool
-    requires { ⌜ (found ≡ true → Askable (tabledIn positions edges triangles stands) kind i j) ⌝ }
-    ensures { λ r. ⌜ r ≡ found && passes which (tabledAtEntry positions edges triangles stands) kind i j ⌝ }
-{
-    if found {
-        passes_through(positions, edges, triangles, stands, which, kind, i, j)
-    } else {
-        false
-    }
-}
-
-// A part that was found is entered, and counted, if its pair is listed.
+// A part that was found is entered, and counted, if its pair is listed. Most that a walk comes by are not found: these are passed by at once.
 pub fn enter_found(
     positions: &[i32],
     edges: &[u32],
@@ -107,19 +85,13 @@ pub fn enter_found(
         (one (found && passes which (tabledAtEntry positions edges triangles stands) kind i j) (entryOf kind i j))
         (atExit list) r ⌝ }
 {
-    if is_listed(
-        positions,
-        edges,
-        triangles,
-        stands,
-        which,
-        kind,
-        i,
-        j,
-        found,
-    ) {
-        put_below(list, most, k, kind, i, j);
-        k + 1
+    if found {
+        if is_listed(positions, edges, triangles, stands, which, kind, i, j) {
+            put_below(list, most, k, kind, i, j);
+            k + 1
+        } else {
+            k
+        }
     } else {
         k
     }
@@ -194,19 +166,13 @@ pub fn put_found(
     ensures { λ r. ⌜ Entered (length (atEntry places)) (atEntry places) k
         (one (found && passes which (tabledAtEntry positions edges triangles stands) kind i j) j) (atExit places) r ⌝ }
 {
-    if is_listed(
-        positions,
-        edges,
-        triangles,
-        stands,
-        which,
-        kind,
-        i,
-        j,
-        found,
-    ) {
-        put_place(places, k, j);
-        k + 1
+    if found {
+        if is_listed(positions, edges, triangles, stands, which, kind, i, j) {
+            put_place(places, k, j);
+            k + 1
+        } else {
+            k
+        }
     } else {
         k
     }

@@ -1,6 +1,6 @@
 -- A row goes over the places that were found for its run, one by one; and rows go one behind the other.
 use Prim.Native.Nat.{ℕ, _+_, _*_, _-_, _≤_, _<_}
-use mathlib.Core.Bool.{Bool, _&&_}
+use mathlib.Core.Bool.{Bool, false, _&&_}
 use mathlib.Core.List.{List, [], _∷_}
 use mathlib.Core.Path.{_≡_, refl, sym, ap, _∙_}
 use native.Mathlib.Omega.{arith}
@@ -16,7 +16,7 @@ use Rattle.meaning.specs.MeshRows.{meshNumber}
 use Rattle.meaning.specs.declared.Kind.{Kind}
 use Rattle.meaning.specs.declared.RowPairs.{RowPairs}
 use Rattle.list_candidates.specs.Rows.{firstCount}
-use Rattle.mesh_entries.specs.Entering.{Entered, Entering, entering-starts, entering-as, entering-step, entering-ends}
+use Rattle.mesh_entries.specs.Entering.{Entered, Entering, entered-none, entering-starts, entering-as, entering-step, entering-ends}
 use Rattle.mesh_rows.specs.Asking.{passes}
 use Rattle.mesh_rows.specs.Sifting.{sifted}
 use Rattle.mesh_rows.specs.Rows.{entryOf, row-few}
@@ -48,6 +48,12 @@ module _ (w : RowPairs) {s : Scene} {kind : Kind} {i : ℕ} {l : List ℤ} {base
       entering-step
       (entering-as (ap (sifted (λ j. goesWith l base row from j && passes w s kind i j) (entryOf kind i)) (sought-next c h)) so-far)
       (rw (made, read) at e)
+
+  -- a place that does not go with the row leaves everything as it is
+  pub sought-skips : (c : ℕ) {most at k : ℕ} {o₀ want o : List ℕ} → c < count → false ≡ goesWith l base row from (getD ps c 0)
+      → Entering most o₀ at want o k (soughtLeft w s kind i l base row from ps count c)
+      → Entering most o₀ at want o k (soughtLeft w s kind i l base row from ps count (c + 1))
+  sought-skips c {most} {at} {k} {o₀} {want} {o} h stops so-far = sought-goes c (getD ps c 0) h refl stops so-far (entered-none most o k)
 
   pub sought-ends : (c : ℕ) {most at k : ℕ} {o₀ want o : List ℕ} → c ≡ count
       → Entering most o₀ at want o k (soughtLeft w s kind i l base row from ps count c) → Entered most o₀ at want o k

@@ -234,22 +234,23 @@ fn enter_marked(
     let mut k = at;
     let mut c = 0;
     while c < count {
-        let j = wide(places[c]);
-        let found = (from <= j) & marks[c];
-        k = enter_found(
-            positions,
-            edges,
-            triangles,
-            stands,
-            which,
-            kind,
-            i,
-            j,
-            found,
-            list,
-            most,
-            k,
-        );
+        if marks[c] {
+            let j = wide(places[c]);
+            k = enter_found(
+                positions,
+                edges,
+                triangles,
+                stands,
+                which,
+                kind,
+                i,
+                j,
+                from <= j,
+                list,
+                most,
+                k,
+            );
+        }
         c += 1;
     }
     k

@@ -12,7 +12,7 @@ ghost use Rattle.scene_seams.specs.Alone.{tabledIn, tabledAtEntry};
 ghost use Rattle.mesh_trees.specs.Planting.{Plantable};
 ghost use Rattle.mesh_trees.specs.Forest.{Forest};
 ghost use Rattle.mesh_entries.specs.Entering.{Entered};
-ghost use Rattle.mesh_ordered.specs.Either.{OrdersLent};
+ghost use Rattle.mesh_ordered.specs.Either.{OrdersLent, OrdersRoomed};
 ghost use Rattle.near_either.specs.Ready.{NodesReady};
 ghost use Rattle.mesh_stretch.specs.Stretching.{IsRowCount, StretchListed};
 ghost use Rattle.mesh_stretch.specs.Holding.{KeptFrom, BlockHeld, RowsHeld};
@@ -23,8 +23,6 @@ use meaning::RowPairs;
 use mesh_held::Walked;
 use mesh_held::hold_walked;
 use mesh_held::take_held;
-use mesh_parts::edge_count;
-use mesh_parts::triangle_count;
 use mesh_trees::plant;
 use near_either::plant_nodes;
 use near_either::walk_ready;
@@ -139,7 +137,7 @@ fn walk_block(
         × (end ≤ rowCount (tabledIn positions edges triangles stands))
         × NodesReady which (tabledIn positions edges triangles stands) (now boxes) (now «edge_levels») (now «triangle_levels»)
         «edge_top» «triangle_top» shift ⌝ }
-    requires { ⌜ OrdersLent (tabledIn positions edges triangles stands) (now «edge_order») (now «triangle_order») front
+    requires { ⌜ OrdersRoomed (tabledIn positions edges triangles stands) (now «edge_order») (now «triangle_order») front
         × (front ≤ length (now places)) × (4096 ≤ length (now own)) ⌝ }
     ensures { λ r. ⌜ Entered 4096 (atEntry own) 0 (meshEntries (rowsIn which (tabledAtEntry positions edges triangles stands) first end))
         (atExit own) r × KeptFrom front (atEntry places) (atExit places) ⌝ }
@@ -193,7 +191,7 @@ fn hold_block(
         × (end ≤ rowCount (tabledIn positions edges triangles stands))
         × NodesReady which (tabledIn positions edges triangles stands) (now boxes) (now «edge_levels») (now «triangle_levels»)
         «edge_top» «triangle_top» shift ⌝ }
-    requires { ⌜ OrdersLent (tabledIn positions edges triangles stands) (now «edge_order») (now «triangle_order») front
+    requires { ⌜ OrdersRoomed (tabledIn positions edges triangles stands) (now «edge_order») (now «triangle_order») front
         × (front ≤ length (now places)) × (4096 ≡ length (now own)) × (before .count < 4611686018427387904)
         × (before .held ≡ true → front + 2 * before .count ≤ length (now places)) ⌝ }
     ensures { λ r. ⌜ BlockHeld which (tabledAtEntry positions edges triangles stands) first end (atEntry places) (atExit places) front
@@ -251,7 +249,7 @@ fn hold_rows(
         × (end ≤ rowCount (tabledIn positions edges triangles stands))
         × NodesReady which (tabledIn positions edges triangles stands) (now boxes) (now «edge_levels») (now «triangle_levels»)
         «edge_top» «triangle_top» shift ⌝ }
-    requires { ⌜ OrdersLent (tabledIn positions edges triangles stands) (now «edge_order») (now «triangle_order») front
+    requires { ⌜ OrdersRoomed (tabledIn positions edges triangles stands) (now «edge_order») (now «triangle_order») front
         × (front ≤ length (now places)) ⌝ }
     ensures { λ r. ⌜ RowsHeld which (tabledAtEntry positions edges triangles stands) first end (atExit places) front (r .count) (r .held) ⌝ }
 {
@@ -323,9 +321,7 @@ fn list_grown(
     ensures { λ r. ⌜ StretchListed which (tabledAtEntry positions edges triangles stands) first end room (atEntry list)
         (atExit list) r ⌝ }
 {
-    let front = edge_count(edges)
-        + triangle_count(triangles)
-        + 2 * (edge_order.len() + triangle_order.len());
+    let front = 2 * (edge_order.len() + triangle_order.len());
     let walked = hold_rows(
         positions,
         edges,

@@ -22,7 +22,7 @@ use near_either::walk_ready;
 use scene_parts::vertex_count;
 use tally::Tally;
 
-// The pairs of a block that there is room for, and the rows of a block: two runs of rows on cloth that moves far, and many where a row has few pairs.
+// The pairs of a block that there is room for, and the rows of a block: a run of rows on cloth that moves far, and many where a row has few pairs.
 const BLOCK_PAIRS: usize = 4096;
 
 const FEW_ROWS: usize = 8;

@@ -14,7 +14,7 @@ ghost use Rattle.scene_seams.specs.Alone.{tabledIn, tabledAtEntry};
 ghost use Rattle.mesh_entries.specs.Entering.{Entered};
 ghost use Rattle.mesh_trees.specs.Planting.{Plantable};
 ghost use Rattle.mesh_trees.specs.Forest.{Forest};
-ghost use Rattle.mesh_ordered.specs.Either.{OrdersLent};
+ghost use Rattle.mesh_ordered.specs.Either.{OrdersRoomed};
 ghost use Rattle.near_either.specs.Ready.{GoesNear, NodesPlanted, NodesReady};
 use meaning::RowPairs;
 use mesh_ordered::walk_rows;
@@ -111,7 +111,7 @@ pub fn walk_ready(
         × (end ≤ rowCount (tabledIn positions edges triangles stands))
         × NodesReady which (tabledIn positions edges triangles stands) (now boxes) (now «edge_levels») (now «triangle_levels»)
         «edge_top» «triangle_top» shift ⌝ }
-    requires { ⌜ OrdersLent (tabledIn positions edges triangles stands) (now «edge_order») (now «triangle_order») (length (now places))
+    requires { ⌜ OrdersRoomed (tabledIn positions edges triangles stands) (now «edge_order») (now «triangle_order») (length (now places))
         × (most ≤ length (now list)) ⌝ }
     ensures { λ r. ⌜ Entered most (atEntry list) 0
         (meshEntries (rowsIn which (tabledAtEntry positions edges triangles stands) first end)) (atExit list) r ⌝ }

@@ -6,7 +6,7 @@ use Rattle.scene_seams.specs.Alone.{tabled}
 use Rattle.mesh_entries.specs.Entering.{entered-length}
 use Rattle.mesh_runs.specs.Stretch.{vertices-fit, edges-fit, stretch-entered}
 use Rattle.mesh_ordered.specs.Put.{kind-most}
-use Rattle.mesh_ordered.specs.Either.{vertex-either, edge-either, triangle-room, edge-room}
+use Rattle.mesh_ordered.specs.Either.{vertex-either, edge-either, triangle-sorting, edge-sorting}
 use Rattle.mesh_ordered.proofs.walk_rows.Statement.{statement}
 use Rattle.mesh_ordered.proofs.walk_rows.Tie as tie
 
@@ -18,7 +18,7 @@ walk-either-requires c κs =
     let s = tabled (a .positions .now) (a .edges .now) (a .triangles .now) (a .stands .now) in
     let faces = c .before .before .triangle-count .ensures in
     let fits = vertices-fit s (c .before .before .before .before .vertex-count .ensures) (c .before .before .before .kinds-meet .ensures) in
-    ((vertex-either (pre .0 .0) _ faces, fits .0, fits .1), (triangle-room (pre .1 .0) _ faces .1, pre .1 .1, omega arith))
+    ((vertex-either (pre .0 .0) _ faces, fits .0, fits .1), (triangle-sorting (pre .1 .0) _ faces, pre .1 .1, omega arith))
 
 walk-either-requires-2 : tie.Need-walk-either-requires-2
 walk-either-requires-2 c κs =
@@ -35,7 +35,7 @@ walk-either-requires-2 c κs =
     let vertices = vertex-either (pre .0 .0) _ (c .before .before .before .before .before .before .before .before .before .before .before .before .triangle-count .ensures) in
     let few = kind-most (a .which) s PointTriangle (vertices .few) (vertices .fewRows) (a .first) (c .before .before .before .before .before .before .before .before .before .before .before .before .before .kinds-meet .result) (first .0) (first .1) in (
       (edge-either (pre .0 .0) _ _ sides counted, fits .0, fits .1),
-      (λ some. omega (arith, edge-room (pre .1 .0) _ sides .1 some, c .before .before .before .before .before .before .before .before .places .given), omega (arith, pre .1 .1, entered-length one), omega (arith, one .counts)),
+      (λ some. omega (arith, edge-sorting (pre .1 .0) _ sides some, c .before .before .before .before .before .before .before .before .places .given), omega (arith, pre .1 .1, entered-length one), omega (arith, one .counts)),
     )
 
 returns : tie.Need-returns

@@ -1,17 +1,29 @@
--- `is_listed`: what is not found is not asked.
-use mathlib.Core.Bool.{_&&_}
-use mathlib.Core.Path.{refl}
+-- `is_listed`: the vertices, then how far.
+use Rattle.scene_seams.specs.Alone.{tabled}
+use Rattle.mesh_rows.specs.Asking.{sharing-fails, apart-passes}
 use Rattle.mesh_rows.proofs.is_listed.Statement.{statement}
 use Rattle.mesh_rows.proofs.is_listed.Tie as tie
 
-passes-through-requires : tie.Need-passes-through-requires
-passes-through-requires c κs = c .before .before .before .before .pre (c .if1 .taken)
+shares-vertex-requires : tie.Need-shares-vertex-requires
+shares-vertex-requires c κs = c .before .before .before .pre .there
+
+left-out-requires : tie.Need-left-out-requires
+left-out-requires c κs = c .before .before .before .before .before .pre .spanned
 
 returns : tie.Need-returns
-returns c = rw (c .before .if1 .taken) (c .passes-through .ensures)
+returns c =
+    let a = c .before .before .before .before .before .args in
+    sharing-fails (a .which) (tabled (a .positions .now) (a .edges .now) (a .triangles .now) (a .stands .now)) (a .kind) (a .i) (a .j)
+    (c .before .shares-vertex .ensures)
+    (c .if1 .taken)
 
 returns-2 : tie.Need-returns-2
-returns-2 c = rw (c .if1 .left) refl
+returns-2 c =
+    let a = c .before .before .before .before .before .before .args in
+    apart-passes (a .which) (tabled (a .positions .now) (a .edges .now) (a .triangles .now) (a .stands .now)) (a .kind) (a .i) (a .j)
+    (c .before .before .shares-vertex .ensures)
+    (c .before .if1 .left)
+    (c .left-out .ensures)
 
 pub is-listed-spec : {M : Type 1} → statement M
-is-listed-spec = tie.close (tie.spec passes-through-requires returns returns-2)
+is-listed-spec = tie.close (tie.spec shares-vertex-requires left-out-requires returns returns-2)

@@ -3,12 +3,13 @@ use borrow.Author.Needs.{needs}
 use native.Mathlib.Omega.{arith}
 use Rattle.meaning.specs.MeshRows.{rowsIn}
 use Rattle.scene_seams.specs.Alone.{tabled}
+use Rattle.mesh_ordered.specs.Either.{lent-roomed}
 use Rattle.mesh_stretch.specs.Stretching.{walked-count}
 use Rattle.mesh_stretch.proofs.count_grown.Statement.{statement}
 use Rattle.mesh_stretch.proofs.count_grown.Tie as tie
 
 walk-ready-requires : tie.Need-walk-ready-requires
-walk-ready-requires c κs = let pre = c .before .before .before .before .before .before .before .before .before .before .pre in (pre .0, (pre .1, omega arith))
+walk-ready-requires c κs = let pre = c .before .before .before .before .before .before .before .before .before .before .pre in (pre .0, (lent-roomed (pre .1), omega arith))
 
 returns : tie.Need-returns
 returns c =

@@ -3,7 +3,7 @@ use borrow.Author.Needs.{needs}
 use native.Mathlib.Omega.{arith}
 use mathlib.Core.Path.{sym, _∙_}
 use lib.Seq.{length-take-le}
-use Rattle.mesh_ordered.specs.Either.{lent-as}
+use Rattle.mesh_ordered.specs.Either.{roomed-as}
 use Rattle.mesh_stretch.specs.Holding.{kept-behind}
 use Rattle.mesh_stretch.proofs.walk_block.Statement.{statement}
 use Rattle.mesh_stretch.proofs.walk_block.Tie as tie
@@ -14,7 +14,7 @@ slice-aggregate-walk-ready c = sym (length-take-le _ _ (c .before .before .befor
 walk-ready-requires : tie.Need-walk-ready-requires
 walk-ready-requires c κs =
     let pre = c .before .before .before .before .before .before .before .before .before .before .before .pre in
-    (pre .0, (lent-as (pre .1 .0) (length-take-le _ _ (pre .1 .1)), pre .1 .2))
+    (pre .0, (roomed-as (pre .1 .0) (length-take-le _ _ (pre .1 .1)), pre .1 .2))
 
 returns : tie.Need-returns
 returns c =

@@ -4,14 +4,14 @@ use native.Mathlib.Omega.{arith}
 use Rattle.scene_seams.specs.Alone.{tabled}
 use Rattle.meaning.specs.MeshRows.{rowsIn}
 use Rattle.mesh_entries.specs.Telling.{mesh-entries-length}
-use Rattle.mesh_ordered.specs.Either.{lent-as}
+use Rattle.mesh_ordered.specs.Either.{lent-as, lent-roomed}
 use Rattle.mesh_keep.specs.Keeping.{kept-as}
 use Rattle.mesh_wanted.specs.Stretch.{forest-sized, block-of, block-pairs}
 use Rattle.mesh_wanted.proofs.keep_block.Statement.{statement}
 use Rattle.mesh_wanted.proofs.keep_block.Tie as tie
 
 walk-ready-requires : tie.Need-walk-ready-requires
-walk-ready-requires c κs = let p = c .before .before .before .before .before .before .before .before .before .before .before .before .before .pre in (p .0, (p .1 .0, p .1 .1 .1))
+walk-ready-requires c κs = let p = c .before .before .before .before .before .before .before .before .before .before .before .before .before .pre in (p .0, (lent-roomed (p .1 .0), p .1 .1 .1))
 
 keep-entries-requires : tie.Need-keep-entries-requires
 keep-entries-requires c κs =
