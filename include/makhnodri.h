@@ -25,9 +25,9 @@ extern "C" {
 /* ---- Version: of this header and of the library that was installed with it; docs/CHANGES.md tells what changed ---- */
 
 #define MAKHNODRI_VERSION_MAJOR 1
-#define MAKHNODRI_VERSION_MINOR 0
+#define MAKHNODRI_VERSION_MINOR 1
 #define MAKHNODRI_VERSION_PATCH 0
-#define MAKHNODRI_VERSION "1.0.0"
+#define MAKHNODRI_VERSION "1.1.0"
 
 /* ---- Sizes ---- */
 

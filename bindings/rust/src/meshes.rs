@@ -208,14 +208,15 @@ impl<'a> Mesh<'a> {
 }
 
 impl Scratch {
-    /// As long as the mesh needs it, so that 12 is never met; with room for the nodes of both times, by which near rows are found faster; and with room to
-    /// hold the entries of a list of this length until it is known that all of them fit, since rows are walked twice without it.
-    fn fit(&mut self, mesh: &Mesh, list: usize) {
+    /// As long as the mesh needs it, so that 12 is never met; for near rows with room for the nodes of both times, by which they are found faster; and with
+    /// room to hold the entries of a list of this length until it is known that all of them fit, since rows are walked twice without it.
+    fn fit(&mut self, mesh: &Mesh, list: usize, near: bool) {
         let [vertices, edges, triangles] = [mesh.positions.len() / 6, mesh.edges.len() / 2, mesh.triangles.len() / 3];
         let table = if mesh.seams.is_empty() { 0 } else { vertices };
         let orders = 2 * (mesh.edge_order.len() + mesh.triangle_order.len());
         let places = orders + (edges + triangles).max(2 * list.min(HELD));
-        let boxes = 6 * (vertices + edges + triangles + 3 * (edges / 15 + 16 + triangles / 15 + 16));
+        let nodes = edges / 15 + 16 + triangles / 15 + 16;
+        let boxes = 6 * (vertices + edges + triangles + if near { 3 * nodes } else { nodes });
         self.table.resize(self.table.len().max(table), 0);
         self.places.resize(self.places.len().max(places), 0);
         self.boxes.resize(self.boxes.len().max(boxes), 0);
@@ -236,7 +237,7 @@ macro_rules! ask_mesh {
 
 macro_rules! ask_rows {
     ($mesh:expr, $scratch:expr, $list:expr, $function:ident $(, $more:expr)*) => {{
-        $scratch.fit($mesh, $list);
+        $scratch.fit($mesh, $list, stringify!($function).contains("_near_"));
         let Mesh { edge_order: eo, triangle_order: to, .. } = $mesh;
         let Scratch { table: st, places: sp, boxes: sb } = $scratch;
         ask_mesh!($mesh, $function, eo.as_ptr(), eo.len(), to.as_ptr(), to.len(), st.as_mut_ptr(), st.len(), sp.as_mut_ptr(), sp.len(), sb.as_mut_ptr(), sb.len() $(, $more)*)
@@ -274,7 +275,7 @@ fn kept(number: u32, told: [u64; 6]) -> Result<KeptRows, RowsRefusal> {
 impl Mesh<'_> {
     /// May this mesh be used?
     pub fn check_mesh(&self, scratch: &mut Scratch) -> Result<(), Refusal> {
-        scratch.fit(self, 0);
+        scratch.fit(self, 0, false);
         heard(ask_mesh!(self, makhnodri_check_mesh_slices, scratch.table.as_mut_ptr(), scratch.table.len()))
     }
 
@@ -282,7 +283,7 @@ impl Mesh<'_> {
     /// 1, 1 to 2, 2 to 0, and in `order` the edges by their ends, the lower end first; both are looked at. 18 where one is of another length,
     /// or the order is none.
     pub fn check_edges(&self, scratch: &mut Scratch, sides: &[u32], order: &[u32]) -> Result<EdgesFound, Refusal> {
-        scratch.fit(self, 0);
+        scratch.fit(self, 0, false);
         let mut told = [0; 2];
         let (s, o) = ((sides.as_ptr(), sides.len()), (order.as_ptr(), order.len()));
         let (t, p) = ((scratch.table.as_mut_ptr(), scratch.table.len()), (scratch.places.as_mut_ptr(), scratch.places.len()));

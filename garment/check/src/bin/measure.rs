@@ -31,6 +31,7 @@ const TOLERANCE: f64 = 1e-6;
 const ROUNDS: usize = 9;
 
 fn main() {
+    keep_pages();
     let words: Vec<String> = std::env::args().skip(1).collect();
     let [folder, rest @ ..] = &words[..] else {
         eprintln!("usage: measure FOLDER [called] [parts] [former] [grid] [order] [sheet] [folds] [tight] [drape] [VERTICES..]");
@@ -50,6 +51,12 @@ fn main() {
         ("order", &|| in_any_order(&sizes)),
     ];
     all.iter().filter(|(table, _)| asked(table)).for_each(|(_, print)| print());
+}
+
+/// What a round gives back stays with the process from here on: a block of this size that was given back raises the size from which the allocator asks the
+/// system for each block anew, and the first garment would be measured with that and all others without.
+fn keep_pages() {
+    drop(black_box(vec![1u8; 32 << 20]));
 }
 
 /// The table beside the grid is of all of these, or of those that are named.
