@@ -105,7 +105,7 @@ int main(int words, char **word) {
     for (size_t i = 0; i < threads; i++) {
         part *p = &parts[i];
         p->first = rows * i / threads, p->end = rows * (i + 1) / threads;
-        p->scratch.places_length = makhnodri_place_room(&mesh), p->scratch.boxes_length = makhnodri_box_room(&mesh);
+        p->scratch.places_length = makhnodri_place_room(&mesh), p->scratch.boxes_length = makhnodri_near_box_room(&mesh);
         p->scratch.places = room_for(p->scratch.places_length, sizeof *p->scratch.places);
         p->scratch.boxes = room_for(p->scratch.boxes_length, sizeof *p->scratch.boxes);
     }

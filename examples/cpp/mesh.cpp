@@ -74,11 +74,12 @@ struct Part {
     std::optional<std::tuple<uint64_t, Contact>> found;
 
     void judge(const makhnodri_mesh &mesh) {
-        places.resize(makhnodri_place_room(&mesh)), boxes.resize(makhnodri_box_room(&mesh));
-        makhnodri_scratch scratch = {nullptr, 0, places.data(), places.size(), boxes.data(), boxes.size()};
+        boxes.resize(makhnodri_near_box_room(&mesh));
         uint64_t count = 0;
         do { // how many near pairs there are is told by 7, and there is room then
             if (count > list.size()) list.resize(count), words.resize(count), contacts.resize(MAKHNODRI_CONTACT_LENGTH * count);
+            places.resize(makhnodri_held_place_room(&mesh, list.size()));
+            makhnodri_scratch scratch = {nullptr, 0, places.data(), places.size(), boxes.data(), boxes.size()};
             refusal = makhnodri_contact_near_rows(&mesh, &scratch, first, end, list.data(), list.size(), words.data(), words.size(),
                                                   contacts.data(), contacts.size(), &count);
         } while (refusal == MAKHNODRI_NO_ROOM);

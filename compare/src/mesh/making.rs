@@ -158,11 +158,14 @@ fn checked_mesh(scene: &Scene, less: usize) -> Ask {
     Ask { call: Call::CheckMesh, asked: [0; 3], lent }
 }
 
-/// Scratch of just the length for what is lent beside it.
+/// More places than two for each entry of a small mesh.
+const HELD: usize = 4_000;
+
+/// Scratch of just the length for what is lent beside it; of places so many more, now and then, that the entries of a list are held there.
 fn lend_scratch(random: &mut Random, lent: &mut Lent) {
     let more = random.pick(&[0, 0, 0, 1, 40]);
     lent.table = marks(lent.table_room() + more);
-    lent.places = marks(lent.place_room() + more);
+    lent.places = marks(lent.place_room() + if random.chance(4) { HELD } else { more });
     lent.boxes = signed_marks(lent.box_room() + more);
 }
 

@@ -33,6 +33,7 @@ const ANSWERED: [&str; 5] =
     ["answered", "answered with seams", "more vertices than a scene has", "vertex numbers beyond 16 bits", "an order lent"];
 const SHORT: [&str; 3] = ["12, table", "12, places", "12, boxes"];
 const ROOMS: [&str; 4] = ["just the room", "room left over", "one too few", "no room at all"];
+const HELD: [&str; 2] = ["entries held in the places", "more entries than the places hold"];
 const EDGES: [&str; 4] = ["all is well", "a bare side", "ends that do not rise", "12, places"];
 
 fn refusals(call: mesh::Call) -> Vec<u64> {
@@ -66,11 +67,19 @@ pub fn sorts() -> Vec<String> {
         if call.lists() {
             ROOMS.iter().for_each(|sort| add(sort));
         }
+        if holds(call) {
+            HELD.iter().for_each(|sort| add(sort));
+        }
         if call.pairs() == RowPairs::Near {
             add("a far pair left out");
         }
     }
     out
+}
+
+/// Whether a call holds its entries in the places until it is known that all of them have room.
+fn holds(call: mesh::Call) -> bool {
+    call.lists() && !call.keeps() && !matches!(call, mesh::Call::Pierced(_))
 }
 
 /// The numbers that would be given if nothing came before: each fault is looked at on its own, by an answer to the question without the others.
@@ -183,6 +192,8 @@ pub fn sorts_of(question: &Question, answer: &Answer) -> Vec<String> {
         add(room > count, "room left over");
         add(room + 1 == count, "one too few");
         add(room == 0, "no room at all");
+        let held = 2 * (lent.edge_order.len() + lent.triangle_order.len() + count) <= lent.places.len();
+        add(holds(call) && given == 0, HELD[!held as usize]);
     }
     if call.pairs() == RowPairs::Near && given == 0 && lent.positions.len() <= 6 * VERTEX_LIMIT {
         let all = Ask { call: mesh::Call::Count(RowPairs::Listed), ..ask };
