@@ -79,6 +79,15 @@ askable s kind i j h k low few ends corners =
 
 -- ---- the answer
 
+-- by the choice of rows
+pub told-listed : (w : RowPairs) (s : Scene) (kind : Kind) (i j : ℕ) → w ≡ Listed → false ≡ leftOut w s kind i j
+unfolding leftOut
+told-listed w s kind i j e = rw e
+
+pub told-near : (w : RowPairs) (s : Scene) (kind : Kind) (i j : ℕ) {out : Bool} → w ≡ Near → out ≡ far s kind i j → out ≡ leftOut w s kind i j
+unfolding leftOut
+told-near w s kind i j e made = rw (e, made)
+
 module _ (w : RowPairs) (s : Scene) (kind : Kind) (i j : ℕ) where
   pub sharing-fails : {shared : Bool} → shared ≡ shares s kind i j → shared ≡ true → false ≡ passes w s kind i j
   sharing-fails made t = rw (← made, t)

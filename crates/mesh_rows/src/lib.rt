@@ -57,14 +57,18 @@ fn is_listed(
     requires { ⌜ Askable (tabledIn positions edges triangles stands) kind i j ⌝ }
     ensures { λ r. ⌜ r ≡ passes which (tabledAtEntry positions edges triangles stands) kind i j ⌝ }
 {
-    if shares_vertex(positions, edges, triangles, stands, kind, i, j) {
-        false
-    } else {
-        !left_out(positions, edges, triangles, stands, which, kind, i, j)
+    let shared = shares_vertex(positions, edges, triangles, stands, kind, i, j);
+    if shared {
+        return false;
+    }
+    match which {
+        RowPairs::Listed => true,
+        RowPairs::Near => !is_far(positions, edges, triangles, kind, i, j),
     }
 }
 
-// A part that was found is entered, and counted, if its pair is listed. Most that a walk comes by are not found: these are passed by at once.
+// A part that was found is entered, and counted, if its pair is listed. Most that a walk comes by are not found, and of listed rows none is far: neither
+// costs a call.
 pub fn enter_found(
     positions: &[i32],
     edges: &[u32],
@@ -85,16 +89,17 @@ pub fn enter_found(
         (one (found && passes which (tabledAtEntry positions edges triangles stands) kind i j) (entryOf kind i j))
         (atExit list) r ⌝ }
 {
-    if found {
-        if is_listed(positions, edges, triangles, stands, which, kind, i, j) {
-            put_below(list, most, k, kind, i, j);
-            k + 1
-        } else {
-            k
-        }
-    } else {
-        k
+    if !found {
+        return k;
     }
+    if shares_vertex(positions, edges, triangles, stands, kind, i, j) {
+        return k;
+    }
+    if left_out(positions, edges, triangles, stands, which, kind, i, j) {
+        return k;
+    }
+    put_below(list, most, k, kind, i, j);
+    k + 1
 }
 
 // The row of one first part, whose own box is `row`: over the tree of the second parts, from the first of them that goes with it on.
