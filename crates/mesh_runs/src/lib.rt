@@ -567,13 +567,13 @@ fn walk_run(
     }
 }
 
-// Where the run ends that begins with a row.
-pub fn run_end(first: usize, end: usize) -> usize
-    requires { ⌜ (first < end) × (first < 1073741824) ⌝ }
+// Where the run of so many rows ends that begins with a row.
+pub fn run_end(first: usize, end: usize, rows: usize) -> usize
+    requires { ⌜ (first < end) × (first < 1073741824) × (0 < rows) × (rows ≤ 16) ⌝ }
     ensures { λ r. ⌜ (first < r) × (r ≤ end) × (r ≤ first + 16) ⌝ }
 {
-    if first + RUN_ROWS < end {
-        first + RUN_ROWS
+    if first + rows < end {
+        first + rows
     } else {
         end
     }
@@ -612,7 +612,7 @@ pub fn walk_kind(
     let mut k = at;
     let mut i = first;
     while i < end {
-        let next = run_end(i, end);
+        let next = run_end(i, end, RUN_ROWS);
         k = walk_run(
             positions,
             edges,
