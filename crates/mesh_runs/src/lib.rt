@@ -119,21 +119,22 @@ fn enter_sought(
     let mut c = 0;
     while c < count {
         let j = wide(places[c]);
-        let found = is_met(boxes, base, row, from, j);
-        k = enter_found(
-            positions,
-            edges,
-            triangles,
-            stands,
-            which,
-            kind,
-            i,
-            j,
-            found,
-            list,
-            most,
-            k,
-        );
+        if is_met(boxes, base, row, from, j) {
+            k = enter_found(
+                positions,
+                edges,
+                triangles,
+                stands,
+                which,
+                kind,
+                i,
+                j,
+                true,
+                list,
+                most,
+                k,
+            );
+        }
         c += 1;
     }
     k
