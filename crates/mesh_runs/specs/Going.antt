@@ -50,10 +50,10 @@ module _ (w : RowPairs) {s : Scene} {kind : Kind} {i : ℕ} {l : List ℤ} {base
       (rw (made, read) at e)
 
   -- a place that does not go with the row leaves everything as it is
-  pub sought-skips : (c : ℕ) {most at k : ℕ} {o₀ want o : List ℕ} → c < count → false ≡ goesWith l base row from (getD ps c 0)
+  pub sought-skips : (c j : ℕ) {most at k : ℕ} {o₀ want o : List ℕ} → c < count → j ≡ getD ps c 0 → false ≡ goesWith l base row from j
       → Entering most o₀ at want o k (soughtLeft w s kind i l base row from ps count c)
       → Entering most o₀ at want o k (soughtLeft w s kind i l base row from ps count (c + 1))
-  sought-skips c {most} {at} {k} {o₀} {want} {o} h stops so-far = sought-goes c (getD ps c 0) h refl stops so-far (entered-none most o k)
+  sought-skips c j {most} {at} {k} {o₀} {want} {o} h read stops so-far = sought-goes c j h read stops so-far (entered-none most o k)
 
   pub sought-ends : (c : ℕ) {most at k : ℕ} {o₀ want o : List ℕ} → c ≡ count
       → Entering most o₀ at want o k (soughtLeft w s kind i l base row from ps count c) → Entered most o₀ at want o k

@@ -119,21 +119,22 @@ fn enter_sought(
     let mut c = 0;
     while c < count {
         let j = wide(places[c]);
-        let found = is_met(boxes, base, row, from, j);
-        k = enter_found(
-            positions,
-            edges,
-            triangles,
-            stands,
-            which,
-            kind,
-            i,
-            j,
-            found,
-            list,
-            most,
-            k,
-        );
+        if is_met(boxes, base, row, from, j) {
+            k = enter_found(
+                positions,
+                edges,
+                triangles,
+                stands,
+                which,
+                kind,
+                i,
+                j,
+                true,
+                list,
+                most,
+                k,
+            );
+        }
         c += 1;
     }
     k
@@ -567,13 +568,13 @@ fn walk_run(
     }
 }
 
-// Where the run ends that begins with a row.
-pub fn run_end(first: usize, end: usize) -> usize
-    requires { ⌜ (first < end) × (first < 1073741824) ⌝ }
+// Where the run of so many rows ends that begins with a row.
+pub fn run_end(first: usize, end: usize, rows: usize) -> usize
+    requires { ⌜ (first < end) × (first < 1073741824) × (0 < rows) × (rows ≤ 16) ⌝ }
     ensures { λ r. ⌜ (first < r) × (r ≤ end) × (r ≤ first + 16) ⌝ }
 {
-    if first + RUN_ROWS < end {
-        first + RUN_ROWS
+    if first + rows < end {
+        first + rows
     } else {
         end
     }
@@ -612,7 +613,7 @@ pub fn walk_kind(
     let mut k = at;
     let mut i = first;
     while i < end {
-        let next = run_end(i, end);
+        let next = run_end(i, end, RUN_ROWS);
         k = walk_run(
             positions,
             edges,

@@ -1,4 +1,4 @@
-// Near rows in runs: the tree is walked once for eight rows, with the boxes that hold their first parts at the start and at the end, and what is far from
+// Near rows in runs: the tree is walked once for four rows, with the boxes that hold their first parts at the start and at the end, and what is far from
 // these at both times is passed by. Each row then goes over the places found. More than there is room for, and the rows go alone, by swept boxes.
 
 ghost use Prim.Native.Nat.{ℕ, _+_, _*_, _-_, _≤_, _<_};
@@ -35,6 +35,9 @@ use mesh_runs::run_end;
 use near_walk::find_near;
 use pierced_pair::places::place_of;
 use scene_parts::vertex_count;
+
+// The rows of a run: of more of them the boxes of both times are so wide on cloth that falls that too few places are far.
+const RUN_ROWS: usize = 4;
 
 // The places that there is room for, the numbers of the boxes that are spread for a run, and their marks; and the numbers of a run's boxes: that of the
 // start, that of the end, and one vertex's.
@@ -303,7 +306,7 @@ fn walk_kind(
     let mut k = at;
     let mut i = first;
     while i < end {
-        let next = run_end(i, end);
+        let next = run_end(i, end, RUN_ROWS);
         k = walk_run(
             positions,
             edges,

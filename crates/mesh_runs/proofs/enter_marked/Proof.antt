@@ -67,7 +67,7 @@ loop-again c =
           let read = w .2 .ensures in
           rw (w .7, w .8)
           (sought-goes (a .which) so (loop .c) j below read (marked-goes marked (a .from) (loop .c) j below read (w .0 .taken)) (loop .inv .1) (w .4 .ensures)))
-          (λ w. rw (w .1, w .2) (sought-skips (a .which) so (loop .c) below (unmarked-stops marked (a .from) (loop .c) _ below refl (w .0 .left)) (loop .inv .1)))
+          (λ w. rw (w .1, w .2) (sought-skips (a .which) so (loop .c) _ below refl (unmarked-stops marked (a .from) (loop .c) _ below refl (w .0 .left)) (loop .inv .1)))
           (c .if1 .came),
     )
 

@@ -2,12 +2,13 @@
 use borrow.Author.Needs.{needs}
 use native.Mathlib.Omega.{arith}
 use Prim.Native.Nat.{ℕ, _-_, _≤_}
-use mathlib.Core.Path.{_≡_, sym, subst}
+use mathlib.Core.Logic.{⊎-elim}
+use mathlib.Core.Path.{_≡_, sym, subst, _∙_}
 use Rattle.scene_seams.specs.Alone.{tabled}
 use Rattle.mesh_entries.specs.Entering.{Entering, entering-place, entering-length}
 use Rattle.mesh_rows.specs.Asking.{Askable}
 use Rattle.mesh_runs.specs.Runs.{kindEntries}
-use Rattle.mesh_runs.specs.Going.{soughtLeft, sought-starts, sought-goes, sought-ends}
+use Rattle.mesh_runs.specs.Going.{soughtLeft, sought-starts, sought-goes, sought-skips, sought-ends}
 use Rattle.mesh_runs.proofs.enter_sought.Statement.{statement}
 use Rattle.mesh_runs.proofs.enter_sought.Tie as tie
 
@@ -39,25 +40,33 @@ is-met-requires c κs =
 
 enter-found-requires : tie.Need-enter-found-requires Inv-loop μ-loop
 enter-found-requires c κs =
-    let start = c .before .before .before .before .before .before .before .before .before .before .before in
+    let start = c .before .before .before .before .before .before .before .before .before .before .before .before in
     let a = start .args in
     let s = tabled (a .positions .now) (a .edges .now) (a .triangles .now) (a .stands .now) in
-    let loop = c .before .before .before .before .before .loop in
+    let loop = c .before .before .before .before .before .before .loop in
     let so = start .pre .0 in (
-      λ e. subst (λ (j : ℕ). Askable s (a .kind) (a .i) j) (sym (c .before .before .wide .ensures)) (so .asked (loop .c) (c .before .before .before .before .loop-test .taken)),
+      λ e. subst (λ (j : ℕ). Askable s (a .kind) (a .i) j) (sym (c .before .before .before .wide .ensures)) (so .asked (loop .c) (c .before .before .before .before .before .loop-test .taken)),
       (omega (arith, start .pre .1, entering-length (loop .inv .1)), omega (arith, start .pre .1, entering-place (loop .inv .1), so .few)),
     )
 
 loop-less : tie.Need-loop-less Inv-loop μ-loop
-loop-less c = let below = c .before .before .before .before .before .before .before .loop-test .taken in omega arith
+loop-less c = let below = c .before .before .before .before .loop-test .taken in omega arith
 
 loop-again : tie.Need-loop-again Inv-loop μ-loop
 loop-again c =
-    let below = c .before .before .before .before .before .before .before .loop-test .taken in
-    let start = c .before .before .before .before .before .before .before .before .before .before .before .before .before .before in
-    let loop = c .before .before .before .before .before .before .before .before .loop in
-    let read = c .before .before .before .before .before .wide in
-    (omega arith, sought-goes (start .args .which) (start .pre .0) (loop .c) (read .result) below (read .ensures) (c .before .before .before .before .is-met .ensures) (loop .inv .1) (c .before .before .enter-found .ensures))
+    let below = c .before .before .before .before .loop-test .taken in
+    let start = c .before .before .before .before .before .before .before .before .before .before .before in
+    let a = start .args in
+    let loop = c .before .before .before .before .before .loop in
+    let j = c .before .before .wide .result in
+    let read = c .before .before .wide .ensures in
+    let asked = c .before .is-met .ensures in (
+      omega arith,
+      ⊎-elim
+          (λ w. rw (w .5, w .6) (sought-goes (a .which) (start .pre .0) (loop .c) j below read (sym (w .0 .taken) ∙ asked) (loop .inv .1) (w .2 .ensures)))
+          (λ w. rw (w .1, w .2) (sought-skips (a .which) (start .pre .0) (loop .c) j below read (sym (w .0 .left) ∙ asked) (loop .inv .1)))
+          (c .if1 .came),
+    )
 
 same-length : tie.Need-same-length Inv-loop μ-loop
 same-length c = entering-length (c .before .loop .inv .1)

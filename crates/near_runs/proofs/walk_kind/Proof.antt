@@ -30,7 +30,7 @@ run-end-requires : tie.Need-run-end-requires Inv-loop μ-loop
 run-end-requires c κs =
     let pre = c .before .before .before .before .before .before .before .before .before .pre .0 in
     let below = c .loop-test .taken in
-    (below, omega (arith, pre .2, pre .0 .rows .fewRows, c .before .loop .inv .4 .past))
+    (below, omega (arith, pre .2, pre .0 .rows .fewRows, c .before .loop .inv .4 .past), omega arith, omega arith)
 
 walk-run-requires : tie.Need-walk-run-requires Inv-loop μ-loop
 walk-run-requires c κs =
