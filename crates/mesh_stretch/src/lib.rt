@@ -88,7 +88,7 @@ fn count_grown(
 }
 
 // Where the block ends that begins with a row.
-pub fn block_end(first: usize, end: usize, rows: usize) -> usize
+fn block_end(first: usize, end: usize, rows: usize) -> usize
     requires { ⌜ (first < end) × (end ≤ 4294967296) × (0 < rows) × (rows ≤ 64) ⌝ }
     ensures { λ r. ⌜ (first < r) × (r ≤ end) ⌝ }
 {
@@ -101,7 +101,7 @@ pub fn block_end(first: usize, end: usize, rows: usize) -> usize
 
 // The rows of the next block, by the pairs that the last one had: on thin cloth a block of many rows saves calls, on thick cloth it would have more pairs than
 // there is room for.
-pub fn block_rows(rows: usize, pairs: usize) -> usize
+fn block_rows(rows: usize, pairs: usize) -> usize
     requires { ⌜ rows ≤ 4294967296 ⌝ }
     ensures { λ r. ⌜ (0 < r) × (r ≤ 64) ⌝ }
 {
