@@ -118,9 +118,9 @@ extern "C" {
  *     pierced_at_start, pierced_at_end              3,328
  *     check_mesh          512      check_edges                    768
  *     count_rows, count_near_rows                  16,384
- *     list_rows, list_near_rows                    16,384
- *     settle_rows, settle_near_rows                16,384
- *     contact_rows, contact_near_rows              16,384
+ *     list_rows, list_near_rows                    65,536
+ *     settle_rows, settle_near_rows                65,536
+ *     contact_rows, contact_near_rows              65,536
  *     keep_rows, keep_near_rows                   131,072
  *     keep_contacts, keep_near_contacts           131,072
  *     pierced_at_start_rows, pierced_at_end_rows    3,584

@@ -360,8 +360,12 @@ impl Mesh<'_> {
         let (w, c) = ((words.as_mut_ptr(), words.len()), (contacts.as_mut_ptr(), contacts.len()));
         let t = told.as_mut_ptr();
         let number = match which {
-            RowPairs::Listed => ask_rows!(self, scratch, l.1, makhnodri_contact_rows_slices, a, b, l.0, l.1, w.0, w.1, c.0, c.1, t),
-            RowPairs::Near => ask_rows!(self, scratch, l.1, makhnodri_contact_near_rows_slices, a, b, l.0, l.1, w.0, w.1, c.0, c.1, t),
+            RowPairs::Listed => {
+                ask_rows!(self, scratch, l.1, makhnodri_contact_rows_slices, a, b, l.0, l.1, w.0, w.1, c.0, c.1, t)
+            }
+            RowPairs::Near => {
+                ask_rows!(self, scratch, l.1, makhnodri_contact_near_rows_slices, a, b, l.0, l.1, w.0, w.1, c.0, c.1, t)
+            }
         };
         counted(number, told)
     }

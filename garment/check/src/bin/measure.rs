@@ -74,14 +74,9 @@ fn garments(size: usize) -> Vec<Garment> {
         let (places, faces) = drape(size, at, 1);
         cloth_text(&places, &faces)
     };
-    let of_kind = |kind: ClothKind| Garment {
-        name: format!("{} {size}", kind.name),
-        texts: Box::new(move || cloth(kind, size, 1).objs()),
-    };
-    let falling = Garment {
-        name: format!("drape {size}"),
-        texts: Box::new(move || [0, 1].map(frame)),
-    };
+    let of_kind =
+        |kind: ClothKind| Garment { name: format!("{} {size}", kind.name), texts: Box::new(move || cloth(kind, size, 1).objs()) };
+    let falling = Garment { name: format!("drape {size}"), texts: Box::new(move || [0, 1].map(frame)) };
     KINDS.into_iter().map(of_kind).chain([falling]).collect()
 }
 
@@ -146,7 +141,11 @@ fn in_any_order(sizes: &[usize]) {
             let mesh = made(&cloth(kind, size, 1).in_any_order(2));
             let judge = Judge::new(&mesh).expect("a mesh");
             if judge.lent().edge_order.is_empty() {
-                println!("  {:<16}{:>12}", format!("{} {size}", kind.name), "no order is lent: its parts stand within a few of their lengths in any order");
+                println!(
+                    "  {:<16}{:>12}",
+                    format!("{} {size}", kind.name),
+                    "no order is lent: its parts stand within a few of their lengths in any order"
+                );
                 continue;
             }
             let (listed, [grid, order, none]) = garment_check::beside::in_order(&mesh, judge.lent());
