@@ -117,12 +117,12 @@ extern "C" {
  *     import_scene     48,128      tell_series                176,384
  *     pierced_at_start, pierced_at_end              3,328
  *     check_mesh          512      check_edges                    768
- *     count_rows, count_near_rows                  16,384
+ *     count_rows, count_near_rows                  24,576
  *     list_rows, list_near_rows                    65,536
  *     settle_rows, settle_near_rows                65,536
  *     contact_rows, contact_near_rows              65,536
- *     keep_rows, keep_near_rows                   131,072
- *     keep_contacts, keep_near_contacts           131,072
+ *     keep_rows, keep_near_rows                   139,264
+ *     keep_contacts, keep_near_contacts           139,264
  *     pierced_at_start_rows, pierced_at_end_rows    3,584
  *
  * ---- An answer ----
