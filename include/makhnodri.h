@@ -117,12 +117,12 @@ extern "C" {
  *     import_scene     48,128      tell_series                176,384
  *     pierced_at_start, pierced_at_end              3,328
  *     check_mesh          512      check_edges                    768
- *     count_rows, count_near_rows                  24,576
- *     list_rows, list_near_rows                    65,536
- *     settle_rows, settle_near_rows                65,536
- *     contact_rows, contact_near_rows              65,536
- *     keep_rows, keep_near_rows                   139,264
- *     keep_contacts, keep_near_contacts           139,264
+ *     count_rows, count_near_rows                  32,768
+ *     list_rows, list_near_rows                    73,728
+ *     settle_rows, settle_near_rows                73,728
+ *     contact_rows, contact_near_rows              73,728
+ *     keep_rows, keep_near_rows                   147,456
+ *     keep_contacts, keep_near_contacts           147,456
  *     pierced_at_start_rows, pierced_at_end_rows    3,584
  *
  * ---- An answer ----
