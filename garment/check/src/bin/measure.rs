@@ -56,7 +56,7 @@ fn main() {
 /// What a round gives back stays with the process from here on: a block of this size that was given back raises the size from which the allocator asks the
 /// system for each block anew, and the first garment would be measured with that and all others without.
 fn keep_pages() {
-    drop(black_box(vec![1u8; 32 << 20]));
+    drop(black_box(vec![1u8; 24 << 20]));
 }
 
 /// The table beside the grid is of all of these, or of those that are named.
