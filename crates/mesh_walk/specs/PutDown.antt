@@ -20,6 +20,12 @@ pub record PutDown (o : List ℕ) (k : ℕ) (ns : List ℕ) (o′ : List ℕ) (m
   pub same : length o′ ≡ length o
   pub front : m ≤ length o → take m o′ ≡ take k o ++ ns
 
+-- no two counts and fronts can come of one walk
+pub down-one : {k m m′ : ℕ} {o o₁ o₂ ns : List ℕ} → PutDown o k ns o₁ m → PutDown o k ns o₂ m′ → (m ≡ m′) × (m ≤ length o → take m o₁ ≡ take m′ o₂)
+down-one v w =
+    let same = v .counts ∙ sym (w .counts) in
+    (same, λ h. v .front h ∙ sym (w .front (omega (arith, same))))
+
 pub down-none : (o : List ℕ) (k : ℕ) → PutDown o k [] o k
 down-none o k = record { counts = omega arith; same = refl; front = λ h. sym (append-nil (take k o)) }
 
