@@ -1,4 +1,4 @@
--- What a list holds from a place on, two numbers for each entry: the upper half, then the lower.
+-- What a list holds from a place on, two numbers for each entry: the lower half, then the upper.
 use Prim.Native.Nat.{ℕ, _+_, _*_, _-_, _≤_, _<_, _/_, _%_}
 use mathlib.Core.Bool.{Bool, true, false, true≢false}
 use mathlib.Core.List.{List, [], _∷_, _++_}
@@ -13,7 +13,7 @@ use Rattle.sequences.specs.Wrote.{Wrote, written, wrote-none, wrote-one, wrote-
 
 -- the entry of number c, from a place on
 abbrev pub heldAt : List ℕ → ℕ → ℕ → ℕ
-heldAt l from c = 4294967296 * getD l (from + 2 * c) 0 + getD l (from + 2 * c + 1) 0
+heldAt l from c = 4294967296 * getD l (from + 2 * c + 1) 0 + getD l (from + 2 * c) 0
 
 -- from a place on a list holds these entries, in order
 pub record Holds (l : List ℕ) (from : ℕ) (es : List ℕ) : Type 0 where
@@ -52,7 +52,7 @@ holds-more {l} {l′} {from} {es} {fs} {count} so fits room more =
           let d = c - length es in
           let here : length es + d ≡ c = omega arith in
           let low : from + 2 * c ≡ from + 2 * length es + 2 * d = omega arith in
-          ap (λ (n : ℕ). 4294967296 * getD l′ n 0 + getD l′ (n + 1) 0) low
+          ap (λ (n : ℕ). 4294967296 * getD l′ (n + 1) 0 + getD l′ n 0) low
           ∙ more .at d (omega arith)
           ∙ sym (getD-take count fs d 0 (omega arith))
           ∙ sym (getD-append-add es (take count fs) d 0)
@@ -67,31 +67,31 @@ pub more-none : (l : List ℕ) (from : ℕ) (es : List ℕ) → HeldMore l l fro
 more-none l from es = record { same = refl; before = λ i lt. refl; at = λ c lt. absurd (omega arith) }
 
 module _ {l₀ l l′ : List ℕ} {from : ℕ} {es : List ℕ} {c : ℕ} (so : HeldMore l₀ l from es c) (room : from + 2 * c + 1 < length l₀)
-    (put : l′ ≡ set (set l (from + 2 * c) (getD es c 0 / 4294967296)) (from + 2 * c + 1) (getD es c 0 % 4294967296)) where
+    (put : l′ ≡ set (set l (from + 2 * c) (getD es c 0 % 4294967296)) (from + 2 * c + 1) (getD es c 0 / 4294967296)) where
   other : (i : ℕ) → i < from + 2 * c → getD l′ i 0 ≡ getD l i 0
   other i h =
       rw put
-      (getD-set-other (set l (from + 2 * c) (getD es c 0 / 4294967296)) (from + 2 * c + 1) i _ 0 (λ e. omega arith)
+      (getD-set-other (set l (from + 2 * c) (getD es c 0 % 4294967296)) (from + 2 * c + 1) i _ 0 (λ e. omega arith)
       ∙ getD-set-other l (from + 2 * c) i _ 0 (λ e. omega arith))
 
-  upper : getD l′ (from + 2 * c) 0 ≡ getD es c 0 / 4294967296
-  upper =
-      rw put
-      (getD-set-other (set l (from + 2 * c) (getD es c 0 / 4294967296)) (from + 2 * c + 1) (from + 2 * c) _ 0 (λ e. omega arith)
-      ∙ getD-set-same l (from + 2 * c) _ 0 (omega (arith, so .same)))
-
-  lower : getD l′ (from + 2 * c + 1) 0 ≡ getD es c 0 % 4294967296
+  lower : getD l′ (from + 2 * c) 0 ≡ getD es c 0 % 4294967296
   lower =
       rw put
-      (getD-set-same (set l (from + 2 * c) (getD es c 0 / 4294967296)) (from + 2 * c + 1) _ 0
-      (omega (arith, so .same, length-set l (from + 2 * c) (getD es c 0 / 4294967296))))
+      (getD-set-other (set l (from + 2 * c) (getD es c 0 % 4294967296)) (from + 2 * c + 1) (from + 2 * c) _ 0 (λ e. omega arith)
+      ∙ getD-set-same l (from + 2 * c) _ 0 (omega (arith, so .same)))
+
+  upper : getD l′ (from + 2 * c + 1) 0 ≡ getD es c 0 / 4294967296
+  upper =
+      rw put
+      (getD-set-same (set l (from + 2 * c) (getD es c 0 % 4294967296)) (from + 2 * c + 1) _ 0
+      (omega (arith, so .same, length-set l (from + 2 * c) (getD es c 0 % 4294967296))))
 
   pub more-next : HeldMore l₀ l′ from es (c + 1)
   more-next =
       record {
         same =
             rw put
-            (length-set (set l (from + 2 * c) (getD es c 0 / 4294967296)) (from + 2 * c + 1) _
+            (length-set (set l (from + 2 * c) (getD es c 0 % 4294967296)) (from + 2 * c + 1) _
             ∙ length-set l (from + 2 * c) _ ∙ so .same);
         before = λ i lt. other i (omega arith) ∙ so .before i lt;
         at = λ d lt.

@@ -16,13 +16,13 @@ pub struct Walked {
     pub held: bool,
 }
 
-// The upper half, then the lower.
+// The lower half, then the upper: as one number of 64 bits stands in the memory of most processors, so that a compiler makes one store of the two.
 fn hold_entry(entry: u64, places: &mut [u32], at: usize)
     requires { ⌜ at + 1 < length (now places) ⌝ }
-    ensures { λ _. ⌜ atExit places ≡ set (set (atEntry places) at (entry / 4294967296)) (at + 1) (entry % 4294967296) ⌝ }
+    ensures { λ _. ⌜ atExit places ≡ set (set (atEntry places) at (entry % 4294967296)) (at + 1) (entry / 4294967296) ⌝ }
 {
-    places[at] = (entry / 4294967296) as u32;
-    places[at + 1] = (entry % 4294967296) as u32;
+    places[at] = (entry % 4294967296) as u32;
+    places[at + 1] = (entry / 4294967296) as u32;
 }
 
 // So many entries, from a place on.
@@ -62,7 +62,7 @@ pub fn hold_walked(
     true
 }
 
-fn of_halves(upper: u32, lower: u32) -> u64
+fn of_halves(lower: u32, upper: u32) -> u64
     ensures { λ r. ⌜ r ≡ 4294967296 * upper + lower ⌝ }
 {
     4294967296 * (upper as u64) + lower as u64

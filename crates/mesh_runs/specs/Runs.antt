@@ -31,7 +31,7 @@ use Rattle.list_candidates.specs.Rows.{firstCount, secondCount, secondFrom}
 use Rattle.mesh_tree.specs.Levels.{nodesAt}
 use Rattle.mesh_walk.specs.Places.{placesFrom, places-exactly}
 use Rattle.mesh_walk.specs.Steps.{Tree, boxMeets, rowMeets}
-use Rattle.mesh_entries.specs.Entering.{Entered, entered-wrote, entered-length}
+use Rattle.mesh_walk.specs.PutDown.{PutDown}
 use Rattle.mesh_rows.specs.Asking.{passes, Askable}
 use Rattle.mesh_rows.specs.Sifting.{sifted, sifted-chosen}
 use Rattle.mesh_rows.specs.Rows.{RowTree, partRow, entryOf, whole-row, row-few, row-askable}
@@ -181,10 +181,9 @@ from-rises EdgeEdge i j h = omega arith
 pub run-sought : (w : RowPairs) {s : Scene} {kind : Kind} {l : List ℤ} {t : List ℕ} {parts top offset : ℕ} → KindTree s kind l t parts top offset
     → (first end : ℕ) → first < end → end ≤ firstCount s kind → (b : Box) → Covers b l (offset + first) (end - first)
     → {o o′ : List ℕ} {from n : ℕ} → from ≡ secondFrom kind first → n ≤ length o
-    → Entered (length o) o 0 (placesFrom (boxMeets b l t) parts from) o′ n
+    → PutDown o 0 (placesFrom (boxMeets b l t) parts from) o′ n
     → AllSought w s kind l (getD t 0 0) offset first end o′ n
 run-sought w {s} {kind} {l} {t} {parts} {top} {offset} so first end some most b covers {o} {o′} {from} {n} begins fits found i low high =
-    let wrote = entered-wrote fits (omega arith) found in
     let place : offset + first + (i - first) ≡ offset + i = omega arith in
     row-sought (so .row i (omega arith)) w (boxMeets b l t)
     (λ j h e.
@@ -192,5 +191,5 @@ run-sought w {s} {kind} {l} {t} {parts} {top} {offset} so first end some most b 
     (subst (λ (k : ℕ). meetBoxes (boxAt l k) (boxAt l (getD t 0 0 + j)) ≡ false) place
     (covers .misses (i - first) (omega arith) (boxAt l (getD t 0 0 + j)) e)))
     from (omega (arith, begins, from-rises kind first i low)) o′ n
-    (omega (arith, entered-length found))
-    (wrote .front)
+    (omega (arith, found .same))
+    (found .front fits)

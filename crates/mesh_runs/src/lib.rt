@@ -1,34 +1,37 @@
 // Rows of a mesh's list in runs: rows that stand one behind the other have boxes near each other, so a tree is walked once for eight of them, with their
-// joint box. Who misses that misses each of them, so that a row's pairs are among the places found. The boxes of these are spread first, each of their
-// six numbers in a row of its own, so that a row of the run is compared with many of them at once. More than there is room for, and they go alone.
+// joint box. Who misses that misses each of them, so that a row's pairs are among the places found. The boxes of these are spread first, so that a row of
+// the run is compared with many of them at once. More than there is room for, and they go alone.
 
 ghost use Prim.Native.Nat.{_+_, _*_, _-_, _≤_, _<_, min};
 ghost use mathlib.Core.Bool.{_&&_};
 ghost use mathlib.Core.Path.{_≡_};
 ghost use lib.Dec.{leb};
-ghost use lib.IntN.{pos};
-ghost use lib.ListN.{length, getD, set};
+ghost use lib.ListN.{length};
 ghost use Rattle.sequences.specs.Gather.{gather};
 ghost use Rattle.sequences.specs.Lent.{atEntry, atExit};
-ghost use Rattle.meaning.specs.Boxes.{meet};
-ghost use Rattle.meaning.specs.StoredBoxes.{spanAt, boxAt, BoxesStand};
+ghost use Rattle.meaning.specs.StoredBoxes.{boxAt};
 ghost use Rattle.meaning.specs.MeshRows.{meshEntries};
 ghost use Rattle.list_boxes.specs.Kept.{meetBoxes};
 ghost use Rattle.scene_seams.specs.Alone.{tabledIn, tabledAtEntry};
 ghost use Rattle.list_candidates.specs.Rows.{firstCount, secondFrom};
 ghost use Rattle.mesh_entries.specs.Entering.{Entered};
 ghost use Rattle.mesh_rows.specs.Rows.{partRow};
+ghost use Rattle.mesh_marks.specs.Marked.{Spread};
 ghost use Rattle.mesh_runs.specs.Runs.{KindTree, Covers, Sought, AllSought, kindEntries};
+ghost use Rattle.mesh_runs.specs.Taken.{Taken};
 ghost use Rattle.mesh_runs.specs.Stretch.{Parted};
-ghost use Rattle.mesh_runs.specs.Marked.{spreadSpan, spreadBox, withSpread, spreadAs, Spread, PlacesIn, Marked, MarkedFor};
 use list_runs::fill_runs;
 use meaning::Kind;
 use meaning::RowPairs;
+use mesh_marks::copy_boxes;
+use mesh_marks::mark_met;
+use mesh_marks::spread_boxes;
+use mesh_marks::take_marked;
 use mesh_rows::enter_found;
 use mesh_rows::walk_row;
 use mesh_seams::wide;
 use mesh_walk::boxes_meet;
-use mesh_walk::find_met;
+use mesh_walk::sixteens::find_met;
 
 // The rows of a run, and the numbers of the run's boxes with their joint box behind 16 of them.
 const RUN_ROWS: usize = 8;
@@ -37,30 +40,6 @@ const RUN_NUMBERS: usize = 102;
 
 // The places of a run whose boxes are spread, at most.
 const SPREAD_PLACES: usize = 256;
-
-// The numbers of one box.
-const BOX_NUMBERS: usize = 6;
-
-// One number.
-fn copy_number(boxes: &[i32], i: usize, own: &mut [i32], n: usize)
-    requires { ⌜ (i < length (now boxes)) × (n < length (now own)) ⌝ }
-    ensures { λ _. ⌜ atExit own ≡ set (atEntry own) n (getD (atEntry boxes) i (pos 0)) ⌝ }
-{
-    own[n] = boxes[i];
-}
-
-// So many boxes from `first` on, in front of another list.
-fn copy_boxes(boxes: &[i32], first: usize, count: usize, own: &mut [i32])
-    requires { ⌜ (6 * (first + count) ≤ length (now boxes)) × (6 * count ≤ length (now own)) ⌝ }
-    ensures { λ _. ⌜ BoxesStand (atExit own) 0 count (λ r. boxAt (atEntry boxes) (first + r)) ⌝ }
-{
-    let end = 6 * count;
-    let mut n = 0;
-    while n < end {
-        copy_number(boxes, 6 * first + n, own, n);
-        n += 1;
-    }
-}
 
 // A box that no part meets which one of these misses not.
 fn join_rows(boxes: &[i32], first: usize, count: usize, own: &mut [i32])
@@ -140,94 +119,22 @@ fn enter_sought(
     k
 }
 
-// The low and the high of a box on one axis, each in its own row of `six`.
-fn spread_span(boxes: &[i32], i: usize, six: &mut [i32], q: usize)
-    requires { ⌜ (i + 3 < length (now boxes)) × (q + 768 < length (now six)) ⌝ }
-    ensures { λ _. ⌜ atExit six ≡ withSpread (atEntry six) q (spanAt (atEntry boxes) i) ⌝ }
-{
-    six[q] = boxes[i];
-    six[q + 768] = boxes[i + 3];
-}
-
-// One box, spread over the six rows.
-fn spread_box(boxes: &[i32], k: usize, six: &mut [i32], q: usize)
-    requires { ⌜ (6 * k + 5 < length (now boxes)) × (q < 256) × (1536 ≤ length (now six)) ⌝ }
-    ensures { λ _. ⌜ atExit six ≡ spreadAs (atEntry six) q (boxAt (atEntry boxes) k) ⌝ }
-{
-    let i = 6 * k;
-    spread_span(boxes, i, six, q);
-    spread_span(boxes, i + 1, six, q + 256);
-    spread_span(boxes, i + 2, six, q + 512);
-}
-
-// The boxes of the places that were found, so that numbers that are compared with the same one stand side by side.
-fn spread_boxes(boxes: &[i32], base: usize, places: &[u32], count: usize, six: &mut [i32])
-    requires { ⌜ PlacesIn (now boxes) base (now places) count × (count ≤ 256) × (1536 ≤ length (now six)) ⌝ }
-    ensures { λ _. ⌜ Spread (atEntry boxes) base (atEntry places) count (atExit six) ⌝ }
-{
-    let mut q = 0;
-    while q < count {
-        spread_box(boxes, base + wide(places[q]), six, q);
-        q += 1;
-    }
-}
-
-// Whether a box meets a spread one on one axis, equal ends included.
-fn meets_span(own: &[i32], i: usize, six: &[i32], q: usize) -> bool
-    requires { ⌜ (i + 3 < length (now own)) × (q + 768 < length (now six)) ⌝ }
-    ensures { λ r. ⌜ r ≡ meet (spanAt (atEntry own) i) (spreadSpan (atEntry six) q) ⌝ }
-{
-    (own[i] <= six[q + 768]) & (six[q] <= own[i + 3])
-}
-
-// Whether a box meets a spread one. All three axes are asked, with no branch, so that many boxes are asked at once.
-fn meets_spread(own: &[i32], six: &[i32], q: usize) -> bool
-    requires { ⌜ (6 ≤ length (now own)) × (q < 256) × (1536 ≤ length (now six)) ⌝ }
-    ensures { λ r. ⌜ r ≡ meetBoxes (boxAt (atEntry own) 0) (spreadBox (atEntry six) q) ⌝ }
-{
-    let x = meets_span(own, 0, six, q);
-    let y = meets_span(own, 1, six, q + 256);
-    let z = meets_span(own, 2, six, q + 512);
-    x & y & z
-}
-
-// Of the spread boxes those are marked that a row's box meets. It is copied first: nothing that is stored in the loop changes it.
-fn mark_met(boxes: &[i32], row: usize, six: &[i32], count: usize, marks: &mut [bool])
-    requires { ⌜ (6 * row + 5 < length (now boxes)) × (count ≤ 256) × (1536 ≤ length (now six))
-        × (256 ≤ length (now marks)) ⌝ }
-    ensures { λ _. ⌜ Marked (boxAt (atEntry boxes) row) (atEntry six) count (atExit marks) ⌝ }
-{
-    let mut own = [0i32; BOX_NUMBERS];
-    copy_boxes(boxes, row, 1, &mut own);
-    let mut q = 0;
-    while q < count {
-        marks[q] = meets_spread(&own, six, q);
-        q += 1;
-    }
-}
-
-// The row of one first part, by the places that are marked for it.
-fn enter_marked(
+// The row of one first part, by second places that go with it and whose boxes meet its own: those that are listed are entered.
+pub fn enter_seconds(
     positions: &[i32],
     edges: &[u32],
     triangles: &[u32],
     stands: &[u32],
-    boxes: &[i32],
-    base: usize,
     which: RowPairs,
     kind: Kind,
     i: usize,
-    row: usize,
-    from: usize,
-    places: &[u32],
+    seconds: &[u32],
     count: usize,
-    marks: &[bool],
     list: &mut [u64],
     most: usize,
     at: usize,
 ) -> usize
-    requires { ⌜ Sought which (tabledIn positions edges triangles stands) kind i (now boxes) base row from (now places) count
-        × MarkedFor (now boxes) base row (now places) count (now marks) × (count ≤ length (now marks)) ⌝ }
+    requires { ⌜ Taken which (tabledIn positions edges triangles stands) kind i (now seconds) count ⌝ }
     requires { ⌜ (most ≤ length (now list)) × (at < 4611686018427387904) ⌝ }
     ensures { λ r. ⌜ Entered most (atEntry list) at
         (meshEntries (partRow which (tabledAtEntry positions edges triangles stands) kind i)) (atExit list) r ⌝ }
@@ -235,23 +142,21 @@ fn enter_marked(
     let mut k = at;
     let mut c = 0;
     while c < count {
-        if marks[c] {
-            let j = wide(places[c]);
-            k = enter_found(
-                positions,
-                edges,
-                triangles,
-                stands,
-                which,
-                kind,
-                i,
-                j,
-                from <= j,
-                list,
-                most,
-                k,
-            );
-        }
+        let j = wide(seconds[c]);
+        k = enter_found(
+            positions,
+            edges,
+            triangles,
+            stands,
+            which,
+            kind,
+            i,
+            j,
+            true,
+            list,
+            most,
+            k,
+        );
         c += 1;
     }
     k
@@ -286,27 +191,24 @@ fn enter_spread(
     ensures { λ r. ⌜ Entered most (atEntry list) at
         (gather (kindEntries which (tabledAtEntry positions edges triangles stands) kind) first end) (atExit list) r ⌝ }
 {
+    let mut seconds = [0u32; SPREAD_PLACES];
     let mut k = at;
     let mut i = first;
     while i < end {
         let from = first_second(kind, i);
         let row = offset + i;
         mark_met(boxes, row, six, count, marks);
-        k = enter_marked(
+        let taken = take_marked(places, count, marks, from, &mut seconds);
+        k = enter_seconds(
             positions,
             edges,
             triangles,
             stands,
-            boxes,
-            base,
             which,
             kind,
             i,
-            row,
-            from,
-            places,
-            count,
-            marks,
+            &seconds,
+            taken,
             list,
             most,
             k,

@@ -1,19 +1,18 @@
 // The walk of one row over a tree of boxes, with no stack and no recursion: at a node that is missed it goes to the next one, and up while
 // that is the first of its 16; at one that is met it goes down, or has found a part. So each node is tested once at most.
 
+pub mod sixteens; // sixteens.rt: the walk of a box that goes over the 16 parts of a node with no branch
+
 ghost use Prim.Native.Nat.{_+_, _*_, _≤_, _<_};
-ghost use mathlib.Core.Bool.{true};
 ghost use mathlib.Core.Path.{_≡_};
 ghost use lib.ListN.{length};
-ghost use Rattle.sequences.specs.Chosen.{one};
 ghost use Rattle.sequences.specs.Lent.{atEntry, atExit};
 ghost use Rattle.meaning.specs.Boxes.{meet};
 ghost use Rattle.meaning.specs.StoredBoxes.{spanAt, boxAt};
 ghost use Rattle.list_boxes.specs.Kept.{meetBoxes};
 ghost use Rattle.list_entries.specs.UpTo.{kept};
 ghost use Rattle.mesh_tree.specs.Levels.{nodesAt, firstUnder};
-ghost use Rattle.mesh_entries.specs.Entering.{Entered};
-ghost use Rattle.mesh_walk.specs.Places.{placesFrom, Stepped};
+ghost use Rattle.mesh_walk.specs.Places.{Stepped};
 ghost use Rattle.mesh_walk.specs.Steps.{Tree, boxMeets};
 
 // Where a walk stands, and whether its last step found a part.
@@ -105,46 +104,4 @@ pub fn put_place(list: &mut [u32], k: usize, place: usize)
     if k < list.len() {
         list[k] = place as u32;
     }
-}
-
-// A place is put down, and counted, if a part was found.
-fn put_found(list: &mut [u32], k: usize, place: usize, found: bool) -> usize
-    requires { ⌜ (found ≡ true → place < 4294967296) × (k < 18446744073709551615) ⌝ }
-    ensures { λ r. ⌜ Entered (length (atEntry list)) (atEntry list) k (one found place) (atExit list) r ⌝ }
-{
-    if found {
-        put_place(list, k, place);
-        k + 1
-    } else {
-        k
-    }
-}
-
-// The places, from `from` on, of the parts whose boxes meet the box `row` of a list, in order, in front of a lent list while it has room; all are
-// counted.
-pub fn find_met(
-    own: &[i32],
-    row: usize,
-    boxes: &[i32],
-    levels: &[usize],
-    parts: usize,
-    top: usize,
-    from: usize,
-    list: &mut [u32],
-) -> usize
-    requires { ⌜ Tree (now boxes) (now levels) parts top × (6 * row + 5 < length (now own)) × (parts ≤ 4294967296) ⌝ }
-    ensures { λ r. ⌜ Entered (length (atEntry list)) (atEntry list) 0
-        (placesFrom (boxMeets (boxAt (atEntry own) row) (atEntry boxes) (atEntry levels)) parts from) (atExit list) r ⌝ }
-{
-    let start = climb(0, from, top, false);
-    let mut level = start.level;
-    let mut node = start.node;
-    let mut k = 0usize;
-    while node < levels[2 * level + 1] {
-        let next = step(own, row, boxes, levels, parts, top, level, node);
-        k = put_found(list, k, node, next.found);
-        level = next.level;
-        node = next.node;
-    }
-    k
 }

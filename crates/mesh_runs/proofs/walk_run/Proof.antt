@@ -1,7 +1,6 @@
 -- `walk_run`: the places that the joint box meets serve each row, where there was room for all of them.
 use borrow.Author.Needs.{needs}
 use native.Mathlib.Omega.{arith}
-use Rattle.mesh_entries.specs.Entering.{entered-length}
 use Rattle.mesh_runs.specs.Runs.{run-sought}
 use Rattle.mesh_runs.proofs.walk_run.Statement.{statement}
 use Rattle.mesh_runs.proofs.walk_run.Tie as tie
@@ -13,7 +12,7 @@ enter-run-requires c κs =
     let pre = start .pre .0 in
     let found = c .before .before .before .before .before .before .before .before .find-met .ensures in
     let asked = c .before .before .before .before .before .before .before .before .before .before .before .first-second .ensures in (
-      (run-sought (a .which) (pre .0) (a .first) (a .end) (pre .1) (pre .3) _ (c .before .before .before .before .before .before .before .before .before .before .before .before .before .join-rows .ensures) asked (omega (arith, c .before .before .before .before .before .if1 .taken, entered-length found)) found, pre .1, pre .2, omega (arith, pre .3, pre .0 .fewRows), pre .0 .low),
+      (run-sought (a .which) (pre .0) (a .first) (a .end) (pre .1) (pre .3) _ (c .before .before .before .before .before .before .before .before .before .before .before .before .before .join-rows .ensures) asked (omega (arith, c .before .before .before .before .before .if1 .taken, found .same)) found, pre .1, pre .2, omega (arith, pre .3, pre .0 .fewRows), pre .0 .low),
       start .pre .1,
     )
 

@@ -83,6 +83,9 @@ fn garments(size: usize) -> Vec<Garment> {
 /// Pairs of a stretch of rows, about, which is asked for in one call.
 const IN_A_CALL: u64 = 1 << 20;
 
+/// Rounds of parts in any order.
+const ORDER_ROUNDS: usize = 5;
+
 /// Rounds end behind so many seconds.
 const LONG: f64 = 4.0;
 
@@ -114,8 +117,11 @@ fn beside_grid(sizes: &[usize], sorted: &dyn Fn(&str) -> bool) {
         let mesh = mesh_of(&texts(), None, false).expect("a mesh");
         let judge = Judge::new(&mesh).expect("a mesh");
         let rows = judge.rows();
-        let pairs = judge.lent().count_rows(&mut Scratch::default(), Which::Listed, 0..rows).expect("it is counted");
-        let row = rounds(|| measured(&mesh, &judge, rows.div_ceil(pairs.div_ceil(IN_A_CALL).max(1) as usize)));
+        let [length, near_length] = [Which::Listed, Which::Near].map(|which| {
+            let pairs = judge.lent().count_rows(&mut Scratch::default(), which, 0..rows).expect("they are counted");
+            rows.div_ceil(pairs.div_ceil(IN_A_CALL).max(1) as usize)
+        });
+        let row = rounds(|| measured(&mesh, &judge, length, near_length));
         let each = |seconds: f64| format!("{:>8.1}", 1e9 * seconds / row.listed as f64);
         let times = [row.grid, row.packed, row.list, row.settle, row.near_settle, row.near_keep].map(each).concat();
         println!(
@@ -148,7 +154,7 @@ fn in_any_order(sizes: &[usize]) {
                 );
                 continue;
             }
-            let (listed, [grid, order, none]) = garment_check::beside::in_order(&mesh, judge.lent());
+            let (listed, [grid, order, none]) = garment_check::beside::in_order(&mesh, judge.lent(), ORDER_ROUNDS);
             let name = format!("{} {size}", kind.name);
             println!("  {name:<16}{listed:>12}{grid:>10.2}{order:>10.2}{none:>10.2}{:>10.2}{:>10.2}", order / grid, none / grid);
         }

@@ -2,9 +2,9 @@
 use borrow.Author.Needs.{needs}
 use native.Mathlib.Omega.{arith}
 use Prim.Native.Nat.{_*_, _-_, _≤_}
-use Rattle.mesh_runs.specs.Copying.{Copying, copying-starts, copying-next, copying-boxes}
-use Rattle.mesh_runs.proofs.copy_boxes.Statement.{statement}
-use Rattle.mesh_runs.proofs.copy_boxes.Tie as tie
+use Rattle.mesh_marks.specs.Copying.{Copying, copying-starts, copying-next, copying-boxes}
+use Rattle.mesh_marks.proofs.copy_boxes.Statement.{statement}
+use Rattle.mesh_marks.proofs.copy_boxes.Tie as tie
 
 abbrev Inv-loop : tie.InvT-loop
 Inv-loop boxes first count own₀ end n₀ own n = Copying boxes own₀ own (6 * first) n × (n ≤ 6 * count)

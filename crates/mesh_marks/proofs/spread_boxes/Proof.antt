@@ -3,9 +3,9 @@ use borrow.Author.Needs.{needs}
 use native.Mathlib.Omega.{arith}
 use Prim.Native.Nat.{_-_, _≤_}
 use mathlib.Core.Path.{_≡_}
-use Rattle.mesh_runs.specs.Marked.{Spreading, spreading-starts, spreading-next}
-use Rattle.mesh_runs.proofs.spread_boxes.Statement.{statement}
-use Rattle.mesh_runs.proofs.spread_boxes.Tie as tie
+use Rattle.mesh_marks.specs.Marked.{Spreading, spreading-starts, spreading-next}
+use Rattle.mesh_marks.proofs.spread_boxes.Statement.{statement}
+use Rattle.mesh_marks.proofs.spread_boxes.Tie as tie
 
 abbrev Inv-loop : tie.InvT-loop
 Inv-loop boxes base places count six₀ q₀ six q = (q ≤ count) × Spreading boxes base places six₀ six q

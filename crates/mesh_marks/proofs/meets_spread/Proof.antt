@@ -1,8 +1,8 @@
 -- `meets_spread`: axis by axis.
 use borrow.Author.Needs.{needs}
 use mathlib.Core.Bool.{_&&_}
-use Rattle.mesh_runs.proofs.meets_spread.Statement.{statement}
-use Rattle.mesh_runs.proofs.meets_spread.Tie as tie
+use Rattle.mesh_marks.proofs.meets_spread.Statement.{statement}
+use Rattle.mesh_marks.proofs.meets_spread.Tie as tie
 
 returns : tie.Need-returns
 returns c =

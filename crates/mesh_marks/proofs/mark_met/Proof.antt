@@ -6,9 +6,9 @@ use Prim.Native.Nat.{_-_, _≤_}
 use mathlib.Core.Path.{_≡_, ap, _∙_}
 use Rattle.meaning.specs.StoredBoxes.{Box, boxAt}
 use Rattle.list_boxes.specs.Kept.{meetBoxes}
-use Rattle.mesh_runs.specs.Marked.{spreadBox, Marking, marking-starts, marking-next}
-use Rattle.mesh_runs.proofs.mark_met.Statement.{statement}
-use Rattle.mesh_runs.proofs.mark_met.Tie as tie
+use Rattle.mesh_marks.specs.Marked.{spreadBox, Marking, marking-starts, marking-next}
+use Rattle.mesh_marks.proofs.mark_met.Statement.{statement}
+use Rattle.mesh_marks.proofs.mark_met.Tie as tie
 
 abbrev Inv-loop : tie.InvT-loop
 Inv-loop boxes row six count marks₀ own q₀ marks q = (q ≤ count) × Marking (boxAt boxes row) six marks₀ marks q

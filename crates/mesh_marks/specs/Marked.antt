@@ -1,12 +1,11 @@
--- The boxes of a run's places, spread over six rows of 256 numbers each, and the marks of those that a row's box meets.
+-- The boxes of some places, spread over six rows of 256 numbers each, and the marks of those that a box meets.
 use Prim.Native.Nat.{ℕ, _+_, _*_, _≤_, _<_}
-use mathlib.Core.Bool.{Bool, true, false, _&&_, and-true, and-false}
+use mathlib.Core.Bool.{Bool, false}
 use mathlib.Core.List.{List}
 use mathlib.Core.Logic.{_≢_, ⊎-elim}
-use mathlib.Core.Path.{_≡_, refl, sym, ap, _∙_}
+use mathlib.Core.Path.{_≡_, refl, ap, _∙_}
 use native.Mathlib.Nat.{not-suc-le-zero}
 use native.Mathlib.Omega.{arith}
-use lib.Dec.{leb}
 use lib.IntN.{ℤ, pos}
 use lib.ListN.{length, getD, set, length-set}
 use lib.Seq.{getD-set-same, getD-set-other}
@@ -14,7 +13,6 @@ use Rattle.sequences.specs.Range.{le-or-lt}
 use Rattle.meaning.specs.Boxes.{Span}
 use Rattle.meaning.specs.StoredBoxes.{Box, boxAt}
 use Rattle.list_boxes.specs.Kept.{meetBoxes}
-use Rattle.mesh_runs.specs.Runs.{goesWith}
 
 -- ---- a spread box: the row of the x lows, then the y lows, the z lows, and the highs likewise
 
@@ -157,15 +155,3 @@ pub marked-for : {l : List ℤ} {base row : ℕ} {ps : List ℕ} {count : ℕ} {
     → Marked (boxAt l row) s count ms → MarkedFor l base row ps count ms
 marked-for {l} {base} {row} so marked =
     record { at = λ c h. marked .at c h ∙ ap (λ (b : Box). meetBoxes (boxAt l row) b) (so .at c h) }
-
--- a mark tells whether a place goes with the row, where the row has begun
-module _ {l : List ℤ} {base row : ℕ} {ps : List ℕ} {count : ℕ} {ms : List Bool} (so : MarkedFor l base row ps count ms) (from c j : ℕ) (h : c < count)
-    (read : j ≡ getD ps c 0) where
-  mark-tells : getD ms c false ≡ meetBoxes (boxAt l row) (boxAt l (base + j))
-  mark-tells = so .at c h ∙ ap (λ (k : ℕ). meetBoxes (boxAt l row) (boxAt l (base + k))) (sym read)
-
-  pub marked-goes : getD ms c false ≡ true → leb from j ≡ goesWith l base row from j
-  marked-goes e = sym (and-true (leb from j)) ∙ ap (λ (m : Bool). leb from j && m) (sym e ∙ mark-tells)
-
-  pub unmarked-stops : getD ms c false ≡ false → false ≡ goesWith l base row from j
-  unmarked-stops e = sym (and-false (leb from j)) ∙ ap (λ (m : Bool). leb from j && m) (sym e ∙ mark-tells)
