@@ -58,10 +58,10 @@ module _ (s : List ℤ) (q : ℕ) (b : Box) (low : q < 256) where
   abbrev second : List ℤ
   second = withSpread first (q + 256) (b .y)
 
-  as-length : length (spreadAs s q b) ≡ length s
+  pub as-length : length (spreadAs s q b) ≡ length s
   as-length = spread-length second (q + 512) (b .z) ∙ spread-length first (q + 256) (b .y) ∙ spread-length s q (b .x)
 
-  box-here : 1536 ≤ length s → spreadBox (spreadAs s q b) q ≡ b
+  pub box-here : 1536 ≤ length s → spreadBox (spreadAs s q b) q ≡ b
   box-here room =
       let x : spreadSpan (spreadAs s q b) q ≡ b .x =
       span-kept second (q + 512) (b .z) q (omega arith) (omega arith) (omega arith)
@@ -80,7 +80,7 @@ module _ (s : List ℤ) (q : ℕ) (b : Box) (low : q < 256) where
       ∙ span-kept first (q + 256) (b .y) r v (omega arith) h
       ∙ span-kept s q (b .x) r u (omega arith) h
 
-  box-kept : (r : ℕ) → r < q → spreadBox (spreadAs s q b) r ≡ spreadBox s r
+  pub box-kept : (r : ℕ) → r < q → spreadBox (spreadAs s q b) r ≡ spreadBox s r
   box-kept r h =
       let x = one-kept r (omega arith) (omega arith) (omega arith) (omega arith) in
       let y = one-kept (r + 256) (omega arith) (omega arith) (omega arith) (omega arith) in

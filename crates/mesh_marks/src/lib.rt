@@ -49,7 +49,7 @@ fn spread_span(boxes: &[i32], i: usize, six: &mut [i32], q: usize)
 }
 
 // One box, spread over the six rows.
-fn spread_box(boxes: &[i32], k: usize, six: &mut [i32], q: usize)
+pub fn spread_box(boxes: &[i32], k: usize, six: &mut [i32], q: usize)
     requires { ⌜ (6 * k + 5 < length (now boxes)) × (q < 256) × (1536 ≤ length (now six)) ⌝ }
     ensures { λ _. ⌜ atExit six ≡ spreadAs (atEntry six) q (boxAt (atEntry boxes) k) ⌝ }
 {

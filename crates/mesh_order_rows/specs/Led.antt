@@ -44,7 +44,7 @@ unfoldable pub secondBox : Scene → Kind → ℕ → Box
 secondBox s PointTriangle j = triangleBox s j
 secondBox s EdgeEdge j = edgeBox s j
 
-boxes-meet : (s : Scene) (kind : Kind) (i j : ℕ) → meetBoxes (firstBox s kind i) (secondBox s kind j) ≡ boxesMeet s kind i j
+pub boxes-meet : (s : Scene) (kind : Kind) (i j : ℕ) → meetBoxes (firstBox s kind i) (secondBox s kind j) ≡ boxesMeet s kind i j
 unfolding firstBox secondBox meetOn
 boxes-meet s PointTriangle i j = refl
 boxes-meet s EdgeEdge i j = refl
@@ -115,7 +115,7 @@ module _ {s : Scene} {kind : Kind} {l : List ℤ} {t : List ℕ} {parts top : �
   vertex-box : (v : ℕ) → v < vertexCount s → boxAt l v ≡ vertexBox s v
   vertex-box v h = rw zero-add at (so .vertices .at v h)
 
-  own-box : (kind : Kind) → i < firstCount s kind → jointBox (boxAt l (vertexOf (s .edges) kind i 0)) (boxAt l (vertexOf (s .edges) kind i 1)) ≡ firstBox s kind i
+  pub own-box : (kind : Kind) → i < firstCount s kind → jointBox (boxAt l (vertexOf (s .edges) kind i 0)) (boxAt l (vertexOf (s .edges) kind i 1)) ≡ firstBox s kind i
   unfolding firstCount vertexOf firstBox
   own-box PointTriangle h = box-itself (boxAt l i) ∙ vertex-box i h
   own-box EdgeEdge h =

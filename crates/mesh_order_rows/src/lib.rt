@@ -45,7 +45,7 @@ fn copy_span(boxes: &[i32], i: usize, own: &mut [i32], to: usize)
 }
 
 // A box of one list, stored under a number of another.
-fn copy_box(boxes: &[i32], v: usize, own: &mut [i32], to: usize)
+pub fn copy_box(boxes: &[i32], v: usize, own: &mut [i32], to: usize)
     requires { ⌜ (6 * v + 5 < length (now boxes)) × (6 * to + 5 < length (now own)) ⌝ }
     ensures { λ _. ⌜ BoxStored (atEntry own) to (boxAt (atEntry boxes) v) (atExit own) ⌝ }
 {
@@ -57,7 +57,7 @@ fn copy_box(boxes: &[i32], v: usize, own: &mut [i32], to: usize)
 }
 
 // Of a first part: the vertex itself, or an end of the edge.
-fn vertex_of(edges: &[u32], kind: Kind, i: usize, k: usize) -> usize
+pub fn vertex_of(edges: &[u32], kind: Kind, i: usize, k: usize) -> usize
     requires { ⌜ (kind ≡ EdgeEdge → i < edgeCount (onlyEdges (now edges))) × (k < 2) ⌝ }
     ensures { λ r. ⌜ r ≡ vertexOf (atEntry edges) kind i k ⌝ }
 {

@@ -1,3 +1,2 @@
--- Rows by whatever order is lent: the entries that second places give, and what the rows of a kind go by.
-pub mod Put
+-- Rows by whatever order is lent: what the rows of a kind go by.
 pub mod Either

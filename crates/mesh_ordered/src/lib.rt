@@ -1,10 +1,9 @@
-// The rows of a mesh, whatever orders are lent: those of a kind go run by run over a tree whose parts stand by their numbers, and one by one over a tree whose
-// parts stand in a lent order. The rows are the same by either way.
+// The rows of a mesh, whatever orders are lent: those of a kind go run by run, over a tree whose parts stand by their numbers, or over one whose parts stand
+// in a lent order. The rows are the same by either way.
 
-ghost use Prim.Native.Nat.{ℕ, _+_, _*_, _-_, _≤_, _<_};
-ghost use mathlib.Core.List.{map};
+ghost use Prim.Native.Nat.{_+_, _*_, _-_, _≤_, _<_};
 ghost use mathlib.Core.Logic.{_≢_};
-ghost use lib.ListN.{length, getD, take};
+ghost use lib.ListN.{length};
 ghost use Rattle.sequences.specs.Gather.{gather};
 ghost use Rattle.sequences.specs.Lent.{atEntry, atExit};
 ghost use Rattle.meaning.specs.MeshRows.{rowCount, meshRow, rowsIn, meshEntries};
@@ -12,13 +11,13 @@ ghost use Rattle.scene_seams.specs.Alone.{tabledIn, tabledAtEntry};
 ghost use Rattle.list_candidates.specs.Rows.{firstCount};
 ghost use Rattle.mesh_trees.specs.Forest.{Forest};
 ghost use Rattle.mesh_entries.specs.Entering.{Entered};
-ghost use Rattle.mesh_rows.specs.Rows.{partRow, entryOf, SecondsPut};
+ghost use Rattle.mesh_rows.specs.Rows.{partRow, SecondsPut};
 ghost use Rattle.mesh_runs.specs.Runs.{kindEntries};
 ghost use Rattle.mesh_order_rows.specs.Led.{LedTree};
 ghost use Rattle.mesh_ordered.specs.Either.{EitherTree, OrdersLent, OrdersRoomed};
 use meaning::Kind;
 use meaning::RowPairs;
-use mesh_entries::put_below;
+use mesh_led_runs::walk_led_runs;
 use mesh_order_rows::order_places;
 use mesh_parts::edge_count;
 use mesh_parts::triangle_count;
@@ -27,7 +26,6 @@ use mesh_runs::behind;
 use mesh_runs::first_second;
 use mesh_runs::kinds_meet;
 use mesh_runs::walk_kind;
-use mesh_seams::wide;
 use scene_parts::vertex_count;
 
 // The places that there is room for in a run of rows, the numbers of the boxes that are spread for it, and their marks.
@@ -37,32 +35,7 @@ const RUN_SIX: usize = 1536;
 
 const RUN_MARKS: usize = 256;
 
-// The entries of a row, whose second places stand in front of a list.
-fn enter_places(
-    kind: Kind,
-    i: usize,
-    places: &[u32],
-    count: usize,
-    list: &mut [u64],
-    most: usize,
-    at: usize,
-) -> usize
-    requires { ⌜ (count ≤ length (now places)) × (count ≤ 1073741824) × (i < 1073741824)
-        × ((c : ℕ) → c < count → getD (now places) c 0 < 1073741824) ⌝ }
-    requires { ⌜ (most ≤ length (now list)) × (at < 4611686018427387904) ⌝ }
-    ensures { λ r. ⌜ Entered most (atEntry list) at (map (entryOf kind i) (take count (atEntry places))) (atExit list) r ⌝ }
-{
-    let mut k = at;
-    let mut c = 0;
-    while c < count {
-        put_below(list, most, k, kind, i, wide(places[c]));
-        k += 1;
-        c += 1;
-    }
-    k
-}
-
-// The rows of a kind from one up to another by a lent order, one by one.
+// The rows of a kind from one up to another by a lent order.
 fn walk_led(
     positions: &[i32],
     edges: &[u32],
@@ -89,31 +62,32 @@ fn walk_led(
     ensures { λ r. ⌜ Entered most (atEntry list) at
         (gather (kindEntries which (tabledAtEntry positions edges triangles stands) kind) first end) (atExit list) r ⌝ }
 {
-    let mut k = at;
-    let mut i = first;
-    while i < end {
-        let count = order_places(
-            positions,
-            edges,
-            triangles,
-            stands,
-            boxes,
-            levels,
-            parts,
-            top,
-            which,
-            kind,
-            i,
-            order,
-            places,
-        );
-        k = enter_places(kind, i, places, count, list, most, k);
-        i += 1;
-    }
-    k
+    let mut six = [0i32; RUN_SIX];
+    let mut marks = [false; RUN_MARKS];
+    walk_led_runs(
+        positions,
+        edges,
+        triangles,
+        stands,
+        boxes,
+        levels,
+        parts,
+        top,
+        which,
+        kind,
+        order,
+        first,
+        end,
+        places,
+        &mut six,
+        &mut marks,
+        list,
+        most,
+        at,
+    )
 }
 
-// The rows of a kind from one up to another, by the order that is lent, or run by run where it is empty. Where there is no row no room is made.
+// The rows of a kind from one up to another, by the order that is lent, or by their numbers where it is empty. Where there is no row no room is made.
 fn walk_either(
     positions: &[i32],
     edges: &[u32],

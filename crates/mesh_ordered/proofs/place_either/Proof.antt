@@ -5,7 +5,7 @@ use Prim.Native.Nat.{ℕ, _+_}
 use mathlib.Core.Path.{sym, subst}
 use Rattle.scene_seams.specs.Alone.{tabled}
 use Rattle.mesh_rows.specs.Rows.{RowTree, partRow}
-use Rattle.mesh_ordered.specs.Put.{put-there}
+use Rattle.mesh_led_runs.specs.Put.{put-there}
 use Rattle.mesh_ordered.proofs.place_either.Statement.{statement}
 use Rattle.mesh_ordered.proofs.place_either.Tie as tie
 

@@ -5,7 +5,7 @@ use Rattle.meaning.specs.declared.Kind.the-variants.{PointTriangle}
 use Rattle.scene_seams.specs.Alone.{tabled}
 use Rattle.mesh_entries.specs.Entering.{entered-length}
 use Rattle.mesh_runs.specs.Stretch.{vertices-fit, edges-fit, stretch-entered}
-use Rattle.mesh_ordered.specs.Put.{kind-most}
+use Rattle.mesh_led_runs.specs.Put.{kind-most}
 use Rattle.mesh_ordered.specs.Either.{vertex-either, edge-either, triangle-sorting, edge-sorting}
 use Rattle.mesh_ordered.proofs.walk_rows.Statement.{statement}
 use Rattle.mesh_ordered.proofs.walk_rows.Tie as tie

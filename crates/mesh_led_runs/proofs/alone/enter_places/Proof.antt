@@ -8,9 +8,9 @@ use denote.Ref.{now}
 use lib.ListN.{take}
 use Rattle.mesh_entries.specs.Entering.{Entered, entered-length}
 use Rattle.mesh_rows.specs.Rows.{entryOf}
-use Rattle.mesh_ordered.specs.Put.{places-none, places-next, places-count}
-use Rattle.mesh_ordered.proofs.enter_places.Statement.{statement}
-use Rattle.mesh_ordered.proofs.enter_places.Tie as tie
+use Rattle.mesh_led_runs.specs.Put.{places-none, places-next, places-count}
+use Rattle.mesh_led_runs.proofs.alone.enter_places.Statement.{statement}
+use Rattle.mesh_led_runs.proofs.alone.enter_places.Tie as tie
 
 abbrev Inv-loop : tie.InvT-loop
 Inv-loop kind i places count list₀ most at k₀ c₀ list k c =
