@@ -33,7 +33,7 @@ const LEVEL_NUMBERS: usize = 34;
 // The pairs that there is room for in a block of rows; and cloth is thin, or thick, where a row has fewer than these, or not fewer.
 const BLOCK_PAIRS: usize = 4096;
 
-const THIN: usize = 16;
+const THIN: usize = 32;
 
 const THICK: usize = 256;
 

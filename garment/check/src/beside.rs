@@ -134,9 +134,9 @@ impl Lent {
     }
 }
 
-/// How many pairs there are, and the seconds of finding them by the grid, by all rows with the orders that are lent, and without them: in turns, of each way
-/// the shortest of so many rounds, but for the last, which takes long and is gone once.
-pub fn in_order(mesh: &Mesh, lent: &makhnodri::Mesh, rounds: usize) -> (u64, [f64; 3]) {
+/// How many pairs there are, and the seconds of finding them by the grid and by all rows with the orders that are lent: in turns, of each way the shortest of
+/// so many rounds. Then those without orders, which take long: once, and of small meshes alone.
+pub fn in_order(mesh: &Mesh, lent: &makhnodri::Mesh, rounds: usize, bare: bool) -> (u64, [f64; 2], Option<f64>) {
     let (mut best, mut count) = ([f64::MAX; 2], 0);
     let (mut scratch, mut list, rows) = (Scratch::default(), Vec::new(), 0..lent.row_count());
     let mut listed = |asked: &makhnodri::Mesh, count: usize| {
@@ -154,8 +154,8 @@ pub fn in_order(mesh: &Mesh, lent: &makhnodri::Mesh, rounds: usize) -> (u64, [f6
         });
         best = [best[0].min(grid), best[1].min(listed(lent, count))];
     }
-    let bare = listed(&lent.clone().ordered(&[], &[]), count);
-    (count as u64, [best[0], best[1], bare])
+    let bare = bare.then(|| listed(&lent.clone().ordered(&[], &[]), count));
+    (count as u64, best, bare)
 }
 
 fn timed<T>(seconds: &mut f64, work: impl FnOnce() -> T) -> T {

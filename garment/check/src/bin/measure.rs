@@ -15,7 +15,7 @@ use garment::report::Form;
 use garment::rounding::onto_grid;
 use garment::seams;
 use garment::work::all_cores;
-use garment_check::beside::{measured, Beside};
+use garment_check::beside::{in_order, measured, Beside};
 use garment_check::clocks::{run, taken, Run};
 use garment_check::cloth::{cloth, drape, obj as cloth_text, Kind as ClothKind, KINDS};
 use garment_check::former;
@@ -83,8 +83,9 @@ fn garments(size: usize) -> Vec<Garment> {
 /// Pairs of a stretch of rows, about, which is asked for in one call: each call begins with boxes and trees of the whole mesh, so there are few.
 const IN_A_CALL: u64 = 1 << 22;
 
-/// Rounds of parts in any order.
+/// Rounds of parts in any order, and up to how many vertices they are listed without an order too.
 const ORDER_ROUNDS: usize = 5;
+const BARE: usize = 20_000;
 
 /// Rounds end behind so many seconds.
 const LONG: f64 = 4.0;
@@ -154,9 +155,10 @@ fn in_any_order(sizes: &[usize]) {
                 );
                 continue;
             }
-            let (listed, [grid, order, none]) = garment_check::beside::in_order(&mesh, judge.lent(), ORDER_ROUNDS);
+            let (listed, [grid, order], none) = in_order(&mesh, judge.lent(), ORDER_ROUNDS, size <= BARE);
             let name = format!("{} {size}", kind.name);
-            println!("  {name:<16}{listed:>12}{grid:>10.2}{order:>10.2}{none:>10.2}{:>10.2}{:>10.2}", order / grid, none / grid);
+            let [none, over] = none.map_or(["-".into(), "-".into()], |none| [none, none / grid].map(|n| format!("{n:.2}")));
+            println!("  {name:<16}{listed:>12}{grid:>10.3}{order:>10.3}{none:>10}{:>10.2}{over:>10}", order / grid);
         }
     }
 }
