@@ -17,6 +17,8 @@ pub enum Wrong {
     JoinsStored,
     /// a move works out the parts of the vertex stood for
     BySeam,
+    /// a move works out an edge's box from its first end alone
+    OneEnd,
     /// a box has its highs first
     HighsFirst,
     /// 17 is asked after 7
@@ -27,8 +29,15 @@ pub enum Wrong {
     LooksBehind,
 }
 
-pub const WRONG: [Wrong; 6] =
-    [Wrong::JoinsStored, Wrong::BySeam, Wrong::HighsFirst, Wrong::SeventeenLast, Wrong::ListedOnly, Wrong::LooksBehind];
+pub const WRONG: [Wrong; 7] = [
+    Wrong::JoinsStored,
+    Wrong::BySeam,
+    Wrong::OneEnd,
+    Wrong::HighsFirst,
+    Wrong::SeventeenLast,
+    Wrong::ListedOnly,
+    Wrong::LooksBehind,
+];
 
 /// The vertices of every part, in the order of the boxes: vertices, then edges, then triangles.
 pub fn parts(scene: &Scene) -> Vec<Vec<usize>> {
@@ -100,6 +109,8 @@ pub fn moved(lent: Slices, stored: &[i64], vertex: u64, to: [i64; 6], wrong: Wro
                     of.max().unwrap()
                 }
             })
+        } else if wrong == Wrong::OneEnd && part.len() == 2 {
+            box_of(&scene, &part[..1])
         } else {
             box_of(&scene, part)
         };

@@ -14,9 +14,14 @@ fn extent(scene: &Scene, vertices: &[usize], axis: usize) -> (i64, i64) {
 }
 
 pub fn boxes_meet(scene: &Scene, pair: Pair) -> bool {
+    boxes_meet_on(scene, pair, [(0, 0), (1, 1), (2, 2)])
+}
+
+/// On each axis of the first part, with this one of the second.
+pub fn boxes_meet_on(scene: &Scene, pair: Pair, axes: [(usize, usize); 3]) -> bool {
     let (first, second) = pair.parts(scene);
-    (0..3).all(|axis| {
-        let (a, b) = (extent(scene, first, axis), extent(scene, second, axis));
+    axes.into_iter().all(|(one, other)| {
+        let (a, b) = (extent(scene, first, one), extent(scene, second, other));
         a.0 <= b.1 && b.0 <= a.1
     })
 }

@@ -103,7 +103,7 @@ impl Answering {
             sort_by_orders(scene, &mut pairs, &ask.lent);
         }
         let words: Vec<Settled> = match ask.call.settles() {
-            true => pairs.iter().map(|&pair| self.word(scene, pair)).collect(),
+            true => pairs.iter().map(|&pair| self.word(scene, judged(scene, pair, wrong))).collect(),
             false => vec![],
         };
         let kept: Vec<usize> = (0..pairs.len()).filter(|&at| !ask.call.keeps() || wants(wanted, words[at], wrong)).collect();
@@ -120,7 +120,12 @@ impl Answering {
             for (place, &at) in kept.iter().enumerate() {
                 let row = self.contact(scene, pairs[at]).map(|contact| contact.row());
                 let row = if wrong == Wrong::RowsOfMisses { Some(row.unwrap_or_default()) } else { row };
-                found.rows.extend(row.map(|row| (if wrong == Wrong::RowsInPlace { at } else { place }, row)));
+                let place = match wrong {
+                    Wrong::RowsInPlace => at,
+                    Wrong::RowsInOne => 0,
+                    _ => place,
+                };
+                found.rows.extend(row.map(|row| (place, row)));
             }
         }
         if wrong == Wrong::TotalsOfTheKept && ask.call.keeps() {
@@ -135,7 +140,7 @@ impl Answering {
     }
 
     fn listed(&mut self, scene: &Scene, wrong: Wrong) -> Vec<Pair> {
-        if wrong == Wrong::SeamsUnseen {
+        if [Wrong::SeamsUnseen, Wrong::SharingUnseen, Wrong::AxisForAnother].contains(&wrong) {
             return rows::listed(scene, wrong);
         }
         self.listed.get_or_insert_with(|| rows::listed(scene, wrong)).clone()
@@ -154,6 +159,16 @@ impl Answering {
         if self.scene != *scene {
             *self = Answering { scene: scene.clone(), ..Answering::default() };
         }
+    }
+}
+
+/// The pair whose word is asked for: it, or, of a program that exchanges its places, the other one where there is one.
+fn judged(scene: &Scene, pair: Pair, wrong: Wrong) -> Pair {
+    let other = Pair { first: pair.second, second: pair.first, ..pair };
+    let there = pair.kind == Kind::PointTriangle && other.first < scene.vertices.len() && other.second < scene.triangles.len();
+    match wrong {
+        Wrong::WordsExchanged if there => other,
+        _ => pair,
     }
 }
 

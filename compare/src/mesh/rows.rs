@@ -4,7 +4,7 @@ use super::lent::{RowPairs, Time};
 use super::wrong::Wrong;
 use crate::list::listing;
 use crate::numbers::equations::{meet, Point, Solutions};
-use crate::scene::{Kind, Pair, Scene};
+use crate::scene::{all_pairs, Kind, Pair, Scene};
 
 /// Start x y z, or end x y z.
 fn stands_at(scene: &Scene, time: Time, vertex: usize) -> [i64; 3] {
@@ -21,15 +21,19 @@ fn extent_at(scene: &Scene, time: Time, vertices: &[usize], axis: usize) -> (i64
     (values.clone().min().expect("a part has vertices"), values.max().expect("a part has vertices"))
 }
 
-/// On one axis one part lies strictly below the other at the start and at the end, the same one.
-fn far_on(scene: &Scene, pair: Pair, axis: usize, wrong: Wrong) -> bool {
+/// On one axis, whether the first part lies strictly below the second at the start and at the end; and whether the second does so.
+fn below_on(scene: &Scene, pair: Pair, axis: usize, wrong: Wrong) -> [[bool; 2]; 2] {
     let (first, second) = pair.parts(scene);
     let below = |time: Time, low: &[usize], high: &[usize]| {
         let (top, bottom) = (extent_at(scene, time, low, axis).1, extent_at(scene, time, high, axis).0);
         top < bottom || wrong == Wrong::FarWhereEqual && top == bottom
     };
-    let [first_below, second_below] =
-        [(first, second), (second, first)].map(|(low, high)| [Time::Start, Time::End].map(|time| below(time, low, high)));
+    [(first, second), (second, first)].map(|(low, high)| [Time::Start, Time::End].map(|time| below(time, low, high)))
+}
+
+/// On one axis one part lies strictly below the other at the start and at the end, the same one.
+fn far_on(scene: &Scene, pair: Pair, axis: usize, wrong: Wrong) -> bool {
+    let [first_below, second_below] = below_on(scene, pair, axis, wrong);
     let at = |time: usize| first_below[time] || second_below[time];
     match wrong {
         Wrong::FarOnEitherSide => at(0) && at(1),
@@ -42,6 +46,10 @@ fn far_on(scene: &Scene, pair: Pair, axis: usize, wrong: Wrong) -> bool {
 pub fn is_far(scene: &Scene, pair: Pair, wrong: Wrong) -> bool {
     match wrong {
         Wrong::FarOnEveryAxis => (0..3).all(|axis| far_on(scene, pair, axis, wrong)),
+        Wrong::FarOnTwoAxes => (0..2).any(|part| {
+            let at = |time: usize| (0..3).any(|axis| below_on(scene, pair, axis, wrong)[part][time]);
+            at(0) && at(1)
+        }),
         _ => (0..3).any(|axis| far_on(scene, pair, axis, wrong)),
     }
 }
@@ -74,6 +82,7 @@ pub fn rows_in(scene: &Scene, listed: &[Pair], which: RowPairs, [first, end]: [u
     let mut out: Vec<Pair> = listed.iter().copied().filter(|&pair| (first..end).contains(&row(pair)) && near(pair)).collect();
     match wrong {
         Wrong::VerticesOnly => out.retain(|pair| pair.kind == Kind::PointTriangle),
+        Wrong::NextEdgeSkipped => out.retain(|pair| pair.kind == Kind::PointTriangle || pair.second != pair.first + 1),
         Wrong::EdgesBothWays => {
             let turned = listed.iter().filter(|pair| pair.kind == Kind::EdgeEdge).map(|pair| Pair::ee(pair.second, pair.first));
             out.extend(turned.filter(|&pair| (first..end).contains(&row(pair)) && near(pair)));
@@ -86,8 +95,14 @@ pub fn rows_in(scene: &Scene, listed: &[Pair], which: RowPairs, [first, end]: [u
 
 /// All listed pairs; `unsewn` is how a program lists that does not see seams.
 pub fn listed(scene: &Scene, wrong: Wrong) -> Vec<Pair> {
+    let those =
+        |is_listed: fn(&Scene, Pair) -> bool| all_pairs(scene).into_iter().filter(|&pair| is_listed(scene, pair)).collect();
     match wrong {
         Wrong::SeamsUnseen => listing::listed(&scene.unsewn()),
+        Wrong::SharingUnseen => those(listing::boxes_meet),
+        Wrong::AxisForAnother => {
+            those(|scene, pair| listing::boxes_meet_on(scene, pair, [(0, 0), (1, 2), (2, 2)]) && !pair.shares_a_vertex(scene))
+        }
         _ => listing::listed(scene),
     }
 }

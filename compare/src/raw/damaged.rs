@@ -84,7 +84,13 @@ fn saving() -> Vec<Damage> {
             lent.seams.clear();
             text(lent)
         }),
+        saved_as("seams saved before the triangles", move |lent| {
+            let text = text(lent);
+            let of = |records: &str| text.split_inclusive('\n').filter(|line| records.contains(&line[..1])).collect::<String>();
+            of("ve") + &of("w") + &of("t")
+        }),
         saved_as("a minus lost", move |lent| text(lent).replace('-', "")),
+        saved_as("a plus where a minus stands", move |lent| text(lent).replace('-', "+")),
         saved_as("a last line without LF", move |lent| text(lent).trim_end_matches('\n').into()),
         damage("7 before 8 of a text that is saved", |question, answer| {
             let text = expected::scene(&question.lent).map(|scene| crate::text::write(&scene).len());
@@ -198,6 +204,13 @@ fn importing() -> Vec<Damage> {
                 answer.buffers[BOXES] = question.lent.bytes()[BOXES].clone();
             }
         }),
+        damage("an import fills in the boxes of one edge less", move |question, answer| {
+            let [vertices, edges, _] = parts(answer);
+            if imports(question, answer) && edges > 0 {
+                let last = MARGIN + 24 * (vertices + edges - 1);
+                answer.buffers[BOXES][last..last + 24].copy_from_slice(&question.lent.bytes()[BOXES][last..last + 24]);
+            }
+        }),
         damage("an import clears what is behind the boxes", move |question, answer| {
             if imports(question, answer) {
                 let [vertices, edges, triangles] = parts(answer);
@@ -276,6 +289,15 @@ fn own_lists() -> Vec<Damage> {
             let edges = question.lent.list.iter().position(|&entry| entry >> 20 == 1);
             if let (true, 0, Some(place)) = (question.call.takes_a_list(), answer.refusal(), edges) {
                 *answer = refused_with(question, SHARES_A_VERTEX, place as u64 + 1);
+            }
+        }),
+        damage("the upper bits of an entry are not looked at", |question, answer| {
+            if question.call.takes_a_list() && question.lent.list.iter().any(|entry| entry >> 21 > 0) {
+                let mut other = question.clone();
+                other.lent.list.iter_mut().for_each(|entry| *entry %= 1 << 21);
+                let given = Expecting::default().answer(&other);
+                answer.number = given.number;
+                answer.buffers[WORDS] = given.buffers[WORDS].clone();
             }
         }),
         damage("an entry at fault told without its number", move |question, answer| {
@@ -645,6 +667,7 @@ fn words() -> Vec<Damage> {
         }
     }
     out.push(renamed("touch is 2", 3, 2, |call| matches!(call, Call::Settle(_))));
+    out.push(renamed("pierced told as clear", 1, 0, |call| matches!(call, Call::Pierced(_))));
     out.push(damage("a pair that is not listed is a miss", |question, answer| {
         let Some(asked) = question.call.asked().filter(|_| answer.refusal() == 0) else { return };
         let scene = expected::scene(&question.lent).unwrap();

@@ -26,6 +26,13 @@ fn reading() -> Vec<Damage> {
                 answer.buffers[BOXES] = question.lent.bytes()[BOXES].clone();
             }
         }),
+        damage("boxes of one edge less than was read", move |question, answer| {
+            if let (true, Ok(scene)) = (read(question, answer), crate::text::read(&question.lent.text)) {
+                if !scene.edges.is_empty() {
+                    keep(question, answer, BOXES, 6 * (scene.vertices.len() + scene.edges.len() - 1), 6);
+                }
+            }
+        }),
         damage("zeros behind the boxes of a text", move |question, answer| {
             if read(question, answer) {
                 let length = question.lent.boxes.len();

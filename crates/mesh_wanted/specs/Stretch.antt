@@ -21,7 +21,7 @@ use Rattle.mesh_words.specs.Asked.{meshPairsIn, entered-pairs, entered-there}
 use Rattle.mesh_words.specs.OfRows.{rows-entered, there-within}
 use Rattle.mesh_trees.specs.Forest.{Forest}
 use Rattle.mesh_rows.specs.Rows.{partRow, SecondsPut, vertex-row-of, edge-row-of}
-use Rattle.mesh_ordered.specs.Put.{put-fits}
+use Rattle.mesh_led_runs.specs.Put.{put-fits}
 use Rattle.mesh_keep.specs.Keeping.{KeptBy, kept-none, kept-then, kept-as, kept-bound}
 use Rattle.mesh_keep.specs.Entries.{EntriesOf}
 use Rattle.mesh_keep.specs.OfRows.{RowOf, pairsOf, row-of, row-pairs, row-short, rows-next, rows-none}

@@ -23,6 +23,12 @@ pub fn mistakes() -> Vec<Mistake> {
                 _ => refusal,
             })
         }),
+        reading("triangle-below-a-seam", "a t line below a w line taken", |text| match text::read(text) {
+            Err(refusal) if refusal.number == OUT_OF_ORDER && line(text, refusal.third).starts_with(b"t") => {
+                text::read(&seams_last(text))
+            }
+            scene => scene,
+        }),
         reading("room-first", "7 given where a line is faulty, for the lines that are not", |text| {
             let scene = text::read(text);
             if scene.as_ref().is_err_and(|refusal| refusal.number != TEXT_TOO_LONG) {
@@ -79,6 +85,18 @@ fn last_faulty_line(text: &[u8]) -> Result<Scene, Refusal> {
         }
         _ => scene,
     }
+}
+
+/// A line by its number, from 1.
+fn line(text: &[u8], number: u64) -> &[u8] {
+    text.split(|&byte| byte == b'\n').nth(number as usize - 1).unwrap_or_default()
+}
+
+/// The lines of seams behind the others.
+fn seams_last(text: &[u8]) -> Vec<u8> {
+    let lines = || text.split_inclusive(|&byte| byte == b'\n');
+    let (seams, others) = (lines().filter(|line| line.starts_with(b"w")), lines().filter(|line| !line.starts_with(b"w")));
+    others.chain(seams).flatten().copied().collect()
 }
 
 /// One check before another, in a line or in the whole text.

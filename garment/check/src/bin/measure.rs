@@ -80,8 +80,8 @@ fn garments(size: usize) -> Vec<Garment> {
     KINDS.into_iter().map(of_kind).chain([falling]).collect()
 }
 
-/// Pairs of a stretch of rows, about, which is asked for in one call.
-const IN_A_CALL: u64 = 1 << 20;
+/// Pairs of a stretch of rows, about, which is asked for in one call: each call begins with boxes and trees of the whole mesh, so there are few.
+const IN_A_CALL: u64 = 1 << 22;
 
 /// Rounds of parts in any order.
 const ORDER_ROUNDS: usize = 5;
