@@ -1,7 +1,8 @@
 -- An answer is determined by what it says: a refusal by its number, so that one right answer is one result.
-use Prim.Native.Nat.{ℕ, pred}
+use Prim.Native.Nat.{ℕ, pred, _≤_, _<_}
 use mathlib.Core.List.{[], _∷_}
 use mathlib.Core.Path.{_≡_, refl, sym, _∙_, ap}
+use native.Mathlib.Omega.{arith}
 use lib.ListN.{getD}
 use Rattle.meaning.specs.Scene.{Scene}
 use Rattle.meaning.specs.Refusals.{numberOf, sceneSays, pairSays, sceneChecks, SceneChecked}
@@ -71,6 +72,32 @@ settled-says-one (SettledAnswers.the-variants.Decided v) (SettledAnswers.the-var
 settled-says-one (SettledAnswers.the-variants.Refused x) (SettledAnswers.the-variants.Decided w) e = cc
 settled-says-one (SettledAnswers.the-variants.Refused x) (SettledAnswers.the-variants.Refused y) e =
     ap SettledAnswers.the-variants.Refused (one-number x y (cc))
+
+-- a number of the table, of which the largest stands here
+pub record InTable (n : ℕ) : Type 0 where
+  pub some : 0 < n
+  pub few : n ≤ 18
+
+pub number-in-table : (x : Refusal) → InTable (numberOf x)
+unfolding numberOf
+number-in-table Shape = record { some = omega arith; few = omega arith }
+number-in-table Coordinate = record { some = omega arith; few = omega arith }
+number-in-table UnknownVertex = record { some = omega arith; few = omega arith }
+number-in-table RepeatedVertex = record { some = omega arith; few = omega arith }
+number-in-table NotThere = record { some = omega arith; few = omega arith }
+number-in-table SharedVertex = record { some = omega arith; few = omega arith }
+number-in-table NoRoom = record { some = omega arith; few = omega arith }
+number-in-table LongText = record { some = omega arith; few = omega arith }
+number-in-table BadLine = record { some = omega arith; few = omega arith }
+number-in-table LateRecord = record { some = omega arith; few = omega arith }
+number-in-table TooMany = record { some = omega arith; few = omega arith }
+number-in-table ShortBuffer = record { some = omega arith; few = omega arith }
+number-in-table BlockLength = record { some = omega arith; few = omega arith }
+number-in-table FilesDiffer = record { some = omega arith; few = omega arith }
+number-in-table BrokenSeam = record { some = omega arith; few = omega arith }
+number-in-table BeyondOldRange = record { some = omega arith; few = omega arith }
+number-in-table StaleBox = record { some = omega arith; few = omega arith }
+number-in-table WrongOrder = record { some = omega arith; few = omega arith }
 
 -- the check of a scene has one right answer
 pub one-scene-answer : (s : Scene) (r r′ : SceneAnswer) → SceneChecked s r → SceneChecked s r′ → r ≡ r′

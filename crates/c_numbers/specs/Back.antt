@@ -41,7 +41,8 @@ use Rattle.answers.specs.Speaking.{settled-says-one}
 use Rattle.text_scene.specs.Using.{text-says-one}
 use Rattle.meaning.specs.Numbers.{upper, numberFor, verdictNumber, sceneNumber, pairNumber, settledNumber, listNumber, textNumber, countsLeft}
 use Rattle.meaning.specs.Numbers.{wordNumber, contactNumber, rowAfter}
-use Rattle.c_numbers.specs.Small.{toldIn, lineIn, number-in-table}
+use Rattle.answers.specs.Speaking.{number-in-table}
+use Rattle.c_numbers.specs.Small.{toldIn, lineIn}
 
 -- what is heard in a number, where a value is known by its own number
 unfoldable pub heard : {A : Type 0} → (ℕ → A) → ℕ → Outcome A

@@ -14,7 +14,7 @@ use Rattle.meaning.specs.declared.WhichFile.the-variants.{Start, End}
 use Rattle.meaning.specs.declared.ImportAnswer.{ImportAnswer}
 use Rattle.meaning.specs.declared.ImportAnswer.the-variants.{Read, Refused, RefusedIn}
 use Rattle.meaning.specs.Numbers.{upper}
-use Rattle.c_numbers.specs.Small.{number-in-table}
+use Rattle.answers.specs.Speaking.{number-in-table}
 use Rattle.c_numbers.specs.Back.{countsIn}
 use Rattle.c_numbers.specs.ImportNumbers.{lineLimit, importLine}
 use Rattle.meaning.specs.ImportNumbers.{fileBit, importNumber, importCounts}

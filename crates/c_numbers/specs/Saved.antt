@@ -18,7 +18,8 @@ use Rattle.meaning.specs.declared.SaveAnswer.the-variants.{Bytes, Refused}
 use Rattle.saved_scene.specs.OneSave.{one-measured, one-saved}
 use Rattle.answers.specs.Deciding.{holds-or-not}
 use Rattle.meaning.specs.Numbers.{upper, numberFor, Numbered}
-use Rattle.c_numbers.specs.Small.{toldIn, number-in-table}
+use Rattle.answers.specs.Speaking.{number-in-table}
+use Rattle.c_numbers.specs.Small.{toldIn}
 use Rattle.c_numbers.specs.Back.{heard, count, Clear, heard-number}
 use Rattle.meaning.specs.Numbers.{savedNumber}
 

@@ -8,13 +8,11 @@ use lib.ListN.{length, length-append}
 use borrow.Author.Tests.{ltb-false}
 use Rattle.meaning.specs.Limits.{textLimit}
 use Rattle.meaning.specs.Scene.{Scene, Accepted}
-use Rattle.meaning.specs.Refusals.{Outcome, given, refused, Check, Answers, numberOf, sceneChecks, roomCheck}
+use Rattle.meaning.specs.Refusals.{Outcome, given, refused, Check, Answers, sceneChecks, roomCheck}
 use Rattle.meaning.specs.List.{pairs, roomOf, listSays, listChecks, Counted, Listing}
 use Rattle.meaning.specs.SceneWords.{SettledScene}
 use Rattle.meaning.specs.Text.{textOf, SceneFaultyAt, TextIs, shortBuffer, longText, TextOutcome, countsTold, textSays, TextRead}
 use Rattle.meaning.specs.WholeContacts.{rangeCheck, contactRoom, contactListChecks, ContactsListed}
-use Rattle.meaning.specs.declared.Refusal.{Refusal}
-use Rattle.meaning.specs.declared.Refusal.the-variants.{Shape, Coordinate, UnknownVertex, RepeatedVertex, NotThere, SharedVertex, NoRoom, LongText, BadLine, LateRecord, TooMany, ShortBuffer, BlockLength, FilesDiffer, BrokenSeam, BeyondOldRange, StaleBox, WrongOrder}
 use Rattle.meaning.specs.declared.ListAnswer.{ListAnswer}
 use Rattle.meaning.specs.declared.TextAnswer.{TextAnswer}
 use Rattle.answers.specs.Answering.{is-refused, is-past}
@@ -29,34 +27,6 @@ use Rattle.meaning.specs.Numbers.{upper}
 unfoldable pub toldIn : Outcome ℕ → ℕ
 toldIn (given n) = n
 toldIn (refused n c) = c
-
--- ---- a refusal
-
--- a number of the table
-pub record InTable (n : ℕ) : Type 0 where
-  pub some : 0 < n
-  pub few : n ≤ 18
-
-pub number-in-table : (x : Refusal) → InTable (numberOf x)
-unfolding numberOf
-number-in-table Shape = record { some = omega arith; few = omega arith }
-number-in-table Coordinate = record { some = omega arith; few = omega arith }
-number-in-table UnknownVertex = record { some = omega arith; few = omega arith }
-number-in-table RepeatedVertex = record { some = omega arith; few = omega arith }
-number-in-table NotThere = record { some = omega arith; few = omega arith }
-number-in-table SharedVertex = record { some = omega arith; few = omega arith }
-number-in-table NoRoom = record { some = omega arith; few = omega arith }
-number-in-table LongText = record { some = omega arith; few = omega arith }
-number-in-table BadLine = record { some = omega arith; few = omega arith }
-number-in-table LateRecord = record { some = omega arith; few = omega arith }
-number-in-table TooMany = record { some = omega arith; few = omega arith }
-number-in-table ShortBuffer = record { some = omega arith; few = omega arith }
-number-in-table BlockLength = record { some = omega arith; few = omega arith }
-number-in-table FilesDiffer = record { some = omega arith; few = omega arith }
-number-in-table BrokenSeam = record { some = omega arith; few = omega arith }
-number-in-table BeyondOldRange = record { some = omega arith; few = omega arith }
-number-in-table StaleBox = record { some = omega arith; few = omega arith }
-number-in-table WrongOrder = record { some = omega arith; few = omega arith }
 
 -- ---- the list
 

@@ -1,13 +1,9 @@
 -- The rows of a log and the numbers beside it.
-use Prim.Native.Nat.{ℕ, _+_, _≤_, _<_}
+use Prim.Native.Nat.{ℕ, _+_, _<_}
 use mathlib.Core.List.{List, [], _∷_, _++_}
 use mathlib.Core.Path.{_≡_, refl, sym, ap, _∙_}
-use native.Mathlib.Omega.{arith}
 use lib.ListN.{length, take, getD}
 use Rattle.sequences.specs.Parts.{take-next}
-use Rattle.meaning.specs.Refusals.{numberOf}
-use Rattle.meaning.specs.declared.Refusal.{Refusal}
-use Rattle.meaning.specs.declared.Refusal.the-variants.{Shape, Coordinate, UnknownVertex, RepeatedVertex, NotThere, SharedVertex, NoRoom, LongText, BadLine, LateRecord, TooMany, ShortBuffer, BlockLength, FilesDiffer, BrokenSeam, BeyondOldRange, StaleBox, WrongOrder}
 use Rattle.meaning.specs.declared.StepHit.{StepHit}
 use Rattle.meaning.specs.SeriesNumbers.{rowStep, rowEntry, rowsOf}
 
@@ -24,24 +20,3 @@ pub rows-next : (l : List StepHit) (k : ℕ) (d : StepHit) → k < length l
     → rowsOf (take k l) ++ (rowStep (getD l k d) ∷ rowEntry (getD l k d) ∷ []) ≡ rowsOf (take (k + 1) l)
 unfolding rowsOf
 rows-next l k d h = sym (rows-behind (take k l) (getD l k d ∷ [])) ∙ ap rowsOf (sym (take-next l k d h))
-
-pub number-small : (f : Refusal) → numberOf f ≤ 18
-unfolding numberOf
-number-small Shape = omega arith
-number-small Coordinate = omega arith
-number-small UnknownVertex = omega arith
-number-small RepeatedVertex = omega arith
-number-small NotThere = omega arith
-number-small SharedVertex = omega arith
-number-small NoRoom = omega arith
-number-small LongText = omega arith
-number-small BadLine = omega arith
-number-small LateRecord = omega arith
-number-small TooMany = omega arith
-number-small ShortBuffer = omega arith
-number-small BlockLength = omega arith
-number-small FilesDiffer = omega arith
-number-small BrokenSeam = omega arith
-number-small BeyondOldRange = omega arith
-number-small StaleBox = omega arith
-number-small WrongOrder = omega arith

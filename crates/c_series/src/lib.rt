@@ -13,11 +13,15 @@ ghost use Rattle.sequences.specs.Lent.{atEntry, atExit};
 use answers::number_of;
 use meaning::LOG_ROOM;
 use meaning::Log;
+use meaning::PLACE_STEP;
 use meaning::Refusal;
 use meaning::SceneCounts;
 use meaning::SeriesEnding;
 use meaning::SeriesTold;
 use meaning::StepHit;
+
+// A place in an entry is below this.
+const PLACES: usize = PLACE_STEP as usize;
 
 // Two numbers for each entry of a log: its step, and the number of its pair as a list has it.
 pub const LOG_NUMBERS: usize = 2 * LOG_ROOM;
@@ -27,7 +31,7 @@ fn put_row(hit: StepHit, rows: &mut [u32], at: usize)
     ensures { λ _. ⌜ atExit rows ≡ set (set (atEntry rows) at (rowStep hit)) (at + 1) (rowEntry hit) ⌝ }
 {
     let kind = hit.kind;
-    let entry = list_entries::number_of(kind, hit.first % 1024, hit.second % 1024);
+    let entry = list_entries::number_of(kind, hit.first % PLACES, hit.second % PLACES);
     rows[at] = (hit.step % 4294967296) as u32;
     rows[at + 1] = entry;
 }

@@ -54,8 +54,8 @@ module _ (s : Scene) (kind : Kind) (i j : ℕ) (r : SettledAnswer) (said : PairD
   pub whole-contact-beyond : {w : Settled} → r ≡ SettledAnswers.the-variants.Decided w → reachesBeyond contactLimit s ≡ true → WholeContactFound s kind i j (WholeContactAnswers.the-variants.Refused BeyondOldRange)
   unfolding wholeContactSays numberOf
   whole-contact-beyond {w} e far =
-      given-before (PairSettled s kind i j) (WholeContactIs s kind i j) (pairChecks s kind i j) (rangeCheck s ∷ []) w (refused 16 0) (decided e)
-      (refuses (WholeContactIs s kind i j) (rangeCheck s) [] (refused 16 0) far refl)
+      given-before (PairSettled s kind i j) (WholeContactIs s kind i j) (pairChecks s kind i j) (rangeCheck s ∷ []) w (refused (rangeCheck s .number) 0) (decided e)
+      (refuses (WholeContactIs s kind i j) (rangeCheck s) [] (refused (rangeCheck s .number) 0) far refl)
 
   pub whole-contact-found : {w : Settled} → r ≡ SettledAnswers.the-variants.Decided w → reachesBeyond contactLimit s ≡ false → (m : WholeContact) → WholeContactIs s kind i j m
       → WholeContactFound s kind i j (WholeContactAnswers.the-variants.Found m)

@@ -46,7 +46,7 @@ module _ (s : Scene) (o b c : List ℕ) where
   pub met-beyond : Accepted s → reachesBeyond contactLimit s ≡ true → ContactsListed s o o b b c c (ListAnswers.the-variants.Refused BeyondOldRange 0)
   unfolding listSays leaves rowsAfter numberOf
   met-beyond a far = record {
-    answer = after-accepted s (rangeCheck s ∷ roomCheck (contactRoom o b c) (length (pairs s)) ∷ []) (IsCount s) (refused 16 0) a (refuses (IsCount s) (rangeCheck s) _ (refused 16 0) far refl);
+    answer = after-accepted s (rangeCheck s ∷ roomCheck (contactRoom o b c) (length (pairs s)) ∷ []) (IsCount s) (refused (rangeCheck s .number) 0) a (refuses (IsCount s) (rangeCheck s) _ (refused (rangeCheck s .number) 0) far refl);
     list = refl;
     contacts = contactsOf s (pairs s);
     right = all-met s (pairs s);

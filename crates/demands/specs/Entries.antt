@@ -11,7 +11,7 @@ use Rattle.sequences.specs.Mapped.{map-at, map-rising}
 use Rattle.sequences.specs.Rising.{Rising, at-place, rising-places}
 use Rattle.meaning.specs.Scene.{Scene, Accepted}
 use Rattle.meaning.specs.Refusals.{notThere}
-use Rattle.meaning.specs.List.{Pair, pair, pairs, kindPart, number, entries}
+use Rattle.meaning.specs.List.{Pair, pair, pairs, kindStep, kindPart, number, entries}
 use Rattle.meaning.specs.declared.Kind.{Kind}
 use Rattle.meaning.specs.declared.Kind.the-variants.{PointTriangle, EdgeEdge}
 use Rattle.list_entries.specs.Entries.{Narrow, pairOf, number-back, number-once, entries-length}
@@ -45,7 +45,7 @@ old-width p = refl
 pub as-many : (ps : List Pair) → length (oldEntries ps) ≡ length (entries ps) * 3
 as-many ps = rw (entries-length ps) (flat-length oldEntry 3 old-width ps)
 
-kind-made-of : (kind : Kind) → kindPart kind ≡ 2 ^ 20 * oldKind kind
+kind-made-of : (kind : Kind) → kindPart kind ≡ kindStep * oldKind kind
 unfolding kindPart oldKind
 kind-made-of PointTriangle = refl
 kind-made-of EdgeEdge = refl
@@ -104,7 +104,7 @@ no-two-pairs s a p q h k = number-once p q (there-narrow s a p h) (there-narrow 
 
 -- ---- the numbers of a list rise
 
-kinds-apart : (k l : Kind) → kindPart k < kindPart l → kindPart k + 2 ^ 20 ≤ kindPart l
+kinds-apart : (k l : Kind) → kindPart k < kindPart l → kindPart k + kindStep ≤ kindPart l
 unfolding kindPart
 kinds-apart PointTriangle PointTriangle h = omega arith
 kinds-apart PointTriangle EdgeEdge h = omega arith

@@ -11,7 +11,7 @@ use Rattle.sequences.specs.Parts.{drop-next}
 use Rattle.sequences.specs.Wrote.{Wrote, wrote-then}
 use Rattle.sequences.specs.Writing.{Writing, writing-as, writing-ends}
 use Rattle.meaning.specs.Scene.{Scene}
-use Rattle.meaning.specs.List.{Pair, pairs}
+use Rattle.meaning.specs.List.{Pair, placeStep, pairs}
 use Rattle.meaning.specs.Text.{further}
 use Rattle.meaning.specs.SceneWords.{byteOf}
 use Rattle.meaning.specs.Report.{totalWord, reportLine, isOne, howMany}
@@ -49,7 +49,7 @@ shares-short PointTriangle m h =
 shares-short EdgeEdge m h =
     simp length-append (omega (arith, number-short (m .first) (h .first-small), number-short (m .second) (h .second-small)))
 
-hit-short : (p : Pair) (m : ContactNumbers) → p .first < 1_024 → p .second < 1_024 → m .piece < 4 → SmallNumbers m → length (contactLine p (Hit m)) ≤ 47
+hit-short : (p : Pair) (m : ContactNumbers) → p .first < placeStep → p .second < placeStep → m .piece < 4 → SmallNumbers m → length (contactLine p (Hit m)) ≤ 47
 unfolding contactLine further
 hit-short p m f s piece h =
     simp length-append
@@ -64,7 +64,7 @@ hit-short p m f s piece h =
     ))
 
 module _ (s : Scene) (kind : Kind) (i j : ℕ) where
-  pub line-short : (p : Pair) (m : WholeContact) → p .first < 1_024 → p .second < 1_024 → WholeContactIs s kind i j m → length (contactLine p m) ≤ 47
+  pub line-short : (p : Pair) (m : WholeContact) → p .first < placeStep → p .second < placeStep → WholeContactIs s kind i j m → length (contactLine p m) ≤ 47
   unfolding contactLine WholeContactIs
   line-short p (Hit m) f g h = hit-short p m f g (small-hit (Hit m) [] 0 refl (whole-contact-small s kind i j (Hit m) h)) (contact-small s kind i j m h)
   line-short p Miss f g h = omega arith

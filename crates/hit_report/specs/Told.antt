@@ -16,7 +16,7 @@ use Rattle.meaning.specs.Scene.{Scene, sceneOf, reachesBeyond}
 use Rattle.meaning.specs.Refusals.{Outcome, refused, numberOf, Answers}
 use Rattle.meaning.specs.List.{pairs, roomOf, listSays}
 use Rattle.meaning.specs.Report.{refusedLine}
-use Rattle.meaning.specs.WholeContacts.{AllContacts}
+use Rattle.meaning.specs.WholeContacts.{rangeCheck, AllContacts}
 use Rattle.meaning.specs.ContactLines.{contactLines, contactTotal}
 use Rattle.meaning.specs.declared.Refusal.{Refusal}
 use Rattle.meaning.specs.declared.ListAnswer as ListAnswers
@@ -29,7 +29,7 @@ use Rattle.report_words.specs.Lines.{wrote-as}
 
 -- what is printed for a scene that was read: 16, or 7 with the count needed, or the contacts and the totals
 pub data SceneContacts (s : Scene) : List ℕ → Type 0 where
-  beyondOldRange : reachesBeyond contactLimit s ≡ true → SceneContacts s (refusedLine 16 0)
+  beyondOldRange : reachesBeyond contactLimit s ≡ true → SceneContacts s (refusedLine (rangeCheck s .number) 0)
   noRoom : reachesBeyond contactLimit s ≡ false → reportRoom < length (pairs s) → SceneContacts s (refusedLine 7 (length (pairs s)))
   told : (ms : List WholeContact) → reachesBeyond contactLimit s ≡ false → length (pairs s) ≤ reportRoom → AllContacts s (pairs s) ms
       → SceneContacts s (contactLines (pairs s) ms ++ contactTotal ms)
@@ -40,8 +40,8 @@ pub record SceneTold (s : Scene) (o o′ : List ℕ) (n : ℕ) : Type 0 where
   pub wrote : Wrote o 0 report o′ n
 
 module _ (s : Scene) {o o′ : List ℕ} {r : ℕ} where
-  pub beyond-refused : reachesBeyond contactLimit s ≡ true → Wrote o 0 (refusedLine 16 0) o′ r → SceneTold s o o′ r
-  beyond-refused far w = record { report = refusedLine 16 0; right = beyondOldRange far; wrote = w }
+  pub beyond-refused : reachesBeyond contactLimit s ≡ true → Wrote o 0 (refusedLine (rangeCheck s .number) 0) o′ r → SceneTold s o o′ r
+  beyond-refused far w = record { report = refusedLine (rangeCheck s .number) 0; right = beyondOldRange far; wrote = w }
 
   pub room-refused : {n : ℕ} → reachesBeyond contactLimit s ≡ false → n ≡ length (pairs s) → reportRoom < length (pairs s)
       → Wrote o 0 (refusedLine 7 n) o′ r → SceneTold s o o′ r

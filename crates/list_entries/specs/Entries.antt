@@ -1,5 +1,5 @@
 -- An entry of the list is taken apart here and nowhere else: the pair of a number, and that it is the pair that was written.
-use Prim.Native.Nat.{ℕ, _+_, _*_, _/_, _%_, _^_, _≤_, _<_}
+use Prim.Native.Nat.{ℕ, _+_, _*_, _/_, _%_, _≤_, _<_}
 use mathlib.Core.Bool.{true, false}
 use mathlib.Core.List.{List, List·Memᴰ}
 use mathlib.Core.Path.{_≡_, refl, sym, ap, _∙_}
@@ -11,19 +11,19 @@ use Rattle.sequences.specs.Mapped.{map-at}
 use Rattle.sequences.specs.Pick.{pick}
 use Rattle.sequences.specs.Rising.{at-place}
 use Rattle.sequences.specs.Wrote.{written, written-length, written-in-front}
-use Rattle.meaning.specs.List.{Pair, pair, kindPart, number, entries, roomOf}
+use Rattle.meaning.specs.List.{Pair, pair, placeStep, kindStep, noNumber, kindPart, number, entries, roomOf}
 use Rattle.meaning.specs.declared.Kind.{Kind}
 use Rattle.meaning.specs.declared.Kind.the-variants.{PointTriangle, EdgeEdge}
 
 -- the pair of a number: its kind and its two places
 abbrev pub kindOf : ℕ → Kind
-kindOf n = pick (ltb n 1_048_576) PointTriangle EdgeEdge
+kindOf n = pick (ltb n kindStep) PointTriangle EdgeEdge
 
 abbrev pub firstOf : ℕ → ℕ
-firstOf n = n / 1_024 % 1_024
+firstOf n = n / placeStep % placeStep
 
 abbrev pub secondOf : ℕ → ℕ
-secondOf n = n % 1_024
+secondOf n = n % placeStep
 
 abbrev pub pairOf : ℕ → Pair
 pairOf n = pair (kindOf n) (firstOf n) (secondOf n)
@@ -32,41 +32,41 @@ pairOf n = pair (kindOf n) (firstOf n) (secondOf n)
 abbrev pub pairAt : List ℕ → ℕ → Pair
 pairAt l k = pairOf (getD l k 0)
 
-pub places-small : (n : ℕ) → (firstOf n < 1_024) × (secondOf n < 1_024)
+pub places-small : (n : ℕ) → (firstOf n < placeStep) × (secondOf n < placeStep)
 places-small n = (omega arith, omega arith)
 
--- a pair whose places leave each other room: both are below 2^10
+-- a pair whose places leave each other room: both are below the step of a place
 pub record Narrow (p : Pair) : Type 0 where
-  pub firstNarrow : p .first < 1_024
-  pub secondNarrow : p .second < 1_024
+  pub firstNarrow : p .first < placeStep
+  pub secondNarrow : p .second < placeStep
 
 abbrev pub AllNarrow : List Pair → Type 0
 AllNarrow ps = (p : Pair) → List·Memᴰ p ps → Narrow p
 
 -- ---- a number and its pair
 
-pub kind-small : (kind : Kind) → kindPart kind ≤ 1_048_576
+pub kind-small : (kind : Kind) → kindPart kind ≤ kindStep
 unfolding kindPart
 kind-small PointTriangle = omega arith
 kind-small EdgeEdge = omega arith
 
-pub number-small : (p : Pair) → Narrow p → number p < 2 ^ 21
+pub number-small : (p : Pair) → Narrow p → number p < noNumber
 unfolding number
 number-small p h = omega (arith, kind-small (p .kind), h .firstNarrow, h .secondNarrow)
 
-own-pair : (kind : Kind) (i j : ℕ) → i < 1_024 → j < 1_024 → pairOf (number (pair kind i j)) ≡ pair kind i j
+own-pair : (kind : Kind) (i j : ℕ) → i < placeStep → j < placeStep → pairOf (number (pair kind i j)) ≡ pair kind i j
 unfolding number kindPart
 own-pair PointTriangle i j h k =
-    let n : ℕ = 0 + 1_024 * i + j in
+    let n : ℕ = 0 + placeStep * i + j in
     let first : firstOf n ≡ i = omega arith in
     let second : secondOf n ≡ j = omega arith in
-    let below : ltb n 1_048_576 ≡ true = lt-ltb n 1_048_576 (omega arith) in
+    let below : ltb n kindStep ≡ true = lt-ltb n kindStep (omega arith) in
     λ t. pair (pick (below t) PointTriangle EdgeEdge) (first t) (second t)
 own-pair EdgeEdge i j h k =
-    let n : ℕ = 1_048_576 + 1_024 * i + j in
+    let n : ℕ = kindStep + placeStep * i + j in
     let first : firstOf n ≡ i = omega arith in
     let second : secondOf n ≡ j = omega arith in
-    let above : ltb n 1_048_576 ≡ false = le-ltb n 1_048_576 (omega arith) in
+    let above : ltb n kindStep ≡ false = le-ltb n kindStep (omega arith) in
     λ t. pair (pick (above t) PointTriangle EdgeEdge) (first t) (second t)
 
 -- the pair of a pair's number is that pair

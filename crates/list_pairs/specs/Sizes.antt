@@ -1,5 +1,5 @@
 -- How long the list of an accepted scene can be, and that its entries are numbers of 21 bits.
-use Prim.Native.Nat.{ℕ, suc, _+_, _*_, _-_, _/_, _^_, _≤_, _<_}
+use Prim.Native.Nat.{ℕ, suc, _+_, _*_, _-_, _/_, _≤_, _<_}
 use mathlib.Core.Bool.{false}
 use mathlib.Core.Path.{_≡_, refl}
 use native.Mathlib.Nat.{mul-le-mul, mul-le-mul-right}
@@ -13,7 +13,7 @@ use Rattle.sequences.specs.Rising.{at-place}
 use Rattle.meaning.specs.Limits.{vertexLimit, edgeLimit, triangleLimit}
 use Rattle.meaning.specs.Scene.{Scene, Accepted, vertexCount, edgeCount, triangleCount}
 use Rattle.meaning.specs.Boxes.{listed}
-use Rattle.meaning.specs.List.{Pair, pair, pairs, number, entries}
+use Rattle.meaning.specs.List.{Pair, pair, pairs, placeStep, noNumber, number, entries}
 use Rattle.meaning.specs.Refusals.{notThere}
 use Rattle.meaning.specs.declared.Kind.{Kind}
 use Rattle.meaning.specs.declared.Kind.the-variants.{PointTriangle, EdgeEdge}
@@ -62,20 +62,20 @@ few-pairs s a =
 
 -- ---- the numbers of the entries
 
--- a pair of an accepted scene has places below 1,024
+-- a pair of an accepted scene has places below the step of a place
 pub there-narrow : (s : Scene) → Accepted s → (p : Pair) → notThere s (p .kind) (p .first) (p .second) ≡ false → Narrow p
 unfolding notThere
 there-narrow s a p h = let (first, second) = small (p .kind) (p .first) (p .second) h in record { firstNarrow = first; secondNarrow = second }
   where
-    small : (kind : Kind) (i j : ℕ) → notThere s kind i j ≡ false → (i < 1_024) × (j < 1_024)
+    small : (kind : Kind) (i j : ℕ) → notThere s kind i j ≡ false → (i < placeStep) × (j < placeStep)
     small PointTriangle i j e = omega (arith, accepted-sized a, are-there (vertexCount s) (triangleCount s) i j e)
     small EdgeEdge i j e = omega (arith, accepted-sized a, are-there (edgeCount s) (edgeCount s) i j e)
 
 pub pairs-narrow : (s : Scene) → Accepted s → AllNarrow (pairs s)
 pairs-narrow s a p m = there-narrow s a p (list-is s .stands p .0 m .there)
 
--- of 21 bits
-pub entries-fit : (s : Scene) → Accepted s → (k : ℕ) → k < length (pairs s) → getD (entries (pairs s)) k 0 < 2 ^ 21
+-- each is a pair's number
+pub entries-fit : (s : Scene) → Accepted s → (k : ℕ) → k < length (pairs s) → getD (entries (pairs s)) k 0 < noNumber
 entries-fit s a k h =
     let p = getD (pairs s) k (pair PointTriangle 0 0) in
     rw (map-at number (pairs s) k (pair PointTriangle 0 0) 0 h) (number-small p (pairs-narrow s a p (at-place (pairs s) k (pair PointTriangle 0 0) h)))

@@ -33,13 +33,23 @@ unfoldable pub pairs : Scene → List Pair
 unfolding gather
 pairs s = gather (pairsOfVertex s) 0 (vertexCount s) ++ gather (pairsOfEdge s) 0 (edgeCount s)
 
--- an entry is one u32: 2^20 for ee or 0 for pt, plus 2^10 times the first place, plus the second
+-- an entry is one u32: 2^20 for ee or 0 for pt, plus 2^10 times the first place, plus the second. Its numbers stand here once
+abbrev pub placeStep : ℕ
+placeStep = 2 ^ 10
+
+abbrev pub kindStep : ℕ
+kindStep = placeStep * placeStep
+
+-- no pair has this number or one above it
+abbrev pub noNumber : ℕ
+noNumber = 2 * kindStep
+
 unfoldable pub kindPart : Kind → ℕ
 kindPart PointTriangle = 0
-kindPart EdgeEdge = 2 ^ 20
+kindPart EdgeEdge = kindStep
 
 unfoldable pub number : Pair → ℕ
-number p = kindPart (p .kind) + 2 ^ 10 * p .first + p .second
+number p = kindPart (p .kind) + placeStep * p .first + p .second
 
 abbrev pub entries : List Pair → List ℕ
 entries ps = map number ps

@@ -1,5 +1,5 @@
 -- A list of one's own: entries that a caller lends, each the number of a pair that is asked for, and the words or contacts of these pairs.
-use Prim.Native.Nat.{ℕ, _+_, _/_, _%_, _^_, min}
+use Prim.Native.Nat.{ℕ, _+_, _/_, _%_, min}
 use mathlib.Core.Bool.{Bool, _||_}
 use mathlib.Core.List.{List, [], _∷_, _++_, map}
 use mathlib.Core.Path.{_≡_}
@@ -8,7 +8,7 @@ use lib.ListN.{length}
 use Rattle.sequences.specs.Pick.{pick}
 use Rattle.meaning.specs.Scene.{Scene}
 use Rattle.meaning.specs.Refusals.{Check, Answers, sceneChecks, notThere, shares, roomCheck}
-use Rattle.meaning.specs.List.{Pair, pair, listSays, leaves}
+use Rattle.meaning.specs.List.{Pair, pair, placeStep, kindStep, noNumber, listSays, leaves}
 use Rattle.meaning.specs.SceneWords.{byteOf, AllSettled}
 use Rattle.meaning.specs.WholeContacts.{rangeCheck, rowLength, rowsAfter, wordOf, AllContacts}
 use Rattle.meaning.specs.declared.Kind.the-variants.{PointTriangle, EdgeEdge}
@@ -16,13 +16,13 @@ use Rattle.meaning.specs.declared.Settled.{Settled}
 use Rattle.meaning.specs.declared.WholeContact.{WholeContact}
 use Rattle.meaning.specs.declared.ListAnswer.{ListAnswer}
 
--- the pair that an entry asks for: its kind, then ten bits for each place
+-- the pair that an entry asks for: its kind, then the two places
 abbrev pub askedFor : ℕ → Pair
-askedFor e = pair (pick (ltb e (2 ^ 20)) PointTriangle EdgeEdge) (e / 2 ^ 10 % 2 ^ 10) (e % 2 ^ 10)
+askedFor e = pair (pick (ltb e kindStep) PointTriangle EdgeEdge) (e / placeStep % placeStep) (e % placeStep)
 
 -- 5: no pair's number, or a vertex, edge or triangle that isn't there
 abbrev pub entryMissing : Scene → ℕ → Bool
-entryMissing s e = leb (2 ^ 21) e || notThere s (askedFor e .kind) (askedFor e .first) (askedFor e .second)
+entryMissing s e = leb noNumber e || notThere s (askedFor e .kind) (askedFor e .first) (askedFor e .second)
 
 -- 6: the pair shares a vertex
 abbrev pub entryShared : Scene → ℕ → Bool

@@ -4,7 +4,7 @@ use mathlib.Core.List.{List, [], _∷_}
 use mathlib.Core.Path.{_≡_}
 use lib.ListN.{take}
 use Rattle.meaning.specs.Refusals.{numberOf}
-use Rattle.meaning.specs.List.{pair, number}
+use Rattle.meaning.specs.List.{pair, placeStep, number}
 use Rattle.meaning.specs.declared.Refusal.{Refusal}
 use Rattle.meaning.specs.declared.StepHit.{StepHit}
 use Rattle.meaning.specs.declared.SeriesTold.{SeriesTold}
@@ -16,12 +16,12 @@ use Rattle.meaning.specs.declared.SeriesEnding as Outcomes
 use Rattle.meaning.specs.declared.SeriesEnding.{SeriesEnding}
 use Rattle.meaning.specs.SeriesCall.{SeriesCounted}
 
--- a step is below 2^32 and a place below 2^10, so that each is told as it is
+-- a step is below 2^32 and a place below its step in an entry, so that each is told as it is
 abbrev pub rowStep : StepHit → ℕ
 rowStep h = h .step % 4_294_967_296
 
 abbrev pub rowEntry : StepHit → ℕ
-rowEntry h = number (pair (h .kind) (h .first % 1_024) (h .second % 1_024))
+rowEntry h = number (pair (h .kind) (h .first % placeStep) (h .second % placeStep))
 
 unfoldable pub rowsOf : List StepHit → List ℕ
 rowsOf [] = []

@@ -45,6 +45,13 @@ pub const ROW_NUMBERS: usize = 5;
 
 pub const CONTACTS_BYTES: usize = 147456;
 
+// An entry of the list: what its first place is multiplied by, the kind's part, and the first number that no pair has. specs/List.antt has the same.
+pub const PLACE_STEP: u32 = 1024;
+
+pub const KIND_STEP: u32 = PLACE_STEP * PLACE_STEP;
+
+pub const NO_NUMBER: u32 = 2 * KIND_STEP;
+
 // A weight of a claim: its digits, and the largest that is answered yes.
 pub const WEIGHT_DIGITS: usize = 13;
 

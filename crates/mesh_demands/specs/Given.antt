@@ -1,5 +1,5 @@
 -- So the one call gives all of their words: with pairs that share no vertex, vertices in range and room for the words it refuses nothing.
-use Prim.Native.Nat.{ℕ, suc, _+_, _*_, _^_, _≤_, _<_}
+use Prim.Native.Nat.{ℕ, suc, _+_, _*_, _≤_, _<_}
 use mathlib.Core.Bool.{false}
 use mathlib.Core.List.{List, [], _∷_, _++_}
 use mathlib.Core.Path.{_≡_, refl, sym, _∙_, ap, subst}
@@ -10,7 +10,7 @@ use Rattle.sequences.specs.Wrote.{written}
 use Rattle.meaning.specs.Limits.{coordinateLimit}
 use Rattle.meaning.specs.Scene.{Scene}
 use Rattle.meaning.specs.Refusals.{Outcome, given, refused, Check, Answers, notThere, shares}
-use Rattle.meaning.specs.List.{Pair, number, listSays}
+use Rattle.meaning.specs.List.{Pair, noNumber, number, listSays}
 use Rattle.meaning.specs.OwnList.{entryMissing, faultyFrom, sizeCheck, wordRoom, ownLimit, OwnSettled}
 use Rattle.meaning.specs.declared.ListAnswer.{ListAnswer}
 use Rattle.answers.specs.Answering.{is-past}
@@ -44,7 +44,7 @@ module _ {p s : Scene} {q x : Pair} (mesh : Mesh s) (h : Holds p s q x) where
 
 module _ {s : Scene} (mesh : Mesh s) where
   -- every entry is a pair's number, and there are as many as pairs
-  entries-small : (n v e t : ℕ) → v ≡ 4 * n → e ≤ 2 * n → t ≤ n → (xs : List Pair) → n + length xs ≤ 128 → Every (λ k. k < 2 ^ 21) (entriesFrom s v e t xs)
+  entries-small : (n v e t : ℕ) → v ≡ 4 * n → e ≤ 2 * n → t ≤ n → (xs : List Pair) → n + length xs ≤ 128 → Every (λ k. k < noNumber) (entriesFrom s v e t xs)
   unfolding entriesFrom
   entries-small n v e t four few fewer [] room = tt
   entries-small n v e t four few fewer (x ∷ xs) room =
@@ -60,13 +60,13 @@ module _ {s : Scene} (mesh : Mesh s) where
 
   -- so the checks of the entries are passed
   past-entries : (R : ℕ → Type 0) (p : Scene) (n : ℕ) (es : List ℕ) (xs : List Pair) (more : List Check) (o : Outcome ℕ)
-      → Every (λ k. k < 2 ^ 21) es → AllHeld p s es xs → Answers (faultyFrom p n es ++ more) R o → Answers more R o
+      → Every (λ k. k < noNumber) es → AllHeld p s es xs → Answers (faultyFrom p n es ++ more) R o → Answers more R o
   unfolding faultyFrom AllHeld
   past-entries R p n [] [] more o small held a = a
   past-entries R p n [] (x ∷ xs) more o small held a = absurd held
   past-entries R p n (e ∷ es) [] more o small held a = absurd held
   past-entries R p n (e ∷ es) (x ∷ xs) more o small held a =
-      let there : entryMissing p e ≡ false = rw (lt-leb 2_097_152 e (small .0)) (held-there mesh (held .0)) in
+      let there : entryMissing p e ≡ false = rw (lt-leb noNumber e (small .0)) (held-there mesh (held .0)) in
       past-entries R p (n + 1) es xs more o (small .1) (held .1)
       (is-past R _ _ o (held-unshared mesh (held .0)) (is-past R _ _ o there a))
 

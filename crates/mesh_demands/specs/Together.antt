@@ -9,7 +9,7 @@ use lib.ListN.{length, length-append, length-map}
 use Rattle.sequences.specs.Wrote.{written}
 use Rattle.meaning.specs.Scene.{Scene, sceneOf, vertexCount}
 use Rattle.meaning.specs.Refusals.{given}
-use Rattle.meaning.specs.List.{Pair, number, listSays}
+use Rattle.meaning.specs.List.{Pair, placeStep, number, listSays}
 use Rattle.meaning.specs.WholeContacts.{rowsLeft}
 use Rattle.meaning.specs.OwnList.{askedFor, OwnSettled, OwnContacts}
 use Rattle.meaning.specs.declared.Kind.{Kind}
@@ -72,13 +72,13 @@ first-edge-first : (s : Scene) (i j : ℕ) → aloneFirst s EdgeEdge i j ≡ 0
 unfolding aloneFirst
 first-edge-first s i j = refl
 
-narrow-by-kind : (s : Scene) → Mesh s → (v e t : ℕ) → v + 4 ≤ 1_024 → e + 2 ≤ 1_024 → t + 1 ≤ 1_024 → (kind : Kind) (i j : ℕ)
-    → (firstPlace (movedUp v e t) kind (aloneFirst s kind i j) < 1_024) × (secondPlace (movedUp v e t) kind (aloneSecond kind) < 1_024)
+narrow-by-kind : (s : Scene) → Mesh s → (v e t : ℕ) → v + 4 ≤ placeStep → e + 2 ≤ placeStep → t + 1 ≤ placeStep → (kind : Kind) (i j : ℕ)
+    → (firstPlace (movedUp v e t) kind (aloneFirst s kind i j) < placeStep) × (secondPlace (movedUp v e t) kind (aloneSecond kind) < placeStep)
 unfolding firstPlace secondPlace aloneSecond
 narrow-by-kind s mesh v e t few fewEdges fewTriangles PointTriangle i j = (omega (arith, own-first-below mesh i j), omega arith)
 narrow-by-kind s mesh v e t few fewEdges fewTriangles EdgeEdge i j = (omega (arith, first-edge-first s i j), omega arith)
 
-pub narrow : (s : Scene) → Mesh s → (x : Pair) → (v e t : ℕ) → v + 4 ≤ 1_024 → e + 2 ≤ 1_024 → t + 1 ≤ 1_024 → Narrow (inWhole (movedUp v e t) (ownPair s x))
+pub narrow : (s : Scene) → Mesh s → (x : Pair) → (v e t : ℕ) → v + 4 ≤ placeStep → e + 2 ≤ placeStep → t + 1 ≤ placeStep → Narrow (inWhole (movedUp v e t) (ownPair s x))
 narrow s mesh x v e t few fewEdges fewTriangles =
     let both = narrow-by-kind s mesh v e t few fewEdges fewTriangles (x .kind) (x .first) (x .second) in
     record { firstNarrow = both .0; secondNarrow = both .1 }

@@ -1,6 +1,6 @@
 -- 'An entry that is no pair's number is 5': a pair's number asks for that pair. And the one call says of each pair what is said where it is
 -- asked for alone.
-use Prim.Native.Nat.{ℕ, _+_, _*_, _/_, _%_, _^_, _≤_, _<_}
+use Prim.Native.Nat.{ℕ, _+_, _*_, _/_, _%_, _≤_, _<_}
 use mathlib.Core.Bool.{Bool, true, false}
 use mathlib.Core.List.{List, [], _∷_, _++_, map}
 use mathlib.Core.Logic.{⊎-elim}
@@ -14,7 +14,7 @@ use Rattle.sequences.specs.Pick.{pick}
 use Rattle.sequences.specs.Wrote.{written, written-in-front}
 use Rattle.meaning.specs.Scene.{Scene, Accepted}
 use Rattle.meaning.specs.Refusals.{Outcome, given, refused, Check, Answers, sceneChecks, pairChecks, notThere, shares}
-use Rattle.meaning.specs.List.{Pair, kindPart, number, listSays, leaves}
+use Rattle.meaning.specs.List.{Pair, placeStep, kindStep, noNumber, kindPart, number, listSays, leaves}
 use Rattle.meaning.specs.Resting.{PairSettled, settledSays, PairDecided}
 use Rattle.meaning.specs.SceneWords.{byteOf}
 use Rattle.meaning.specs.declared.Kind.the-variants.{PointTriangle, EdgeEdge}
@@ -35,14 +35,14 @@ use Rattle.own_words.specs.Faults.{Sound, entry-is-there, each-passed}
 pub asks-for-its-pair : (p : Pair) → Narrow p → askedFor (number p) ≡ p
 asks-for-its-pair p h = number-back p h
 
--- every number below 2^21 is that of the pair that it asks for
-pub own-number : (e : ℕ) → e < 2 ^ 21 → number (askedFor e) ≡ e
+-- every number below `noNumber` is that of the pair that it asks for
+pub own-number : (e : ℕ) → e < noNumber → number (askedFor e) ≡ e
 unfolding number kindPart
-own-number e h = by-kind (ltb e 1_048_576) refl
+own-number e h = by-kind (ltb e kindStep) refl
   where
-    by-kind : (b : Bool) → ltb e 1_048_576 ≡ b → kindPart (pick b PointTriangle EdgeEdge) + 1_024 * (e / 1_024 % 1_024) + e % 1_024 ≡ e
-    by-kind true q = let l : e < 1_048_576 = ltb-true e 1_048_576 q in omega arith
-    by-kind false q = let l : 1_048_576 ≤ e = ltb-false e 1_048_576 q in omega arith
+    by-kind : (b : Bool) → ltb e kindStep ≡ b → kindPart (pick b PointTriangle EdgeEdge) + placeStep * (e / placeStep % placeStep) + e % placeStep ≡ e
+    by-kind true q = let l : e < kindStep = ltb-true e kindStep q in omega arith
+    by-kind false q = let l : kindStep ≤ e = ltb-false e kindStep q in omega arith
 
 -- ---- where the call gives a count
 

@@ -11,7 +11,7 @@ use lib.ListN.{length, getD, drop, drop-of-length-le}
 use Rattle.sequences.specs.Parts.{drop-next}
 use Rattle.meaning.specs.Scene.{Scene}
 use Rattle.meaning.specs.Refusals.{Outcome, given, Answers, numberOf, notThere, shares}
-use Rattle.meaning.specs.List.{Pair, listSays}
+use Rattle.meaning.specs.List.{Pair, noNumber, listSays}
 use Rattle.meaning.specs.declared.Made.{Made}
 use Rattle.meaning.specs.declared.Refusal.the-variants.{NotThere, SharedVertex}
 use Rattle.meaning.specs.declared.ListAnswer as ListAnswers
@@ -25,12 +25,12 @@ use Rattle.meaning.specs.OwnList.{entryMissing, entryShared, missingCheck, shar
 -- ---- one entry
 
 pub entry-is-there : (s : Scene) (e : ℕ) → entryMissing s e ≡ false → notThere s (kindOf e) (firstOf e) (secondOf e) ≡ false
-entry-is-there s e h = or-rest (leb 2_097_152 e) (notThere s (kindOf e) (firstOf e) (secondOf e)) h
+entry-is-there s e h = or-rest (leb noNumber e) (notThere s (kindOf e) (firstOf e) (secondOf e)) h
 
 -- a pair that was read from an entry
 module _ (s : Scene) (e : ℕ) (p : Pair) (kind : p .kind ≡ kindOf e) (first : p .first ≡ firstOf e) (second : p .second ≡ secondOf e) where
-  pub missing-is : (b : Bool) → b ≡ notThere s (p .kind) (p .first) (p .second) → leb 2_097_152 e || b ≡ entryMissing s e
-  missing-is b h = ap (λ (c : Bool). leb 2_097_152 e || c) (h ∙ (λ t. notThere s (kind t) (first t) (second t)))
+  pub missing-is : (b : Bool) → b ≡ notThere s (p .kind) (p .first) (p .second) → leb noNumber e || b ≡ entryMissing s e
+  missing-is b h = ap (λ (c : Bool). leb noNumber e || c) (h ∙ (λ t. notThere s (kind t) (first t) (second t)))
 
   pub shared-is : (b : Bool) → b ≡ shares s (p .kind) (p .first) (p .second) → b ≡ entryShared s e
   shared-is b h = h ∙ (λ t. shares s (kind t) (first t) (second t))

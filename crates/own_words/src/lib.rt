@@ -16,12 +16,10 @@ ghost use Rattle.sequences.specs.Lent.{atEntry, atExit};
 use meaning::Kind;
 use meaning::ListAnswer;
 use meaning::Made;
+use meaning::NO_NUMBER;
 use meaning::Refusal;
 use meaning::SceneAnswer;
 use meaning::VERTEX_LIMIT;
-
-// 2^21: every pair's number is below it.
-const NO_NUMBER: u32 = 2097152;
 
 // 2^32 - 1: so many entries a list may have, so that an entry's number and a count needed cross to C in 32 bits.
 pub const OWN_LIMIT: usize = 4294967295;

@@ -9,7 +9,7 @@ use lib.ListN.{length, take}
 use Rattle.sequences.specs.Wrote.{written}
 use Rattle.meaning.specs.Scene.{Scene}
 use Rattle.meaning.specs.Refusals.{Outcome, given, refused, numberOf}
-use Rattle.meaning.specs.List.{pair, pairs, number, roomOf}
+use Rattle.meaning.specs.List.{pair, pairs, placeStep, number, roomOf}
 use Rattle.meaning.specs.Series.{HitAt, hitAt, lastStep, Told}
 use Rattle.meaning.specs.SeriesText.{Ended}
 use Rattle.meaning.specs.declared.SceneCounts.{SceneCounts}
@@ -25,7 +25,8 @@ use Rattle.meaning.specs.SeriesNumbers.{rowStep, rowsOf}
 use Rattle.meaning.specs.SeriesNumbers.{SeriesInto, answerNumber, seriesCounts, logLeft, numbersLeft}
 use Rattle.series_demands.specs.OneCall.{told-refused}
 use Rattle.meaning.specs.Numbers.{upper, numberFor}
-use Rattle.c_numbers.specs.Small.{lineIn, number-in-table}
+use Rattle.answers.specs.Speaking.{number-in-table}
+use Rattle.c_numbers.specs.Small.{lineIn}
 use Rattle.c_numbers.specs.Back.{heard, count, Clear, heard-number}
 use Rattle.series_demands.specs.Few.{Fits, logged-fits, last-few, TextOf, carries-few, told-text}
 
@@ -42,8 +43,8 @@ rows-whole [] all = refl
 rows-whole (h ∷ hs) all =
     let fits : Fits (hitOf h) = all (hitOf h) (List·Memᴰ·head refl) in
     let step : rowStep h ≡ h .step = omega (arith, fits .step) in
-    let first : h .first % 1_024 ≡ h .first = omega (arith, fits .places .firstNarrow) in
-    let second : h .second % 1_024 ≡ h .second = omega (arith, fits .places .secondNarrow) in
+    let first : h .first % placeStep ≡ h .first = omega (arith, fits .places .firstNarrow) in
+    let second : h .second % placeStep ≡ h .second = omega (arith, fits .places .secondNarrow) in
     let rest : rowsOf hs ≡ hitRows (map hitOf hs) = rows-whole hs (λ g m. all g (List·Memᴰ·tail m)) in
     λ i. step i ∷ number (pair (h .kind) (first i) (second i)) ∷ rest i
 

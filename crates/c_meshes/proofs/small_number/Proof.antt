@@ -1,7 +1,7 @@
--- A number of the table is at most 18, so that nothing is cut.
+-- A number of the table is small, so that nothing is cut.
 use borrow.Author.Needs.{needs}
 use native.Mathlib.Omega.{arith}
-use Rattle.c_numbers.specs.Small.{number-in-table}
+use Rattle.answers.specs.Speaking.{number-in-table}
 use Rattle.c_meshes.proofs.small_number.Statement.{statement}
 use Rattle.c_meshes.proofs.small_number.Tie as tie
 

@@ -1,7 +1,7 @@
--- A refusal's number is at most 12, so nothing wraps.
+-- A refusal's number is small, so nothing wraps.
 use borrow.Author.Needs.{needs}
 use native.Mathlib.Omega.{arith}
-use Rattle.c_numbers.specs.Small.{number-in-table}
+use Rattle.answers.specs.Speaking.{number-in-table}
 use Rattle.c_numbers.proofs.refused.Statement.{statement}
 use Rattle.c_numbers.proofs.refused.Tie as tie
 

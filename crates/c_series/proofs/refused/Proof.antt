@@ -1,15 +1,15 @@
--- `refused`: no refusal's number is over 18.
+-- `refused`: no refusal's number is large.
 use borrow.Author.Needs.{needs}
 use native.Mathlib.Omega.{arith}
-use Rattle.c_series.specs.Rows.{number-small}
+use Rattle.answers.specs.Speaking.{number-in-table}
 use Rattle.c_series.proofs.refused.Statement.{statement}
 use Rattle.c_series.proofs.refused.Tie as tie
 
 mul-result : tie.Need-mul-result
-mul-result c = record { fits = omega (arith, c .number-of .ensures, number-small (c .before .args .why)) }
+mul-result c = record { fits = omega (arith, c .number-of .ensures, number-in-table (c .before .args .why)) }
 
 add-result : tie.Need-add-result
-add-result c = record { fits = omega (arith, c .number-of .ensures, number-small (c .before .args .why)) }
+add-result c = record { fits = omega (arith, c .number-of .ensures, number-in-table (c .before .args .why)) }
 
 pub refused-spec : {M : Type 1} → statement M
 refused-spec =

@@ -1,4 +1,4 @@
--- `number_of`: the kind's part is at most 2^20, so that the sum has 21 bits.
+-- `number_of`: the kind's part is at most the step of a kind, so that the sum fits 32 bits.
 use borrow.Author.Needs.{needs}
 use native.Mathlib.Omega.{arith}
 use Rattle.meaning.specs.List.{number}
