@@ -81,7 +81,7 @@ fn garments(size: usize) -> Vec<Garment> {
 }
 
 /// Pairs of a stretch of rows, about, which is asked for in one call: each call begins with boxes and trees of the whole mesh, so there are few.
-const IN_A_CALL: u64 = 1 << 22;
+const IN_A_CALL: u64 = 1 << 23;
 
 /// Rounds of parts in any order, and up to how many vertices they are listed without an order too.
 const ORDER_ROUNDS: usize = 5;
