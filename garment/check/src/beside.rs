@@ -134,16 +134,21 @@ impl Lent {
     }
 }
 
-/// How many pairs there are, and the seconds of finding them by the grid and by all rows with the orders that are lent: in turns, of each way the shortest of
-/// so many rounds. Then those without orders, which take long: once, and of small meshes alone.
-pub fn in_order(mesh: &Mesh, lent: &makhnodri::Mesh, rounds: usize, bare: bool) -> (u64, [f64; 2], Option<f64>) {
+/// How many pairs there are, and the seconds of finding them by the grid and by rows with the orders that are lent, so many at a time: in turns, of each way
+/// the shortest of so many rounds. Then those without orders, which take long: once, and of small meshes alone.
+pub fn in_order(mesh: &Mesh, lent: &makhnodri::Mesh, length: usize, rounds: usize, bare: bool) -> (u64, [f64; 2], Option<f64>) {
     let (mut best, mut count) = ([f64::MAX; 2], 0);
-    let (mut scratch, mut list, rows) = (Scratch::default(), Vec::new(), 0..lent.row_count());
+    let (mut scratch, mut list, rows) = (Scratch::default(), Vec::new(), lent.row_count());
     let mut listed = |asked: &makhnodri::Mesh, count: usize| {
         list.resize(count, 0);
         let mut seconds = 0.0;
-        let listed = timed(&mut seconds, || asked.list_rows(&mut scratch, Which::Listed, rows.clone(), &mut list));
-        assert_eq!(listed, Ok(count as u64));
+        let all: u64 = (0..rows.div_ceil(length))
+            .map(|piece| {
+                let some = stretch(piece, length, rows);
+                timed(&mut seconds, || asked.list_rows(&mut scratch, Which::Listed, some, &mut list)).expect("they are listed")
+            })
+            .sum();
+        assert_eq!(all, count as u64);
         seconds
     };
     for _ in 0..rounds {

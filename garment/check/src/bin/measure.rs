@@ -80,14 +80,25 @@ fn garments(size: usize) -> Vec<Garment> {
     KINDS.into_iter().map(of_kind).chain([falling]).collect()
 }
 
-/// Pairs of a stretch of rows, about, which is asked for in one call: each call begins with boxes and trees of the whole mesh, so there are few.
-const IN_A_CALL: u64 = 1 << 23;
+/// Pairs of a stretch of rows, about, which is asked for in one call; and of a large mesh so many for each vertex, since a call begins with boxes and trees of
+/// all of it. No more than are held until it is known that they fit, 2^23, or rows are walked twice.
+const IN_A_CALL: u64 = 1 << 22;
+const FOR_A_VERTEX: u64 = 8;
+
+/// How many rows are asked for in one call, so that it has about as many pairs.
+fn rows_of_a_call(judge: &Judge, which: Which) -> usize {
+    let rows = judge.rows();
+    let pairs = judge.lent().count_rows(&mut Scratch::default(), which, 0..rows).expect("they are counted");
+    let in_a_call = IN_A_CALL.max(FOR_A_VERTEX * judge.mesh().positions.len() as u64);
+    rows.div_ceil(pairs.div_ceil(in_a_call).max(1) as usize)
+}
 
 /// Rounds of parts in any order, and up to how many vertices they are listed without an order too.
 const ORDER_ROUNDS: usize = 5;
 const BARE: usize = 20_000;
 
-/// Rounds end behind so many seconds.
+/// Rounds end behind so many seconds, but not before so many of them.
+const FEWEST: usize = 3;
 const LONG: f64 = 4.0;
 
 /// Finding and judging by the grid and by scenes of 128 pairs, and by the library's rows: ns of processor time a listed pair, and the ratios.
@@ -117,11 +128,7 @@ fn beside_grid(sizes: &[usize], sorted: &dyn Fn(&str) -> bool) {
     for Garment { name, texts } in all {
         let mesh = mesh_of(&texts(), None, false).expect("a mesh");
         let judge = Judge::new(&mesh).expect("a mesh");
-        let rows = judge.rows();
-        let [length, near_length] = [Which::Listed, Which::Near].map(|which| {
-            let pairs = judge.lent().count_rows(&mut Scratch::default(), which, 0..rows).expect("they are counted");
-            rows.div_ceil(pairs.div_ceil(IN_A_CALL).max(1) as usize)
-        });
+        let [length, near_length] = [Which::Listed, Which::Near].map(|which| rows_of_a_call(&judge, which));
         let row = rounds(|| measured(&mesh, &judge, length, near_length));
         let each = |seconds: f64| format!("{:>8.1}", 1e9 * seconds / row.listed as f64);
         let times = [row.grid, row.packed, row.list, row.settle, row.near_settle, row.near_keep].map(each).concat();
@@ -155,7 +162,8 @@ fn in_any_order(sizes: &[usize]) {
                 );
                 continue;
             }
-            let (listed, [grid, order], none) = in_order(&mesh, judge.lent(), ORDER_ROUNDS, size <= BARE);
+            let (listed, [grid, order], none) =
+                in_order(&mesh, judge.lent(), rows_of_a_call(&judge, Which::Listed), ORDER_ROUNDS, size <= BARE);
             let name = format!("{} {size}", kind.name);
             let [none, over] = none.map_or(["-".into(), "-".into()], |none| [none, none / grid].map(|n| format!("{n:.2}")));
             println!("  {name:<16}{listed:>12}{grid:>10.3}{order:>10.3}{none:>10}{:>10.2}{over:>10}", order / grid);
@@ -165,8 +173,8 @@ fn in_any_order(sizes: &[usize]) {
 
 fn rounds(work: impl Fn() -> Beside) -> Beside {
     let (began, mut best) = (taken(), work());
-    for _ in 1..ROUNDS {
-        if (taken() - began).as_secs_f64() > LONG {
+    for round in 1..ROUNDS {
+        if round >= FEWEST && (taken() - began).as_secs_f64() > LONG {
             break;
         }
         best = best.shortest(work());
