@@ -790,6 +790,10 @@ static inline makhnodri_answer makhnodri_settle_stored(const makhnodri_boxed_sce
  * swept boxes meet and that share no vertex; those of its neighbour with near_ in its name are of these the ones that are not far: on no
  * axis one part lies strictly below the other at the start and at the end. Far pairs are neither hit nor touch, and on falling cloth nearly
  * all are far; whoever asks for hits and touches alone asks for near rows.
+ *
+ * Each call begins with boxes of all parts that are lent and a tree over these. Rows of vertices look at no edge, and rows of edges at no
+ * triangle: with an empty list in their place, and no order of them, such rows have the same pairs, words and contacts, which is proved. So
+ * once a mesh is accepted, a call over rows of one kind may be lent that kind alone, and has less to begin with and needs less scratch.
  */
 
 /* May this mesh be used? 12 where scratch->table is too short, 1, 2, 3, 15, 4. Nothing else of the scratch is looked at. */

@@ -63,6 +63,7 @@ pub fn at_start(
         bar.draw(piece + 1, count, pierced.count);
         Ok(())
     })?;
+    judge.let_go();
     Ok(pierced)
 }
 

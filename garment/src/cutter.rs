@@ -11,13 +11,17 @@ pub struct Cutter {
     /// The first stretch of a kind, and the longest of all.
     first: usize,
     longest: usize,
+    /// How much of the room a stretch is to take.
+    filled: f64,
     /// Of each kind how many rows the last stretch had that is known, and how much of the room a row took.
     known: [Option<(usize, f64)>; 2],
 }
 
 /// A stretch is as long as fills so much of the room, if its rows are like those before it; and so many times as long as the last at most.
 const FILLED: f64 = 0.75;
-const LONGER: usize = 8;
+const LONGER: usize = 64;
+/// What several threads have found and not written yet lies side by side: each fills so much less of its room.
+const SEVERAL: f64 = 3.0;
 /// Fewer rows cost less than what each call begins with.
 const FEWEST: usize = 256;
 /// Stretches for each thread, so that all end at about the same time. One thread alone needs no more than one.
@@ -27,7 +31,15 @@ impl Cutter {
     /// The first stretch is so short that what is found in it has room whatever it is.
     pub fn new(rows: usize, border: usize, first: usize, threads: usize) -> Cutter {
         let longest = if threads > 1 { rows.div_ceil(FOR_A_THREAD * threads).max(FEWEST) } else { rows };
-        Cutter { rows, border, next: 0, first: first.max(FEWEST), longest, known: [None; 2] }
+        Cutter {
+            rows,
+            border,
+            next: 0,
+            first: first.max(FEWEST),
+            longest,
+            filled: if threads > 1 { FILLED / SEVERAL } else { FILLED },
+            known: [None; 2],
+        }
     }
 
     /// Of the rows of a stretch, how much of the room they took.
@@ -39,7 +51,7 @@ impl Cutter {
         match self.known[second as usize] {
             None => self.first,
             Some((last, each)) => {
-                ((FILLED / each.max(1e-12)) as usize).min(LONGER * last.max(self.first)).max(FEWEST).min(self.longest)
+                ((self.filled / each.max(1e-12)) as usize).min(LONGER * last.max(self.first)).max(FEWEST).min(self.longest)
             }
         }
     }

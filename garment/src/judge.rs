@@ -62,6 +62,8 @@ pub struct Counts {
 pub struct Judge<'a> {
     mesh: &'a Mesh,
     asked: makhnodri::Mesh<'a>,
+    /// The same without edges, for the rows of vertices, and without triangles, for those of edges: these do not look at them.
+    of_kind: [makhnodri::Mesh<'a>; 2],
     /// What threads work in that wait for a stretch.
     waiting: Mutex<Vec<Room>>,
     /// Whether many pairs are of words that are kept, so that they are judged as fast with all others beside them.
@@ -81,10 +83,11 @@ struct Room {
 const STRETCHES: usize = 3;
 const FEWEST: usize = 512;
 
-/// Pairs that a call has room for: at least so many, and one for so many parts of the mesh, beside what the library works in. More of them go in several
-/// calls, so that falling cloth, which lists thousands for a vertex, takes no more memory than any other.
+/// Pairs that a call has room for: at least so many, and one for so many parts of the mesh, beside what the library works in: each call begins with boxes
+/// and a tree of all parts of a kind. More of them go in several calls, so that falling cloth, which lists thousands for a vertex, takes no more memory
+/// than any other.
 const ROOM: usize = 1 << 17;
-const PARTS: usize = 6;
+const PARTS: usize = 2;
 
 /// More pairs than this a row seldom has.
 const IN_A_ROW: usize = 1_024;
@@ -114,18 +117,28 @@ impl<'a> Judge<'a> {
     }
 
     fn of_whole(mesh: &'a Mesh, room: Room) -> Judge<'a> {
-        let (edges, triangles) = (order::lent(&mesh.positions, &mesh.edges), order::lent(&mesh.positions, &mesh.triangles));
-        let asked = lent(mesh).ordered(edges, triangles);
-        Judge { mesh, asked, waiting: Mutex::new(vec![room]), many: AtomicBool::new(false) }
+        let asked = lent(mesh);
+        let points = makhnodri::Mesh { edges: [].as_slice().into(), ..asked.clone() };
+        let sides = makhnodri::Mesh { triangles: [].as_slice().into(), ..asked.clone() };
+        let of_kind = [
+            points.ordered(&[], order::lent(&mesh.positions, &mesh.triangles)),
+            sides.ordered(order::lent(&mesh.positions, &mesh.edges), &[]),
+        ];
+        Judge { mesh, asked, of_kind, waiting: Mutex::new(vec![room]), many: AtomicBool::new(false) }
     }
 
     pub fn mesh(&self) -> &'a Mesh {
         self.mesh
     }
 
-    /// The mesh as the library is lent it.
-    pub fn lent(&self) -> &makhnodri::Mesh<'a> {
-        &self.asked
+    /// What the library is lent for the rows from this one up to the last of its kind.
+    pub fn lent(&self, row: usize) -> &makhnodri::Mesh<'a> {
+        &self.of_kind[(row >= self.border()) as usize]
+    }
+
+    /// Where the rows of the second kind begin.
+    pub fn border(&self) -> usize {
+        self.mesh.positions.len()
     }
 
     /// A row holds the pairs with the same first part: one for each vertex, then one for each edge. The rows in turn are the list.
@@ -135,13 +148,22 @@ impl<'a> Judge<'a> {
 
     /// All rows, cut as they are asked for.
     pub fn cutter(&self, threads: usize) -> Cutter {
-        Cutter::new(self.rows(), self.mesh.positions.len(), self.most() / IN_A_ROW, threads)
+        Cutter::new(self.rows(), self.border(), self.most() / IN_A_ROW, threads)
     }
 
     /// How many rows are well asked for in one piece, where nothing is learned from one to the next: each call makes boxes and trees anew, so there are few.
     pub fn length(&self, threads: usize) -> usize {
         let stretches = if threads > 1 { STRETCHES * threads } else { 1 };
         self.rows().div_ceil(stretches).max(FEWEST)
+    }
+
+    /// Where the rows of a row's kind end.
+    pub fn end_of_kind(&self, row: usize) -> usize {
+        if row < self.border() {
+            self.border()
+        } else {
+            self.rows()
+        }
     }
 
     /// How many pairs a call has room for.
@@ -160,12 +182,17 @@ impl<'a> Judge<'a> {
         Ok(answer)
     }
 
-    /// The rows in turn, as many at a time as there is room for.
+    /// The rows in turn, as many of a kind at a time as there is room for.
     pub fn each(&self, rows: Range<usize>, question: &Question, take: impl FnMut(Found)) -> Result<Counts, Fault> {
         let mut room = self.waiting().pop().unwrap_or_default();
         let counts = self.each_in(rows, question, &mut room, take);
         self.waiting().push(room);
         counts
+    }
+
+    /// What threads worked in is given back: edges that are through a triangle take more of it than rows of a kind.
+    pub fn let_go(&self) {
+        self.waiting().clear();
     }
 
     fn waiting(&self) -> std::sync::MutexGuard<'_, Vec<Room>> {
@@ -182,7 +209,7 @@ impl<'a> Judge<'a> {
         let (mut counts, mut next, mut length) = (Counts::default(), rows.start, rows.len());
         room.fit(self.most(), question.contacts);
         while next < rows.end {
-            let end = rows.end.min(next + length);
+            let end = rows.end.min(next + length).min(self.end_of_kind(next));
             match self.called(next..end, question, room) {
                 Ok((count, some)) => {
                     counts.join(some);
@@ -201,21 +228,21 @@ impl<'a> Judge<'a> {
 
     /// One call: how many pairs are wanted, which stand in front of the room's lists, and the counts of all.
     fn called(&self, rows: Range<usize>, question: &Question, room: &mut Room) -> Result<(usize, Counts), RowsRefusal> {
-        let (Room { scratch, list, words, contacts }, which) = (&mut *room, question.which);
+        let (Room { scratch, list, words, contacts }, which, asked) = (&mut *room, question.which, self.lent(rows.start));
         let contacts = contacts.as_flattened_mut();
         if let Some(wanted) = question.kept().filter(|_| !self.many.load(Relaxed)) {
             let short = rows.len() <= self.rows() / SHORT;
             let kept = match question.contacts {
-                true => self.asked.keep_contacts(scratch, which, rows, wanted, list, words, contacts)?,
-                false => self.asked.keep_rows(scratch, which, rows, wanted, list, words)?,
+                true => asked.keep_contacts(scratch, which, rows, wanted, list, words, contacts)?,
+                false => asked.keep_rows(scratch, which, rows, wanted, list, words)?,
             };
             self.many.fetch_or(short && kept.count as usize > KEPT, Relaxed);
             let filled = kept.count as f64 / KEPT as f64;
             return Ok((kept.count as usize, Counts { tally: Tally::of_rows(&kept), left: 0, filled }));
         }
         let count = match question.contacts {
-            true => self.asked.contact_rows(scratch, which, rows, list, words, contacts)?,
-            false => self.asked.settle_rows(scratch, which, rows, list, words)?,
+            true => asked.contact_rows(scratch, which, rows, list, words, contacts)?,
+            false => asked.settle_rows(scratch, which, rows, list, words)?,
         };
         let (wanted, counts) = room.chosen(count as usize, question);
         Ok((wanted, Counts { filled: count as f64 / self.most() as f64, ..counts }))

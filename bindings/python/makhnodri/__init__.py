@@ -1212,7 +1212,8 @@ class Mesh:
     """A mesh of any size: the lists of a `Scene` with 32-bit unsigned vertex numbers ('I'), and an order of its edges and one of its triangles, hints that
     change no answer, or None. Each is a buffer that is lent as it is; a list or a tuple of Python's is copied into an array. Its list is asked for by
     rows, a stretch at a time: row v is vertex v's, row vertices + e is edge e's. Threads take stretches, each with a `Scratch` of its own; what
-    neighbouring stretches list, joined, is the list of both."""
+    neighbouring stretches list, joined, is the list of both. Rows of vertices look at no edge and rows of edges at no triangle: once a mesh is
+    accepted, one that is lent for rows of one kind may have an empty list of the other, and its calls begin sooner."""
 
     __slots__ = ("positions", "edges", "triangles", "seams", "edge_order", "triangle_order")
     positions: typing.Optional[ReadableBuffer]

@@ -7,6 +7,10 @@ pub mod Demand1
 pub mod OneResult
 -- an order that is taken changes nothing
 pub mod AnyLent
+-- rows of vertices look at no edge, rows of edges at no triangle
+pub mod OfKind
+-- so a call over rows of one kind may be lent that kind alone
+pub mod OneKind
 -- what a stretch of rows holds
 pub mod Stretches
 -- demand 2

@@ -3,10 +3,9 @@
 
 use crate::clocks::taken;
 use crate::grid::Finder;
-use garment::judge::{Judge, Which};
+use garment::judge::{Judge, Question, Which};
 use garment::judging::{Packed, TOGETHER};
 use garment::mesh::Mesh;
-use garment::work::stretch;
 use makhnodri::{RowsRefusal, Scratch, Wanted};
 use std::hint::black_box;
 use std::ops::Range;
@@ -78,8 +77,7 @@ pub fn measured(mesh: &Mesh, judge: &Judge, length: usize, near_length: usize) -
     let mut out = Beside::default();
     let finder = timed(&mut out.grid, || Finder::new(mesh));
     let (mut lent, mut packed) = (Lent::default(), Packed::default());
-    for piece in 0..judge.rows().div_ceil(length) {
-        let rows = stretch(piece, length, judge.rows());
+    for rows in stretches(judge, length) {
         let pairs = timed(&mut out.grid, || finder.in_rows(rows.clone()));
         timed(&mut out.packed, || {
             let of_some = |some| packed.settle(mesh, some).expect("words").map(|word| word as u64).sum::<u64>();
@@ -93,8 +91,7 @@ pub fn measured(mesh: &Mesh, judge: &Judge, length: usize, near_length: usize) -
         timed(&mut out.settle, || lent.settle(judge, Which::Listed, rows.clone()));
         assert_eq!(listed, count as u64, "rows {rows:?}");
     }
-    for piece in 0..judge.rows().div_ceil(near_length) {
-        let rows = stretch(piece, near_length, judge.rows());
+    for rows in stretches(judge, near_length) {
         let count = lent.count(judge, rows.clone());
         lent.fit(count);
         out.near += timed(&mut out.near_settle, || lent.settle(judge, Which::Near, rows.clone()));
@@ -105,6 +102,12 @@ pub fn measured(mesh: &Mesh, judge: &Judge, length: usize, near_length: usize) -
     out
 }
 
+/// All rows, so many at a time, and those of vertices apart from those of edges, as the program asks for them.
+pub fn stretches<'a>(judge: &'a Judge, length: usize) -> impl Iterator<Item = Range<usize>> + 'a {
+    let begins = move |begin: usize| (begin < judge.rows()).then(|| begin..judge.end_of_kind(begin).min(begin + length));
+    std::iter::successors(begins(0), move |rows| begins(rows.end))
+}
+
 impl Lent {
     fn fit(&mut self, pairs: usize) {
         self.list.resize(self.list.len().max(pairs), 0);
@@ -113,20 +116,20 @@ impl Lent {
 
     /// How many near pairs rows have.
     fn count(&mut self, judge: &Judge, rows: Range<usize>) -> usize {
-        judge.lent().count_rows(&mut self.scratch, Which::Near, rows).expect("they are counted") as usize
+        judge.lent(rows.start).count_rows(&mut self.scratch, Which::Near, rows).expect("they are counted") as usize
     }
 
     fn list(&mut self, judge: &Judge, which: Which, rows: Range<usize>) -> u64 {
-        judge.lent().list_rows(&mut self.scratch, which, rows, &mut self.list).expect("it is listed")
+        judge.lent(rows.start).list_rows(&mut self.scratch, which, rows, &mut self.list).expect("it is listed")
     }
 
     fn settle(&mut self, judge: &Judge, which: Which, rows: Range<usize>) -> u64 {
-        judge.lent().settle_rows(&mut self.scratch, which, rows, &mut self.list, &mut self.words).expect("it is judged")
+        judge.lent(rows.start).settle_rows(&mut self.scratch, which, rows, &mut self.list, &mut self.words).expect("it is judged")
     }
 
     fn keep(&mut self, judge: &Judge, rows: Range<usize>) -> u64 {
         let wanted = Wanted { hits: true, touches: true, ..Wanted::default() };
-        match judge.lent().keep_rows(&mut self.scratch, Which::Near, rows, wanted, &mut self.list, &mut self.words) {
+        match judge.lent(rows.start).keep_rows(&mut self.scratch, Which::Near, rows, wanted, &mut self.list, &mut self.words) {
             Ok(kept) => kept.count,
             Err(RowsRefusal::NoRoom { needed }) => panic!("{needed} are kept of fewer"),
             Err(refusal) => panic!("{refusal}"),
@@ -134,17 +137,32 @@ impl Lent {
     }
 }
 
+/// How many pairs there are, and the seconds of judging them all in the calls in which the program asks for them on one thread.
+pub fn as_asked(judge: &Judge) -> (u64, f64) {
+    let question = Question { which: Which::Listed, choice: None, wanted: [true; 4], contacts: false };
+    let (mut cutter, mut pairs, mut seconds) = (judge.cutter(1), 0, 0.0);
+    while let Some(rows) = cutter.next() {
+        let judged = timed(&mut seconds, || judge.each(rows.clone(), &question, |found| _ = black_box(found.words)));
+        let counts = judged.expect("they are judged");
+        cutter.learn(&rows, counts.filled);
+        pairs += counts.tally.listed();
+    }
+    (pairs, seconds)
+}
+
 /// How many pairs there are, and the seconds of finding them by the grid and by rows with the orders that are lent, so many at a time: in turns, of each way
 /// the shortest of so many rounds. Then those without orders, which take long: once, and of small meshes alone.
-pub fn in_order(mesh: &Mesh, lent: &makhnodri::Mesh, length: usize, rounds: usize, bare: bool) -> (u64, [f64; 2], Option<f64>) {
+pub fn in_order(mesh: &Mesh, judge: &Judge, length: usize, rounds: usize, bare: bool) -> (u64, [f64; 2], Option<f64>) {
     let (mut best, mut count) = ([f64::MAX; 2], 0);
-    let (mut scratch, mut list, rows) = (Scratch::default(), Vec::new(), lent.row_count());
-    let mut listed = |asked: &makhnodri::Mesh, count: usize| {
+    let (mut scratch, mut list) = (Scratch::default(), Vec::new());
+    let mut listed = |ordered: bool, count: usize| {
         list.resize(count, 0);
         let mut seconds = 0.0;
-        let all: u64 = (0..rows.div_ceil(length))
-            .map(|piece| {
-                let some = stretch(piece, length, rows);
+        let all: u64 = stretches(judge, length)
+            .map(|some| {
+                let lent = judge.lent(some.start);
+                let bare = lent.clone().ordered(&[], &[]);
+                let asked = if ordered { lent } else { &bare };
                 timed(&mut seconds, || asked.list_rows(&mut scratch, Which::Listed, some, &mut list)).expect("they are listed")
             })
             .sum();
@@ -157,9 +175,9 @@ pub fn in_order(mesh: &Mesh, lent: &makhnodri::Mesh, length: usize, rounds: usiz
             let finder = Finder::new(mesh);
             finder.in_rows(0..finder.rows()).len()
         });
-        best = [best[0].min(grid), best[1].min(listed(lent, count))];
+        best = [best[0].min(grid), best[1].min(listed(true, count))];
     }
-    let bare = bare.then(|| listed(&lent.clone().ordered(&[], &[]), count));
+    let bare = bare.then(|| listed(false, count));
     (count as u64, best, bare)
 }
 

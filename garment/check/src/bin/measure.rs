@@ -1,4 +1,4 @@
-//! usage: measure FOLDER [called] [parts] [former] [grid] [order] [sheet] [folds] [tight] [drape] [VERTICES..]
+//! usage: measure FOLDER [called] [parts] [former] [grid] [order] [sizes] [sheet] [folds] [tight] [drape] [VERTICES..]
 //! What the program takes on garments that are made, as it is called and by its parts; its judging over a cubic's; and each part over what it was: reading,
 //! edges, seams and lines as they were made, pairs by a grid and judged in scenes of 128. All tables, where none is named. FOLDER takes the files.
 //! Where GARMENT_BEFORE names an earlier program, it is called beside this one. Times by parts are the processor's, so that what else runs on the machine
@@ -15,7 +15,7 @@ use garment::report::Form;
 use garment::rounding::onto_grid;
 use garment::seams;
 use garment::work::all_cores;
-use garment_check::beside::{in_order, measured, Beside};
+use garment_check::beside::{as_asked, in_order, measured, stretches, Beside};
 use garment_check::clocks::{run, taken, Run};
 use garment_check::cloth::{cloth, drape, obj as cloth_text, Kind as ClothKind, KINDS};
 use garment_check::former;
@@ -34,7 +34,9 @@ fn main() {
     keep_pages();
     let words: Vec<String> = std::env::args().skip(1).collect();
     let [folder, rest @ ..] = &words[..] else {
-        eprintln!("usage: measure FOLDER [called] [parts] [former] [grid] [order] [sheet] [folds] [tight] [drape] [VERTICES..]");
+        eprintln!(
+            "usage: measure FOLDER [called] [parts] [former] [grid] [order] [sizes] [sheet] [folds] [tight] [drape] [VERTICES..]"
+        );
         std::process::exit(2);
     };
     let (sizes, words): (Vec<&String>, Vec<&String>) = rest.iter().partition(|word| word.parse::<usize>().is_ok());
@@ -43,12 +45,13 @@ fn main() {
     let sizes: Vec<usize> = sizes.iter().filter_map(|size| size.parse().ok()).collect();
     let sizes = if sizes.is_empty() { vec![20_000, 100_000] } else { sizes };
     let asked = |table: &str| tables.is_empty() || tables.iter().any(|asked| *asked == table);
-    let all: [(&str, &dyn Fn()); 5] = [
+    let all: [(&str, &dyn Fn()); 6] = [
         ("called", &|| as_called(folder, &sizes)),
         ("parts", &|| by_parts(&sizes)),
         ("former", &|| beside_former(&sizes)),
         ("grid", &|| beside_grid(&sizes, &sorted)),
         ("order", &|| in_any_order(&sizes)),
+        ("sizes", &|| by_sizes(&sizes, &sorted)),
     ];
     all.iter().filter(|(table, _)| asked(table)).for_each(|(_, print)| print());
 }
@@ -88,7 +91,10 @@ const FOR_A_VERTEX: u64 = 8;
 /// How many rows are asked for in one call, so that it has about as many pairs.
 fn rows_of_a_call(judge: &Judge, which: Which) -> usize {
     let rows = judge.rows();
-    let pairs = judge.lent().count_rows(&mut Scratch::default(), which, 0..rows).expect("they are counted");
+    let scratch = &mut Scratch::default();
+    let pairs: u64 = stretches(judge, rows)
+        .map(|some| judge.lent(some.start).count_rows(scratch, which, some).expect("they are counted"))
+        .sum();
     let in_a_call = IN_A_CALL.max(FOR_A_VERTEX * judge.mesh().positions.len() as u64);
     rows.div_ceil(pairs.div_ceil(in_a_call).max(1) as usize)
 }
@@ -154,7 +160,7 @@ fn in_any_order(sizes: &[usize]) {
         for kind in KINDS {
             let mesh = made(&cloth(kind, size, 1).in_any_order(2));
             let judge = Judge::new(&mesh).expect("a mesh");
-            if judge.lent().edge_order.is_empty() {
+            if judge.lent(judge.border()).edge_order.is_empty() {
                 println!(
                     "  {:<16}{:>12}",
                     format!("{} {size}", kind.name),
@@ -163,10 +169,33 @@ fn in_any_order(sizes: &[usize]) {
                 continue;
             }
             let (listed, [grid, order], none) =
-                in_order(&mesh, judge.lent(), rows_of_a_call(&judge, Which::Listed), ORDER_ROUNDS, size <= BARE);
+                in_order(&mesh, &judge, rows_of_a_call(&judge, Which::Listed), ORDER_ROUNDS, size <= BARE);
             let name = format!("{} {size}", kind.name);
             let [none, over] = none.map_or(["-".into(), "-".into()], |none| [none, none / grid].map(|n| format!("{n:.2}")));
             println!("  {name:<16}{listed:>12}{grid:>10.3}{order:>10.3}{none:>10}{:>10.2}{over:>10}", order / grid);
+        }
+    }
+}
+
+/// What a pair costs in the calls in which the program asks for it, and over what it costs on the first size.
+fn by_sizes(sizes: &[usize], sorted: &dyn Fn(&str) -> bool) {
+    println!("\none thread, pairs found and judged as the program asks for them: ns of its processor time a listed pair, and over that of the first size");
+    println!("  {:<16}{:>12}{:>8}{:>8}", "", "listed", "ns", "over");
+    for kind in KINDS.into_iter().filter(|kind| sorted(kind.name)) {
+        let mut first = None;
+        for &size in sizes {
+            let mesh = made(&cloth(kind, size, 1));
+            let judge = Judge::new(&mesh).expect("a mesh");
+            let (began, (pairs, mut best)) = (taken(), as_asked(&judge));
+            for round in 1..ROUNDS {
+                if round >= FEWEST && (taken() - began).as_secs_f64() > LONG {
+                    break;
+                }
+                best = best.min(as_asked(&judge).1);
+            }
+            let each = 1e9 * best / pairs as f64;
+            let over = each / *first.get_or_insert(each);
+            println!("  {:<16}{pairs:>12}{each:>8.1}{over:>8.2}", format!("{} {size}", kind.name));
         }
     }
 }

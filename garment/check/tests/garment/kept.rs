@@ -96,15 +96,43 @@ fn an_order_changes_nothing() {
         let sheet = if any { sheet.in_any_order(5) } else { sheet };
         let mesh = mesh_of(&sheet.objs(), None, false).expect("a mesh");
         let judge = Judge::new(&mesh).expect("a mesh");
-        [judge.lent().edge_order.len(), judge.lent().triangle_order.len()]
+        [judge.lent(judge.border()).edge_order.len(), judge.lent(0).triangle_order.len()]
     };
     assert_eq!(orders(false), [0, 0]);
     assert!(orders(true).iter().all(|&length| length > 0));
     let mesh = mesh_of(&cloth(KINDS[1], 1_000, 1).in_any_order(5).objs(), None, false).expect("a mesh");
     let judge = Judge::new(&mesh).expect("a mesh");
     let backwards = |count: usize| (0..count as u32).rev().collect::<Vec<u32>>();
-    let ordered = judge.lent().clone().ordered(backwards(mesh.edges.len()), backwards(mesh.triangles.len()));
-    let (rows, scratch) = (0..judge.rows(), &mut makhnodri::Scratch::default());
-    let plain = judge.lent().settled_rows(scratch, Which::Listed, rows.clone()).expect("words");
-    assert_eq!(ordered.settled_rows(scratch, Which::Listed, rows), Ok(plain));
+    let (border, scratch) = (judge.border(), &mut makhnodri::Scratch::default());
+    let (edges, triangles) = (backwards(mesh.edges.len()), backwards(mesh.triangles.len()));
+    for (rows, edges, triangles) in [(0..border, vec![], triangles), (border..judge.rows(), edges, vec![])] {
+        let lent = judge.lent(rows.start);
+        let plain = lent.settled_rows(scratch, Which::Listed, rows.clone()).expect("words");
+        assert!(!plain.is_empty());
+        assert_eq!(lent.clone().ordered(edges, triangles).settled_rows(scratch, Which::Listed, rows), Ok(plain));
+    }
+}
+
+/// Rows of vertices are asked for without the edges, and rows of edges without the triangles: words and contacts are those of the whole mesh.
+#[test]
+fn rows_of_one_kind_need_no_parts_of_the_other() {
+    for mesh in meshes() {
+        let judge = Judge::new(&mesh).expect("a mesh");
+        let (positions, edges, triangles) =
+            (mesh.positions.as_flattened(), mesh.edges.as_flattened(), mesh.triangles.as_flattened());
+        let whole = makhnodri::Mesh::new(positions, edges, triangles);
+        assert!(judge.lent(0).edges.is_empty() && judge.lent(judge.border()).triangles.is_empty());
+        for which in [Which::Listed, Which::Near] {
+            for rows in [0..judge.border(), judge.border()..judge.rows()] {
+                let lent = judge.lent(rows.start);
+                let [all, alone] = [&whole, lent]
+                    .map(|mesh| mesh.settled_rows(&mut makhnodri::Scratch::default(), which, rows.clone()).expect("words"));
+                assert!(all == alone && !all.is_empty(), "{which:?} rows {rows:?}");
+                let [all, alone] = [&whole, lent].map(|mesh| {
+                    mesh.contacts_of_rows(&mut makhnodri::Scratch::default(), which, rows.clone()).expect("contacts")
+                });
+                assert!(all == alone && !all.is_empty(), "{which:?} rows {rows:?}");
+            }
+        }
+    }
 }
