@@ -102,6 +102,9 @@ impl Answering {
         if wrong == Wrong::ListedInTheOrder {
             sort_by_orders(scene, &mut pairs, &ask.lent);
         }
+        if [Wrong::PlaceLedTwice, Wrong::DroppedSortedIn].contains(&wrong) {
+            rows::in_runs(scene, &mut pairs, &ask.lent.edge_order, wrong);
+        }
         let words: Vec<Settled> = match ask.call.settles() {
             true => pairs.iter().map(|&pair| self.word(scene, judged(scene, pair, wrong))).collect(),
             false => vec![],
@@ -140,7 +143,7 @@ impl Answering {
     }
 
     fn listed(&mut self, scene: &Scene, wrong: Wrong) -> Vec<Pair> {
-        if [Wrong::SeamsUnseen, Wrong::SharingUnseen, Wrong::AxisForAnother].contains(&wrong) {
+        if [Wrong::SeamsUnseen, Wrong::SharingUnseen, Wrong::AxisForAnother, Wrong::EdgeByOneEnd].contains(&wrong) {
             return rows::listed(scene, wrong);
         }
         self.listed.get_or_insert_with(|| rows::listed(scene, wrong)).clone()
