@@ -116,6 +116,10 @@ impl Answering {
             rows: vec![],
             told: told(ask.call, kept.len(), &words, wrong),
         };
+        if wrong == Wrong::HeldOverTheLast && !ask.call.keeps() {
+            let rows: Vec<usize> = pairs.iter().map(|&pair| rows::row_of(scene, pair)).collect();
+            found.entries = rows::held_over(&found.entries, &rows, &ask.lent);
+        }
         if !ask.call.settles() {
             found.told = vec![pairs.len() as u64];
         }

@@ -1,6 +1,6 @@
 //! Rows, near pairs, entries, and edges that are through a triangle at one time.
 
-use super::lent::{RowPairs, Time};
+use super::lent::{Lent, RowPairs, Time};
 use super::wrong::Wrong;
 use crate::list::listing;
 use crate::numbers::equations::{meet, Point, Solutions};
@@ -124,6 +124,27 @@ fn led(mut places: Vec<usize>, order: &[u32], from: usize, wrong: Wrong) -> Vec<
     places[..sorted].sort_unstable();
     places.truncate(kept);
     places
+}
+
+/// Rows whose entries are held together.
+const BLOCK: usize = 64;
+
+/// Entries as they are read that were held in halves, the lower one first, each block from the middle of those before it on. Where the lent places have no
+/// room for all, none are held.
+pub fn held_over(entries: &[u64], rows: &[usize], lent: &Lent) -> Vec<u64> {
+    if 2 * (lent.edge_order.len() + lent.triangle_order.len() + entries.len()) > lent.places.len() {
+        return entries.to_vec();
+    }
+    let mut halves = vec![0u32; 2 * entries.len()];
+    let (mut before, mut block) = (0, rows.first().map_or(0, |row| row + BLOCK));
+    for (at, (&entry, &row)) in entries.iter().zip(rows).enumerate() {
+        if row >= block {
+            (before, block) = (at, row + BLOCK);
+        }
+        let place = before + 2 * (at - before);
+        (halves[place], halves[place + 1]) = (entry as u32, (entry >> 32) as u32);
+    }
+    halves.chunks_exact(2).map(|two| two[0] as u64 + ((two[1] as u64) << 32)).collect()
 }
 
 /// All listed pairs; `unsewn` is how a program lists that does not see seams.

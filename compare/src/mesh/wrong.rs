@@ -37,6 +37,7 @@ mistakes! {
     ListedInTheOrder: "entries of a row stand in the lent order",
     PlaceLedTwice: "a place of a lent order is taken to its part twice",
     DroppedSortedIn: "parts that a run leaves behind are sorted in among those that it keeps",
+    HeldOverTheLast: "the entries of a block of rows are held from the middle of those before them on",
     WrittenUntilFull: "a list is filled up to its room, and refused then",
     NeedsTheWhole: "7 with the count of all rows",
     NeedsWithoutWords: "the room of the words is not looked at",
