@@ -4,10 +4,11 @@
 use compare::making::generate::{self, KINDS};
 use compare::making::kept;
 use compare::report::mistakes::{self, Right};
-use compare::scene::pieces::pieces;
+use compare::scene::pieces::{pieces, Piece};
 use compare::scene::{all_pairs, Scene, REPORT_ROOM};
 use compare::verdicts::settled::{of_pair, of_piece, Settled};
 use compare::verdicts::verdict::Verdict;
+use compare::ways::quick::{parted, Look};
 use compare::ways::search::{touches, Way};
 
 fn kept_report(key: &str, name: &str) -> (String, String) {
@@ -77,7 +78,7 @@ fn kinds_of_scenes_at_rest_touch_and_are_apart() {
 
 /// Singular pieces of scenes from seeds on which a way to search is wrong; first where it finds what is not there, then
 /// where it misses what is.
-fn wrong_pieces(way: Way, rounds: u64) -> [u32; 2] {
+fn wrong_pieces(finds: impl Fn(&Piece) -> bool, rounds: u64) -> [u32; 2] {
     let mut out = [0; 2];
     for name in ["at rest", "sliding", "on a line", "in one place", "coinciding", "out of turn"] {
         for scene in scenes_of(name, rounds) {
@@ -85,7 +86,7 @@ fn wrong_pieces(way: Way, rounds: u64) -> [u32; 2] {
             for piece in pairs.flat_map(|pair| pieces(&scene, pair)) {
                 let right = of_piece(&piece);
                 if right.verdict() == Verdict::Degenerate {
-                    let found = touches(&piece, way);
+                    let found = finds(&piece);
                     out[0] += (found && right == Settled::Apart) as u32;
                     out[1] += (!found && right == Settled::Touch) as u32;
                 }
@@ -97,13 +98,27 @@ fn wrong_pieces(way: Way, rounds: u64) -> [u32; 2] {
 
 #[test]
 fn wrong_ways_on_scenes_from_seeds() {
-    assert_eq!(wrong_pieces(Way::Library, 10), [0, 0]);
+    let wrong = |way: Way| wrong_pieces(|piece| touches(piece, way), 10);
+    assert_eq!(wrong(Way::Library), [0, 0]);
     for way in [Way::StrictTurn, Way::FirstSimplex, Way::OneTurn] {
-        let [invented, lost] = wrong_pieces(way, 10);
+        let [invented, lost] = wrong(way);
         assert!(invented == 0 && lost > 50, "{way:?}: {invented} invented, {lost} lost");
     }
-    let [invented, lost] = wrong_pieces(Way::ZeroWeights, 10);
+    let [invented, lost] = wrong(Way::ZeroWeights);
     assert!(invented > 50 && lost == 0, "weights of 0: {invented} invented, {lost} lost");
+}
+
+/// The quick look loses nothing, and tells some that are apart; done wrong it loses what touches.
+#[test]
+fn quick_looks_on_scenes_from_seeds() {
+    let wrong = |look: Look| wrong_pieces(|piece| !parted(piece, look), 10);
+    let [left, lost] = wrong(Look::Library);
+    let [all, _] = wrong_pieces(|_| true, 10);
+    assert!(lost == 0 && all > left + 50, "{lost} lost, {left} of {all} left to the search");
+    for look in [Look::ZeroOnASide, Look::CornerNotAsked, Look::SeenForwards] {
+        let [_, lost] = wrong(look);
+        assert!(lost > 50, "{look:?}: {lost} lost");
+    }
 }
 
 /// Each pair that the kind looks for is a touch which is lost where corners are taken strictly in turn.

@@ -13,6 +13,7 @@ pub enum Mistake {
     LowestPieceWhateverItsTime,
     StartWeightsOnly,
     EndWeightsOnly,
+    FirstVolumeNotTurned,
     ShareOfTheLowerEnd,
     EndsAsWritten,
     CornersAsWritten,
@@ -40,12 +41,12 @@ pub enum Mistake {
 
 use Mistake::*;
 
-pub const ALL: [Mistake; 29] = [
+pub const ALL: [Mistake; 30] = [
     NearestInPlaceOfCut, SmallestExactTime, TieToTheLaterPiece, LowestPieceWhateverItsTime, StartWeightsOnly, EndWeightsOnly,
-    ShareOfTheLowerEnd, EndsAsWritten, CornersAsWritten, SharesByOwnNumber, HigherEdgeFirst, TouchingPiecesTakePart, TouchIsAHit,
-    FloatsThroughout, WeightWrapsAt64Bits, LastShareIsTheRest, OneIsOneLess, TimeFromTheEnd, PiecesFromOne,
-    LineForEveryListedPair, TotalWithoutMisses, NoSixteen, SixteenAtTheOldLimit, SixteenForPositiveOnly, SixteenAfterSeven,
-    SixteenInPlaceOfTwo, SixteenWithALine, AThirdShareOfTwoEdges, LinesBeforeSeven,
+    FirstVolumeNotTurned, ShareOfTheLowerEnd, EndsAsWritten, CornersAsWritten, SharesByOwnNumber, HigherEdgeFirst,
+    TouchingPiecesTakePart, TouchIsAHit, FloatsThroughout, WeightWrapsAt64Bits, LastShareIsTheRest, OneIsOneLess, TimeFromTheEnd,
+    PiecesFromOne, LineForEveryListedPair, TotalWithoutMisses, NoSixteen, SixteenAtTheOldLimit, SixteenForPositiveOnly,
+    SixteenAfterSeven, SixteenInPlaceOfTwo, SixteenWithALine, AThirdShareOfTwoEdges, LinesBeforeSeven,
 ];
 
 impl Mistake {
@@ -122,6 +123,9 @@ fn wrong_shares(mistake: Mistake, scene: &Scene, pair: Pair, solved: &Solved) ->
     let edges = pair.kind == Kind::EdgeEdge;
     let (low, high) = (pair.first.min(pair.second), pair.first.max(pair.second));
     match mistake {
+        FirstVolumeNotTurned if edges && solved.piece < 2 => {
+            vec![with_its_own_sign(solved).share(0, first[1]), solved.share(1, second[1])]
+        }
         ShareOfTheLowerEnd if edges => vec![solved.share(0, first[0]), solved.share(1, second[0])],
         EndsAsWritten if edges => vec![solved.share(0, scene.edges[low][1]), solved.share(1, scene.edges[high][1])],
         HigherEdgeFirst if edges => vec![solved.share(1, second[1]), solved.share(0, first[1])],
@@ -141,6 +145,13 @@ fn wrong_shares(mistake: Mistake, scene: &Scene, pair: Pair, solved: &Solved) ->
         AThirdShareOfTwoEdges if edges => [solved.shares(), vec![solved.share(1, second[0])]].concat(),
         _ => solved.shares(),
     }
+}
+
+/// The weight of the first edge's higher end at the start, which in piece A of that edge has the sign of its volume turned.
+fn with_its_own_sign(solved: &Solved) -> Solved {
+    let mut out = solved.clone();
+    out.weights[1].above = out.weights[1].above.minus();
+    out
 }
 
 fn wrong_contact(mistake: Mistake, scene: &Scene, pair: Pair, solved: &Solved) -> Contact {

@@ -77,6 +77,9 @@ pub fn wrong() -> Vec<Wrong> {
         wrong("a run is skipped by its first triangle's box", |scene| {
             walked(scene, 16, |places| joint(scene, places.start..places.start + 1), |_, _| true)
         }),
+        wrong("the last triangle of a run is left out of its box", |scene| {
+            walked(scene, 16, |places| joint(scene, places.start..(places.end - 1).max(places.start + 1)), |_, _| true)
+        }),
         wrong("a run is skipped by the box of the run in front of it", |scene| {
             walked(
                 scene,

@@ -102,6 +102,9 @@ impl Answering {
         if wrong == Wrong::ListedInTheOrder {
             sort_by_orders(scene, &mut pairs, &ask.lent);
         }
+        if [Wrong::PlaceLedTwice, Wrong::DroppedSortedIn].contains(&wrong) {
+            rows::in_runs(scene, &mut pairs, &ask.lent.edge_order, wrong);
+        }
         let words: Vec<Settled> = match ask.call.settles() {
             true => pairs.iter().map(|&pair| self.word(scene, judged(scene, pair, wrong))).collect(),
             false => vec![],
@@ -113,6 +116,10 @@ impl Answering {
             rows: vec![],
             told: told(ask.call, kept.len(), &words, wrong),
         };
+        if wrong == Wrong::HeldOverTheLast && !ask.call.keeps() {
+            let rows: Vec<usize> = pairs.iter().map(|&pair| rows::row_of(scene, pair)).collect();
+            found.entries = rows::held_over(&found.entries, &rows, &ask.lent);
+        }
         if !ask.call.settles() {
             found.told = vec![pairs.len() as u64];
         }
@@ -140,7 +147,7 @@ impl Answering {
     }
 
     fn listed(&mut self, scene: &Scene, wrong: Wrong) -> Vec<Pair> {
-        if [Wrong::SeamsUnseen, Wrong::SharingUnseen, Wrong::AxisForAnother].contains(&wrong) {
+        if [Wrong::SeamsUnseen, Wrong::SharingUnseen, Wrong::AxisForAnother, Wrong::EdgeByOneEnd].contains(&wrong) {
             return rows::listed(scene, wrong);
         }
         self.listed.get_or_insert_with(|| rows::listed(scene, wrong)).clone()

@@ -1,10 +1,11 @@
 //! Rows, near pairs, entries, and edges that are through a triangle at one time.
 
-use super::lent::{RowPairs, Time};
+use super::lent::{Lent, RowPairs, Time};
 use super::wrong::Wrong;
 use crate::list::listing;
 use crate::numbers::equations::{meet, Point, Solutions};
 use crate::scene::{all_pairs, Kind, Pair, Scene};
+use std::collections::HashSet;
 
 /// Start x y z, or end x y z.
 fn stands_at(scene: &Scene, time: Time, vertex: usize) -> [i64; 3] {
@@ -93,6 +94,59 @@ pub fn rows_in(scene: &Scene, listed: &[Pair], which: RowPairs, [first, end]: [u
     out
 }
 
+/// How many rows are sought together where an order is lent, at most.
+const RUN: usize = 8;
+
+/// The rows of edges by a lent order, in runs: what a run meets is found by places of the order, each is taken to its part, and those behind the run's first
+/// row are kept in front and sorted.
+pub fn in_runs(scene: &Scene, pairs: &mut Vec<Pair>, order: &[u32], wrong: Wrong) {
+    let edges: Vec<usize> = pairs.iter().filter(|pair| pair.kind == Kind::EdgeEdge).map(|pair| pair.first).collect();
+    let (Some(&first), Some(&last), false) = (edges.first(), edges.last(), order.is_empty()) else { return };
+    let there: HashSet<Pair> = pairs.iter().copied().collect();
+    pairs.retain(|pair| pair.kind == Kind::PointTriangle);
+    for run in (first..=last).step_by(RUN) {
+        let rows = run..(run + RUN).min(last + 1);
+        let together = scene.edges[rows.clone()].concat();
+        let meets = |&place: &usize| listing::joint_boxes_meet(scene, &together, &scene.edges[order[place] as usize]);
+        let kept = led((0..order.len()).filter(meets).collect(), order, run + 1, wrong);
+        let found = rows.flat_map(|row| kept.iter().map(move |&part| Pair::ee(row, part)));
+        pairs.extend(found.filter(|pair| there.contains(pair)));
+    }
+}
+
+fn led(mut places: Vec<usize>, order: &[u32], from: usize, wrong: Wrong) -> Vec<usize> {
+    let mut kept = 0;
+    for next in 0..places.len() {
+        places[kept] = order[places[if wrong == Wrong::PlaceLedTwice { kept } else { next }]] as usize;
+        kept += (from <= places[kept]) as usize;
+    }
+    let sorted = if wrong == Wrong::DroppedSortedIn { places.len() } else { kept };
+    places[..sorted].sort_unstable();
+    places.truncate(kept);
+    places
+}
+
+/// Rows whose entries are held together.
+const BLOCK: usize = 64;
+
+/// Entries as they are read that were held in halves, the lower one first, each block from the middle of those before it on. Where the lent places have no
+/// room for all, none are held.
+pub fn held_over(entries: &[u64], rows: &[usize], lent: &Lent) -> Vec<u64> {
+    if 2 * (lent.edge_order.len() + lent.triangle_order.len() + entries.len()) > lent.places.len() {
+        return entries.to_vec();
+    }
+    let mut halves = vec![0u32; 2 * entries.len()];
+    let (mut before, mut block) = (0, rows.first().map_or(0, |row| row + BLOCK));
+    for (at, (&entry, &row)) in entries.iter().zip(rows).enumerate() {
+        if row >= block {
+            (before, block) = (at, row + BLOCK);
+        }
+        let place = before + 2 * (at - before);
+        (halves[place], halves[place + 1]) = (entry as u32, (entry >> 32) as u32);
+    }
+    halves.chunks_exact(2).map(|two| two[0] as u64 + ((two[1] as u64) << 32)).collect()
+}
+
 /// All listed pairs; `unsewn` is how a program lists that does not see seams.
 pub fn listed(scene: &Scene, wrong: Wrong) -> Vec<Pair> {
     let those =
@@ -100,6 +154,11 @@ pub fn listed(scene: &Scene, wrong: Wrong) -> Vec<Pair> {
     match wrong {
         Wrong::SeamsUnseen => listing::listed(&scene.unsewn()),
         Wrong::SharingUnseen => those(listing::boxes_meet),
+        Wrong::EdgeByOneEnd => those(|scene, pair| {
+            let (first, second) = pair.parts(scene);
+            let of = |part: &[usize]| if part.len() == 2 { part[..1].to_vec() } else { part.to_vec() };
+            listing::joint_boxes_meet(scene, &of(first), &of(second)) && !pair.shares_a_vertex(scene)
+        }),
         Wrong::AxisForAnother => {
             those(|scene, pair| listing::boxes_meet_on(scene, pair, [(0, 0), (1, 2), (2, 2)]) && !pair.shares_a_vertex(scene))
         }

@@ -72,6 +72,8 @@ pub enum Wrong {
     EdgesSorted,
     /// a face's edges are a b, a c, b c
     EdgesInOtherOrder,
+    /// the side from the third corner to the first is left out
+    LastSideLeftOut,
     /// 11 for edge 1,025 before 4
     EdgeBeforeTwice,
     /// edge 1,025 is taken, and those behind it left out
@@ -130,11 +132,11 @@ pub enum Wrong {
 
 use Wrong::*;
 
-pub const WRONG: [Wrong; 37] = [
+pub const WRONG: [Wrong; 38] = [
     MinusNothingRefused, OneDigitAsHundredths, PartLeftOut, InDoubles, ZerosInFrontRefused, TenDigitsTaken, ThirdDigitCutOff,
-    EdgesBothWays, EdgesSorted, EdgesInOtherOrder, EdgeBeforeTwice, EdgesLeftOut, EdgeTooSoon, CornersSorted, FacesInAnyOrder,
-    CountsNotCompared, DifferBeforeEnd, DifferInEnd, SkippedNotCounted, LinesFromNought, EndFirst, LongEndLate, LinesOfBoth,
-    EndNotChecked, NoughtIsUnknown, ZeroInFrontOfVertex, FourthCornerLeftOut, SlashesTaken, CarriageReturnTaken,
+    EdgesBothWays, EdgesSorted, EdgesInOtherOrder, LastSideLeftOut, EdgeBeforeTwice, EdgesLeftOut, EdgeTooSoon, CornersSorted,
+    FacesInAnyOrder, CountsNotCompared, DifferBeforeEnd, DifferInEnd, SkippedNotCounted, LinesFromNought, EndFirst, LongEndLate,
+    LinesOfBoth, EndNotChecked, NoughtIsUnknown, ZeroInFrontOfVertex, FourthCornerLeftOut, SlashesTaken, CarriageReturnTaken,
     EndWithoutLineFeed, SkippedWithoutLineFeed, AnyOtherVertexSkipped, NamesSkipped, SpacesTaken, AnyOrderTaken,
     LaterVertexTaken, Exchanged,
 ];
@@ -255,7 +257,7 @@ impl Mesh {
     fn new_edges(&self, [a, b, c]: [usize; 3], wrong: Wrong) -> Vec<[usize; 2]> {
         let sides = if wrong == EdgesInOtherOrder { [[a, b], [a, c], [b, c]] } else { [[a, b], [b, c], [c, a]] };
         let mut added: Vec<[usize; 2]> = Vec::new();
-        for [from, to] in sides {
+        for [from, to] in sides.into_iter().take(if wrong == LastSideLeftOut { 2 } else { 3 }) {
             let there = |edge: [usize; 2]| self.known.contains(&edge) || added.contains(&edge);
             if !there([from, to]) && (wrong == EdgesBothWays || !there([to, from])) {
                 added.push(if wrong == EdgesSorted { [from.min(to), from.max(to)] } else { [from, to] });

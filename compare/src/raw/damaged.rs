@@ -139,9 +139,14 @@ fn refused_with(question: &Question, number: u64, carries: u64) -> Answer {
     Answer { number: (number << 32) + carries, buffers: question.lent.bytes() }
 }
 
-/// Buffers that are just long enough, and refused.
+/// Buffers that are just long enough, and refused; and whatever there is.
 fn just_long_enough() -> Vec<Damage> {
     vec![
+        damage("every scene is refused", |question, answer| {
+            if question.call.takes_a_scene() && answer.refusal() == 0 {
+                *answer = refused_with(question, VERTEX_TWICE, 0);
+            }
+        }),
         damage("a text that just fits is refused", |question, answer| {
             let length = question.lent.text.len() as u64;
             if question.call == Call::SaveScene && answer.number == length && length > 0 {

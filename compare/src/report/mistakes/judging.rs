@@ -25,6 +25,11 @@ pub fn mistakes() -> Vec<Mistake> {
             by_signs_only,
         ),
         by_piece("sum-wraps", "all six weights added up in 64 bits, where twice the sum over one simplex wraps", by_wrapped_sum),
+        by_pair(
+            "volume-of-another-piece",
+            "one volume of each piece taken from the piece in front of it",
+            with_a_volume_of_another,
+        ),
         by_pair("written-order", "corners in the order the scene writes them", in_written_order),
         by_pair("first-piece", "the first piece's word given for the pair", |scene, pair| of_pieces(scene, pair)[0]),
         by_pair("last-piece", "the last piece's word given for the pair", |scene, pair| *of_pieces(scene, pair).last().unwrap()),
@@ -87,6 +92,21 @@ fn by_wrapped_sum(piece: &Piece) -> Settled {
         _ if weights.iter().all(|weight| weight.signum() * sum.signum() as i128 >= 0) => Settled::Hit,
         _ => Settled::Miss,
     }
+}
+
+/// The volume without the first corner, of the piece in front of it; of what is singular, whether it touches is found exactly.
+fn with_a_volume_of_another(scene: &Scene, pair: Pair) -> Settled {
+    let all = pieces(scene, pair);
+    let judged = |(place, piece): (usize, &Piece)| {
+        let (mut own, sum) = weights::<i128>(piece);
+        own[0] = weights::<i128>(&all[place.saturating_sub(1)]).0[0];
+        match (sum == 0, none_opposed(&own)) {
+            (true, _) => decided(Verdict::Degenerate, || touches(piece)),
+            (false, true) => Settled::Hit,
+            (false, false) => Settled::Miss,
+        }
+    };
+    joined(&all.iter().enumerate().map(judged).collect::<Vec<Settled>>())
 }
 
 /// Of what is singular in doubles, whether it touches is found exactly.
