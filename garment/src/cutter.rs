@@ -21,7 +21,7 @@ pub struct Cutter {
 const FILLED: f64 = 0.75;
 const LONGER: usize = 64;
 /// What several threads have found and not written yet lies side by side: each fills so much less of its room.
-const SEVERAL: f64 = 3.0;
+const SEVERAL: f64 = 4.0;
 /// Fewer rows cost less than what each call begins with.
 const FEWEST: usize = 256;
 /// Stretches for each thread, so that all end at about the same time. One thread alone needs no more than one.

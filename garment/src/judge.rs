@@ -83,11 +83,12 @@ struct Room {
 const STRETCHES: usize = 3;
 const FEWEST: usize = 512;
 
-/// Pairs that a call has room for: at least so many, and one for so many parts of the mesh, beside what the library works in: each call begins with boxes
-/// and a tree of all parts of a kind. More of them go in several calls, so that falling cloth, which lists thousands for a vertex, takes no more memory
+/// Pairs that a call has room for: at least so many, and so many for so many parts of the mesh, beside what the library works in: each call begins with
+/// boxes and a tree of all parts of a kind. More of them go in several calls, so that falling cloth, which lists thousands for a vertex, takes no more memory
 /// than any other.
 const ROOM: usize = 1 << 17;
-const PARTS: usize = 2;
+const PAIRS: usize = 2;
+const PARTS: usize = 3;
 
 /// More pairs than this a row seldom has.
 const IN_A_ROW: usize = 1_024;
@@ -168,7 +169,7 @@ impl<'a> Judge<'a> {
 
     /// How many pairs a call has room for.
     fn most(&self) -> usize {
-        ROOM.max((self.rows() + self.mesh.triangles.len()) / PARTS)
+        ROOM.max(PAIRS * (self.rows() + self.mesh.triangles.len()) / PARTS)
     }
 
     /// All that came of some rows.
