@@ -26,8 +26,8 @@ extern "C" {
 
 #define MAKHNODRI_VERSION_MAJOR 1
 #define MAKHNODRI_VERSION_MINOR 1
-#define MAKHNODRI_VERSION_PATCH 1
-#define MAKHNODRI_VERSION "1.1.1"
+#define MAKHNODRI_VERSION_PATCH 2
+#define MAKHNODRI_VERSION "1.1.2"
 
 /* ---- Sizes ---- */
 

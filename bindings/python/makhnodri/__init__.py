@@ -42,7 +42,7 @@ if typing.TYPE_CHECKING:
 else:
     ReadableBuffer = WriteableBuffer = object  # Python's own names for them are seen by type checkers alone
 
-VERSION = "1.1.1"
+VERSION = "1.1.2"
 VERSION_MAJOR, VERSION_MINOR, VERSION_PATCH = map(int, VERSION.split("."))
 
 # ---- Sizes, as the header has them
