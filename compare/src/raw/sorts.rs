@@ -14,6 +14,7 @@ use crate::obj;
 use crate::scene::refusal::*;
 use crate::scene::*;
 use crate::text::faults::{self, Cell};
+use std::cell::RefCell;
 use std::collections::BTreeMap;
 
 pub type Sorts = BTreeMap<String, usize>;
@@ -386,9 +387,20 @@ fn of_claims(question: &Question, answer: &Answer) -> Vec<String> {
     out
 }
 
+thread_local! {
+    /// A text and its cells, which are dear to find: some six questions in a row are about one text. The empty one is a scene, and reaches none.
+    static LAST: RefCell<(Vec<u8>, Vec<Cell>)> = RefCell::default();
+}
+
 fn texts_cells(question: &Question) -> Vec<String> {
-    let cells = faults::reached(&question.lent.text).into_iter();
-    cells.filter(|&cell| can_be_given(question.call, cell)).map(|cell| in_cell(question.call, cell)).collect()
+    let cells = LAST.with_borrow_mut(|(text, cells)| {
+        if *text != question.lent.text {
+            *cells = faults::reached(&question.lent.text);
+            text.clone_from(&question.lent.text);
+        }
+        cells.clone()
+    });
+    cells.into_iter().filter(|&cell| can_be_given(question.call, cell)).map(|cell| in_cell(question.call, cell)).collect()
 }
 
 fn of_reading(question: &Question, answer: &Answer) -> Vec<String> {

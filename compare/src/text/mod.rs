@@ -159,20 +159,27 @@ pub fn coordinate(field: &[u8]) -> Option<i64> {
 /// A scene whose text has so many bytes, of some 1,000 to 40,000: vertices, then edges, then triangles, and for the last bytes coordinates made longer.
 pub fn as_long_as(bytes: usize) -> Scene {
     let mut scene = Scene { vertices: vec![[-100_001, 1, 100_003, -4, 500_005, -6]; 12], ..Scene::default() };
-    let left = |scene: &Scene| bytes - write(scene).len();
-    while scene.vertices.len() < VERTEX_LIMIT && left(&scene) > 60 {
+    let mut left = bytes - write(&scene).len();
+    while scene.vertices.len() < VERTEX_LIMIT && left > 60 {
         let n = scene.vertices.len() as i64;
-        scene.vertices.push([n - 400_000, 400_000 - n, 300_000 + n, -300_000 - n, 111_111, 222_222]);
+        let one =
+            Scene { vertices: vec![[n - 400_000, 400_000 - n, 300_000 + n, -300_000 - n, 111_111, 222_222]], ..Scene::default() };
+        left -= write(&one).len();
+        scene.vertices.extend(one.vertices);
     }
     let last = scene.vertices.len() - 1;
-    while scene.edges.len() < EDGE_LIMIT && left(&scene) > 60 {
-        scene.edges.push([last, last - 1]);
+    let edge = Scene { edges: vec![[last, last - 1]], ..Scene::default() };
+    while scene.edges.len() < EDGE_LIMIT && left > 60 {
+        left -= write(&edge).len();
+        scene.edges.extend(&edge.edges);
     }
-    while scene.triangles.len() < TRIANGLE_LIMIT && left(&scene) > 60 {
-        scene.triangles.push([last, last - 2, last - 1]);
+    let triangle = Scene { triangles: vec![[last, last - 2, last - 1]], ..Scene::default() };
+    while scene.triangles.len() < TRIANGLE_LIMIT && left > 60 {
+        left -= write(&triangle).len();
+        scene.triangles.extend(&triangle.triangles);
     }
     // the second number of the first twelve has one digit, and may have six
-    let mut short = left(&scene);
+    let mut short = left;
     for vertex in scene.vertices.iter_mut().take(12) {
         let more = short.min(5);
         vertex[1] = 10i64.pow(more as u32);
