@@ -5,11 +5,13 @@ pub mod Refused
 pub mod Demand1
 -- two results are one
 pub mod OneResult
--- an order that is taken changes nothing
-pub mod AnyLent
 -- rows of vertices look at no edge, rows of edges at no triangle
 pub mod OfKind
--- so a call over rows of one kind may be lent that kind alone
+-- calls over the same rows have one result, where what decides in the one decides in the other
+pub mod Carried
+-- an order that is taken changes nothing
+pub mod AnyLent
+-- a call over rows of one kind may be lent that kind alone
 pub mod OneKind
 -- what a stretch of rows holds
 pub mod Stretches
