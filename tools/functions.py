@@ -102,7 +102,7 @@ def rooms():
     found = []
     for line in (TOP / "crates.txt").read_text(encoding="utf-8").splitlines():
         title = re.match(r"# == (.+?)\s*(?:==)?$", line)
-        crate = re.match(r"([a-z_0-9]+):(.*)", line)
+        crate = re.match(r"([a-z_0-9]+)(?: staticlib)?:(.*)", line)
         if title:
             found.append((title.group(1), {}))
         elif crate:

@@ -5,9 +5,9 @@ import pathlib
 import re
 
 TOP = pathlib.Path(__file__).resolve().parents[1]
-WORD = r"[\w′″₀-₉⁺⁻*-]+"
-HEAD = re.compile(rf"((?:(?:pub|abbrev|unfoldable|record|data) )*)({WORD}|_\S+|\S+_)(?=[ :])")
-USE = re.compile(r"^(?:ghost )?(?:pub )?use Rattle·(\w+)(?:·specs\.specs|\.specs)\.([\w.-]+?)(?:\.\{(.*)\}| as (\w+))?;?$")
+WORD = r"[\w'₀-₉⁺⁻*-]+"
+HEAD = re.compile(rf"((?:(?:pub|abbrev|unfoldable|record|data) )*)({WORD}|◌\S+|\S+◌)(?=[ :])")
+USE = re.compile(r"^(?:ghost )?(?:pub )?use Rattle\.(\w+)\.specs\.([\w.-]+?)(?:\.\{(.*)\}| as (\w+))?;?$")
 DEFINING = {"record", "data", "abbrev", "unfoldable"}
 
 
@@ -92,12 +92,18 @@ def declarations_in(crate, file, source):
     return reader.found
 
 
+@functools.cache
+def is_own(crate):
+    """Whether a crate is of this house, and not a library of Rattle's."""
+    return (TOP / "crates" / crate).is_dir()
+
+
 def uses_in(source):
     """What a file names of other files: each short name with where it is from, and each alias of a file."""
     names, aliases = {}, {}
     for line in source.splitlines():
         use = USE.match(line.strip())
-        if not use:
+        if not use or not is_own(use.group(1)):
             continue
         crate, path, listed, alias = use.groups()
         origin = (crate, path)
@@ -159,13 +165,13 @@ def origin_of(crate, path, name=""):
     """The declaration that a name stands for in a file: itself, the type that it is a case of, or, of a path `declared.Type`, the type."""
     parts = path.split(".")
     if parts[0] == "declared":
-        return declared().get((crate, "declared", [part for part in parts if part != "the-variants"][-1]))
+        return declared().get((crate, "declared", [part for part in parts if part != "TheVariants"][-1]))
     file = "/".join(parts)
     return declared().get((crate, file, name)) or cases().get((crate, file, name))
 
 
 def tokens(text):
-    return re.findall(rf"(?<![\w.])(?:{WORD})(?:\.{WORD})*", text)
+    return re.findall(rf"(?<![\w.'])(?:{WORD})(?:\.{WORD})*", text)
 
 
 def bound_in(text):

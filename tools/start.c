@@ -4,12 +4,9 @@
 
 int main(int count, char **words, char **settings);
 int __libc_start_main(int (*)(int, char **, char **), int, char **, void (*)(void), void (*)(void), void (*)(void), void *);
-int open(const char *path, int flags, ...);
 int *__errno_location(void);
 
-__SIZE_TYPE__ rattle_arg_count(void);
 __PTRDIFF_TYPE__ rattle_arg(__SIZE_TYPE__ place, unsigned char *into, __SIZE_TYPE__ room);
-int rattle_open_to_read(const unsigned char *path);
 int rattle_errno(void);
 void rattle_set_errno(int error);
 
@@ -38,10 +35,6 @@ __attribute__((used, noreturn)) static void started(long *stack, void (*at_end)(
     __builtin_trap();
 }
 
-__SIZE_TYPE__ rattle_arg_count(void) {
-    return (__SIZE_TYPE__)word_count;
-}
-
 /* The word's length, -1 where there is no such word, -2 where it does not fit. */
 __PTRDIFF_TYPE__ rattle_arg(__SIZE_TYPE__ place, unsigned char *into, __SIZE_TYPE__ room) {
     __SIZE_TYPE__ at = 0;
@@ -51,11 +44,6 @@ __PTRDIFF_TYPE__ rattle_arg(__SIZE_TYPE__ place, unsigned char *into, __SIZE_TYP
         into[at] = (unsigned char)words[place][at];
     }
     return (__PTRDIFF_TYPE__)at;
-}
-
-/* To read, not handed on to another program, and no terminal becomes this process's own: the kit's flags, which are the same numbers here. */
-int rattle_open_to_read(const unsigned char *path) {
-    return open((const char *)path, 02000000 | 0400);
 }
 
 int rattle_errno(void) {

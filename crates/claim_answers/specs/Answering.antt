@@ -1,6 +1,6 @@
 -- What the second pass promises, and how it goes on from claim to claim.
 use Rattle.std.specs.Prelude.{Bool, ◌≡◌, refl, ℕ, ◌+◌, ◌≤◌, ◌<◌, drop, set}
-use mathlib.Core.List.{List, [], ◌∷◌, ◌++◌, map, map_append, append_assoc, append-nil}
+use mathlib.Core.List.{List, [], ◌∷◌, ◌++◌, map, map-append, append_assoc, append-nil}
 use Rattle.std.proofs.Math.Path.{sym, ap, subst}
 use Rattle.std.proofs.Common.{◌∙◌, arith, length-append}
 use Rattle.std.proofs.Math.ListN.{length}
@@ -132,7 +132,7 @@ module _ {s : Scene} {text o₀ o : List ℕ} {count at : ℕ} (f : Answering s 
               few = omega (arith, f.few, further);
               told = f.told ++ (b ∷ []);
               right = all_append s f.done (c ∷ []) f.told (b ∷ []) f.right (h, tt);
-              wrote = rw (map_append answer_byte f.told (b ∷ [])) (wrote_then f.wrote (wrote_one o count (answer_byte b) answer_room));
+              wrote = rw (map-append answer_byte f.told (b ∷ [])) (wrote_then f.wrote (wrote_one o count (answer_byte b) answer_room));
             },
             further,
           )

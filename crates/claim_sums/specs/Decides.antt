@@ -1,6 +1,6 @@
 -- The tests decide the claim: they all pass exactly when the weights bear it out.
-use Rattle.std.specs.Prelude.{ℕ, zero, suc, ◌≤◌, ◌<◌, Bool, ◌&&◌, ◌||◌, List, ◌↔◌, ◌≡◌, refl, ltb, ℤ, pos, ◌≤ℤ◌, ◌<ℤ◌}
-use Rattle.std.proofs.Common.{arith, true≢false, sym, ap, ◌∙◌, lit<, ltb-false, le-ltb}
+use Rattle.std.specs.Prelude.{ℕ, zero, suc, ◌≤◌, ◌<◌, Bool, ◌&&◌, List, ◌↔◌, ◌≡◌, refl, ℤ, pos, ◌≤ℤ◌}
+use Rattle.std.proofs.Common.{arith, true≢false, sym, ◌∙◌, lit<, ltb-false, le-ltb}
 use Rattle.std.proofs.Math.Bool.{true, false}
 use Rattle.std.proofs.Math.Path.{subst}
 use Rattle.std.proofs.Math.Dec.{T}
@@ -8,8 +8,8 @@ use Rattle.std.specs.Int.Signed.{le_z, lt_z, ≤ℤ_refl}
 use Rattle.std.proofs.Math.Facts.{and_yes, yes_and}
 use Rattle.whole.specs.Order.{ord}
 use Rattle.meaning.specs.Limits.{weight_limit}
-use Rattle.meaning.specs.Pieces.{Event, Piece}
-use Rattle.meaning.specs.Equations.{one, x_of, y_of, z_of, time_of, total, Balanced}
+use Rattle.meaning.specs.Pieces.{Piece}
+use Rattle.meaning.specs.Equations.{total}
 use Rattle.meaning.specs.Claims.{weight_at, of_first_simplex, of_second_simplex, BorneOut, AnswerIs}
 use Rattle.corner_leaf.specs.declared.SixPoints.{SixPoints}
 use Rattle.corner_leaf.specs.Points.{piece_at}

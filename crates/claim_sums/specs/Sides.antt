@@ -1,10 +1,10 @@
 -- A side goes point by point, and the two sides of a piece are the weighted sums of its simplices.
-use Prim.Native.Nat.{ℕ, zero, suc, ◌+◌, ◌*◌, ◌-◌, ◌≤◌, ◌<◌}
+use Prim.Native.Nat.{ℕ, zero, suc, ◌+◌, ◌-◌, ◌≤◌, ◌<◌}
 use Rattle.std.proofs.Common.{add-zero, zero-add, sym, ◌∙◌, length-take, take-suc, take_all, get_or-drop}
 use Rattle.std.proofs.Math.Nat.{min-eq_left}
 use native.Mathlib.Omega.{arith}
-use mathlib.Core.List.{List, [], ◌∷◌, ◌++◌}
-use Rattle.std.specs.Prelude.{◌≡◌, ℤ, ◌+ℤ◌, ◌*ℤ◌, get_or, take}
+use mathlib.Core.List.{List, [], ◌∷◌}
+use Rattle.std.specs.Prelude.{◌≡◌, ℤ, ◌+ℤ◌, ◌*ℤ◌, take}
 use Rattle.std.proofs.Math.Path.{refl, ap}
 use Rattle.std.proofs.Math.IntN.{pos, +ℤ_idr}
 use Rattle.std.proofs.Math.ListN.{length, drop, length-drop}
@@ -15,7 +15,7 @@ use Rattle.theory.specs.Totals.{total_append}
 use Rattle.corner_leaf.specs.declared.SixPoints.{SixPoints}
 use Rattle.corner_laws.specs.Slots.{event_in}
 use Rattle.corner_leaf.specs.Points.{event_at, six_events, piece_at, first_long}
-use Rattle.claim_sums.specs.Sums.{reading, from_to, side}
+use Rattle.claim_sums.specs.Sums.{reading, side}
 
 -- one point more
 total_next : (f : Event → ℤ) (w : ℕ → ℤ) (l : List Event) (n : ℕ) → n < length l

@@ -1,5 +1,5 @@
 -- The sums of a claim as code forms them: the weighted sum over the points from one place to another, in a row of the equations.
-use Rattle.std.specs.Prelude.{ℕ, zero, suc, ◌+◌, ◌*◌, ◌-◌, ◌≤◌, ◌<◌, Bool, ◌||◌, ◌&&◌, List, ◌≡◌, ltb, ℤ, pos, length, take, drop}
+use Rattle.std.specs.Prelude.{ℕ, zero, suc, ◌+◌, ◌*◌, ◌-◌, ◌≤◌, ◌<◌, Bool, ◌||◌, ◌&&◌, List, ltb, ℤ, pos, take, drop}
 use Rattle.std.specs.Int.Signed.{le_z, lt_z}
 use Rattle.meaning.specs.Limits.{coordinate_limit, weight_limit}
 use Rattle.meaning.specs.Pieces.{Event}

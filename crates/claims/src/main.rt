@@ -1,13 +1,12 @@
 // The program of claims: two files by name, the text of a scene and a text of claims; a line `yes` or `no` for each claim on standard output.
-
 #![tactic(auto)]
 
 use claim_report::ANSWERS_BYTES;
-use libc::STDERR_FILENO;
 use meaning::{
     EDGE_NUMBERS, POSITION_NUMBERS, READ_BYTES, SEAM_NUMBERS, TRIANGLE_NUMBERS, TextAnswer,
 };
-use named_files::{PairRead, read_pair, write_out};
+use named_files::{PairRead, read_pair};
+use streams::write_out;
 
 // Whether the text of the scene is refused by itself.
 fn scene_refused(text: &[u8]) -> bool {
@@ -29,25 +28,24 @@ fn scene_refused(text: &[u8]) -> bool {
 }
 
 // A refusal's line is counted in its own file, and the printed bytes do not tell in which: standard error does.
-fn tell_whose(scene: &[u8]) {
-    if scene_refused(scene) {
-        io::write_all(STDERR_FILENO, b"claims: it is the scene that is refused\n");
+fn tell_whose(rt: &impl Eprint, scene: &[u8]) {
+    let whose = if scene_refused(scene) {
+        "claims: it is the scene that is refused"
     } else {
-        io::write_all(
-            STDERR_FILENO,
-            b"claims: it is the claims that are refused\n",
-        );
-    }
+        "claims: it is the claims that are refused"
+    };
+    let _ = rt.eprintln(whose);
 }
 
-fn main() {
+fn main(rt: HostRuntime) {
     // one byte more than a text may have: a full buffer decides refusal 8
     let mut scene = [0u8; READ_BYTES];
     let mut claims = [0u8; READ_BYTES];
     let PairRead::Lengths(scene_length, claims_length) = read_pair(
-        b"usage: claims SCENE CLAIMS\n",
-        b"claims: the scene could not be read\n",
-        b"claims: the claims could not be read\n",
+        &rt,
+        "usage: claims SCENE CLAIMS",
+        "claims: the scene could not be read",
+        "claims: the claims could not be read",
         &mut scene,
         &mut claims,
     ) else {
@@ -56,10 +54,11 @@ fn main() {
     let mut out = [0u8; ANSWERS_BYTES];
     let length = claim_report::answers_read(&scene, scene_length, &claims, claims_length, &mut out);
     write_out(
+        &rt,
         &out[..length],
-        b"claims: the answers could not be written\n",
+        "claims: the answers could not be written",
     );
     if out[0] == b'r' {
-        tell_whose(&scene[..scene_length]);
+        tell_whose(&rt, &scene[..scene_length]);
     }
 }

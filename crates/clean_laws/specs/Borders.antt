@@ -4,7 +4,7 @@
 use Rattle.std.specs.Prelude.{◌≡◌, ◌≢◌, ◌⊎◌, Bool, ◌||◌, T, ℤ, pos, neg_ℤ, ◌+ℤ◌, ◌-ℤ◌, ◌*ℤ◌, ◌≤ℤ◌, ◌<ℤ◌}
 use Rattle.std.proofs.Math.Path.{refl, sym, ap, ap₂, fun_ext}
 use Rattle.std.proofs.Common.{◌∙◌, subst, inl, inr, true≢false, arith}
-use Rattle.std.proofs.Math.Bool.{true, false, not, ◌&&◌, not_not}
+use Rattle.std.proofs.Math.Bool.{true, false, not, ◌&&◌, not-not}
 use mathlib.Core.List.{List, [], ◌∷◌}
 use Rattle.std.proofs.Math.IntN.{neg_ℤ-neg_ℤ}
 use Rattle.std.specs.Int.Signed.{le_z, le_z_yes}
@@ -69,6 +69,7 @@ pub data In {A : Type 0} (a : A) : List A → Type 0 where
 
 module _ {A : Type 0} where
   pub every_in : (P : A → Type 0) (l : List A) {a : A} → Every P l → In a l → P a
+  every_in P [] h i = elim i [ ]
   every_in P (b ∷ l) h here = h.0
   every_in P (b ∷ l) h (there i) = every_in P l h.1 i
 
@@ -92,6 +93,7 @@ module _ {A : Type 0} where
 
   pub all_in : (g : A → Bool) (l : List A) → all g l ≡ true → {a : A} → In a l → g a ≡ true
   unfolding all
+  all_in g [] h i = elim i [ ]
   all_in g (b ∷ l) h here = go (g b) h
     where
       go : (x : Bool) → x && all g l ≡ true → x ≡ true
@@ -160,8 +162,8 @@ module _ {A : Type 0} where
       four false true false z = refl
       four false true true z = refl
       four true false false z = refl
-      four true false true z = not_not z
-      four true true false z = sym (not_not z)
+      four true false true z = not-not z
+      four true true false z = sym (not-not z)
       four true true true z = refl
 
 -- ---- who leads and who trails
@@ -200,6 +202,7 @@ none_of_both x y e h k = let g = of_eq (x ∷ y ∷ []) (search quotes depth 40 
 module _ {A : Type 0} {turn : A → A → ℤ} (t : Turning turn) where
   -- two that stand in the list are one, or do not lie on one line
   one_or_apart : (l : List A) → NoTwo turn l → {k w : A} → In k l → In w l → (w ≡ k) ⊎ (turn k w ≢ pos 0)
+  one_or_apart [] h i _ = elim i [ ]
   one_or_apart (a ∷ l) h here here = inl refl
   one_or_apart (a ∷ l) h here (there j) = inr (every_in (λ b. turn a b ≢ pos 0) l h.0 j)
   one_or_apart (a ∷ l) h {k} {w} (there i) here = inr (λ e. every_in (λ b. turn a b ≢ pos 0) l h.0 i (t.back k w ∙ ap neg_ℤ e))
@@ -304,6 +307,7 @@ module _ {A : Type 0} {turn : A → A → ℤ} (t : Turning turn) (k : A) where
     where
       only : (w : A) → In w (a ∷ []) → turn a w ≤ℤ pos 0
       only w here = itself t a
+      only w (there i) = elim i [ ]
   find a (b ∷ l) h = step a (b ∷ l) (h a here) (λ w i. h w (there i)) (find b l (λ w i. h w (there i)))
 
 module _ {A : Type 0} {turn : A → A → ℤ} (t : Turning turn) (l : List A) (h : NoTwo turn l) where
@@ -322,6 +326,7 @@ module _ {A : Type 0} {turn : A → A → ℤ} (t : Turning turn) (l : List A) (
               cases false (reversed y) = y
 
   last_of : (k : A) (m : List A) → In k m → ((w : A) → In w m → Beyond t k w) → Last t m
+  last_of k [] i b = elim i [ ]
   last_of k (a ∷ m) i b = find t k a m b
 
   leader_trailer : Some (leads turn l) l → Some (trails turn l) l

@@ -83,15 +83,30 @@ only_none a h y =
     let e4 = first_none a.time a.sum a.x a.y a.z h4 in
     combine (all5 y ++ all5 a) (times y.sum e0 ∷ times y.x e1 ∷ times y.y e2 ∷ times y.z e3 ∷ times y.time e4 ∷ []) (search quotes depth 60 fits 90000) refl
 
+abbrev plus5 : Five → Five → Five
+plus5 a b = record { sum = a.sum +ℤ b.sum; x = a.x +ℤ b.x; y = a.y +ℤ b.y; z = a.z +ℤ b.z; time = a.time +ℤ b.time }
+
+abbrev scale5 : ℤ → Five → Five
+scale5 k a = record { sum = k *ℤ a.sum; x = k *ℤ a.x; y = k *ℤ a.y; z = k *ℤ a.z; time = k *ℤ a.time }
+
+pub dot5_plus : (a b c : Five) → dot5 (plus5 a b) c ≡ dot5 a c +ℤ dot5 b c
+dot5_plus a b c = ring (all5 a ++ all5 b ++ all5 c) (search quotes depth 60 fits 90000) refl
+
+pub dot5_scale : (k : ℤ) (a c : Five) → dot5 (scale5 k a) c ≡ k *ℤ dot5 a c
+dot5_scale k a c = ring (k ∷ all5 a ++ all5 c) (search quotes depth 60 fits 90000) refl
+
+pub dot5_either : (a b : Five) → dot5 a b ≡ dot5 b a
+dot5_either a b = ring (all5 a ++ all5 b) (search quotes depth 60 fits 90000) refl
+
 unfoldable pub five : Space Five
 five = record {
   dot = dot5;
   nothing = record { sum = pos 0; x = pos 0; y = pos 0; z = pos 0; time = pos 0 };
-  plus = λ a b. record { sum = a.sum +ℤ b.sum; x = a.x +ℤ b.x; y = a.y +ℤ b.y; z = a.z +ℤ b.z; time = a.time +ℤ b.time };
-  scale = λ k a. record { sum = k *ℤ a.sum; x = k *ℤ a.x; y = k *ℤ a.y; z = k *ℤ a.z; time = k *ℤ a.time };
-  dot_plus = λ a b c. ring (all5 a ++ all5 b ++ all5 c) (search quotes depth 60 fits 90000) refl;
-  dot_scale = λ k a c. ring (k ∷ all5 a ++ all5 c) (search quotes depth 60 fits 90000) refl;
-  either = λ a b. ring (all5 a ++ all5 b) (search quotes depth 60 fits 90000) refl;
+  plus = plus5;
+  scale = scale5;
+  dot_plus = dot5_plus;
+  dot_scale = dot5_scale;
+  either = dot5_either;
   only_nothing = only_none;
 }
 

@@ -1,6 +1,6 @@
 -- The word of a piece and of a pair, computed: the corners left answer, and where they leave it open some corner is left out. Each piece and each
 -- pair has exactly one of the four words, and it is this one.
-use Prim.Native.Nat.{ℕ, zero, suc, ◌+◌, ◌≤◌, ◌<◌}
+use Prim.Native.Nat.{ℕ, zero, suc, ◌≤◌, ◌<◌}
 use native.Mathlib.Omega.{arith}
 use Rattle.std.specs.Prelude.{◌≡◌, ◌↔◌, ◌&&◌, List, T, ℤ, set}
 use Rattle.std.proofs.Math.Path.{refl, subst}

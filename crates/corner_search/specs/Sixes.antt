@@ -1,8 +1,8 @@
 -- The six points of each of a pair's pieces: a vertex stands at 6 v at the start and at 6 v + 3 at the end.
-use Rattle.std.specs.Prelude.{ℕ, zero, suc, ◌+◌, ◌*◌, ◌/◌, ◌%◌, min, max, ◌≡◌, refl, true, false, List, [], ◌∷◌, ℤ}
+use Rattle.std.specs.Prelude.{ℕ, zero, suc, ◌+◌, ◌*◌, ◌/◌, ◌%◌, min, max, ◌≡◌, refl, true, false, [], ◌∷◌}
 use Rattle.std.proofs.Common.{arith}
 use Rattle.meaning.specs.Scene.{Scene, ends_of, corners_of}
-use Rattle.meaning.specs.Pieces.{Piece, moving_point, moving_edge, moving_triangle, piece_of}
+use Rattle.meaning.specs.Pieces.{moving_point, moving_edge, moving_triangle, piece_of}
 use Rattle.meaning.specs.declared.Kind.{Kind}
 use Rattle.meaning.specs.declared.Kind.TheVariants.{PointTriangle, EdgeEdge}
 use Rattle.meaning.specs.declared.Ends.{Ends}

@@ -1,6 +1,6 @@
 -- The laws of one step of the search, whichever simplex it tries. None of them looks into the weights.
-use Rattle.std.specs.Prelude.{ℕ, zero, suc, ◌+◌, ◌*◌, ◌≤◌, ◌<◌, refl, ◌⊎◌, Bool, cond, List, [], ◌∷◌, ◌++◌, T, eqb, ℤ, length, get_or, set}
-use Rattle.std.proofs.Common.{eq-or-lt_of_le, sym, ◌∙◌, ap, subst, inl, inr, ⊎_elim, eqb→eq, length-append, get_or-set_other}
+use Rattle.std.specs.Prelude.{ℕ, zero, suc, ◌+◌, ◌*◌, ◌≤◌, ◌<◌, refl, ◌⊎◌, Bool, cond, List, [], ◌∷◌, T, ℤ, set}
+use Rattle.std.proofs.Common.{eq-or-lt_of_le, sym, ◌∙◌, ap, subst, inl, inr, ⊎_elim, length-append, get_or-set_other}
 use Rattle.std.proofs.Math.Decide.{dec_lt, ℕ_discrete}
 use native.Mathlib.Omega.{arith}
 use Rattle.std.proofs.Math.Path.{◌≡◌}
@@ -8,7 +8,7 @@ use Rattle.std.proofs.Math.Bool.{true, false}
 use Rattle.corner_leaf.specs.declared.SixPoints.{SixPoints}
 use Rattle.corner_leaf.specs.declared.Leaf.{Leaf}
 use Rattle.corner_leaf.specs.declared.Leaf.TheVariants.{Yes, No, Open}
-use Rattle.corner_laws.specs.Left.{TouchIn, fewer, without, still_out, now_out}
+use Rattle.corner_laws.specs.Left.{fewer, without, still_out, now_out}
 use Rattle.corner_laws.specs.Leave.{Leaves}
 use Rattle.corner_leaf.specs.Points.{is_left, piece_at, TouchLeft, Timed, six_long}
 use Rattle.corner_leaf.specs.Answer.{leaf_of}

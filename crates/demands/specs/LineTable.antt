@@ -70,6 +70,7 @@ abbrev pub in_line : ℕ → Bool
 in_line n = eqb n 9 || eqb n 10 || eqb n 11 || eqb n 2 || eqb n 3 || eqb n 15 || eqb n 4
 
 every_member : {A : Type 0} (P : A → Type 0) (l : List A) (a : A) → Every P l → Memᴰ a l → P a
+every_member {A = A} P [] a h x'' = elim x'' [ ]
 every_member P (x ∷ l) a h (Memᴰ.head e) = subst P (sym e) h.0
 every_member P (x ∷ l) a h (Memᴰ.tail m) = every_member P l a h.1 m
 

@@ -42,6 +42,7 @@ module _ (s : Scene) where
 
   found : (test : ℕ → Bool) (c : ℕ) (l : List ℕ) → Memᴰ c l → test c ≡ true → any test l ≡ true
   unfolding any
+  found test c [] x'' h = elim x'' [ ]
   found test c (a ∷ l) (Memᴰ.head e) h = rw (ap test (sym e) ∙ h)
   found test c (a ∷ l) (Memᴰ.tail m) h = or_true (test a) (any test l) (found test c l m h)
 

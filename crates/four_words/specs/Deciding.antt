@@ -1,6 +1,6 @@
 -- The answer in four words, from the answer in three: a refusal stays, and where a verdict was given no check holds.
 use Rattle.std.specs.Prelude.{ℕ, Bool, false, ◌||◌, ◌≡◌, leb}
-use mathlib.Core.List.{List, [], ◌∷◌, ◌++◌}
+use mathlib.Core.List.{List, [], ◌++◌}
 use Rattle.std.proofs.Math.Path.{subst}
 use Rattle.meaning.specs.Scene.{Scene, Accepted}
 use Rattle.meaning.specs.Pieces.{piece_of, piece_count}

@@ -1,6 +1,6 @@
 -- The word of a pair, from its verdict and from whether some piece touches.
-use Rattle.std.specs.Prelude.{ℕ, ◌+◌, ◌≤◌, ◌<◌, ◌≡◌, refl, ◌⊎◌, Bool}
-use Rattle.std.proofs.Common.{eq-or-lt_of_le, lt_of_lt_of_le, not-suc-le-zero, arith, sym, ⊎_elim, true≢false}
+use Rattle.std.specs.Prelude.{ℕ, ◌+◌, ◌≤◌, ◌<◌, ◌≡◌, ◌⊎◌, Bool}
+use Rattle.std.proofs.Common.{eq-or-lt_of_le, lt_of_lt_of_le, not-suc-le-zero, arith, sym, ⊎_elim}
 use Rattle.std.proofs.Math.Path.{subst}
 use Rattle.std.proofs.Math.Bool.{true, false}
 use Rattle.meaning.specs.Scene.{Scene}

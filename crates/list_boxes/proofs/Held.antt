@@ -12,7 +12,7 @@ abbrev pub held : ℤ → ℤ
 held z = to_z w32 (of_z w32 z)
 
 pub held_is : (z : ℤ) → mag z < 2 ^ hbits w32 → held z ≡ z
-held_is z h = to_z-of_z (record { sfits = h })
+held_is z h = to_z-of_z {w = w32} (record { sfits = h })
 
 pub held_as : (r z : ℤ) → mag r < 2 ^ hbits w32 → r ≡ z → held r ≡ z
 held_as r z h e = held_is r h ∙ e

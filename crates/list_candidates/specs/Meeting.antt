@@ -1,6 +1,6 @@
 -- Two boxes of the list meet exactly when those of the scene do.
 use Rattle.std.specs.Prelude.{ℕ, ◌<◌, List, Bool, true, false, not, ◌≡◌, ℤ}
-use Rattle.std.proofs.Math.Bool.{and-true, and_false}
+use Rattle.std.proofs.Math.Bool.{and-true, and-false}
 use Rattle.std.proofs.Common.{sym, ◌∙◌}
 use Rattle.std.proofs.Math.Nat.{zero-add}
 use Rattle.meaning.specs.Scene.{Scene, vertex_count, edge_count, triangle_count}
@@ -33,4 +33,4 @@ module _ (s : Scene) (kind : Kind) (i j : ℕ) {meets : Bool} (e : meets ≡ box
   listed_unless {shared} t p = rw (← e, t, ← p) (sym (and-true (not shared)))
 
   pub not_listed : meets ≡ false → false ≡ listed s kind i j
-  not_listed t = rw (← e, t) (sym (and_false (not (shares s kind i j))))
+  not_listed t = rw (← e, t) (sym (and-false (not (shares s kind i j))))

@@ -1,6 +1,6 @@
 -- The joint box of parts one behind the other: a box that misses it misses each of them.
 use Rattle.std.specs.Prelude.{ℕ, zero, suc, ◌+◌, ◌≤◌, ◌<◌, Bool, true, false, ◌&&◌, ◌⊎◌, ◌≡◌, refl, ℤ, ◌<ℤ◌}
-use Rattle.std.proofs.Math.Bool.{and_false}
+use Rattle.std.proofs.Math.Bool.{and-false}
 use Rattle.std.proofs.Common.{true≢false, inl, inr, ⊎_elim, sym, ap, ◌∙◌, arith}
 use Rattle.std.specs.Int.Signed.{le_z, clash_ℤ}
 use Rattle.whole.specs.Order.{ord}
@@ -21,7 +21,7 @@ not_at_most a b h = go (le_z a b) (compared a b)
     go false (reversed k) = refl
 
 apart_misses : (p q : Span) → Apart p q → meet p q ≡ false
-apart_misses p q (inl h) = rw (not_at_most q.low p.high h) (and_false (le_z p.low q.high))
+apart_misses p q (inl h) = rw (not_at_most q.low p.high h) (and-false (le_z p.low q.high))
 apart_misses p q (inr h) = rw (not_at_most p.low q.high h) refl
 
 -- what misses a joint span misses both

@@ -1,6 +1,6 @@
 -- A run that a first part misses has no listed pair in it.
 use Rattle.std.specs.Prelude.{ℕ, ◌+◌, ◌*◌, ◌-◌, ◌/◌, ◌≤◌, ◌<◌, Bool, true, false, not, List, [], ◌≡◌, refl, ℤ, length}
-use Rattle.std.proofs.Math.Bool.{and_false}
+use Rattle.std.proofs.Math.Bool.{and-false}
 use Rattle.std.proofs.Common.{sym, ap, ◌∙◌, zero-add, arith}
 use Rattle.sequences.specs.Gather.{gather, gather_none, gather_first}
 use Rattle.sequences.specs.Range.{towards}
@@ -97,4 +97,4 @@ run_skipped s kind i j r from below misses =
     gather_empty (candidate s kind i) (run_to (second_count s kind) r) j
     (λ k h l.
     let apart = run_misses (first_box s kind i) (second_box s kind) (run_from r) (run_to (second_count s kind) r - run_from r - 1) misses k (omega arith) (omega arith) in
-    rw (boxes_meet_is s kind i k, apart, and_false (not (shares s kind i k))) refl)
+    rw (boxes_meet_is s kind i k, apart, and-false (not (shares s kind i k))) refl)

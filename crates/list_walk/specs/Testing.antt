@@ -1,6 +1,6 @@
 -- How many boxes the walk tests: those of the pt part are counted, run by run and row by row.
 use Rattle.std.specs.Prelude.{ℕ, ◌+◌, ◌*◌, ◌-◌, ◌/◌, ◌≤◌, ◌<◌, min, Bool, true, false, not, ◌⊎◌, ◌≡◌, refl}
-use Rattle.std.proofs.Math.Bool.{and_false}
+use Rattle.std.proofs.Math.Bool.{and-false}
 use Rattle.std.proofs.Common.{inl, inr, ⊎_elim, sym, ap, ◌∙◌, arith}
 use Rattle.sequences.specs.Gather.{sum, sum_none, sum_first}
 use Rattle.sequences.specs.Pick.{pick}
@@ -70,7 +70,7 @@ pub missed_run : (s : Scene) (v r j : ℕ) → run_from r ≤ j → j < run_to (
 unfolding second_box second_count meet_on
 missed_run s v r j from to misses =
     let apart = run_misses (vertex_box s v) (triangle_box s) (run_from r) (run_to (triangle_count s) r - run_from r - 1) (run_meets_is s v r ∙ misses) j from (omega arith) in
-    rw (apart, and_false (not (shares s PointTriangle v j))) refl
+    rw (apart, and-false (not (shares s PointTriangle v j))) refl
 
 in_run : (s : Scene) (v r n : ℕ) {meets : Bool} → meets ≡ meet_boxes (vertex_box s v) (run_box s PointTriangle r)
     → n ≡ 1 + pick meets (run_to (triangle_count s) r - run_from r) 0 → n ≡ tests_in_run s v r

@@ -1,10 +1,10 @@
 -- The checks with which every call over rows of a mesh begins: what each way out of them gives, and what holds where none refuses.
-use Rattle.std.specs.Prelude.{ℕ, ◌+◌, ◌*◌, ◌≤◌, Bool, true, false, ◌||◌, List, [], ◌∷◌, ◌++◌, ◌≡◌, ltb, length}
+use Rattle.std.specs.Prelude.{ℕ, ◌≤◌, Bool, true, false, ◌||◌, List, [], ◌∷◌, ◌≡◌, ltb, length}
 use Rattle.std.proofs.Math.Path.{refl}
-use Rattle.std.proofs.Common.{sym, ap, ◌∙◌, arith}
+use Rattle.std.proofs.Common.{ap, arith}
 use borrow.Author.Tests.{ltb-false}
 use Rattle.sequences.specs.Pick.{neither}
-use Rattle.meaning.specs.Scene.{Scene, scene_of, edge_count, triangle_count}
+use Rattle.meaning.specs.Scene.{Scene, edge_count, triangle_count}
 use Rattle.meaning.specs.Mesh.{mesh_checks, table_room}
 use Rattle.meaning.specs.MeshRows.{Lent, place_room, box_room, scratch_short, wrong_order, rows_gone, row_checks}
 use Rattle.meaning.specs.Refusals.{Outcome, given, refused, number_of, Check, Answers, scene_says}

@@ -5,9 +5,9 @@
 
 ghost use Rattle.std.specs.Prelude.{◌≤◌, [], ◌≡◌, length};
 ghost use Rattle.meaning.specs.Scene.{scene_of, edge_count, triangle_count};
-ghost use Rattle.meaning.specs.MeshRows.{row_count, scratch_short, rows_gone};
+ghost use Rattle.meaning.specs.MeshRows.{lent_of, row_count, scratch_short, rows_gone};
 ghost use Rattle.mesh_orders.specs.Told.{parts_only};
-ghost use Rattle.mesh_asked.specs.Asking.{lent_of, RowsThere, RowsAsked};
+ghost use Rattle.mesh_asked.specs.Asking.{RowsThere, RowsAsked};
 
 use meaning::{Refusal, SceneAnswer};
 use mesh_lent::{check_over, table_short};

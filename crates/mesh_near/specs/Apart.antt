@@ -1,7 +1,7 @@
 -- Far as code tests it, axis by axis: a point against each corner, and the ends of edges by their larger and smaller numbers. It is `far` of the boxes: below
 -- the smaller of two is below both, and the larger of two is below what both are below.
 use Rattle.std.specs.Prelude.{ℕ, ◌+◌, ◌*◌, Bool, true, false, cond, ◌&&◌, ◌||◌, List, ◌≡◌, T, ℤ, pos, get_or, ◌<ℤ◌}
-use Rattle.std.proofs.Math.Bool.{and_comm, and_false}
+use Rattle.std.proofs.Math.Bool.{and_comm, and-false}
 use Rattle.std.proofs.Math.Path.{refl}
 use Rattle.std.proofs.Common.{sym, ap, ◌∙◌, arith}
 use Rattle.std.specs.Int.Signed.{lt_z, lt_z_yes}
@@ -72,7 +72,7 @@ module _ (p a b : ℤ) where
 -- tests of both times, regrouped by their time
 pub both_times : (a b x y : Bool) → (a && x) && (b && y) ≡ (a && b) && (x && y)
 both_times true true x y = refl
-both_times true false x y = and_false x
+both_times true false x y = and-false x
 both_times false b x y = refl
 
 abbrev both : (x y x' y' : ℤ) → Bool

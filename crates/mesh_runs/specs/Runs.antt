@@ -22,7 +22,7 @@ use Rattle.meaning.specs.declared.RowPairs.{RowPairs}
 use Rattle.list_boxes.specs.Kept.{meet_boxes}
 use Rattle.list_runs.specs.Joined.{joint_boxes, run_misses}
 use Rattle.list_runs.specs.Filled.{RunsFilled}
-use Rattle.list_candidates.specs.Rows.{first_count, second_count, second_from}
+use Rattle.list_candidates.specs.Rows.{first_count, second_from}
 use Rattle.mesh_tree.specs.Levels.{nodes_at}
 use Rattle.mesh_walk.specs.Places.{places_from, places_exactly}
 use Rattle.mesh_walk.specs.Steps.{Tree, box_meets, row_meets}

@@ -1,5 +1,5 @@
 -- Second places that were taken for a row: those that are listed, of these, are the row. No box is told here, so that it serves whoever found them.
-use Rattle.std.specs.Prelude.{ℕ, ◌+◌, ◌≤◌, ◌<◌, Bool, false, ◌&&◌, ◌≡◌, refl, leb, ℤ, length, get_or, take, drop}
+use Rattle.std.specs.Prelude.{ℕ, ◌+◌, ◌≤◌, ◌<◌, Bool, ◌&&◌, ◌≡◌, leb, ℤ, length, get_or, take, drop}
 use mathlib.Core.List.{List, [], ◌∷◌, ◌++◌, Memᴰ}
 use Rattle.std.proofs.Common.{sym, ap, ◌∙◌, subst, arith, get_or-take, length-take-le}
 use Rattle.std.proofs.Math.Seq.{drop-length}
@@ -9,10 +9,8 @@ use Rattle.sequences.specs.Range.{towards}
 use Rattle.sequences.specs.Rising.{at_place}
 use Rattle.meaning.specs.Limits.{part_limit}
 use Rattle.meaning.specs.Scene.{Scene}
-use Rattle.meaning.specs.StoredBoxes.{box_at}
 use Rattle.meaning.specs.declared.Kind.{Kind}
 use Rattle.meaning.specs.declared.RowPairs.{RowPairs}
-use Rattle.list_boxes.specs.Kept.{meet_boxes}
 use Rattle.mesh_entries.specs.Entering.{Entered, Entering, entering_starts, entering_as, entering_step, entering_ends}
 use Rattle.mesh_walk.specs.PutDown.{PutDown}
 use Rattle.mesh_rows.specs.Asking.{passes, Askable}

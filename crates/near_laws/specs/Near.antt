@@ -2,7 +2,7 @@
 -- vertex and is not far.
 use Rattle.std.specs.Prelude.{ℕ, Bool, true, false, not, ◌&&◌, ◌||◌, ◌≡◌, refl, T, ◌≤ℤ◌, ◌<ℤ◌}
 use Rattle.std.proofs.Common.{true≢false, ⊎_elim, sym, ap, ◌∙◌, arith}
-use Rattle.std.proofs.Math.Bool.{and-true, and_false}
+use Rattle.std.proofs.Math.Bool.{and-true, and-false}
 use Rattle.whole.specs.Order.{ord}
 use Rattle.sequences.specs.Pick.{or_true}
 use Rattle.meaning.specs.Scene.{Scene, start_of, end_of, edge_end, corner}
@@ -90,7 +90,7 @@ module _ (s : Scene) (kind : Kind) (i j : ℕ) where
   culled_far h = by (boxes_meet s kind i j) refl h
     where
       by : (b : Bool) → boxes_meet s kind i j ≡ b → not (shares s kind i j) && not b ≡ true → far s kind i j ≡ true
-      by true e h = absurd (true≢false (sym h ∙ and_false (not (shares s kind i j))))
+      by true e h = absurd (true≢false (sym h ∙ and-false (not (shares s kind i j))))
       by false e h = away_far e
 
   -- so near is: no vertex shared, and not far
@@ -101,4 +101,4 @@ module _ (s : Scene) (kind : Kind) (i j : ℕ) where
       by true e = ap (λ (t : Bool). t && not (far s kind i j)) (and-true (not (shares s kind i j)))
       by false e =
           let f = away_far e in
-          rw f (and_false (not (shares s kind i j) && false) ∙ sym (and_false (not (shares s kind i j))))
+          rw f (and-false (not (shares s kind i j) && false) ∙ sym (and-false (not (shares s kind i j))))

@@ -1,11 +1,10 @@
 -- Boxes that hold the first parts of a run of rows, at the start and at the end: they are widened vertex by vertex.
-use Rattle.std.specs.Prelude.{ℕ, ◌+◌, ◌*◌, ◌≤◌, ◌<◌, List, ◌≢◌, ◌≡◌, refl, ℤ, pos, length, get_or}
+use Rattle.std.specs.Prelude.{ℕ, ◌+◌, ◌*◌, ◌≤◌, ◌<◌, List, ◌≢◌, ◌≡◌, ℤ, length}
 use Rattle.std.proofs.Common.{⊎_elim, sym, ap, ◌∙◌, subst, not-le_of_lt, arith}
 use Rattle.whole.specs.Vector.{Vector}
 use Rattle.sequences.specs.Range.{le_or_lt}
 use Rattle.meaning.specs.Limits.{part_limit}
 use Rattle.meaning.specs.Scene.{Scene, vertex_count, edge_count, vector_at, edge_end}
-use Rattle.meaning.specs.Boxes.{Span}
 use Rattle.meaning.specs.StoredBoxes.{Box, box_of, box_at}
 use Rattle.meaning.specs.Near.{first_span_at}
 use Rattle.meaning.specs.declared.Frame.{Frame}

@@ -1,13 +1,12 @@
 -- A part that is far from the boxes of a run is far from each of its rows: so the places that are not serve each row of the run.
-use Rattle.std.specs.Prelude.{ℕ, ◌+◌, ◌*◌, ◌-◌, ◌≤◌, ◌<◌, Bool, true, ◌&&◌, List, ◌≡◌, refl, ℤ, length, get_or}
-use Rattle.std.proofs.Math.Bool.{false, not, and_false}
-use Rattle.std.proofs.Common.{true≢false, sym, ◌∙◌, subst, arith}
+use Rattle.std.specs.Prelude.{ℕ, ◌+◌, ◌-◌, ◌≤◌, ◌<◌, Bool, true, ◌&&◌, List, ◌≡◌, refl, ℤ, length, get_or}
+use Rattle.std.proofs.Math.Bool.{false, not, and-false}
+use Rattle.std.proofs.Common.{true≢false, ◌∙◌, arith}
 use Rattle.std.proofs.Math.Path.{ap}
 use Rattle.sequences.specs.Gather.{gather, gather_short}
 use Rattle.meaning.specs.Limits.{part_limit}
 use Rattle.meaning.specs.MeshRows.{mesh_number}
 use Rattle.meaning.specs.Scene.{Scene, vertex_count, edge_count, triangle_count}
-use Rattle.meaning.specs.StoredBoxes.{box_at}
 use Rattle.meaning.specs.Refusals.{shares}
 use Rattle.meaning.specs.Near.{far}
 use Rattle.meaning.specs.declared.Frame.TheVariants.{Start, End}
@@ -23,7 +22,7 @@ use Rattle.mesh_trees.specs.Forest.{Forest}
 use Rattle.mesh_rows.specs.Rows.{row_few}
 use Rattle.mesh_runs.specs.Runs.{KindTree, kind_entries, AllSought, row_sought, from_rises}
 use Rattle.mesh_runs.specs.Stretch.{vertex_kind, edge_kind}
-use Rattle.near_boxes.specs.Far.{far_boxes, second_box_at, inside_itself, far_inside}
+use Rattle.near_boxes.specs.Far.{second_box_at, inside_itself, far_inside}
 use Rattle.near_walk.specs.Nodes.{Nodes, part_near}
 use Rattle.near_runs.specs.Held.{Known, Held}
 
@@ -43,8 +42,8 @@ module _ {s : Scene} {kind : Kind} {first end : ℕ} {o : List ℤ} (held : Held
   row_left met e =
       let out = row_far e in
       let fails : passes Near s kind i j ≡ false =
-      ap (λ (b : Bool). not (shares s kind i j) && not b) out ∙ and_false (not (shares s kind i j)) in
-      ap (λ (b : Bool). met && b) fails ∙ and_false met
+      ap (λ (b : Bool). not (shares s kind i j) && not b) out ∙ and-false (not (shares s kind i j)) in
+      ap (λ (b : Bool). met && b) fails ∙ and-false met
 
 pub near_sought : {s : Scene} {kind : Kind} {l : List ℤ} {t : List ℕ} {parts top offset : ℕ} → KindTree s kind l t parts top offset
     → (first end : ℕ) → end ≤ first_count s kind → {own : List ℤ} → Held s kind first end own

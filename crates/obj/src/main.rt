@@ -1,18 +1,19 @@
 // The program `obj`: two OBJ files by name, one for the start and one for the end; the report of the scene that they give on standard output.
-
 #![tactic(auto)]
 
 use meaning::{READ_BYTES, REPORT_BYTES};
-use named_files::{PairRead, read_pair, write_out};
+use named_files::{PairRead, read_pair};
+use streams::write_out;
 
-fn main() {
+fn main(rt: HostRuntime) {
     // one byte more than a text may have: a full buffer decides refusal 8
     let mut start = [0u8; READ_BYTES];
     let mut end = [0u8; READ_BYTES];
     let PairRead::Lengths(start_length, end_length) = read_pair(
-        b"usage: obj START END\n",
-        b"obj: the start file could not be read\n",
-        b"obj: the end file could not be read\n",
+        &rt,
+        "usage: obj START END",
+        "obj: the start file could not be read",
+        "obj: the end file could not be read",
         &mut start,
         &mut end,
     ) else {
@@ -20,5 +21,5 @@ fn main() {
     };
     let mut out = [0u8; REPORT_BYTES];
     let length = obj_report::obj_report_read(&start, start_length, &end, end_length, &mut out);
-    write_out(&out[..length], b"obj: the report could not be written\n");
+    write_out(&rt, &out[..length], "obj: the report could not be written");
 }

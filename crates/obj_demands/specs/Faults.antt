@@ -57,6 +57,7 @@ checked s (Vertex x y z) n e a =
     four n (Memᴰ.tail (Memᴰ.head q)) = Memᴰ.tail (Memᴰ.head q)
     four n (Memᴰ.tail (Memᴰ.tail (Memᴰ.head q))) = Memᴰ.tail (Memᴰ.tail (Memᴰ.head q))
     four n (Memᴰ.tail (Memᴰ.tail (Memᴰ.tail (Memᴰ.head q)))) = Memᴰ.tail (Memᴰ.tail (Memᴰ.tail (Memᴰ.head q)))
+    four n (mathlib.Core.List.Memᴰ.tail (mathlib.Core.List.Memᴰ.tail (mathlib.Core.List.Memᴰ.tail (mathlib.Core.List.Memᴰ.tail (mathlib.Core.List.Memᴰ.tail x23))))) = elim x23 [ ]
     four n (Memᴰ.tail (Memᴰ.tail (Memᴰ.tail (Memᴰ.tail (Memᴰ.head q))))) =
         Memᴰ.tail (Memᴰ.tail (Memᴰ.tail (Memᴰ.tail (Memᴰ.head q))))
 checked s (Face a b c) n e j =

@@ -3,6 +3,7 @@
 
 #![tactic(auto)]
 
+ghost use Rattle.std.specs.Prelude.{length};
 ghost use Rattle.meaning.specs.MeshRows.{lent_of};
 ghost use Rattle.meaning.specs.Scene.{scene_of};
 ghost use Rattle.meaning.specs.PiercedRows.{PiercedListed};

@@ -1,6 +1,6 @@
 -- Triangles in a row: a number that is written twice in a triangle, told number by number.
 use Rattle.std.specs.Prelude.{ℕ, zero, suc, ◌+◌, ◌*◌, ◌-◌, ◌%◌, ◌≤◌, Bool, true, false, not, ◌&&◌, ◌||◌, List, ◌≡◌, refl, eqb, length, get_or}
-use Rattle.std.proofs.Math.Bool.{or_assoc, or-false, and-true, and_false}
+use Rattle.std.proofs.Math.Bool.{or_assoc, or-false, and-true, and-false}
 use Rattle.std.proofs.Common.{sym, ◌∙◌, ap, arith}
 use Rattle.meaning.specs.Scene.{some_below}
 use Rattle.answers.specs.Below.{some_more}
@@ -51,10 +51,10 @@ module _ (l : List ℕ) (j n : ℕ) where
       let e : (3 * n + 1) % 3 ≡ 1 = omega arith in
       let next : 3 * j + (3 * n + 1) + 1 ≡ 3 * (j + n) + 2 = omega arith in
       let here : 3 * j + (3 * n + 1) ≡ 3 * (j + n) + 1 = omega arith in
-      rw (next, here, e, and-true, and_false, or-false)
+      rw (next, here, e, and-true, and-false, or-false)
 
   third_corner : written_again l (3 * j) (3 * n + 1 + 1) ≡ false
-  third_corner = let e : (3 * n + 1 + 1) % 3 ≡ 2 = omega arith in rw (e, and_false, and_false)
+  third_corner = let e : (3 * n + 1 + 1) % 3 ≡ 2 = omega arith in rw (e, and-false, and-false)
 
 -- so a row of numbers tells what its triangles tell
 pub in_row : (l : List ℕ) (j n : ℕ) → some_below (3 * n) (written_again l (3 * j)) ≡ some_below n (λ i. written_twice_in_triangle l (j + i))

@@ -1,6 +1,6 @@
 -- The loop of `read_fields`: so many fields are read, and their sizes and signs stand in front of the buffers.
 use mathlib.Core.Bool.{Bool}
-use mathlib.Core.List.{List, [], ◌∷◌, ◌++◌, map, map_append}
+use mathlib.Core.List.{List, [], ◌∷◌, ◌++◌, map, map-append}
 use mathlib.Core.Path.{◌≡◌, refl, sym, ap, ◌∙◌}
 use Prim.Native.Nat.{ℕ, ◌+◌, ◌≤◌, ◌<◌}
 use native.Mathlib.Nat.{zero-add}
@@ -40,8 +40,8 @@ module _ {s : List ℕ} {at : ℕ} {f : Form} {count : ℕ} {sizes₀ sizes : Li
       record {
         zs = r.zs ++ (got.z ∷ []);
         row = row_more r.row got.there;
-        sized = rw (map_append, ← got.sized) (wrote_then r.sized (wrote_one sizes found size (omega (arith, r.sized.same))));
-        signed = rw (map_append, ← got.signed) (wrote_then r.signed (wrote_one minus found sign (omega (arith, r.signed.same))));
+        sized = rw (map-append, ← got.sized) (wrote_then r.sized (wrote_one sizes found size (omega (arith, r.sized.same))));
+        signed = rw (map-append, ← got.signed) (wrote_then r.signed (wrote_one minus found sign (omega (arith, r.signed.same))));
         within = omega arith;
       }
 

@@ -1,6 +1,6 @@
 -- Fields in a row, what a reader of them promises, and that only one answer meets the promise.
 use Rattle.std.specs.Prelude.{Bool, ◌≡◌, refl, ℤ, nat_abs, drop}
-use mathlib.Core.List.{List, [], ◌∷◌, ◌++◌, map, map_append, append_assoc, append-nil}
+use mathlib.Core.List.{List, [], ◌∷◌, ◌++◌, map, map-append, append_assoc, append-nil}
 use Rattle.std.proofs.Common.{sym, ap, ◌∙◌, subst, arith, length-append}
 use Prim.Native.Nat.{ℕ, zero, suc, ◌+◌, ◌-◌, ◌≤◌, ◌<◌}
 use Rattle.std.proofs.Math.Nat.{suc_inj}
@@ -46,7 +46,7 @@ further_append b [] k = refl
 further_append b (x ∷ l) k = cc (further_append b l k, append_assoc (b ∷ x) (further b l) (further b k))
 
 row_append : (f : Form) (l k : List ℤ) → row_of f (l ++ k) ≡ row_of f l ++ row_of f k
-row_append f l k = cc (map_append numeral l k, further_append f.separator (map numeral l) (map numeral k))
+row_append f l k = cc (map-append numeral l k, further_append f.separator (map numeral l) (map numeral k))
 
 allowed_append : (f : Form) (l k : List ℤ) → EachAllowed f l → EachAllowed f k → EachAllowed f (l ++ k)
 unfolding EachAllowed

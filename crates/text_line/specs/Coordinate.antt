@@ -21,4 +21,4 @@ turned_fits (suc n) h = record { sfits = omega arith }
 
 -- a signed number is held in bits, and reading them gives it back
 pub stored : {r z : ℤ} → r ≡ z → mag r < 2 ^ hbits w32 → to_z w32 (of_z w32 r) ≡ z
-stored e f = to_z-of_z (sfits_of f) ∙ e
+stored e f = to_z-of_z {w = w32} (sfits_of f) ∙ e

@@ -2,7 +2,7 @@
 -- other in another order.
 use Rattle.std.specs.Prelude.{ℕ, zero, suc, ◌+◌, ◌*◌, ◌-◌, ◌<◌, ◌≤◌, Bool, true, false, not, ◌&&◌, ◌≡◌, leb, length}
 use Rattle.std.proofs.Math.Bool.{◌||◌}
-use mathlib.Core.List.{List, [], ◌∷◌, ◌++◌, map, map_append}
+use mathlib.Core.List.{List, [], ◌∷◌, ◌++◌, map, map-append}
 use Rattle.std.proofs.Math.Path.{refl, ap, ap₂, subst₂}
 use Rattle.std.proofs.Common.{sym, ◌∙◌, subst, add-one, arith}
 use Rattle.whole.specs.Vector.{Vector}
@@ -57,7 +57,7 @@ map_gather {A} {B} g f i n =
     towards n (λ i. map g (gather f i n) ≡ gather (λ j. map g (f j)) i n)
     (λ i past. ap (map g) (gather_none f i n past) ∙ sym (gather_none (λ j. map g (f j)) i n past))
     (λ i lt next.
-    ap (map g) (gather_first f i n lt) ∙ map_append g (f i) (gather f (i + 1) n) ∙ ap (λ (l : List B). map g (f i) ++ l) next
+    ap (map g) (gather_first f i n lt) ∙ map-append g (f i) (gather f (i + 1) n) ∙ ap (λ (l : List B). map g (f i) ++ l) next
     ∙ sym (gather_first (λ j. map g (f j)) i n lt))
     i
 
@@ -156,7 +156,7 @@ module _ {s : Scene} (accepted : Accepted s) where
     pub pairs_turned : Rearranged (map (pair_turned s) (pairs s)) (pairs t)
     unfolding pairs
     pairs_turned =
-        subst₂ Rearranged (sym (map_append (pair_turned s) (gather (pairs_of_vertex s) 0 n) (gather (pairs_of_edge s) 0 (edge_count s)) ∙ ap₂ ◌++◌ points edges))
+        subst₂ Rearranged (sym (map-append (pair_turned s) (gather (pairs_of_vertex s) 0 n) (gather (pairs_of_edge s) 0 (edge_count s)) ∙ ap₂ ◌++◌ points edges))
         (ap₂ ◌++◌ (ap (gather (pairs_of_vertex t) 0) (sym (vertices_turned s))) (ap (gather (pairs_of_edge t) 0) (sym (edges_turned s))))
         (rearranged_before (gather (pairs_of_edge t) 0 (edge_count s)) (gather_from_last (pairs_of_vertex t) n))
       where

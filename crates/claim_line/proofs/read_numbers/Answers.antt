@@ -1,0 +1,18 @@
+-- A row of nine numbers is read as weights are; the first three are held to nine digits.
+use borrow.Author.Rules.{rules}
+use mathlib.Core.Path.{sym, ◌∙◌}
+use native.Mathlib.Omega.{arith}
+use Rattle.claim_line.specs.Reading.{numbers_wide, numbers_read}
+use Rattle.claim_line.proofs.read_numbers.Goals as goal
+
+pub returns-then-wide : goal.returns-then-wide
+returns-then-wide c =
+    let wide = c in
+    let row = wide in
+    numbers_wide row.read_row-ending.ensures (sym wide.wide.ensures ∙ c.if-wide.true)
+
+pub returns : goal.returns
+returns c =
+    let wide = c in
+    let row = wide in
+    numbers_read row.read_row-ending.ensures (sym wide.wide.ensures ∙ c.if-wide.false)

@@ -1,0 +1,6 @@
+-- Each number is handed out.
+use borrow.Author.Rules.{rules}
+use Rattle.contact_pair.proofs.handed.edge_contact.Goals as goal
+
+pub returns : goal.returns
+returns c = rw (c.handed_out-second.ensures, c.handed_out-first.ensures, c.handed_out-time.ensures)

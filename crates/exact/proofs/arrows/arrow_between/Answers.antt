@@ -1,0 +1,12 @@
+use borrow.Author.Rules.{rules}
+use mir.Syntax.{w64}
+use Rattle.whole.specs.Sizes.{back}
+use Rattle.exact.proofs.arrows.arrow_between.Goals as goal
+
+pub returns : goal.returns
+returns c =
+    record {
+      is_x = back w64 c.difference-x.ensures tt;
+      is_y = back w64 c.difference-y.ensures tt;
+      is_z = back w64 c.difference-z.ensures tt;
+    }

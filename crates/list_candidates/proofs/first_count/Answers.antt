@@ -1,0 +1,12 @@
+-- `first_count`: by the kind.
+use borrow.Author.Rules.{rules}
+use Rattle.list_candidates.specs.Rows.{first_count}
+use Rattle.list_candidates.proofs.first_count.Goals as goal
+
+pub returns-in-PointTriangle : goal.returns-in-PointTriangle
+unfolding first_count
+returns-in-PointTriangle c = rw c.in-PointTriangle.is c.vertex_count.ensures
+
+pub returns-in-EdgeEdge : goal.returns-in-EdgeEdge
+unfolding first_count
+returns-in-EdgeEdge c = rw c.in-EdgeEdge.is c.edge_count.ensures

@@ -1,8 +1,0 @@
--- `faults::unknown`: what its calls ensure, put together.
-use borrow.Author.Rules.{rules}
-use Rattle.mesh_checks.proofs.faults.unknown.Statement.{statement}
-use Rattle.mesh_checks.proofs.faults.unknown.Tie as tie
-
-pub unknown-spec : {M : Type 1} → statement M
-unknown-spec =
-    tie.close (tie.spec (λ c. search rules) (λ c. search rules) (λ c κs. search rules) (λ c. rw c.wide.ensures))

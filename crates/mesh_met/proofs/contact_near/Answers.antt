@@ -1,0 +1,34 @@
+-- `contact_near`: the stretch is listed, and each of its entries is met.
+use borrow.Author.Rules.{rules}
+use native.Mathlib.Omega.{arith}
+use Rattle.mesh_settled.specs.Settling.{rows_made, plant_sized, made_room, made_there}
+use Rattle.mesh_met.specs.Meeting.{met_made, met_without}
+use Rattle.mesh_met.proofs.contact_near.Goals as goal
+
+pub list_stretch-requires : goal.list_stretch-requires
+list_stretch-requires c = record { plantable = c.requires.plantable; orders_lent = c.requires.orders_lent; room_in_bounds = omega (arith, c.room_for-room.ensures) }
+
+pub contact_mesh_entries-requires : goal.contact_mesh_entries-requires
+contact_mesh_entries-requires c =
+    let room = c.room_for-room.ensures in
+    let few = plant_sized c.requires.plantable.0 in
+    let made = rows_made c.list_stretch.ensures {m = c.in-Listed.made} c.in-Listed.is in (
+      c.requires.sound_within,
+      made_room few c.requires.plantable.2 (rw room (omega arith)) made,
+      made_there few c.requires.plantable.2 (rw room (omega arith)) made,
+      omega (arith, made.counts, made.fits, room),
+      omega (arith, made.counts, made.fits, room),
+    )
+
+pub returns-in-Listed : goal.returns-in-Listed
+returns-in-Listed c =
+    let room = c.room_for-room.ensures in
+    rw room at
+    (met_made c.list_stretch.ensures {m = c.in-Listed.made} (plant_sized c.requires.plantable.0) c.requires.plantable.2 (rw room (omega arith)) c.in-Listed.is c.contact_mesh_entries.ensures.0
+    c.contact_mesh_entries.ensures.1)
+
+pub returns-in-Refused : goal.returns-in-Refused
+returns-in-Refused c =
+    let a = c.args in
+    rw c.room_for-room.ensures at
+    (met_without c.list_stretch.ensures {x = c.in-Refused.refusal} {n = c.in-Refused.needed} {v = a.words.now} {c = a.contacts.now} c.in-Refused.is)

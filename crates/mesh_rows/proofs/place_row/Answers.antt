@@ -1,0 +1,72 @@
+use native.Mathlib.Omega.{arith}
+use Prim.Native.Nat.{◌+◌, ◌*◌, ◌-◌, ◌≤◌}
+use lib.ListN.{length}
+use Rattle.scene_seams.specs.Alone.{tabled}
+use Rattle.mesh_tree.specs.Levels.{first_under}
+use Rattle.mesh_walk.specs.Places.{found_there}
+use Rattle.mesh_walk.specs.Steps.{row_meets}
+use Rattle.mesh_entries.specs.Entering.{Entering, entering_place, entering_length, entered_room}
+use Rattle.mesh_rows.specs.Rows.{part_row, part_row_short, second_of, seconds_of, left_of, row_askable, row_starts, row_goes, row_ends, row_few, seconds_put}
+use Rattle.mesh_rows.proofs.place_row.Goals as goal
+
+pub climb-start-requires : goal.climb-start-requires
+climb-start-requires c = (omega arith, c.requires.row_tree.tree.low)
+
+pub loop-node-init : goal.loop-node-init
+loop-node-init c =
+    let start = c in
+    let a = start.args in
+    let up = c.climb-start in
+    (up.ensures.0, row_starts start.requires.row_tree second_of a.which (length a.places.now) 0 a.places.now up.result.level up.result.node up.ensures.1)
+
+pub overflow_mul-level : goal.overflow_mul-level
+overflow_mul-level c = omega (arith, c.loop-node.invariant.0, c.requires.row_tree.tree.low)
+
+pub overflow_add-level : goal.overflow_add-level
+overflow_add-level c = omega (arith, c.loop-node.invariant.0, c.requires.row_tree.tree.low)
+
+pub offset_bounds-levels-level : goal.offset_bounds-levels-level
+offset_bounds-levels-level c = omega (arith, c.loop-node.invariant.0, c.requires.row_tree.tree.low)
+
+pub bounds-levels-level : goal.bounds-levels-level
+bounds-levels-level c =
+    let tree = c.requires.row_tree.tree in
+    omega (arith, c.loop-node.invariant.0, tree.low, tree.room)
+
+pub step-next-requires : goal.step-next-requires
+step-next-requires c =
+    let row = c.requires.row_tree in
+    let loop = c.loop-node in
+    (row.tree, row.inside, loop.invariant.0, omega (arith, c.loop-node-test.true, row.tree.counts loop.level loop.invariant.0))
+
+pub put_found-k-requires : goal.put_found-k-requires
+put_found-k-requires c =
+    let start = c in
+    let row = start.requires.row_tree in
+    let inv = c.loop-node.invariant in
+    let stepped = c.step-next.ensures in record { askable = λ e. row_askable row _ (found_there stepped e); k_bound = omega (arith, entering_place inv.1, row.few, row_few row second_of start.args.which) }
+
+pub loop-node-smaller : goal.loop-node-smaller
+loop-node-smaller c = c.step-next.ensures.falls
+
+pub loop-node-preserved : goal.loop-node-preserved
+loop-node-preserved c =
+    let a = c.args in
+    let stepped = c.step-next.ensures in
+    let so_far = c.loop-node.invariant.1 in
+    (stepped.low, row_goes second_of a.which (tabled a.positions.now a.edges.now a.triangles.now a.stands.now) a.kind a.i so_far stepped (entered_room (entering_length so_far) c.put_found-k.ensures))
+
+pub shape_of-places : goal.shape_of-places
+shape_of-places c = entering_length c.loop-node.invariant.1
+
+pub returns : goal.returns
+returns c =
+    let start = c in
+    let a = start.args in
+    let s = tabled a.positions.now a.edges.now a.triangles.now a.stands.now in
+    let loop = c.loop-node in
+    let row = start.requires.row_tree in
+    seconds_put (part_row a.which s a.kind a.i) (omega (arith, part_row_short a.which s a.kind a.i, row.all, start.requires.parts_in_bounds))
+    (row_ends second_of a.which s a.kind a.i (row_meets a.boxes.now a.levels.now a.row) a.parts loop.level loop.node
+    (omega (arith, c.loop-node-test.false, row.tree.counts loop.level loop.invariant.0))
+    loop.invariant.1)

@@ -1,0 +1,20 @@
+-- `place_row`: what is put down, with what is left of the row, is all of it.
+use native.Mathlib.Omega.{arith}
+use Prim.Native.Nat.{◌+◌, ◌*◌, ◌-◌, ◌≤◌}
+use lib.ListN.{length}
+use Rattle.scene_seams.specs.Alone.{tabled}
+use Rattle.mesh_tree.specs.Levels.{first_under}
+use Rattle.mesh_walk.specs.Places.{found_there}
+use Rattle.mesh_walk.specs.Steps.{row_meets}
+use Rattle.mesh_entries.specs.Entering.{Entering, entering_place, entering_length, entered_room}
+use Rattle.mesh_rows.specs.Rows.{part_row, part_row_short, second_of, seconds_of, left_of, row_askable, row_starts, row_goes, row_ends, row_few, seconds_put}
+use Rattle.mesh_rows.proofs.place_row.Given as goal
+
+abbrev pub invariant-loop-node : goal.invariant-loop-node
+invariant-loop-node l =
+    (l.level ≤ l.top)
+    × Entering (length l.initial.places) l.initial.places 0 (seconds_of (part_row l.which (tabled l.positions l.edges l.triangles l.stands) l.kind l.i)) l.places l.k
+    (left_of second_of l.which (tabled l.positions l.edges l.triangles l.stands) l.kind l.i (row_meets l.boxes l.levels l.row) l.parts (first_under l.level l.node))
+
+abbrev pub decreases-loop-node : goal.decreases-loop-node
+decreases-loop-node l = 17 * (l.parts - first_under l.level l.node) + l.level

@@ -1,0 +1,11 @@
+-- `first_second`: by the kind.
+use Rattle.list_candidates.specs.Rows.{second_from}
+use Rattle.mesh_runs.proofs.first_second.Goals as goal
+
+pub returns-in-PointTriangle : goal.returns-in-PointTriangle
+unfolding second_from
+returns-in-PointTriangle c = rw c.in-PointTriangle.is
+
+pub returns-in-EdgeEdge : goal.returns-in-EdgeEdge
+unfolding second_from
+returns-in-EdgeEdge c = rw c.in-EdgeEdge.is

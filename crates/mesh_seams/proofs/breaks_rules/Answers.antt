@@ -1,0 +1,5 @@
+use borrow.Author.Rules.{rules}
+use Rattle.mesh_seams.proofs.breaks_rules.Goals as goal
+
+pub returns : goal.returns
+returns c = rw (c.replaced.ensures, c.comes_apart.ensures)

@@ -1,9 +1,0 @@
--- `breaks_rules`: what its calls ensure, put together.
-use borrow.Author.Rules.{rules}
-use Rattle.mesh_seams.proofs.breaks_rules.Statement.{statement}
-use Rattle.mesh_seams.proofs.breaks_rules.Tie as tie
-
-pub breaks-rules-spec : {M : Type 1} → statement M
-breaks-rules-spec =
-    tie.close
-    (tie.spec (λ c κs. search rules) (λ c κs. search rules) (λ c. rw (c.before.replaced.ensures, c.comes-apart.ensures)))

@@ -1,0 +1,49 @@
+-- By kind: of the corners, or of the ends, that are there.
+use borrow.Author.Rules.{rules}
+use Rattle.scene_seams.specs.Alone.{tabled}
+use Rattle.three_words.specs.Pairs.{ee_smaller_there, ee_larger_there, pt_ready, ee_ready}
+use Rattle.scene_parts.specs.There.{pt_there}
+use mathlib.Core.Path.{sym}
+use Rattle.mesh_words.proofs.verdicts.verdict.Goals as goal
+
+pub corners_of-requires : goal.corners_of-requires
+corners_of-requires c =
+    let a = c.args in
+    (pt_there (tabled a.positions.now a.edges.now a.triangles.now a.stands.now) a.i a.j (rw c.in-PointTriangle.is at c.requires.1)).1
+
+pub point_pair-requires : goal.point_pair-requires
+point_pair-requires c =
+    let a = c.args in
+    let p = c.requires in
+    rw c.corners_of.ensures (pt_ready (tabled a.positions.now a.edges.now a.triangles.now a.stands.now) a.i a.j p.0 (rw c.in-PointTriangle.is at p.1))
+
+pub ends_of-first-requires : goal.ends_of-first-requires
+ends_of-first-requires c =
+    let a = c.args in
+    rw c.smaller.ensures (ee_smaller_there (tabled a.positions.now a.edges.now a.triangles.now a.stands.now) a.i a.j (rw c.in-EdgeEdge.is at c.requires.1))
+
+pub ends_of-second-requires : goal.ends_of-second-requires
+ends_of-second-requires c =
+    let a = c.args in
+    rw c.larger.ensures (ee_larger_there (tabled a.positions.now a.edges.now a.triangles.now a.stands.now) a.i a.j (rw c.in-EdgeEdge.is at c.requires.1))
+
+pub edges_pair-requires : goal.edges_pair-requires
+edges_pair-requires c =
+    let a = c.args in
+    let p = c.requires in
+    rw (c.ends_of-second.ensures, c.ends_of-first.ensures, c.larger.ensures, c.smaller.ensures)
+    (ee_ready (tabled a.positions.now a.edges.now a.triangles.now a.stands.now) a.i a.j p.0 (rw c.in-EdgeEdge.is at p.1))
+
+pub returns-in-PointTriangle : goal.returns-in-PointTriangle
+returns-in-PointTriangle c =
+    let a = c.args in
+    rw c.in-PointTriangle.is
+    (c.point_pair.ensures a.edges.now a.triangles.now _ a.j (sym c.corners_of.ensures))
+
+pub returns-in-EdgeEdge : goal.returns-in-EdgeEdge
+returns-in-EdgeEdge c =
+    let a = c.args in
+    rw c.in-EdgeEdge.is
+    (c.edges_pair.ensures a.edges.now a.triangles.now _ a.i a.j
+    (sym (rw c.smaller.ensures at c.ends_of-first.ensures))
+    (sym (rw c.larger.ensures at c.ends_of-second.ensures)))

@@ -1,0 +1,19 @@
+-- `obj_line::vertex_of` meets its contract: the first number, and the two behind it.
+use mathlib.Core.Path.{sym}
+use native.Mathlib.Omega.{arith}
+use lib.Seq.{length-take-le}
+use borrow.Author.Rules.{rules}
+use Rattle.obj_line.specs.Parting.{vertex_of_lem}
+use Rattle.obj_line.proofs.vertex_of.Goals as goal
+
+pub slice_bounds-decimal_of-end : goal.slice_bounds-decimal_of-end
+slice_bounds-decimal_of-end c = sym (length-take-le _ c.args.s.now c.cut_at_space-parts.ensures.ends)
+
+pub slice_bounds-vertex_from-count : goal.slice_bounds-vertex_from-count
+slice_bounds-vertex_from-count c = omega (arith, c.cut_at_space-parts.ensures.begins)
+
+pub slice_bounds-vertex_from-start : goal.slice_bounds-vertex_from-start
+slice_bounds-vertex_from-start c = omega (arith, c.cut_at_space-parts.ensures.begins)
+
+pub returns : goal.returns
+returns c = vertex_of_lem c.args.s.now c.cut_at_space-parts.ensures c.decimal_of.ensures c.vertex_from.ensures

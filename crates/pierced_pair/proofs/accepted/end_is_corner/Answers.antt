@@ -1,0 +1,10 @@
+-- Each end is looked for among the corners.
+use mathlib.Core.Path.{refl}
+use borrow.Author.Rules.{rules}
+use Rattle.pierced_pair.proofs.accepted.end_is_corner.Goals as goal
+
+pub returns : goal.returns
+returns c =
+    λ p.
+    let a = c.args in
+    rw (c.shares_pt-second.ensures p a.edges.now, c.shares_pt-first.ensures p a.edges.now, c.edge_end-2.ensures, c.edge_end.ensures) refl

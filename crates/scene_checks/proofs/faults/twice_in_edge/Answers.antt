@@ -1,0 +1,5 @@
+use borrow.Author.Rules.{rules}
+use Rattle.scene_checks.proofs.faults.twice_in_edge.Goals as goal
+
+pub returns : goal.returns
+returns c = rw (c.end_counts_as.ensures, c.end_counts_as-2.ensures)

@@ -1,0 +1,6 @@
+use mathlib.Core.Path.{refl}
+use borrow.Author.Rules.{rules}
+use Rattle.series_words.proofs.nothing_told.Goals as goal
+
+pub returns : goal.returns
+returns c = rw c.empty_log.ensures refl

@@ -1,0 +1,9 @@
+use borrow.Author.Rules.{rules}
+use mathlib.Core.Path.{sym, ◌∙◌}
+use Rattle.stored_look.proofs.spans.other_low.Goals as goal
+
+pub returns-then-at_most : goal.returns-then-at_most
+returns-then-at_most c = rw (sym c.at_most.ensures ∙ c.if-at_most.true) c.unequal.ensures
+
+pub returns-else-at_most : goal.returns-else-at_most
+returns-else-at_most c = rw (sym c.at_most.ensures ∙ c.if-at_most.false) c.unequal-else-at_most.ensures

@@ -1,0 +1,9 @@
+-- `new_outside`: there are six of them.
+use borrow.Author.Rules.{rules}
+use native.Mathlib.Omega.{arith}
+use Rattle.stored_move.proofs.new_outside.Goals as goal
+
+pub returns : goal.returns
+returns c =
+    let six = c.requires in
+    rw six at c.out_of_range.ensures

@@ -1,0 +1,54 @@
+use borrow.Author.Rules.{rules}
+use Rattle.scene_seams.specs.Alone.{tabled}
+use Rattle.meaning.specs.Pieces.{piece_of}
+use Rattle.three_words.specs.Pairs.{ee_smaller_there, ee_larger_there, pt_ready, ee_ready}
+use Rattle.scene_parts.specs.There.{pt_there}
+use Rattle.scene_checks.specs.Facts.{accepted_sound}
+use Rattle.three_words.proofs.accepted.piece.Goals as goal
+
+-- src/accepted.rt:77:54
+pub corners_of-requires : goal.corners_of-requires
+corners_of-requires c =
+    let a = c.args in
+    (pt_there (tabled a.positions.now a.edges.now a.triangles.now a.stands.now) a.i a.j (rw c.in-PointTriangle.is at c.requires.1)).1
+
+-- src/accepted.rt:77:13
+pub point_piece-requires : goal.point_piece-requires
+point_piece-requires c =
+    let a = c.args in
+    rw c.corners_of.ensures (pt_ready (tabled a.positions.now a.edges.now a.triangles.now a.stands.now) a.i a.j (accepted_sound c.requires.0) (rw c.in-PointTriangle.is at c.requires.1))
+
+-- src/accepted.rt:80:17
+pub ends_of-first-requires : goal.ends_of-first-requires
+ends_of-first-requires c =
+    let a = c.args in
+    rw c.smaller.ensures (ee_smaller_there (tabled a.positions.now a.edges.now a.triangles.now a.stands.now) a.i a.j (rw c.in-EdgeEdge.is at c.requires.1))
+
+-- src/accepted.rt:81:17
+pub ends_of-second-requires : goal.ends_of-second-requires
+ends_of-second-requires c =
+    let a = c.args in
+    rw c.larger.ensures (ee_larger_there (tabled a.positions.now a.edges.now a.triangles.now a.stands.now) a.i a.j (rw c.in-EdgeEdge.is at c.requires.1))
+
+-- src/accepted.rt:82:13
+pub edges_piece-requires : goal.edges_piece-requires
+edges_piece-requires c =
+    let a = c.args in
+    rw (c.ends_of-second.ensures, c.ends_of-first.ensures, c.larger.ensures, c.smaller.ensures)
+    (ee_ready (tabled a.positions.now a.edges.now a.triangles.now a.stands.now) a.i a.j (accepted_sound c.requires.0) (rw c.in-EdgeEdge.is at c.requires.1))
+
+-- src/accepted.rt:63:1
+pub returns-in-PointTriangle : goal.returns-in-PointTriangle
+unfolding piece_of
+returns-in-PointTriangle c =
+    let a = c.args in
+    rw (c.in-PointTriangle.is, ← c.corners_of.ensures)
+    c.point_piece.ensures
+
+-- src/accepted.rt:63:1
+pub returns-in-EdgeEdge : goal.returns-in-EdgeEdge
+unfolding piece_of
+returns-in-EdgeEdge c =
+    let a = c.args in
+    rw (c.in-EdgeEdge.is, ← rw c.smaller.ensures at c.ends_of-first.ensures, ← rw c.larger.ensures at c.ends_of-second.ensures)
+    c.edges_piece.ensures

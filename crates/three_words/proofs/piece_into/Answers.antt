@@ -1,0 +1,46 @@
+-- `piece_into`: refused as it is asked for, or judged over the table.
+use mathlib.Core.Bool.{false}
+use mathlib.Core.Path.{◌≡◌}
+use lib.Dec.{leb}
+use borrow.Author.Rules.{rules}
+use Rattle.meaning.specs.Scene.{Scene, scene_of, Accepted}
+use Rattle.meaning.specs.Pieces.{piece_of}
+use Rattle.meaning.specs.Refusals.{pair_says, not_there}
+use Rattle.meaning.specs.Verdicts.{PieceIs}
+use Rattle.scene_checks.specs.Checking.{to_table, from_table}
+use Rattle.three_words.specs.Asked.{asked_there, then_judged, then_refused}
+use Rattle.three_words.proofs.piece_into.Goals as goal
+
+pub piece-requires : goal.piece-requires
+piece-requires c =
+    let a = c.args in
+    let s = scene_of a.positions.now a.edges.now a.triangles.now a.seams.now in
+    let called = c.asked.ensures in
+    let there = asked_there s a.kind a.first a.second (leb c.piece_count.result a.piece) _ called.0 c.in-Accepted.is in
+    to_table (λ (u : Scene). Accepted u × (not_there u a.kind a.first a.second ≡ false)) called.1 there.0 there
+
+pub returns-in-Refused : goal.returns-in-Refused
+unfolding pair_says
+returns-in-Refused c =
+    let a = c.args in
+    let s = scene_of a.positions.now a.edges.now a.triangles.now a.seams.now in
+    let called = c.asked.ensures in (
+      rw (← c.piece_count.ensures)
+          (then_refused s a.kind a.first a.second (leb c.piece_count.result a.piece) _ called.0 (PieceIs (piece_of s a.kind a.first a.second a.piece)) (search)),
+      called.1,
+    )
+
+pub returns-in-Accepted : goal.returns-in-Accepted
+unfolding pair_says
+returns-in-Accepted c =
+    let a = c.args in
+    let s = scene_of a.positions.now a.edges.now a.triangles.now a.seams.now in
+    let called = c.asked.ensures in
+    let told = c.in-Accepted.is in
+    let missing = leb c.piece_count.result a.piece in
+    let there = asked_there s a.kind a.first a.second missing _ called.0 told in (
+      rw (← c.piece_count.ensures)
+          (then_judged s a.kind a.first a.second missing _ called.0 told (PieceIs (piece_of s a.kind a.first a.second a.piece)) c.piece.result
+          (from_table (λ (u : Scene). PieceIs (piece_of u a.kind a.first a.second a.piece) c.piece.result) called.1 there.0 c.piece.ensures)),
+      called.1,
+    )
