@@ -24,7 +24,8 @@ use Rattle.corner_leaf.specs.Answer.{base_in, judged_in, turn_of, otherwise, lea
 use Rattle.corner_search.specs.Sixes.{point_six, edges_six, six_of}
 use Rattle.corner_search.specs.Decided.{by_leaf, touching, settled_by, piece_word, is_touch, pair_word, settled_pair}
 use Rattle.pierced_laws.specs.SomeWeights.{SomeTouches, hit_or_touch}
-use Rattle.pierced_laws.specs.Crossing.{crossing_of, pierced_word}
+use Rattle.pierced_laws.specs.Crossing.{crossing_of}
+use Rattle.pierced_laws.proofs.Crossing.{pierced_word}
 use Rattle.clean_demands.specs.Sides.{along, against, SidesOf}
 
 -- ---- by computing

@@ -15,9 +15,11 @@ use Rattle.meaning.specs.declared.Verdict.TheVariants.{Hit}
 use Rattle.meaning.specs.declared.WholeContact.{WholeContact}
 use Rattle.meaning.specs.declared.WholeContactAnswer.{WholeContactAnswer}
 use Rattle.theory.specs.SentPieces.{sent_piece}
-use Rattle.theory.specs.Moved.{Moves, Known, piece_moves, moved_keeps_pieces, moved_keeps_pair_words}
+use Rattle.theory.specs.Moved.{Moves, Known, piece_moves}
+use Rattle.theory.proofs.Moved.{moved_keeps_pieces, moved_keeps_pair_words}
 use Rattle.theory.specs.EitherOrder.{answers_imp, piece_either_order, word_either_order, not_there_either_order, shares_either_order}
-use Rattle.theory.specs.Rewritten.{Rewritten, WellMade, rewritten_piece, rewritten_keeps_pair_words}
+use Rattle.theory.specs.Rewritten.{Rewritten, WellMade}
+use Rattle.theory.proofs.Rewritten.{rewritten_piece, rewritten_keeps_pair_words}
 use Rattle.contact_laws.specs.Sent.{time_sent, time_back, first_sent, first_back, second_sent, second_back}
 use Rattle.demands.specs.Demand3.{vertices_there}
 use Rattle.demands.specs.AnyWriting.{well_made}

@@ -24,7 +24,7 @@ use Rattle.meaning.specs.declared.WholeContact.{WholeContact}
 use Rattle.meaning.specs.declared.WholeContact.TheVariants.{Hit, Miss, Touch, Apart}
 use Rattle.exact_signs.specs.BySigns.{sum, kept}
 use Rattle.theory.specs.Computed.{piece_verdict}
-use Rattle.theory.specs.SevenPieces.{judged_piece}
+use Rattle.theory.proofs.SevenPieces.{judged_piece}
 use Rattle.theory.specs.OneVerdict.{one_piece_verdict}
 use Rattle.contact_laws.specs.Told.{Told}
 use Rattle.contact_laws.specs.Numbers.{all_four, last_three, point_ends, four_points, three_points, edge_ends, first_ends, point_four, edge_four, point_time_lem, point_share, edge_time_lem, edge_first, edge_second}

@@ -15,7 +15,7 @@ use Rattle.meaning.specs.Contacts.{TimeIs, FirstShareIs, SecondShareIs}
 use Rattle.meaning.specs.declared.Verdict.TheVariants.{Hit}
 use Rattle.theory.specs.Differences.{differences, Form, alone, around, formed}
 use Rattle.theory.specs.Spread.{first_numbers, second_numbers, factor, weights_of}
-use Rattle.theory.specs.Shapes.{solved}
+use Rattle.theory.proofs.Shapes.{solved}
 use Rattle.theory.specs.Bridge.{singular_is}
 use Rattle.theory.specs.Bounds.{Every}
 use Rattle.theory.specs.Judged.{Timely}

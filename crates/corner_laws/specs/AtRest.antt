@@ -2,7 +2,7 @@
 -- weights of any of its pieces make weights of the starts of its first piece alone. (Back it is nothing: those are weights of the first piece.)
 use Prim.Native.Nat.{ℕ, zero, suc, ◌+◌, ◌*◌, ◌<◌, min, max}
 use Rattle.std.proofs.Common.{arith, sym, ◌∙◌, ap}
-use Rattle.std.specs.Prelude.{◌≡◌, refl, Bool, true, false, T, ℤ, neg_ℤ, ◌+ℤ◌, ◌*ℤ◌, ◌<ℤ◌}
+use Rattle.std.specs.Prelude.{◌≡◌, refl, Bool, true, false, T, ℤ, ◌+ℤ◌, ◌*ℤ◌, ◌<ℤ◌}
 use Rattle.std.proofs.Math.Path.{subst}
 use mathlib.Core.List.{List, [], ◌∷◌, ◌++◌}
 use Rattle.std.proofs.Math.IntN.{pos}
@@ -10,10 +10,9 @@ use Rattle.std.proofs.Math.ListN.{get_or}
 use Rattle.whole.specs.Vector.{Vector}
 use Rattle.whole.specs.Quote.{quotes, ring, combine, times}
 use Rattle.meaning.specs.Scene.{Scene, vector_at, ends_of, corners_of}
-use Rattle.meaning.specs.Pieces.{Event, starting, ending, moving_point, moving_edge, moving_triangle}
+use Rattle.meaning.specs.Pieces.{Event, starting, ending, moving_edge}
 use Rattle.meaning.specs.Equations.{one, time_of, total, Touch}
 use Rattle.meaning.specs.declared.Ends.{Ends}
-use Rattle.meaning.specs.declared.Corners.{Corners}
 use Rattle.meaning.specs.declared.Kind.{Kind}
 use Rattle.meaning.specs.declared.Kind.TheVariants.{PointTriangle, EdgeEdge}
 use Rattle.corner_laws.specs.Level.{Measure, ones, in_x, in_y, in_z, in_time, read, balanced_by, sum_of}
@@ -37,9 +36,6 @@ AllStill s EdgeEdge i j = let e = ends_of s (min i j) in let f = ends_of s (max 
 
 -- ---- on plain numbers: weights a b c d, what a measure says of the starts x y z, and of the ends x' y' z'
 
-two_sums : (a b x x' : ℤ) → x' ≡ x → a *ℤ x +ℤ (b *ℤ x' +ℤ pos 0) ≡ (a +ℤ b) *ℤ x +ℤ (pos 0 *ℤ x' +ℤ pos 0)
-two_sums a b x x' h = combine (a ∷ b ∷ x ∷ x' ∷ []) (times b h ∷ []) (search quotes depth 40 fits 9000) refl
-
 module _ (a b c x x' y y' : ℤ) (h : x' ≡ x) (k : y' ≡ y) where
   abbrev three : List ℤ
   three = a ∷ b ∷ c ∷ x ∷ x' ∷ y ∷ y' ∷ []
@@ -51,33 +47,18 @@ module _ (a b c x x' y y' : ℤ) (h : x' ≡ x) (k : y' ≡ y) where
   three_sums₁ = combine three (times b h ∷ times c k ∷ []) (search quotes depth 40 fits 9000) refl
 
 module _ (a b c d x x' y y' z z' : ℤ) (h : x' ≡ x) (k : y' ≡ y) (l : z' ≡ z) where
-  abbrev four : List ℤ
+  abbrev pub four : List ℤ
   four = a ∷ b ∷ c ∷ d ∷ x ∷ x' ∷ y ∷ y' ∷ z ∷ z' ∷ []
-
-  four_sums₀ : a *ℤ x +ℤ (b *ℤ y +ℤ (c *ℤ z +ℤ (d *ℤ z' +ℤ pos 0))) ≡ a *ℤ x +ℤ (b *ℤ y +ℤ ((c +ℤ d) *ℤ z +ℤ (pos 0 *ℤ z' +ℤ pos 0)))
-  four_sums₀ = combine four (times d l ∷ []) (search quotes depth 40 fits 9000) refl
-
-  four_sums₁ : a *ℤ x +ℤ (b *ℤ y +ℤ (c *ℤ y' +ℤ (d *ℤ z' +ℤ pos 0))) ≡ a *ℤ x +ℤ ((b +ℤ c) *ℤ y +ℤ (d *ℤ z +ℤ (pos 0 *ℤ z' +ℤ pos 0)))
-  four_sums₁ = combine four (times c k ∷ times d l ∷ []) (search quotes depth 40 fits 9000) refl
-
-  four_sums₂ : a *ℤ x +ℤ (b *ℤ x' +ℤ (c *ℤ y' +ℤ (d *ℤ z' +ℤ pos 0))) ≡ (a +ℤ b) *ℤ x +ℤ (c *ℤ y +ℤ (d *ℤ z +ℤ (pos 0 *ℤ z' +ℤ pos 0)))
-  four_sums₂ = combine four (times b h ∷ times c k ∷ times d l ∷ []) (search quotes depth 40 fits 9000) refl
-
-two_times : (a : ℤ) → a *ℤ pos 0 +ℤ (pos 0 *ℤ pos 1 +ℤ pos 0) ≡ pos 0
-two_times a = ring (a ∷ []) (search quotes depth 40 fits 9000) refl
 
 three_times : (a b : ℤ) → a *ℤ pos 0 +ℤ (b *ℤ pos 0 +ℤ (pos 0 *ℤ pos 1 +ℤ pos 0)) ≡ pos 0
 three_times a b = ring (a ∷ b ∷ []) (search quotes depth 40 fits 9000) refl
 
-four_times : (a b c : ℤ) → a *ℤ pos 0 +ℤ (b *ℤ pos 0 +ℤ (c *ℤ pos 0 +ℤ (pos 0 *ℤ pos 1 +ℤ pos 0))) ≡ pos 0
-four_times a b c = ring (a ∷ b ∷ c ∷ []) (search quotes depth 40 fits 9000) refl
-
 -- ---- each end's weight put on its start: weights of the first piece's points, with 0 for its end
 
-abbrev weights : List ℕ → ℕ → ℤ
+abbrev pub weights : List ℕ → ℕ → ℤ
 weights l i = pos (get_or l i 0)
 
-abbrev point_on : (ℕ → ℕ) → List ℕ
+abbrev pub point_on : (ℕ → ℕ) → List ℕ
 point_on u = (u 0 + u 1) ∷ 0 ∷ []
 
 unfoldable edge_low : ℕ → (ℕ → ℕ) → ℕ
@@ -91,36 +72,27 @@ edge_high (suc k) u = u 2
 abbrev edge_on : ℕ → (ℕ → ℕ) → List ℕ
 edge_on k u = edge_low k u ∷ edge_high k u ∷ 0 ∷ []
 
-unfoldable triangle_low : ℕ → (ℕ → ℕ) → ℕ
+unfoldable pub triangle_low : ℕ → (ℕ → ℕ) → ℕ
 triangle_low zero u = u 0
 triangle_low (suc zero) u = u 0
 triangle_low (suc (suc k)) u = u 0 + u 1
 
-unfoldable triangle_middle : ℕ → (ℕ → ℕ) → ℕ
+unfoldable pub triangle_middle : ℕ → (ℕ → ℕ) → ℕ
 triangle_middle zero u = u 1
 triangle_middle (suc zero) u = u 1 + u 2
 triangle_middle (suc (suc k)) u = u 2
 
-unfoldable triangle_high : ℕ → (ℕ → ℕ) → ℕ
+unfoldable pub triangle_high : ℕ → (ℕ → ℕ) → ℕ
 triangle_high zero u = u 2 + u 3
 triangle_high (suc zero) u = u 3
 triangle_high (suc (suc k)) u = u 3
 
-abbrev triangle_on : ℕ → (ℕ → ℕ) → List ℕ
+abbrev pub triangle_on : ℕ → (ℕ → ℕ) → List ℕ
 triangle_on k u = triangle_low k u ∷ triangle_middle k u ∷ triangle_high k u ∷ 0 ∷ []
 
 module _ (ps : List ℤ) (u : ℕ → ℕ) where
-  abbrev w : ℕ → ℤ
+  abbrev pub w : ℕ → ℤ
   w i = pos (u i)
-
-  module _ {p : ℕ} (h : Still ps p) where
-    point_alike : (f : Event → ℤ) → Timeless f → total f w (moving_point ps p) ≡ total f (weights (point_on u)) (moving_point ps p)
-    unfolding total
-    point_alike f t = two_sums (w 0) (w 1) (f (starting ps p)) (f (ending ps p)) (still_alike h f t)
-
-  point_early : (p : ℕ) → total time_of (weights (point_on u)) (moving_point ps p) ≡ pos 0
-  unfolding total
-  point_early p = two_times (w 0 +ℤ w 1)
 
   module _ {e : Ends} (h : Still ps e.low) (l : Still ps e.high) where
     edge_alike : (k : ℕ) (f : Event → ℤ) → Timeless f → total f w (moving_edge ps e k) ≡ total f (weights (edge_on k u)) (moving_edge ps e 0)
@@ -132,17 +104,6 @@ module _ (ps : List ℤ) (u : ℕ → ℕ) where
   unfolding total moving_edge
   edge_early e k = three_times (pos (edge_low k u)) (pos (edge_high k u))
 
-  module _ {c : Corners} (h : Still ps c.low) (l : Still ps c.middle) (m : Still ps c.high) where
-    triangle_alike : (k : ℕ) (f : Event → ℤ) → Timeless f → total f w (moving_triangle ps c k) ≡ total f (weights (triangle_on k u)) (moving_triangle ps c 0)
-    unfolding total moving_triangle triangle_low triangle_middle triangle_high
-    triangle_alike zero f t = four_sums₀ (w 0) (w 1) (w 2) (w 3) (f (starting ps c.low)) (f (ending ps c.low)) (f (starting ps c.middle)) (f (ending ps c.middle)) (f (starting ps c.high)) (f (ending ps c.high)) (still_alike h f t) (still_alike l f t) (still_alike m f t)
-    triangle_alike (suc zero) f t = four_sums₁ (w 0) (w 1) (w 2) (w 3) (f (starting ps c.low)) (f (ending ps c.low)) (f (starting ps c.middle)) (f (ending ps c.middle)) (f (starting ps c.high)) (f (ending ps c.high)) (still_alike h f t) (still_alike l f t) (still_alike m f t)
-    triangle_alike (suc (suc k)) f t = four_sums₂ (w 0) (w 1) (w 2) (w 3) (f (starting ps c.low)) (f (ending ps c.low)) (f (starting ps c.middle)) (f (ending ps c.middle)) (f (starting ps c.high)) (f (ending ps c.high)) (still_alike h f t) (still_alike l f t) (still_alike m f t)
-
-  triangle_early : (c : Corners) (k : ℕ) → total time_of (weights (triangle_on k u)) (moving_triangle ps c 0) ≡ pos 0
-  unfolding total moving_triangle
-  triangle_early c k = four_times (pos (triangle_low k u)) (pos (triangle_middle k u)) (pos (triangle_high k u))
-
 -- ---- so of a pair that rests the starts of the first piece decide
 
 -- which of the six points of a first piece are starts
@@ -152,44 +113,10 @@ point_starts = true ∷ false ∷ true ∷ true ∷ true ∷ false ∷ []
 abbrev pub edge_starts : List Bool
 edge_starts = true ∷ true ∷ false ∷ true ∷ true ∷ false ∷ []
 
-never : true ≡ false → ⊥
+pub never : true ≡ false → ⊥
 never e = subst T e tt
 
 module _ {ps : List ℤ} where
-  pub point_starts_lem : {p : ℕ} {c : Corners} → Still ps p → Still ps c.low → Still ps c.middle → Still ps c.high
-      → (k : ℕ) → Touch (moving_point ps p) (moving_triangle ps c k)
-      → TouchIn (moving_point ps p) (moving_triangle ps c 0) (λ i. get_or point_starts i false)
-  unfolding total moving_triangle
-  point_starts_lem {p} {c} h l m n k t = record {
-    w = λ i. get_or on i 0;
-    level = balanced_by go;
-    some = subst (λ z. pos 0 <ℤ z) (point_alike ps t.u h one (λ p. refl)) t.some;
-    out = none;
-  }
-    where
-      on : List ℕ
-      on = point_on t.u ++ triangle_on k t.v
-
-      timeless : (f : Event → ℤ) → Timeless f → total f (λ i. pos (t.u i)) (moving_point ps p) ≡ total f (λ i. pos (t.v i)) (moving_triangle ps c k)
-          → total f (weights (point_on t.u)) (moving_point ps p) ≡ total f (weights (triangle_on k t.v)) (moving_triangle ps c 0)
-      timeless f a e = sym (point_alike ps t.u h f a) ∙ e ∙ triangle_alike ps t.v l m n k f a
-
-      go : (m : Measure) → total (read m) (weights (point_on t.u)) (moving_point ps p) ≡ total (read m) (weights (triangle_on k t.v)) (moving_triangle ps c 0)
-      go ones = timeless (read ones) (λ p. refl) (sum_of t.balanced ones)
-      go in_x = timeless (read in_x) (λ p. refl) (sum_of t.balanced in_x)
-      go in_y = timeless (read in_y) (λ p. refl) (sum_of t.balanced in_y)
-      go in_z = timeless (read in_z) (λ p. refl) (sum_of t.balanced in_z)
-      go in_time = point_early ps t.u p ∙ sym (triangle_early ps t.v c k)
-
-      none : (i : ℕ) → i < 6 → get_or point_starts i false ≡ false → get_or on i 0 ≡ 0
-      none zero i e = absurd (never e)
-      none (suc zero) i e = refl
-      none (suc (suc zero)) i e = absurd (never e)
-      none (suc (suc (suc zero))) i e = absurd (never e)
-      none (suc (suc (suc (suc zero)))) i e = absurd (never e)
-      none (suc (suc (suc (suc (suc zero))))) i e = refl
-      none (suc (suc (suc (suc (suc (suc n)))))) i e = absurd (omega arith)
-
   pub edges_starts : {e f : Ends} → Still ps e.low → Still ps e.high → Still ps f.low → Still ps f.high
       → (i j : ℕ) → Touch (moving_edge ps e i) (moving_edge ps f j)
       → TouchIn (moving_edge ps e 0) (moving_edge ps f 0) (λ i. get_or edge_starts i false)

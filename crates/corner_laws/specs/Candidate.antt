@@ -1,6 +1,6 @@
 -- Where some volume of the four slots is not 0, the volumes are the one candidate for weights: all weights that are 0 for the corners left
 -- out are proportional to it. So there are such weights exactly when the candidate is 0 for those corners and of one sign.
-use Rattle.std.specs.Prelude.{ℕ, zero, suc, ◌+◌, ◌≤◌, ◌<◌, ◌≡◌, refl, ◌≢◌, Bool, true, false, List, [], ◌∷◌, ◌++◌, ℤ, pos, negsuc, neg_ℤ, nat_abs, ◌+ℤ◌, ◌-ℤ◌, ◌*ℤ◌, ltb, length, ◌≤ℤ◌, ◌<ℤ◌}
+use Rattle.std.specs.Prelude.{ℕ, zero, suc, ◌+◌, ◌≤◌, ◌<◌, ◌≡◌, refl, ◌≢◌, Bool, true, false, List, ◌++◌, ℤ, pos, negsuc, neg_ℤ, nat_abs, ◌-ℤ◌, ◌*ℤ◌, ltb, length, ◌≤ℤ◌, ◌<ℤ◌}
 use Rattle.std.proofs.Common.{zero-le, arith, sym, ◌∙◌, ap, subst, le→leb, length-append}
 use Rattle.std.proofs.Math.IntN.{*ℤ_comm, *ℤ-zero, zero-*ℤ}
 use Rattle.std.proofs.Math.Dec.{leb-zero}
@@ -9,7 +9,8 @@ use Rattle.whole.specs.Vector.{Vector, origin}
 use Rattle.whole.specs.Laws.{negℤ_*ℤ, *ℤ_negℤ, *ℤ_idl}
 use Rattle.whole.specs.Signs.{positive, negative, opposite, sgn_neg, Agrees, none, alike, sign_transfer, factor_zero, not_negative_is, nat_abs_positive}
 use Rattle.whole.specs.Quote.{quotes, ring}
-use Rattle.whole.specs.Cramer.{Four, each, weigh, volumes, all, dot4, balance, proportional, Place, p0, p1, p2, p3, pick, at_place, reads}
+use Rattle.whole.specs.Cramer.{Four, each, weigh, volumes, all, dot4, balance, Place, p0, p1, p2, p3, pick, at_place, reads}
+use Rattle.whole.proofs.Cramer.{proportional}
 use Rattle.meaning.specs.Pieces.{Event}
 use Rattle.meaning.specs.Equations.{one, total}
 use Rattle.theory.specs.Totals.{weights_times}
@@ -20,9 +21,9 @@ use Rattle.corner_laws.specs.Left.{TouchIn}
 use Rattle.corner_laws.specs.AtMostOne.{Allowed, AtMostOne, by_a_third}
 use Rattle.corner_laws.specs.Leave.{some_weight}
 use Rattle.corner_laws.specs.Signed.{sided, sided_zero, zero_sided, signed, signed_twice, nought_of, level_signed}
-use Rattle.corner_laws.specs.Others.{Stands, at_first, at_second, among, Numbers, Order}
-use Rattle.corner_laws.specs.Slots.{Based, event_in, others_in, differences_in, Remains, remains_flat, nought_by, Preferred, none_out, pick_each}
-use Rattle.corner_laws.specs.Filled.{filled, NoneOut, same_weigh}
+use Rattle.corner_laws.specs.Others.{Stands, at_first, at_second, among, Numbers}
+use Rattle.corner_laws.specs.Slots.{Based, others_in, differences_in, Remains, remains_flat, nought_by, Preferred, none_out, pick_each}
+use Rattle.corner_laws.specs.Filled.{NoneOut}
 
 -- ---- the number of each corner is linear in those of the four
 

@@ -1,10 +1,10 @@
 -- Where all volumes of the four slots are 0 in each of three turns of the axes, the differences of the corners left depend on one another
 -- even without any one of them.
-use Rattle.std.specs.Prelude.{◌≡◌, refl, ◌≢◌, ◌⊎◌, Bool, true, false, ℕ, suc, ◌<◌, ℤ, pos, neg_ℤ, nat_abs}
+use Rattle.std.specs.Prelude.{◌≡◌, refl, ◌≢◌, Bool, true, false, ℕ, suc, ◌<◌, ℤ, pos, neg_ℤ, nat_abs}
 use Rattle.std.proofs.Common.{sym, ◌∙◌, ap, inl, inr, ⊎_elim, arith}
 use Rattle.std.proofs.Math.IntN.{neg_ℤ-neg_ℤ}
 use Rattle.whole.specs.Vector.{Vector, origin, plus, scale, volume, axis}
-use Rattle.whole.specs.VectorLaws.{cycle, swap, swap_last}
+use Rattle.whole.proofs.VectorLaws.{cycle, swap, swap_last}
 use Rattle.whole.specs.Cramer.{Four, Place, p0, p1, p2, p3, pick, weigh, volumes}
 use Rattle.corner_laws.specs.Filled.{slot, next, filled, NoneOut}
 use Rattle.corner_laws.specs.Flat.{Two, Three, flat₂, flat₃, across, still, plus_none, none_plus, scale_none}

@@ -1,10 +1,9 @@
 -- Weights that can be moved: where numbers that balance have 0 at one of the corners left and are not all 0, the weights are moved along
 -- them until the first other weight becomes 0. All stay whole, since the weights are scaled first. So some corner can be left out.
-use Rattle.std.specs.Prelude.{ℕ, zero, suc, ◌+◌, ◌*◌, ◌≤◌, ◌<◌, ◌-◌, ◌≡◌, refl, ◌≢◌, ◌⊎◌, Bool, true, false, List, [], ◌∷◌, ℤ, pos, negsuc, neg_ℤ, nat_abs, ◌+ℤ◌, ◌-ℤ◌, ◌*ℤ◌, length, ◌≤ℤ◌, ◌<ℤ◌}
-use Rattle.std.proofs.Common.{zero-le, mul-pos, arith, sym, ◌∙◌, ap, subst, inl, inr, ⊎_elim, lt→ltb, le→leb}
+use Rattle.std.specs.Prelude.{ℕ, zero, suc, ◌+◌, ◌*◌, ◌≤◌, ◌<◌, ◌-◌, ◌≡◌, refl, ◌≢◌, ◌⊎◌, Bool, true, false, List, [], ◌∷◌, ℤ, pos, negsuc, neg_ℤ, nat_abs, ◌+ℤ◌, ◌*ℤ◌, length, ◌≤ℤ◌, ◌<ℤ◌}
+use Rattle.std.proofs.Common.{zero-le, mul-pos, arith, ◌∙◌, ap, subst, inl, inr, ⊎_elim, lt→ltb, le→leb}
 use Rattle.std.proofs.Math.Decide.{dec_lt}
-use Rattle.std.proofs.Math.IntN.{*ℤ-zero}
-use Rattle.whole.specs.Laws.{negℤ_*ℤ, *ℤ_idl}
+use Rattle.whole.specs.Laws.{negℤ_*ℤ}
 use Rattle.whole.specs.Quote.{quotes, ring}
 use Rattle.whole.specs.Order.{P, ord, le}
 use Rattle.meaning.specs.Pieces.{Event}

@@ -1,5 +1,5 @@
 -- A corner is left out where its weight is 0, so nothing is renumbered: the corners of both simplices are counted in one run. Leaving a corner out never makes weights, and with every corner left there are weights exactly as before.
-use Rattle.std.specs.Prelude.{ℕ, zero, suc, ◌+◌, ◌<◌, ◌≡◌, refl, ◌↔◌, ◌⊎◌, Bool, true, false, cond, List, [], ◌∷◌, ℤ, pos, T, eqb, length, ◌<ℤ◌}
+use Rattle.std.specs.Prelude.{ℕ, zero, suc, ◌+◌, ◌<◌, ◌≡◌, refl, ◌↔◌, ◌⊎◌, Bool, true, false, cond, List, ℤ, pos, T, eqb, length, ◌<ℤ◌}
 use Rattle.std.proofs.Common.{zero-add, suc-add, arith, sym, ◌∙◌, ap, subst, inl, inr, eqb→eq}
 use Rattle.std.proofs.Math.Dec.{eqb_refl}
 use Rattle.meaning.specs.Pieces.{Event}

@@ -1,5 +1,5 @@
 -- A singular piece has weights exactly when it has some with one corner left out, and that corner may lie in either simplex.
-use Rattle.std.specs.Prelude.{ℕ, ◌<◌, ◌≡◌, refl, ◌≢◌, ◌↔◌, Bool, true, false, List, [], ◌∷◌, ◌++◌, T, ℤ, pos, neg_ℤ, ◌+ℤ◌, ◌-ℤ◌, ◌*ℤ◌, length, ◌<ℤ◌}
+use Rattle.std.specs.Prelude.{ℕ, ◌<◌, ◌≡◌, refl, ◌≢◌, ◌↔◌, Bool, true, List, [], ◌∷◌, ◌++◌, T, ℤ, pos, neg_ℤ, ◌+ℤ◌, ◌-ℤ◌, ◌*ℤ◌, length, ◌<ℤ◌}
 use Rattle.std.proofs.Common.{arith, sym, ◌∙◌, subst}
 use Rattle.std.proofs.Math.Path.{ap}
 use Rattle.std.proofs.Math.IntN.{*ℤ-zero}
@@ -17,15 +17,14 @@ use Rattle.meaning.specs.declared.Kind.{Kind}
 use Rattle.meaning.specs.declared.Verdict.TheVariants.{Degenerate}
 use Rattle.theory.specs.Differences.{differences, Form, alone, around, formed}
 use Rattle.theory.specs.Spread.{factor, first_numbers, second_numbers, weights_of}
-use Rattle.theory.specs.Solved.{Solved}
-use Rattle.theory.specs.Shapes.{solved}
+use Rattle.theory.proofs.Shapes.{solved}
 use Rattle.theory.specs.Bridge.{singular_is}
 use Rattle.theory.specs.Independence.{unminus}
 use Rattle.theory.specs.RationalVerdicts.{OfForm, piece_form}
-use Rattle.corner_laws.specs.Left.{TouchIn, never_makes, touch_in_is}
+use Rattle.corner_laws.specs.Left.{never_makes, touch_in_is}
 use Rattle.corner_laws.specs.Leave.{Leaves}
 use Rattle.corner_laws.specs.Others.{skip, others_of, order_of}
-use Rattle.corner_laws.specs.Slots.{Based, differences_in, Preferred}
+use Rattle.corner_laws.specs.Slots.{Based, differences_in}
 use Rattle.corner_laws.specs.Filled.{slot, next}
 use Rattle.corner_laws.specs.Dependent.{Vanish}
 use Rattle.corner_laws.specs.Opened.{open_leaves}

@@ -1,6 +1,6 @@
 -- Where a simplex holds a vertex at both times and that vertex rests, its two points differ in time alone: 1 for the start and -1 for the end
 -- measure 0 in everything but time. Where both simplices of a piece do so, these numbers balance and are not all 0: the piece is singular.
-use Prim.Native.Nat.{ℕ, zero, suc, ◌/◌, ◌%◌, min, max, ◌<◌}
+use Prim.Native.Nat.{ℕ, zero, suc, ◌/◌, ◌%◌, ◌<◌}
 use Rattle.std.proofs.Common.{arith, sym, ◌∙◌, ap}
 use Rattle.std.specs.Prelude.{◌≡◌, List, [], ◌∷◌, ℤ, pos, negsuc, ◌+ℤ◌, ◌*ℤ◌, length, get_or}
 use Rattle.std.proofs.Math.Path.{refl}
@@ -9,7 +9,7 @@ use Rattle.whole.specs.Vector.{Vector}
 use Rattle.whole.specs.Laws.{*ℤ_idl}
 use Rattle.whole.specs.Quote.{quotes, combine, times}
 use Rattle.whole.specs.Cramer.{Four, volumes}
-use Rattle.meaning.specs.Scene.{Scene, ends_of, corners_of}
+use Rattle.meaning.specs.Scene.{Scene}
 use Rattle.meaning.specs.Pieces.{Event, starting, ending, moving_point, moving_edge, moving_triangle, piece_of}
 use Rattle.meaning.specs.Equations.{one, time_of, total, determinant_of, Balanced}
 use Rattle.meaning.specs.declared.Ends.{Ends}
@@ -18,7 +18,7 @@ use Rattle.meaning.specs.declared.Kind.{Kind}
 use Rattle.meaning.specs.declared.Kind.TheVariants.{PointTriangle, EdgeEdge}
 use Rattle.theory.specs.Differences.{differences, Form, alone, around, formed}
 use Rattle.theory.specs.Spread.{factor, first_numbers, weights_of}
-use Rattle.theory.specs.Shapes.{solved}
+use Rattle.theory.proofs.Shapes.{solved}
 use Rattle.theory.specs.Bridge.{singular_is}
 use Rattle.corner_laws.specs.Level.{Measure, ones, in_x, in_y, in_z, in_time, read, balanced_by}
 use Rattle.corner_laws.specs.AtRest.{Still, Timeless, still_alike, AllStill}

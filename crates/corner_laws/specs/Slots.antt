@@ -1,6 +1,6 @@
 -- Two corners as base, one at the start and one at the end, and the four others. Numbers for all six make the five sums 0 exactly when
 -- each base has what is left at its time and the numbers of the four combine their differences to the origin.
-use Rattle.std.specs.Prelude.{ℕ, ◌+◌, ◌<◌, ◌≡◌, refl, ◌⊎◌, Bool, false, List, [], ◌∷◌, ◌++◌, ℤ, pos, negsuc, neg_ℤ, ◌+ℤ◌, ◌-ℤ◌, ◌*ℤ◌, length, get_or}
+use Rattle.std.specs.Prelude.{ℕ, ◌<◌, ◌≡◌, refl, ◌⊎◌, Bool, false, List, [], ◌∷◌, ◌++◌, ℤ, pos, negsuc, neg_ℤ, ◌+ℤ◌, ◌-ℤ◌, ◌*ℤ◌, length, get_or}
 use Rattle.std.proofs.Common.{sym, ◌∙◌, ap, subst, inl, inr, ⊎_elim}
 use Rattle.std.proofs.Math.IntN.{zero-*ℤ, *ℤ-zero}
 use Rattle.whole.specs.Vector.{Vector, origin}
@@ -8,12 +8,12 @@ use Rattle.whole.specs.VectorLaws.{vector_eq}
 use Rattle.whole.specs.Quote.{quotes, ring, combine, times}
 use Rattle.whole.specs.Cramer.{Four, each, weigh, all, dot4, Place, p0, p1, p2, p3, pick}
 use Rattle.meaning.specs.Pieces.{Event}
-use Rattle.meaning.specs.Equations.{one, x_of, y_of, z_of, time_of, total}
+use Rattle.meaning.specs.Equations.{total}
 use Rattle.theory.specs.Differences.{differences}
 use Rattle.theory.specs.Spread.{start_share, end_share, times_of}
 use Rattle.corner_laws.specs.Level.{Measure, ones, in_x, in_y, in_z, in_time, read}
 use Rattle.corner_laws.specs.Signed.{Nought}
-use Rattle.corner_laws.specs.Others.{Order, sum_over, Stands, at_first, at_second, among}
+use Rattle.corner_laws.specs.Others.{Order, Stands, at_first, at_second, among}
 
 -- ---- on plain numbers: those of the bases at the start and at the end, of the four others, the times of the four, and a measure of all
 

@@ -1,6 +1,6 @@
 -- Among finitely many places with weights w and shares c, not all shares 0: the place where weight over share is least.
-use Rattle.std.specs.Prelude.{ℕ, zero, suc, ◌*◌, ◌≤◌, ◌<◌, ◌≡◌, refl, ◌≢◌, ◌⊎◌}
-use Rattle.std.proofs.Common.{zero-le, mul-zero, le_refl, eq-or-lt_of_le, le_of_mul-le-mul_right, mul-le-mul_right, arith, sym, ◌∙◌, ap, subst, inl, inr, ⊎_elim}
+use Rattle.std.specs.Prelude.{ℕ, zero, suc, ◌*◌, ◌≤◌, ◌<◌, ◌≡◌, refl, ◌⊎◌}
+use Rattle.std.proofs.Common.{zero-le, mul-zero, le_refl, eq-or-lt_of_le, le_of_mul-le-mul_right, mul-le-mul_right, arith, sym, subst, inl, inr, ⊎_elim}
 use Rattle.std.proofs.Math.Decide.{dec_le, ℕ_discrete}
 
 pub record Tightest (n : ℕ) (w c : ℕ → ℕ) : Type 0 where

@@ -17,8 +17,9 @@ use Rattle.meaning.specs.declared.Verdict.{Verdict}
 use Rattle.meaning.specs.declared.Settled.{Settled}
 use Rattle.meaning.specs.declared.Settled.TheVariants.{Hit, Miss, Touch, Apart}
 use Rattle.theory.specs.Computed.{piece_verdict, pair_verdict}
-use Rattle.theory.specs.SevenPieces.{judged_piece}
-use Rattle.theory.specs.OneVerdict.{one_piece_verdict, judged_pair}
+use Rattle.theory.proofs.SevenPieces.{judged_piece}
+use Rattle.theory.specs.OneVerdict.{one_piece_verdict}
+use Rattle.theory.proofs.OneVerdict.{judged_pair}
 use Rattle.corner_leaf.specs.declared.SixPoints.{SixPoints}
 use Rattle.corner_leaf.specs.declared.Leaf.{Leaf}
 use Rattle.corner_leaf.specs.declared.Leaf.TheVariants.{Yes, No, Open}

@@ -12,7 +12,8 @@ use Rattle.meaning.specs.declared.Kind.TheVariants.{PointTriangle, EdgeEdge}
 use Rattle.meaning.specs.declared.Settled.TheVariants.{Hit, Touch, Apart}
 use Rattle.corner_leaf.specs.declared.SixPoints.{SixPoints}
 use Rattle.corner_laws.specs.Left.{fewer, touch_in_is}
-use Rattle.corner_laws.specs.AtRest.{AllStill, point_starts_lem, edges_starts}
+use Rattle.corner_laws.specs.AtRest.{AllStill, edges_starts}
+use Rattle.corner_laws.proofs.AtRest.{point_starts_lem}
 use Rattle.corner_laws.specs.SingularAtRest.{singular_at_rest}
 use Rattle.corner_leaf.specs.Points.{piece_at, TouchLeft}
 use Rattle.corner_search.specs.Sixes.{point_six, edges_six, six_of, six_piece}

@@ -1,6 +1,6 @@
 -- 'The order in which the scene writes the ends of an edge or the corners of a triangle changes nothing', of texts: two texts that differ only in
 -- that have the same report, and where they are at fault the same fault at the same line.
-use Rattle.std.specs.Prelude.{ℕ, suc, ◌+◌, ◌*◌, ◌-◌, ◌/◌, ◌%◌, ◌≤◌, ◌<◌, Bool, true, false, not, ◌||◌, ◌≡◌, refl, eqb, ℤ, pos, length, get_or}
+use Rattle.std.specs.Prelude.{ℕ, suc, ◌+◌, ◌*◌, ◌-◌, ◌/◌, ◌%◌, ◌≤◌, ◌<◌, false, ◌≡◌, refl, ℤ, pos, length, get_or}
 use mathlib.Core.List.{List, [], ◌∷◌, ◌++◌, map, flat_map, append_assoc, append-nil, nil≢cons}
 use Rattle.std.proofs.Common.{sym, ◌∙◌, ap, ap₂, arith, length-append, get_or-append-add}
 use Rattle.std.proofs.Math.Path.{subst}
@@ -8,24 +8,20 @@ use Rattle.std.proofs.Math.ListN.{get_or-append}
 use Rattle.std.proofs.Math.Decide.{dec_lt}
 use Rattle.decimals.specs.Digits.{digits}
 use Rattle.whole.specs.Vector.{Vector}
-use Rattle.meaning.specs.Limits.{text_limit, digit_limit}
+use Rattle.meaning.specs.Limits.{digit_limit}
 use Rattle.meaning.specs.Scene.{Scene, uneven, over_size}
 use Rattle.meaning.specs.Refusals.{given, refused, Check, Answers}
 use Rattle.meaning.specs.List.{Pair, pairs}
-use Rattle.meaning.specs.SceneWords.{AllSettled}
 use Rattle.meaning.specs.Text.{Entry, vertex, edge, triangle, seam, tab, line_feed, letter_of, numbers_of, numeral, further, line_of, Short, late, scene_with, entry_checks, EntryJudged, none, scene_lines, text_of, coordinates_in, ends_in, corners_in, seam_in, scene_from, Holds, SceneFault, SceneFaultyAt}
 use Rattle.meaning.specs.Lines as Lines
 use Rattle.meaning.specs.Lines.{after_all, unformed, misplaced}
 use Rattle.meaning.specs.Report.{refused_line, pair_lines, total_line, ReportOf, too_long, faulty, no_room, judged, Reported}
-use Rattle.theory.specs.Bounds.{Every}
 use Rattle.theory.specs.Determinants.{Exchanged, front, behind}
 use Rattle.theory.specs.Rearranged.{Rearranged, unmoved, moved, rearranged_back}
 use Rattle.theory.specs.Rewritten.{Rewritten, rewritten_back}
 use Rattle.text_laws.specs.Feed.{NoFeed, first_line, no_line}
 use Rattle.text_line.specs.Rendered.{line_is, line_cancel, scene_bodies}
 use Rattle.text_scene.specs.Accepted.{text_accepted}
-use Rattle.answers.specs.Below.{or_left, or_rest}
-use Rattle.scene_checks.specs.Facts.{none_over}
 use Rattle.demands.specs.StillAccepted.{every_rearranged, range_alike, known_in_whole, sewn_alike, repeated_alike}
 use Rattle.demands.specs.AnyWriting.{rewritten_list, words_as_written}
 use Rattle.demands.specs.Table.{at, neg}

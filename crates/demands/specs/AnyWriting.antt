@@ -18,7 +18,8 @@ use Rattle.meaning.specs.declared.SceneAnswer.{SceneAnswer}
 use Rattle.meaning.specs.declared.PairAnswer.{PairAnswer}
 use Rattle.meaning.specs.declared.SettledAnswer.{SettledAnswer}
 use Rattle.meaning.specs.declared.ListAnswer.{ListAnswer}
-use Rattle.theory.specs.Rewritten.{Rewritten, PartsThere, WellMade, rewritten_not_there, rewritten_shares, rewritten_meet, rewritten_keeps_pieces, rewritten_keeps_pairs, rewritten_keeps_words, rewritten_keeps_pair_words}
+use Rattle.theory.specs.Rewritten.{Rewritten, PartsThere, WellMade, rewritten_not_there}
+use Rattle.theory.proofs.Rewritten.{rewritten_shares, rewritten_meet, rewritten_keeps_pieces, rewritten_keeps_pairs, rewritten_keeps_words, rewritten_keeps_pair_words}
 use Rattle.answers.specs.Below.{or_left}
 use Rattle.answers.specs.Speaking.{scene_says_one, pair_says_one}
 use Rattle.list_pairs.specs.InOrder.{ToList, are_there, list_is, list_only}

@@ -1,8 +1,7 @@
 -- 'Try these against it': the wrong programs that document 01 names, each barred by a promise. What the promises leave to a program is the
 -- one right answer, so each is shown on a scene where the wrong program would give another.
-use Rattle.std.specs.Prelude.{ℕ, ◌≤◌, ◌<◌, ◌||◌, List, ◌≢◌, ◌≡◌, refl, length, get_or}
+use Rattle.std.specs.Prelude.{ℕ, ◌≤◌, ◌<◌, ◌||◌, List, ◌≡◌, refl, length, get_or}
 use Rattle.std.proofs.Math.Bool.{false}
-use Rattle.std.proofs.Common.{arith}
 use Rattle.std.proofs.Math.Dec.{leb}
 use borrow.Author.Tests.{lt-leb}
 use Rattle.meaning.specs.Scene.{Scene, Accepted}
@@ -12,9 +11,7 @@ use Rattle.meaning.specs.Resting.{PieceSettled, PairSettled, settled_says, PairD
 use Rattle.meaning.specs.Refusals.{scene_says, pair_says, not_there, shares, SceneChecked, PairJudged, PieceJudged}
 use Rattle.meaning.specs.List.{pairs, room_of, list_says, Listing}
 use Rattle.meaning.specs.declared.Kind.{Kind}
-use Rattle.meaning.specs.declared.Kind.TheVariants.{PointTriangle}
 use Rattle.meaning.specs.declared.Verdict.{Verdict}
-use Rattle.meaning.specs.declared.Verdict.TheVariants.{Hit, Miss, Degenerate}
 use Rattle.meaning.specs.declared.SceneAnswer as SceneAnswers
 use Rattle.meaning.specs.declared.SceneAnswer.{SceneAnswer}
 use Rattle.meaning.specs.declared.PairAnswer.{PairAnswer}
@@ -25,14 +22,12 @@ use Rattle.meaning.specs.declared.SettledAnswer.{SettledAnswer}
 use Rattle.meaning.specs.declared.SettledAnswer.TheVariants.{Decided}
 use Rattle.meaning.specs.declared.ListAnswer as ListAnswers
 use Rattle.meaning.specs.declared.ListAnswer.{ListAnswer}
-use Rattle.theory.specs.Bounds.{Every, every_imp}
 use Rattle.corner_search.specs.Decided.{verdict_of_word}
 use Rattle.answers.specs.Speaking.{scene_says_one, pair_says_one}
 use Rattle.list_pairs.specs.Once.{list_says_one}
 use Rattle.demands.specs.Demand1.{demand1_scene, demand1_pair, demand1_piece, demand1_settled_pair, demand1_settled_piece, demand1_listing}
 use Rattle.answers.specs.Speaking.{settled_says_one}
-use Rattle.demands.specs.Table.{Case, cases, numbered, IsRight}
-use Rattle.demands.specs.Cases.{twelve_cases}
+use Rattle.demands.specs.Table.{Case}
 
 -- ---- refuse everything
 
@@ -69,76 +64,24 @@ lists s o o' r a room p = list_says_one r _ (((demand1_listing s o o' r p).liste
 
 -- ---- a piece's verdict, asked for in each of the twelve cases
 
-abbrev Answered : Case → Type 0
+abbrev pub Answered : Case → Type 0
 Answered c =
     (k : ℕ) → k < piece_count c.kind → (r : PairAnswer) → PieceJudged c.scene c.kind c.first c.second k r → r ≡ Judged (verdict_of_word (get_or c.pieces k Words.TheVariants.Miss))
 
-pub cases_answered : Every Answered cases
-cases_answered =
-    every_imp IsRight Answered
-    (λ c h k below r p. judges_pieces c.scene c.kind c.first c.second h.accepted h.there h.apart k below _ (h.verdicts k below) r p)
-    cases twelve_cases
-
-abbrev Settled_so : Case → Type 0
+abbrev pub Settled_so : Case → Type 0
 Settled_so c =
     (k : ℕ) → k < piece_count c.kind → (r : SettledAnswer) → PieceDecided c.scene c.kind c.first c.second k r → r ≡ Decided (get_or c.pieces k Words.TheVariants.Miss)
-
-pub cases_settled : Every Settled_so cases
-cases_settled =
-    every_imp IsRight Settled_so
-    (λ c h k below r p. settles_pieces c.scene c.kind c.first c.second h.accepted h.there h.apart k below _ (h.each k below) r p)
-    cases twelve_cases
 
 -- ---- always miss, always degenerate; a singular pair taken as a hit or as a miss
 
 -- a pair's verdict, asked for in each of the twelve cases: the one that goes with its word in the table
-abbrev PairAnswered : Case → Type 0
+abbrev pub PairAnswered : Case → Type 0
 PairAnswered c =
     (r : PairAnswer) → PairJudged c.scene c.kind c.first c.second r → r ≡ Judged (verdict_of_word c.word)
-
-pub pairs_answered : Every PairAnswered cases
-pairs_answered =
-    every_imp IsRight PairAnswered
-    (λ c h r p. judges c.scene c.kind c.first c.second h.accepted h.there h.apart _ h.pair_verdict r p)
-    cases twelve_cases
-
-pub hit_in_case_1 : (r : PairAnswer) → PairJudged (numbered 1).scene PointTriangle 3 0 r → r ≡ Judged Hit
-unfolding verdict_of_word
-hit_in_case_1 = pairs_answered.0
-
-pub miss_in_case_2 : (r : PairAnswer) → PairJudged (numbered 2).scene PointTriangle 3 0 r → r ≡ Judged Miss
-unfolding verdict_of_word
-miss_in_case_2 = pairs_answered.1.0
-
-pub degenerate_in_case_7 : (r : PairAnswer) → PairJudged (numbered 7).scene PointTriangle 3 0 r → r ≡ Judged Degenerate
-unfolding verdict_of_word
-degenerate_in_case_7 = pairs_answered.1.1.1.1.1.1.0
 
 -- ---- always touch, always apart
 
 -- and in four words: its word in the table
-abbrev WordAnswered : Case → Type 0
+abbrev pub WordAnswered : Case → Type 0
 WordAnswered c =
     (r : SettledAnswer) → PairDecided c.scene c.kind c.first c.second r → r ≡ Decided c.word
-
-pub words_answered : Every WordAnswered cases
-words_answered =
-    every_imp IsRight WordAnswered
-    (λ c h r p. settles c.scene c.kind c.first c.second h.accepted h.there h.apart _ h.pair_word r p)
-    cases twelve_cases
-
-pub apart_in_case_6 : (r : SettledAnswer) → PairDecided (numbered 6).scene PointTriangle 3 0 r → r ≡ Decided Words.TheVariants.Apart
-apart_in_case_6 = words_answered.1.1.1.1.1.0
-
-pub touch_in_case_7 : (r : SettledAnswer) → PairDecided (numbered 7).scene PointTriangle 3 0 r → r ≡ Decided Words.TheVariants.Touch
-touch_in_case_7 = words_answered.1.1.1.1.1.1.0
-
--- ---- testing piece 0 and copying its verdict
-
-pub pieces_differ : (r r' : PairAnswer) → PieceJudged (numbered 1).scene PointTriangle 3 0 0 r → PieceJudged (numbered 1).scene PointTriangle 3 0 1 r' → r ≢ r'
-unfolding piece_count verdict_of_word
-pieces_differ r r' p q e =
-    let a : r ≡ Judged Miss = cases_answered.0 0 (omega arith) r p in
-    let b : r' ≡ Judged Hit = cases_answered.0 1 (omega arith) r' q in
-    let z : ◌≡◌ {A = ℕ} 0 1 = cc in
-    omega arith

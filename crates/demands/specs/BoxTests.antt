@@ -8,7 +8,7 @@ use Rattle.sequences.specs.Gather.{sum}
 use Rattle.meaning.specs.Scene.{Scene, vertex_count, triangle_count}
 use Rattle.meaning.specs.Refusals.{given, refused}
 use Rattle.meaning.specs.Boxes.{listed}
-use Rattle.meaning.specs.List.{list_says, Counted, Listing}
+use Rattle.meaning.specs.List.{list_says}
 use Rattle.meaning.specs.Runs.{runs_of, run_from, run_to, joint_span, run_meets, box_tests, tests_left, Tested}
 use Rattle.meaning.specs.Text.{coordinates_in, ends_in, corners_in, seam_in}
 use Rattle.meaning.specs.Lines.{after_all}

@@ -10,9 +10,9 @@ use Rattle.sequences.specs.Wrote.{Wrote, written, wrote_written}
 use Rattle.meaning.specs.Limits.{weight_limit}
 use Rattle.meaning.specs.Scene.{Scene, stood_for}
 use Rattle.meaning.specs.Pieces.{Piece, moving_triangle, piece_of, piece_count}
-use Rattle.meaning.specs.Equations.{one, total, Touches}
-use Rattle.meaning.specs.Verdicts.{PieceIs, SomePiece}
-use Rattle.meaning.specs.Resting.{PieceSettled, SomeSettled, PairSettled}
+use Rattle.meaning.specs.Equations.{total, Touches}
+use Rattle.meaning.specs.Verdicts.{PieceIs}
+use Rattle.meaning.specs.Resting.{PieceSettled, PairSettled}
 use Rattle.meaning.specs.Refusals.{Outcome, given, refused, not_there, shares}
 use Rattle.meaning.specs.Boxes.{boxes_meet}
 use Rattle.meaning.specs.List.{pair}
@@ -21,7 +21,6 @@ use Rattle.meaning.specs.Lines.{AllSound, unformed, misplaced}
 use Rattle.meaning.specs.Claims.{Claim, weight_at, BorneOut, AnswerIs, claim_checks, claim_lines, AllAnswered, claims_first, FirstIs, ClaimsOutcome, before, faulty, read, claims_says, how_many_told, answer_byte, answers_left, ClaimsChecked}
 use Rattle.meaning.specs.declared.Kind.{Kind}
 use Rattle.meaning.specs.declared.Kind.TheVariants.{PointTriangle}
-use Rattle.meaning.specs.declared.Verdict.{Verdict}
 use Rattle.meaning.specs.declared.Settled.TheVariants.{Hit, Miss, Touch, Apart}
 use Rattle.meaning.specs.declared.ClaimsAnswer.{ClaimsAnswer}
 use Rattle.theory.specs.Rational.{touch_rational}

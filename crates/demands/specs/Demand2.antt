@@ -23,10 +23,11 @@ use Rattle.meaning.specs.declared.Settled.{Settled}
 use Rattle.meaning.specs.declared.PairAnswer.{PairAnswer}
 use Rattle.meaning.specs.declared.SettledAnswer.{SettledAnswer}
 use Rattle.theory.specs.Rational.{touch_rational}
-use Rattle.theory.specs.RationalVerdicts.{Solvable, Meets, RationalPieceIs, piece_rational}
-use Rattle.theory.specs.OneVerdict.{piece_is, judged_pair, pair_is}
+use Rattle.theory.specs.RationalVerdicts.{Solvable, Meets, RationalPieceIs}
+use Rattle.theory.proofs.RationalVerdicts.{piece_rational}
+use Rattle.theory.proofs.OneVerdict.{piece_is, judged_pair, pair_is}
 use Rattle.theory.specs.Computed.{piece_verdict, pair_verdict}
-use Rattle.theory.specs.SevenPieces.{judged_piece}
+use Rattle.theory.proofs.SevenPieces.{judged_piece}
 use Rattle.theory.specs.Cull.{culled_apart, culled_apart_in_motion, culled_never_meets}
 use Rattle.corner_search.specs.Decided.{piece_word, pair_word, settled_piece, piece_word_is, settled_pair, pair_word_is, some_hit}
 use Rattle.scene_checks.specs.Facts.{accepted_wider}

@@ -20,7 +20,8 @@ use Rattle.meaning.specs.declared.Verdict.{Verdict}
 use Rattle.meaning.specs.declared.Verdict.TheVariants.{Hit}
 use Rattle.meaning.specs.declared.Settled.{Settled}
 use Rattle.meaning.specs.declared.Settled.TheVariants.{Touch}
-use Rattle.theory.specs.Moved.{Moves, Known, moved_keeps_pieces, moved_keeps_pairs, moved_keeps_words, moved_keeps_pair_words, culled_in_either_hit_in_neither, culled_in_either_meets_in_neither}
+use Rattle.theory.specs.Moved.{Moves, Known}
+use Rattle.theory.proofs.Moved.{moved_keeps_pieces, moved_keeps_pairs, moved_keeps_words, moved_keeps_pair_words, culled_in_either_hit_in_neither, culled_in_either_meets_in_neither}
 use Rattle.scene_checks.specs.Facts.{SoundWithin, accepted_sound}
 use Rattle.list_pairs.specs.InOrder.{are_there}
 

@@ -15,7 +15,7 @@ use Rattle.theory.specs.Differences.{difference, differences, at_start, at_end, 
 use Rattle.theory.specs.NoCrack.{without}
 use Rattle.theory.specs.Spread.{start_share, end_share, first_numbers, second_numbers, factor, weights_of}
 use Rattle.theory.specs.Solved.{Solved}
-use Rattle.theory.specs.Shapes.{solved}
+use Rattle.theory.proofs.Shapes.{solved}
 use Rattle.demands.specs.Columns.{column_of, five, five_worth, startˣ, endˣ, o0, o1, o2, o3, letters, volumeˣ, shareˣ}
 
 -- the determinant of the points of a piece without the i-th of the six

@@ -3,7 +3,7 @@
 use Rattle.std.specs.Prelude.{refl}
 use Rattle.std.proofs.Common.{arith}
 use Rattle.meaning.specs.Motion.{TouchInMotion}
-use Rattle.meaning.specs.shown.InMotion.{point_touches_at, edges_touch_at, point_touches_at_start, point_touches_at_end}
+use Rattle.meaning.proofs.InMotion.{point_touches_at, edges_touch_at, point_touches_at_start, point_touches_at_end}
 use Rattle.demands.specs.Table.{Case, numbered}
 
 abbrev pub TouchesInMotion : Case → Type 0

@@ -41,8 +41,6 @@ pub mod Sewn
 pub mod NoCracks
 -- the two vertices of a seam stand for one
 pub mod StandForOne
--- two faces either side of a seam share an edge, which is what no cracks are said of
-pub mod EitherSide
 -- a point as a column of five numbers, the determinant of five of them, and both with letters for the numbers, so that an identity is settled by computing
 pub mod Columns
 -- 'By Cramer's rule each weight is, up to one common factor, a signed determinant of the other five points with rows x, y, z, at_start_lem, at-end'

@@ -3,7 +3,6 @@
 -- moving edge touches a piece of both moving triangles, in whatever order their corners are written. Two faces either side of a seam share an
 -- edge too: each has corners of its own, and they stand for the same two vertices.
 use Rattle.std.specs.Prelude.{ℕ, ◌<◌, List, ◌≡◌, refl}
-use Rattle.std.proofs.Common.{subst}
 use Rattle.meaning.specs.Scene.{Scene, Accepted, triangle_count, counts_as, rising, corners_of}
 use Rattle.meaning.specs.Pieces.{Event, moving_edge, moving_triangle}
 use Rattle.meaning.specs.Equations.{Touch}
@@ -52,11 +51,3 @@ module _ {s : Scene} (accepted : Accepted s) (t t' : ℕ) (there : t < triangle_
   -- both faces cut the moving edge between them into the same two pieces
   pub cut_once : (m : ℕ) → moving_edge s.positions (rising s e.a e.b) m ≡ moving_edge s.positions (rising s e.c e.d) m
   cut_once = cut_alike (accepted_sewn accepted) e.a e.b e.c e.d e.one e.other
-
-  -- so what touches a piece of that edge touches both faces: no corner slips through between two faces, nor between two sewn pieces of cloth
-  pub no_cracks_at_seams : (m : ℕ) (points : List Event) → Touch (moving_edge s.positions (rising s e.a e.b) m) points
-      → TouchesTriangle s t points × TouchesTriangle s t' points
-  no_cracks_at_seams m points touch = (
-    side_touched accepted e.a e.b t there e.first m points touch,
-    side_touched accepted e.c e.d t' there' e.second m points (subst (λ (f : List Event). Touch f points) (cut_once m) touch),
-  )

@@ -30,7 +30,9 @@ use Rattle.theory.specs.Determinants.{Exchanged, front, behind}
 use Rattle.theory.specs.Rearranged.{Rearranged, unmoved, moved, also, rearranged_behind, exchanged_length}
 use Rattle.turning_laws.specs.Numbers.{known_number, number_unknown}
 use Rattle.turning_laws.specs.Turned.{turns_round, turned_twice}
-use Rattle.turning_laws.specs.Pieces.{piece_there, piece_turned_lem, turned_keeps_pieces, turned_keeps_words, turned_keeps_pairs, turned_keeps_pair_words}
+use Rattle.turning_laws.specs.Pieces.{piece_there}
+use Rattle.turning_laws.proofs.Pieces.{piece_turned_lem}
+use Rattle.turning_laws.proofs.PairsTurned.{turned_keeps_pieces, turned_keeps_words, turned_keeps_pairs, turned_keeps_pair_words}
 use Rattle.turning_laws.specs.Checked.{vertices_turned, edges_turned, triangles_turned, shape_turned, range_turned, unknown_turned, broken_turned, repeated_turned, checks_turned, accepted_turned}
 use Rattle.turning_laws.specs.Listed.{Asked, shares_turned, boxes_turned, listed_turned, pairs_turned}
 use Rattle.answers.specs.Below.{or_left}

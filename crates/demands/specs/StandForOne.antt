@@ -1,5 +1,5 @@
 -- The two vertices of a seam stand for one vertex, in an accepted scene: a seam's first vertex stands for its second, and its second for itself.
-use Rattle.std.specs.Prelude.{ℕ, zero, suc, ◌+◌, ◌*◌, ◌/◌, ◌<◌, false, ◌||◌, ◌&&◌, List, [], ◌∷◌, ◌≡◌, refl, leb, eqb, length, get_or}
+use Rattle.std.specs.Prelude.{ℕ, zero, suc, ◌+◌, ◌*◌, ◌/◌, ◌<◌, false, ◌||◌, List, [], ◌∷◌, ◌≡◌, refl, leb, eqb, length, get_or}
 use Rattle.std.proofs.Common.{⊎_elim, sym, subst, subst₂, ◌∙◌, arith, eq-eqb, ne_eqb, leb-false, lt-ltb}
 use Rattle.sequences.specs.Range.{le_or_lt}
 use Rattle.meaning.specs.Scene.{Scene, Accepted, seam_count, sewn, onto, stood_for, counts_as, not_rising, replaced, comes_apart, wrong_seam}

@@ -4,7 +4,8 @@ use lib.IntN.{ℤ, ◌+ℤ◌, ◌-ℤ◌, ◌*ℤ◌}
 use mir.Syntax.{w64}
 use mir.Val.{SFits}
 use Rattle.whole.specs.Vector.{Vector, volume}
-use Rattle.whole.specs.Sizes.{Is, is_add, is_sub, is_mul, held, fits, back}
+use Rattle.whole.specs.Sizes.{Is, held}
+use Rattle.whole.proofs.Sizes.{is_add, is_sub, is_mul, fits, back}
 use Rattle.exact.specs.Limits.{difference_limit, determinant_limit}
 use Rattle.exact.specs.Places.{Short, along}
 use Rattle.exact.specs.Bounds.{volume_within}

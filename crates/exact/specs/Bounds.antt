@@ -2,7 +2,8 @@
 use Rattle.std.specs.Prelude.{List, ℕ, ◌+◌, ◌*◌, ◌^◌, ◌<◌, ℤ, nat_abs, ◌+ℤ◌}
 use Rattle.std.proofs.Common.{lt_of_le_of_lt, lit<, lit≤}
 use Rattle.whole.specs.Vector.{Vector, volume}
-use Rattle.whole.specs.Sizes.{Within, within_add, within_sub, within_wider}
+use Rattle.whole.specs.Sizes.{Within}
+use Rattle.whole.proofs.Sizes.{within_add, within_sub, within_wider}
 use Rattle.meaning.specs.Limits.{contact_limit}
 use Rattle.exact.specs.Limits.{difference_limit, determinant_limit}
 use Rattle.exact.specs.Places.{Bounded, Short, apart}

@@ -9,7 +9,8 @@ use Rattle.whole.specs.Signs.{nat_abs_mul}
 use Rattle.whole.specs.Sizes.{Within, nat_abs_add}
 use Rattle.whole.specs.Quote.{ring, quotes}
 use Rattle.whole.specs.Vector.{Vector, volume}
-use Rattle.whole.specs.VectorLaws.{dot, cross, cycle, coordinates}
+use Rattle.whole.specs.VectorLaws.{dot, cross, coordinates}
+use Rattle.whole.proofs.VectorLaws.{cycle}
 use Rattle.exact.specs.Places.{Short, vector}
 
 -- ---- a size is a sign times the number

@@ -1,7 +1,7 @@
 -- The minors of two vectors: what a determinant of three leaves of two of them for each coordinate of the third.
 use Rattle.std.specs.Prelude.{ℕ, ◌*◌, ◌≡◌, ℤ, ◌-ℤ◌, ◌*ℤ◌}
 use Rattle.whole.specs.Vector.{Vector, volume}
-use Rattle.whole.specs.VectorLaws.{cycle}
+use Rattle.whole.proofs.VectorLaws.{cycle}
 use Rattle.whole.specs.Sizes.{Is, is_self, is_equal}
 use Rattle.exact.specs.Limits.{difference_limit, determinant_limit}
 use Rattle.exact.specs.Places.{Short, along}

@@ -3,7 +3,8 @@ use Rattle.std.specs.Prelude.{◌≡◌, List, ℕ, ℤ, pos, neg_ℤ, ◌-ℤ�
 use Rattle.std.proofs.Math.IntN.{+ℤ_idl}
 use Rattle.std.specs.Int.{w64}
 use Rattle.whole.specs.Cramer.{Four, volumes}
-use Rattle.whole.specs.Sizes.{Is, is_self, is_neg, held, back}
+use Rattle.whole.specs.Sizes.{Is, is_self, is_neg, held}
+use Rattle.whole.proofs.Sizes.{back}
 use Rattle.exact.specs.Limits.{determinant_limit}
 use Rattle.exact.specs.Places.{Room, apart}
 use Rattle.exact.specs.declared.Volumes.{Volumes}

@@ -3,7 +3,8 @@ use mathlib.Core.Path.{◌≡◌}
 use mathlib.Core.List.{[], ◌∷◌}
 use lib.IntN.{ℤ}
 use mir.Syntax.{w64}
-use Rattle.whole.specs.Sizes.{Is, held, back}
+use Rattle.whole.specs.Sizes.{Is, held}
+use Rattle.whole.proofs.Sizes.{back}
 use Rattle.exact.specs.Limits.{determinant_limit}
 use Rattle.exact_signs.specs.declared.Signs.{Signs}
 use Rattle.exact_signs.specs.BySigns.{signs_of}

@@ -6,7 +6,8 @@ use Rattle.sequences.specs.Writing.{Writing, writing_starts_front, writing_room,
 use Rattle.sequences.specs.Wrote.{written, wrote_front}
 use Rattle.meaning.specs.Scene.{Scene}
 use Rattle.meaning.specs.List.{pairs, entries}
-use Rattle.list_entries.specs.UpTo.{Walked, walked_wrote, walked_length}
+use Rattle.list_entries.specs.UpTo.{Walked}
+use Rattle.list_entries.proofs.UpTo.{walked_wrote, walked_length}
 
 pub record OwnList (s : Scene) (own : List ℕ) (count : ℕ) : Type 0 where
   pub counts : count ≡ length (pairs s)

@@ -1,8 +1,8 @@
 -- Edges that were made outside: whether every side of every triangle is an edge, and no edge stands twice. Who made them lends for each side
 -- the number of its edge, and the order of the edges by their ends; both are looked at.
-use Rattle.std.specs.Prelude.{ℕ, ◌+◌, ◌-◌, ◌*◌, ◌/◌, ◌%◌, ◌^◌, ◌<◌, Bool, true, false, not, ◌||◌, ◌&&◌, List, [], ◌∷◌, ◌++◌, ◌≡◌, eqb, leb, ltb, length, get_or}
+use Rattle.std.specs.Prelude.{ℕ, ◌+◌, ◌-◌, ◌*◌, ◌%◌, ◌^◌, ◌<◌, Bool, true, false, not, ◌||◌, ◌&&◌, List, [], ◌∷◌, ◌++◌, ◌≡◌, eqb, leb, ltb, length, get_or}
 use Rattle.sequences.specs.Pick.{pick}
-use Rattle.meaning.specs.Scene.{Scene, edge_count, triangle_count, edge_end}
+use Rattle.meaning.specs.Scene.{Scene, edge_count, edge_end}
 use Rattle.meaning.specs.Refusals.{Outcome, given, refused, number_of, Check, Answers}
 use Rattle.meaning.specs.Mesh.{mesh_checks, table_room}
 use Rattle.meaning.specs.MeshRows.{no_order}

@@ -1,6 +1,6 @@
 -- The list of a mesh of any size, row by row; an entry of 64 bits; and what the calls over a stretch of rows promise. What a caller lends as scratch
 -- may hold anything afterwards: of it a promise speaks by its length alone.
-use Rattle.std.specs.Prelude.{ℕ, ◌+◌, ◌-◌, ◌*◌, ◌/◌, ◌^◌, min, Bool, not, ◌||◌, ◌&&◌, List, [], ◌∷◌, ◌++◌, map, ◌≡◌, eqb, leb, ltb, ℤ, length, get_or}
+use Rattle.std.specs.Prelude.{ℕ, ◌+◌, ◌-◌, ◌*◌, ◌/◌, ◌^◌, min, Bool, not, ◌||◌, ◌&&◌, List, [], ◌∷◌, ◌++◌, map, ◌≡◌, eqb, leb, ltb, length, get_or}
 use Rattle.sequences.specs.Gather.{gather}
 use Rattle.sequences.specs.Chosen.{chosen}
 use Rattle.sequences.specs.Pick.{pick}

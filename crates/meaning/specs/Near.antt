@@ -1,6 +1,6 @@
 -- Far: on one axis one part lies strictly below the other at the start and at the end. Near pairs are the listed ones that are not far.
 -- Here too: boxes at one time.
-use Rattle.std.specs.Prelude.{ℕ, Bool, not, ◌||◌, ◌&&◌, ℤ}
+use Rattle.std.specs.Prelude.{ℕ, Bool, not, ◌||◌, ◌&&◌}
 use Rattle.std.specs.Int.Signed.{lt_z}
 use Rattle.whole.specs.Vector.{Vector}
 use Rattle.meaning.specs.Scene.{Scene, start_of, end_of, edge_end, corner}

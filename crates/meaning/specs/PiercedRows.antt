@@ -1,6 +1,6 @@
 -- The edges of a mesh that are through a triangle at the start, or at the end, row by row: row i is edge i's. Asked are the edges and triangles
 -- without a shared vertex whose boxes meet at that time; of these the pierced ones are listed.
-use Rattle.std.specs.Prelude.{ℕ, ◌+◌, ◌*◌, ◌^◌, Bool, true, false, not, ◌&&◌, List, [], ◌∷◌, map, ◌≡◌, length}
+use Rattle.std.specs.Prelude.{ℕ, ◌+◌, ◌*◌, ◌^◌, Bool, not, ◌&&◌, List, [], ◌∷◌, map, ◌≡◌, length}
 use Rattle.sequences.specs.Gather.{gather}
 use Rattle.sequences.specs.Chosen.{chosen}
 use Rattle.sequences.specs.Pick.{pick}

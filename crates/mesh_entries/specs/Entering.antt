@@ -5,7 +5,8 @@ use Rattle.std.proofs.Common.{append_assoc, append-nil, sym, ap, ◌∙◌, arit
 use Rattle.sequences.specs.Chosen.{one}
 use Rattle.sequences.specs.Gather.{gather, gather_none, gather_last}
 use Rattle.sequences.specs.Wrote.{Wrote}
-use Rattle.list_entries.specs.UpTo.{kept, enter_all, enter_length, enter_append, enter_wrote}
+use Rattle.list_entries.specs.UpTo.{kept, enter_all}
+use Rattle.list_entries.proofs.UpTo.{enter_length, enter_append, enter_wrote}
 
 -- the numbers were entered from the place k on: the list held o and holds o', and m is the place behind them
 pub record Entered (most : ℕ) (o : List ℕ) (k : ℕ) (ns : List ℕ) (o' : List ℕ) (m : ℕ) : Type 0 where

@@ -11,7 +11,8 @@ use Rattle.meaning.specs.Resting.{PairSettled}
 use Rattle.meaning.specs.declared.Kind.{Kind}
 use Rattle.meaning.specs.declared.Settled as Words
 use Rattle.meaning.specs.declared.Verdict.TheVariants.{Hit}
-use Rattle.theory.specs.Moved.{Moves, Known, moved_keeps_pairs, moved_keeps_pair_words}
+use Rattle.theory.specs.Moved.{Moves, Known}
+use Rattle.theory.proofs.Moved.{moved_keeps_pairs, moved_keeps_pair_words}
 use Rattle.near_laws.specs.Far.{far_never_hit, far_never_meets}
 
 module _ {m : Matrix} {a b : Vector} {s t : Scene} (h : Moves m a b s t) (kind : Kind) (i j : ℕ) (known : Known s kind i j) where

@@ -11,7 +11,8 @@ use Rattle.meaning.specs.declared.Settled.{Settled}
 use Rattle.meaning.specs.declared.Settled.TheVariants.{Hit, Touch}
 use Rattle.theory.specs.Rational.{RationalTouch}
 use Rattle.pierced_laws.specs.OneTime.{end_places, corner_places, pierced_together}
-use Rattle.pierced_laws.specs.Crossing.{crossing_of, pierced_word}
+use Rattle.pierced_laws.specs.Crossing.{crossing_of}
+use Rattle.pierced_laws.proofs.Crossing.{pierced_word}
 use Rattle.pierced_laws.specs.BoxesApart.{boxes_meet_at, boxes_apart_lem}
 use Rattle.pierced_laws.specs.Kept.{ends_at, corners_at, pierced_rational}
 use Rattle.pierced_pair.specs.OneResult.{one_word_lem}

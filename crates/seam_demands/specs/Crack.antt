@@ -14,7 +14,7 @@ use Rattle.theory.specs.Reading.{verdict_of, agreeing}
 use Rattle.theory.specs.Computed.{piece_verdict, joined, joined_below, point_differences}
 use Rattle.corner_search.specs.Decided.{settled_by, pair_word, pair_word_is}
 use Rattle.demands.specs.NoCracks.{ShareAnEdge}
-use Rattle.demands.specs.EitherSide.{either_side_shares}
+use Rattle.demands.proofs.EitherSide.{either_side_shares}
 use Rattle.demands.specs.Table.{at}
 
 -- the border of the first face is 0 1, that of the second 5 4; the point is vertex 3

@@ -22,7 +22,8 @@ use Rattle.meaning.specs.declared.Settled.{Settled}
 use Rattle.meaning.specs.declared.ListAnswer as ListAnswers
 use Rattle.meaning.specs.declared.ListAnswer.{ListAnswer}
 use Rattle.list_entries.specs.Entries.{pair_of, Narrow, AllNarrow, number_back}
-use Rattle.list_entries.specs.UpTo.{Walked, walked_wrote, walked_length}
+use Rattle.list_entries.specs.UpTo.{Walked}
+use Rattle.list_entries.proofs.UpTo.{walked_wrote, walked_length}
 use Rattle.list_candidates.specs.Rows.{first_count, second_count, row_of, rows_of, pairs_rows, row_short, few_seconds}
 use Rattle.list_pairs.specs.InOrder.{list_is}
 use Rattle.list_pairs.specs.Sizes.{pairs_narrow}

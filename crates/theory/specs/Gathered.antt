@@ -1,18 +1,11 @@
 -- All weights that balance come from four numbers that combine the four differences to the origin.
 use Prim.Native.Nat.{ℕ, zero, suc, ◌<◌}
-use Rattle.std.proofs.Common.{arith, ◌∙◌}
-use Rattle.std.specs.Prelude.{◌≡◌, List, [], ◌∷◌, ℤ, pos, negsuc, neg_ℤ, length}
-use Rattle.std.proofs.Math.Path.{refl, sym}
-use Rattle.std.proofs.Math.IntN.{neg_ℤ-neg_ℤ}
+use Rattle.std.specs.Prelude.{◌≡◌, List, [], ◌∷◌, ℤ, neg_ℤ, length}
 use Rattle.whole.specs.Vector.{Vector, origin}
-use Rattle.whole.specs.VectorLaws.{vector_eq}
-use Rattle.whole.specs.Quote.{quotes, combine, times}
 use Rattle.whole.specs.Cramer.{Four, weigh, all}
 use Rattle.meaning.specs.Pieces.{Event}
-use Rattle.meaning.specs.Equations.{x_of, y_of, z_of, total, Balanced}
 use Rattle.theory.specs.Differences.{differences, Form, alone, around, formed}
-use Rattle.theory.specs.Solved.{weights_there}
-use Rattle.theory.specs.Spread.{first_numbers, second_numbers, weights_of, times_of, between, unlevel}
+use Rattle.theory.specs.Spread.{first_numbers, second_numbers, weights_of, times_of}
 
 pub record Gathered (form : Form) (p q : Vector) (o : Four Event) (u v : ℕ → ℤ) : Type 0 where
   pub four : Four ℤ
@@ -20,50 +13,14 @@ pub record Gathered (form : Form) (p q : Vector) (o : Four Event) (u v : ℕ →
   pub first : (i : ℕ) → i < length (formed form p q o).first → u i ≡ weights_of (first_numbers form o four) i
   pub second : (i : ℕ) → i < length (formed form p q o).second → v i ≡ weights_of (second_numbers form four) i
 
-abbrev firsts : ℕ → (ℕ → ℤ) → List ℤ
+abbrev pub firsts : ℕ → (ℕ → ℤ) → List ℤ
 firsts zero w = []
 firsts (suc k) w = w 0 ∷ firsts k (λ i. w (suc i))
 
-firsts_at : (k : ℕ) (w : ℕ → ℤ) (i : ℕ) → i < k → w i ≡ weights_of (firsts k w) i
-firsts_at zero w i h = absurd (omega arith)
-firsts_at (suc k) w zero h = refl
-firsts_at (suc k) w (suc i) h = firsts_at k (λ i. w (suc i)) i (omega arith)
-
-unfoldable four_of : Form → (ℕ → ℤ) → (ℕ → ℤ) → Four ℤ
+unfoldable pub four_of : Form → (ℕ → ℤ) → (ℕ → ℤ) → Four ℤ
 four_of alone u v = record { v0 = v 0; v1 = v 1; v2 = v 2; v3 = v 3 }
 four_of around u v = record { v0 = neg_ℤ (u 1); v1 = v 0; v2 = v 1; v3 = v 2 }
 
 module _ (p q : Vector) (o : Four Event) (u v : ℕ → ℤ) where
-  abbrev unknowns : List ℤ
+  abbrev pub unknowns : List ℤ
   unknowns = u 0 ∷ u 1 ∷ u 2 ∷ v 0 ∷ v 1 ∷ v 2 ∷ v 3 ∷ all (times_of o)
-
-  first_read : (form : Form) → Balanced (formed form p q o).first (formed form p q o).second u v → (i : ℕ) → i < length (formed form p q o).first → u i ≡ weights_of (first_numbers form o (four_of form u v)) i
-  unfolding total formed first_numbers four_of
-  first_read alone h zero k = combine unknowns (times (pos 1) h.sums ∷ times (negsuc 0) h.times ∷ []) (search quotes depth 40 fits 9000) refl
-  first_read alone h (suc zero) k = combine unknowns (times (pos 1) h.times ∷ []) (search quotes depth 40 fits 9000) refl
-  first_read alone h (suc (suc i)) k = absurd (omega arith)
-  first_read around h zero k = combine unknowns (times (pos 1) h.sums ∷ times (negsuc 0) h.times ∷ []) (search quotes depth 40 fits 9000) refl
-  first_read around h (suc zero) k = sym (neg_ℤ-neg_ℤ (u 1))
-  first_read around h (suc (suc zero)) k = combine unknowns (times (pos 1) h.times ∷ []) (search quotes depth 40 fits 9000) refl
-  first_read around h (suc (suc (suc i))) k = absurd (omega arith)
-
-  second_read : (form : Form) (i : ℕ) → i < length (formed form p q o).second → v i ≡ weights_of (second_numbers form (four_of form u v)) i
-  unfolding formed second_numbers four_of
-  second_read alone i k = firsts_at 4 v i k
-  second_read around i k = firsts_at 3 v i k
-
-  pub gather : (form : Form) → Balanced (formed form p q o).first (formed form p q o).second u v → Gathered form p q o u v
-  gather form h = record {
-    four = n;
-    combines = vector_eq (flat x_of h.xs) (flat y_of h.ys) (flat z_of h.zs);
-    first = first_read form h;
-    second = second_read form;
-  }
-    where
-      n : Four ℤ
-      n = four_of form u v
-
-      flat : (f : Event → ℤ) → total f u (formed form p q o).first ≡ total f v (formed form p q o).second → between f p q o n ≡ pos 0
-      flat f e = unlevel f p q o n form
-          (sym (weights_there f u (weights_of (first_numbers form o n)) (formed form p q o).first (first_read form h)) ∙ e
-          ∙ weights_there f v (weights_of (second_numbers form n)) (formed form p q o).second (second_read form))

@@ -1,14 +1,10 @@
 -- Demand 2's words on a piece, in rational terms: where its six equations have one solution, it is hit exactly when nonnegative rational
 -- weights solve them, else miss; else degenerate. It is what the verdict of every piece of a scene says.
-use Rattle.std.specs.Prelude.{◌≡◌, refl, ◌≢◌, ◌↔◌, ℕ, zero, suc, ◌/◌, ◌%◌, min, max, pos}
-use Rattle.std.proofs.Common.{subst}
-use Rattle.std.proofs.Math.IntN.{ℤ_discrete}
+use Rattle.std.specs.Prelude.{◌≡◌, refl, ℕ, zero, suc, ◌/◌, ◌%◌, min, max}
 use Rattle.whole.specs.Vector.{Vector}
 use Rattle.whole.specs.Cramer.{Four}
 use Rattle.meaning.specs.Scene.{Scene, ends_of, corners_of}
 use Rattle.meaning.specs.Pieces.{Event, Piece, moving_point, moving_edge, moving_triangle, piece_of}
-use Rattle.meaning.specs.Equations.{determinant_of}
-use Rattle.meaning.specs.Verdicts.{PieceIs}
 use Rattle.meaning.specs.declared.Ends.{Ends}
 use Rattle.meaning.specs.declared.Corners.{Corners}
 use Rattle.meaning.specs.declared.Kind.{Kind}
@@ -16,9 +12,8 @@ use Rattle.meaning.specs.declared.Kind.TheVariants.{PointTriangle, EdgeEdge}
 use Rattle.meaning.specs.declared.Verdict.{Verdict}
 use Rattle.meaning.specs.declared.Verdict.TheVariants.{Hit, Miss, Degenerate}
 use Rattle.theory.specs.Differences.{Form, alone, around, formed}
-use Rattle.theory.specs.Rational.{RationalTouch, touch_rational}
+use Rattle.theory.specs.Rational.{RationalTouch}
 use Rattle.theory.specs.OneSolution.{OneSolution}
-use Rattle.theory.specs.Singular.{one_solution_is}
 
 abbrev pub Solvable : Piece → Type 0
 Solvable p = OneSolution p.first p.second
@@ -57,27 +52,3 @@ pub piece_form : (s : Scene) (kind : Kind) (i j k : ℕ) → OfForm (piece_of s 
 unfolding piece_of
 piece_form s PointTriangle i j k = point_form s i (corners_of s j) k
 piece_form s EdgeEdge i j k = edge_form s (ends_of s (min i j)) (k / 2) (ends_of s (max i j)) (k % 2)
-
--- ---- the two ways to tell a verdict
-
-solvable_is : {p : Piece} → OfForm p → (determinant_of p ≢ pos 0) ↔ Solvable p
-solvable_is f = subst (λ (p : Piece). (determinant_of p ≢ pos 0) ↔ Solvable p) f.is (one_solution_is f.form f.start f.end f.others)
-
-pub rational_is : {p : Piece} → OfForm p → (v : Verdict) → PieceIs p v ↔ RationalPieceIs p v
-unfolding PieceIs RationalPieceIs
-rational_is {p} f Hit = (
-  λ h. ((solvable_is f).0 h.0, (touch_rational p.first p.second).0 h.1),
-  λ h. ((solvable_is f).1 h.0, (touch_rational p.first p.second).1 h.1),
-)
-rational_is {p} f Miss = (
-  λ h. ((solvable_is f).0 h.0, λ m. h.1 ((touch_rational p.first p.second).1 m)),
-  λ h. ((solvable_is f).1 h.0, λ m. h.1 ((touch_rational p.first p.second).0 m)),
-)
-rational_is {p} f Degenerate = (λ h s. (solvable_is f).1 s h, λ h. singular (ℤ_discrete (determinant_of p) (pos 0)) h)
-  where
-    singular : Dec (determinant_of p ≡ pos 0) → ¬ Solvable p → determinant_of p ≡ pos 0
-    singular (yes e) h = e
-    singular (no n) h = absurd (h ((solvable_is f).0 n))
-
-pub piece_rational : (s : Scene) (kind : Kind) (i j k : ℕ) (v : Verdict) → PieceIs (piece_of s kind i j k) v ↔ RationalPieceIs (piece_of s kind i j k) v
-piece_rational s kind i j k v = rational_is (piece_form s kind i j k) v

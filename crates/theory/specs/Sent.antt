@@ -3,7 +3,8 @@
 use Rattle.std.specs.Prelude.{◌≡◌, refl, ◌≢◌, List, [], ◌∷◌, map, ℕ, suc, ℤ, pos, ◌+ℤ◌, ◌-ℤ◌, ◌*ℤ◌}
 use Rattle.std.proofs.Common.{sym, ◌∙◌, ap, ap₂}
 use Rattle.whole.specs.Vector.{Vector, origin, plus, scale}
-use Rattle.whole.specs.VectorLaws.{vector_eq, Matrix, apply, det, dot, one_to_one, coordinates}
+use Rattle.whole.specs.VectorLaws.{vector_eq, Matrix, apply, det, dot, coordinates}
+use Rattle.whole.proofs.VectorLaws.{one_to_one}
 use Rattle.whole.specs.Quote.{quotes, ring, combine, times}
 use Rattle.meaning.specs.Pieces.{Event}
 use Rattle.meaning.specs.Equations.{total, one, x_of, y_of, z_of, time_of, Balanced, Touch}

@@ -1,1 +1,3 @@
+#![tactic(auto)]
+
 // What follows from the meaning: theorems only, in specs/. No code stands here.

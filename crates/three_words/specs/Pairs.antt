@@ -15,7 +15,7 @@ use Rattle.scene_checks.specs.Facts.{Sound}
 use Rattle.exact_signs.specs.BySigns.{told, either_of}
 use Rattle.exact_signs.specs.declared.Signs.{Signs}
 use Rattle.theory.specs.Computed.{joined, joined_below, piece_verdict, pair_verdict}
-use Rattle.theory.specs.OneVerdict.{piece_is, pair_is}
+use Rattle.theory.proofs.OneVerdict.{piece_is, pair_is}
 
 abbrev signs : Bool → Bool → Signs
 signs h f = record { hit = h; flat = f }

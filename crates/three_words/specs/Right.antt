@@ -21,7 +21,7 @@ use Rattle.theory.specs.Reading.{agreeing, verdict_of}
 use Rattle.theory.specs.Computed.{point_differences, edge_differences, start_sum, end_sum, edge_numbers}
 use Rattle.theory.specs.Computed as Computed
 use Rattle.three_words.specs.Ready.{EdgesReady}
-use Rattle.theory.specs.SevenPieces.{judged_point, judged_edge}
+use Rattle.theory.proofs.SevenPieces.{judged_point, judged_edge}
 
 -- the two ways to read a verdict off signs are one
 pub reading_is : (d : ℤ) (l : List ℤ) → by_signs d l ≡ verdict_of (sgn d) (map sgn l)

@@ -11,7 +11,8 @@ use Rattle.meaning.specs.declared.Kind.TheVariants.{PointTriangle}
 use Rattle.meaning.specs.declared.Settled.{Settled}
 use Rattle.meaning.specs.declared.Settled.TheVariants.{Hit, Miss, Touch, Apart}
 use Rattle.corner_search.specs.Decided.{pair_word, settled_pair}
-use Rattle.pierced_laws.specs.Crossing.{crossing_of, pierced_word}
+use Rattle.pierced_laws.specs.Crossing.{crossing_of}
+use Rattle.pierced_laws.proofs.Crossing.{pierced_word}
 use Rattle.pierced_pair.specs.OneResult.{one_word_lem}
 
 meets : Settled → Bool

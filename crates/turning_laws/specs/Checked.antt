@@ -1,13 +1,13 @@
 -- A scene without seams turned round passes and fails each of the five checks where the scene does: it is accepted exactly when the scene is, and
 -- refused with the same number.
-use Rattle.std.specs.Prelude.{ℕ, ◌*◌, ◌/◌, ◌%◌, ◌<◌, Bool, true, false, not, ◌||◌, List, [], ◌∷◌, map, ◌↔◌, ◌≡◌, refl, leb, ltb, eqb, ℤ, pos, length, get_or}
+use Rattle.std.specs.Prelude.{ℕ, ◌*◌, ◌/◌, ◌%◌, ◌<◌, Bool, true, false, not, ◌||◌, List, [], ◌∷◌, map, ◌↔◌, ◌≡◌, refl, leb, ltb, eqb, pos, length, get_or}
 use Rattle.std.proofs.Common.{sym, ◌∙◌, ap, ap₂, arith}
 use Rattle.std.proofs.Math.Path.{fun_ext}
 use Rattle.std.proofs.Math.Decide.{dec_lt}
 use Rattle.std.proofs.lemmas.List.{length-map}
 use Rattle.meaning.specs.Limits.{vertex_limit, edge_limit, triangle_limit, seam_limit}
 use Rattle.meaning.specs.Scene.{Scene, scene_of, Accepted, vertex_count, edge_count, triangle_count, edge_end, corner, same, some_below, wrong_shape, outside, out_of_range, unknown_in, unknown_vertex, broken_seam, twice_in_edge, twice_in_triangle, repeated_vertex}
-use Rattle.meaning.specs.Refusals.{Check, scene_checks}
+use Rattle.meaning.specs.Refusals.{scene_checks}
 use Rattle.meaning.specs.Backwards.{from_last, turned_round}
 use Rattle.answers.specs.Below.{found_below, none_passes, none_below, some_passes, some_alike}
 use Rattle.turning_laws.specs.Numbers.{mapped_at, number_unknown, number_same}

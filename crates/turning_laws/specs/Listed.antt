@@ -1,25 +1,25 @@
 -- Corresponding pairs of an accepted scene without seams and of the scene turned round are listed in both or in neither, so that the one list is the
 -- other in another order.
-use Rattle.std.specs.Prelude.{ℕ, zero, suc, ◌+◌, ◌*◌, ◌-◌, ◌<◌, ◌≤◌, Bool, true, false, not, ◌&&◌, ◌≡◌, leb, length}
+use Rattle.std.specs.Prelude.{ℕ, zero, suc, ◌+◌, ◌-◌, ◌<◌, Bool, true, false, not, ◌&&◌, ◌≡◌}
 use Rattle.std.proofs.Math.Bool.{◌||◌}
-use mathlib.Core.List.{List, [], ◌∷◌, ◌++◌, map, map-append}
+use mathlib.Core.List.{List, [], ◌++◌, map, map-append}
 use Rattle.std.proofs.Math.Path.{refl, ap, ap₂, subst₂}
-use Rattle.std.proofs.Common.{sym, ◌∙◌, subst, add-one, arith}
+use Rattle.std.proofs.Common.{sym, ◌∙◌, arith}
 use Rattle.whole.specs.Vector.{Vector}
 use Rattle.sequences.specs.Gather.{gather, gather_none, gather_first, gather_last, gather_same}
 use Rattle.sequences.specs.Chosen.{one, chosen}
 use Rattle.sequences.specs.Range.{towards}
 use Rattle.meaning.specs.Scene.{Scene, Accepted, vertex_count, edge_count, triangle_count, edge_end, corner, start_of, end_of, same}
-use Rattle.meaning.specs.Refusals.{shares, not_there}
+use Rattle.meaning.specs.Refusals.{shares}
 use Rattle.meaning.specs.Boxes.{Span, Axis, x_axis, y_axis, z_axis, smaller, larger, vertex_span, joint, edge_span, triangle_span, meet, meet_on, boxes_meet, listed}
-use Rattle.meaning.specs.List.{Pair, pair, pairs_of_vertex, pairs_of_edge, pairs}
+use Rattle.meaning.specs.List.{pair, pairs_of_vertex, pairs_of_edge, pairs}
 use Rattle.meaning.specs.Backwards.{from_last, turned_round, first_turned, pair_turned}
 use Rattle.meaning.specs.declared.Kind.{Kind}
 use Rattle.meaning.specs.declared.Kind.TheVariants.{PointTriangle, EdgeEdge}
 use Rattle.theory.specs.Joints.{either_way, lowest, highest}
 use Rattle.theory.specs.Rearranged.{Rearranged, unmoved, also, change_places, rearranged_before}
 use Rattle.scene_checks.specs.Facts.{accepted_end, accepted_corner}
-use Rattle.turning_laws.specs.Numbers.{known_number, number_below, number_unknown}
+use Rattle.turning_laws.specs.Numbers.{known_number}
 use Rattle.turning_laws.specs.Turned.{turns_round}
 use Rattle.turning_laws.specs.Pieces.{edge_end_turned, corner_turned}
 use Rattle.turning_laws.specs.Checked.{vertices_turned, edges_turned, triangles_turned, same_turned}

@@ -3,7 +3,7 @@
 use Rattle.std.specs.Prelude.{◌≡◌, refl, ◌↔◌, ℕ, ℤ, pos, negsuc, ◌+ℤ◌, ◌-ℤ◌, ◌*ℤ◌}
 use Rattle.std.proofs.Common.{sym, ◌∙◌, ap, ap₂, subst, subst₂}
 use mathlib.Core.Logic.Iff
-use mathlib.Core.List.{List, [], ◌∷◌, ◌++◌, map, reverse, reverse-cons, append-nil, map-map}
+use mathlib.Core.List.{List, [], ◌∷◌, ◌++◌, map, reverse, reverse-cons, append-nil}
 use Rattle.std.proofs.lemmas.List.{length-map}
 use Rattle.whole.specs.Vector.{Vector}
 use Rattle.whole.specs.VectorLaws.{vector_eq}
@@ -11,7 +11,7 @@ use Rattle.whole.specs.Quote.{quotes, ring}
 use Rattle.whole.specs.Cramer.{Four, each, volumes}
 use Rattle.meaning.specs.Scene.{Scene}
 use Rattle.meaning.specs.Pieces.{Event, Piece, piece_of}
-use Rattle.meaning.specs.Equations.{one, x_of, y_of, z_of, time_of, total, Touch, Touches, determinant_of}
+use Rattle.meaning.specs.Equations.{one, x_of, y_of, z_of, time_of, total, Touch, determinant_of}
 use Rattle.meaning.specs.Backwards.{time_turned, played_back}
 use Rattle.meaning.specs.declared.Kind.{Kind}
 use Rattle.theory.specs.Alike.{Alike, alike_then}

@@ -1,12 +1,10 @@
 -- The scene turned round, number by number: each coordinate comes from one place of the scene, and from that place comes the one here. So vertex
 -- `last - v` starts where vertex v ended and ends where it started; turned twice it is the scene.
 use Prim.Native.Nat.{ℕ, zero, suc, ◌+◌, ◌-◌, ◌*◌, ◌/◌, ◌%◌, ◌≤◌, ◌<◌}
-use Rattle.std.specs.Prelude.{cond, List, [], ◌∷◌, ◌++◌, map, ◌≡◌, refl, ltb, ℤ, pos, length, get_or, drop}
-use Rattle.std.proofs.lemmas.Simd.{map-map}
+use Rattle.std.specs.Prelude.{cond, List, ◌++◌, map, ◌≡◌, refl, ltb, ℤ, pos, length, get_or, drop}
 use Rattle.std.proofs.Common.{sym, ◌∙◌, ap, ap₂, arith, get_or-append-add, get_or-drop, ext_get_or, lt-ltb, le-ltb}
 use Rattle.std.proofs.Math.Decide.{dec_lt}
 use Rattle.std.proofs.Math.ListN.{length-append, length-drop, get_or-append}
-use Rattle.std.proofs.lemmas.List.{length-map}
 use Rattle.whole.specs.VectorLaws.{vector_eq}
 use Rattle.sequences.specs.Gather.{gather}
 use Rattle.meaning.specs.Scene.{Scene, vertex_count, start_of, end_of}

@@ -1,10 +1,8 @@
 -- Cramer's rule for four vectors of ℤ³: the four signed volumes, each of the other three vectors, combine the four to the origin,
 -- and whatever else combines them to the origin is proportional to these.
-use Rattle.std.specs.Prelude.{◌≡◌, refl, List, [], ◌∷◌, ◌++◌, ℕ, ◌+◌, ℤ, pos, neg_ℤ, ◌+ℤ◌, ◌-ℤ◌, ◌*ℤ◌}
-use Rattle.std.proofs.Common.{◌∙◌, ap}
-use Rattle.whole.specs.Ring.{Expr, var, solve}
-use Rattle.whole.specs.Quote.{ring, combine, times, quotes}
-use Rattle.whole.specs.Operations.{Ops, wholes, exprs}
+use Rattle.std.specs.Prelude.{◌≡◌, refl, List, [], ◌∷◌, ℤ, pos, neg_ℤ}
+use Rattle.whole.specs.Quote.{ring, quotes}
+use Rattle.whole.specs.Operations.{Ops, wholes}
 use Rattle.whole.specs.Vector.{Vector, origin, plus, scale, volume}
 use Rattle.whole.specs.VectorLaws.{vector_eq, coordinates}
 
@@ -64,47 +62,20 @@ module _ (o : Ops) where
           (o.times (p z) (o.minus (o.times (q x) (r y)) (o.times (q y) (r x))))
 
   -- the 4 by 4 determinant with the rows w, x, y, z
-  abbrev mix_in : Four o.R → Four o.R → Four o.R → Four o.R → o.R
+  abbrev pub mix_in : Four o.R → Four o.R → Four o.R → Four o.R → o.R
   mix_in w x y z = dot_in (volumes_in x y z) w
 
-  abbrev one_side : (n w k x y z : Four o.R) → o.R
+  abbrev pub one_side : (n w k x y z : Four o.R) → o.R
   one_side n w k x y z = o.times (dot_in n w) (mix_in k x y z)
 
   -- five rows of four numbers depend on one another
-  abbrev other_side : (n w k x y z : Four o.R) → o.R
+  abbrev pub other_side : (n w k x y z : Four o.R) → o.R
   other_side n w k x y z =
       o.plus (one_side n k w x y z)
       (o.minus (o.minus (o.times (dot_in n y) (mix_in w k x z)) (o.times (dot_in n x) (mix_in w k y z))) (o.times (dot_in n z) (mix_in w k x y)))
 
 abbrev pub dot4 : Four ℤ → Four ℤ → ℤ
 dot4 = dot_in wholes
-
-five_rows : (n w k x y z : Four ℤ) → one_side wholes n w k x y z ≡ other_side wholes n w k x y z
-five_rows n w k x y z = solve (all n ++ all w ++ all k ++ all x ++ all y ++ all z)
-    (one_side exprs (from 0) (from 4) (from 8) (from 12) (from 16) (from 20)) (other_side exprs (from 0) (from 4) (from 8) (from 12) (from 16) (from 20)) refl
-  where
-    from : ℕ → Four Expr
-    from i = record { v0 = var i; v1 = var (i + 1); v2 = var (i + 2); v3 = var (i + 3) }
-
-no_more : (t p q r a b c : ℤ) → p ≡ pos 0 → q ≡ pos 0 → r ≡ pos 0 → t +ℤ (p *ℤ a -ℤ q *ℤ b -ℤ r *ℤ c) ≡ t
-no_more t p q r a b c f g h =
-    combine (t ∷ p ∷ q ∷ r ∷ a ∷ b ∷ c ∷ []) (times a f ∷ times (neg_ℤ b) g ∷ times (neg_ℤ c) h ∷ []) (search quotes depth 40 fits 9000) refl
-
-pub proportional : (v : Four Vector) (n : Four ℤ) → weigh n v ≡ origin → (w k : Four ℤ) → dot4 n w *ℤ dot4 (volumes v) k ≡ dot4 n k *ℤ dot4 (volumes v) w
-unfolding volume
-proportional v n h w k =
-    five_rows n w k xs ys zs
-    ∙ no_more (dot4 n k *ℤ dot4 (volumes v) w) (dot4 n ys) (dot4 n xs) (dot4 n zs) (mix_in wholes w k xs zs) (mix_in wholes w k ys zs) (mix_in wholes w k xs ys)
-    (ap (λ (u : Vector). u.y) h) (ap (λ (u : Vector). u.x) h) (ap (λ (u : Vector). u.z) h)
-  where
-    xs : Four ℤ
-    xs = each (λ (u : Vector). u.x) v
-
-    ys : Four ℤ
-    ys = each (λ (u : Vector). u.y) v
-
-    zs : Four ℤ
-    zs = each (λ (u : Vector). u.z) v
 
 -- ---- one of the four against another
 
@@ -129,6 +100,3 @@ reads p0 n = ring (all n) (search quotes depth 40 fits 9000) refl
 reads p1 n = ring (all n) (search quotes depth 40 fits 9000) refl
 reads p2 n = ring (all n) (search quotes depth 40 fits 9000) refl
 reads p3 n = ring (all n) (search quotes depth 40 fits 9000) refl
-
-pub pairwise : (v : Four Vector) (n : Four ℤ) → weigh n v ≡ origin → (i j : Place) → pick i n *ℤ pick j (volumes v) ≡ pick j n *ℤ pick i (volumes v)
-pairwise v n h i j = simp reads at (proportional v n h (at_place i) (at_place j))

@@ -5,7 +5,7 @@ use Rattle.std.proofs.Common.{sym, ◌∙◌, ap, arith, leb→le, le→leb, ltb
 use Rattle.std.proofs.Math.IntN.{+ℤ_invl}
 use Rattle.std.specs.Int.Signed.{le_z, lt_z}
 use Rattle.whole.specs.Laws.{swap_inner}
-use Rattle.whole.specs.Ring.{Poly, nil, term, mono, value, norm, norm_is}
+use Rattle.whole.specs.Ring.{Poly, nil, term, mono, value, norm_is}
 use Rattle.whole.specs.Quote.{Q, poly, quotes, combine, times}
 
 -- ---- the two parts of a number

@@ -1,1 +1,3 @@
+#![tactic(auto)]
+
 // Whole numbers: laws only, in specs/. No code stands here.

@@ -2,7 +2,7 @@ use mathlib.Core.Path.{refl}
 use Prim.Native.Nat.{zero-le}
 use native.Mathlib.Nat.{le_refl}
 use mir.Syntax.{w64}
-use Rattle.whole.specs.Sizes.{back}
+use Rattle.whole.proofs.Sizes.{back}
 use Rattle.claim_sums.specs.Sums.{agrees}
 use Rattle.claim_sums.proofs.agree.Goals as goal
 

@@ -1,7 +1,7 @@
 use Prim.Native.Nat.{zero-le}
 use mathlib.Core.Path.{refl}
 use mir.Syntax.{w64}
-use Rattle.whole.specs.Sizes.{back}
+use Rattle.whole.proofs.Sizes.{back}
 use Rattle.claim_sums.proofs.balanced.Goals as goal
 
 pub side-some-requires : goal.side-some-requires

@@ -10,7 +10,8 @@ use lib.IntN.{ℤ, pos}
 use lib.ListN.{get_or}
 use mir.Syntax.{w32, w64}
 use borrow.Author.Tests.{le-ltb}
-use Rattle.whole.specs.Sizes.{Is, is_exact, is_equal, held, fits, back}
+use Rattle.whole.specs.Sizes.{Is, is_exact, is_equal, held}
+use Rattle.whole.proofs.Sizes.{fits, back}
 use Rattle.meaning.specs.Limits.{coordinate_limit}
 use Rattle.exact.specs.Places.{Bounded}
 use Rattle.claim_sums.specs.Sums.{reading, point_at}

@@ -4,7 +4,8 @@ use mathlib.Core.List.{List}
 use lib.IntN.{pos}
 use mir.Syntax.{w64}
 use mir.Val.{to_z}
-use Rattle.whole.specs.Sizes.{Is, is_exact, is_mul, fits, back}
+use Rattle.whole.specs.Sizes.{Is, is_exact}
+use Rattle.whole.proofs.Sizes.{is_mul, fits, back}
 use Rattle.meaning.specs.Limits.{weight_limit}
 use Rattle.meaning.specs.Claims.{weight_at}
 use Rattle.claim_sums.specs.Sums.{Light}

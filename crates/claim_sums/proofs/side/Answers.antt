@@ -5,7 +5,8 @@ use mathlib.Core.List.{List}
 use mathlib.Core.Path.{◌≡◌, refl, sym}
 use lib.IntN.{ℤ, pos, ◌+ℤ◌, ◌*ℤ◌}
 use mir.Syntax.{w64}
-use Rattle.whole.specs.Sizes.{Is, is_exact, is_add, is_equal, is_wider, held, fits, back}
+use Rattle.whole.specs.Sizes.{Is, is_exact, is_equal, held}
+use Rattle.whole.proofs.Sizes.{is_add, is_wider, fits, back}
 use Rattle.corner_leaf.specs.declared.SixPoints.{SixPoints}
 use Rattle.meaning.specs.Claims.{weight_at}
 use Rattle.corner_leaf.specs.Points.{event_at}

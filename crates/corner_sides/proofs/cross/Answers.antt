@@ -2,7 +2,8 @@
 use Prim.Native.Nat.{◌*◌}
 use lib.IntN.{ℤ, ◌-ℤ◌, ◌*ℤ◌}
 use mir.Syntax.{w64}
-use Rattle.whole.specs.Sizes.{Is, is_sub, is_mul, held, fits, back}
+use Rattle.whole.specs.Sizes.{Is, held}
+use Rattle.whole.proofs.Sizes.{is_sub, is_mul, fits, back}
 use Rattle.exact.specs.Limits.{difference_limit}
 use Rattle.exact.specs.Minors.{minor_limit}
 use Rattle.corner_sides.proofs.cross.Goals as goal

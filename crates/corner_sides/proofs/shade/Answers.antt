@@ -3,7 +3,8 @@ use Prim.Native.Nat.{ℕ, zero, suc}
 use mathlib.Core.Path.{◌≡◌, refl}
 use mathlib.Core.Logic.{◌≢◌}
 use mir.Syntax.{w64}
-use Rattle.whole.specs.Sizes.{Is, back}
+use Rattle.whole.specs.Sizes.{Is}
+use Rattle.whole.proofs.Sizes.{back}
 use Rattle.exact.specs.Limits.{difference_limit}
 use Rattle.exact.specs.Arrows.{vector_of}
 use Rattle.exact.specs.declared.arrows.Arrow.{Arrow}

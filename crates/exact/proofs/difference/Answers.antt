@@ -8,7 +8,8 @@ use native.Mathlib.Omega.{arith}
 use lib.IntN.{ℤ, pos, ◌-ℤ◌}
 use lib.ListN.{get_or}
 use mir.Syntax.{w32, w64}
-use Rattle.whole.specs.Sizes.{Is, is_exact, is_sub, held, fits, back}
+use Rattle.whole.specs.Sizes.{Is, is_exact, held}
+use Rattle.whole.proofs.Sizes.{is_sub, fits, back}
 use Rattle.exact.specs.Limits.{difference_limit}
 use Rattle.meaning.specs.Limits.{coordinate_limit}
 use Rattle.exact.specs.Places.{Bounded, apart, along}

@@ -1,5 +1,5 @@
 use mir.Syntax.{w64}
-use Rattle.whole.specs.Sizes.{fits, back}
+use Rattle.whole.proofs.Sizes.{fits, back}
 use Rattle.exact.specs.Volumes.{turned}
 use Rattle.exact.proofs.in_turn.Goals as goal
 

@@ -1,6 +1,6 @@
 use borrow.Author.Rules.{rules}
 use mir.Syntax.{w64}
-use Rattle.whole.specs.Sizes.{back}
+use Rattle.whole.proofs.Sizes.{back}
 use Rattle.exact.proofs.Products.{product_fits, two_products, two_fit}
 use Rattle.exact.proofs.minor.Goals as goal
 

@@ -1,6 +1,6 @@
 use borrow.Author.Rules.{rules}
 use mir.Syntax.{w64}
-use Rattle.whole.specs.Sizes.{back}
+use Rattle.whole.proofs.Sizes.{back}
 use Rattle.exact.specs.Bounds.{apart_short}
 use Rattle.exact.proofs.minors_at.Goals as goal
 

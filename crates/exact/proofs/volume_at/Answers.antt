@@ -1,6 +1,6 @@
 use borrow.Author.Rules.{rules}
 use mir.Syntax.{w64}
-use Rattle.whole.specs.Sizes.{back}
+use Rattle.whole.proofs.Sizes.{back}
 use Rattle.exact.specs.Minors.{minors_small, standing_first}
 use Rattle.exact.proofs.volume_at.Goals as goal
 

@@ -7,7 +7,8 @@ use lib.IntN.{ℤ, pos, nat_abs, ◌+ℤ◌, ◌-ℤ◌}
 use mir.Syntax.{w64}
 use mir.Val.{Fits}
 use Rattle.whole.specs.Signs.{turned_size, turned_up, not_down}
-use Rattle.whole.specs.Sizes.{Within, Is, is_exact, is_add, is_sub, held, fits, back}
+use Rattle.whole.specs.Sizes.{Within, Is, is_exact, held}
+use Rattle.whole.proofs.Sizes.{is_add, is_sub, fits, back}
 use Rattle.exact.specs.Volumes.{four_of}
 use Rattle.exact.specs.declared.Volumes.{Volumes}
 use Rattle.exact_signs.specs.BySigns.{sum}

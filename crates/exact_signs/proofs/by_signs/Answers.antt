@@ -8,7 +8,8 @@ use lib.Signed.{le_z}
 use mir.Syntax.{w64}
 use mir.Facts.{to_z-of_z}
 use Rattle.whole.specs.Signs.{Sgn, negative, nought, positive, sgn, is_nought, is_negative, is_positive, opposite, sgn_neg, le_nought, nought_le, zero_test}
-use Rattle.whole.specs.Sizes.{held, fits, back}
+use Rattle.whole.specs.Sizes.{held}
+use Rattle.whole.proofs.Sizes.{fits, back}
 use Rattle.exact.specs.Volumes.{turned}
 use Rattle.meaning.specs.declared.Verdict.TheVariants.{Hit, Miss, Degenerate}
 use Rattle.exact_signs.specs.declared.Signs.{Signs}

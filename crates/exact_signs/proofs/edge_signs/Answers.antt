@@ -5,7 +5,7 @@ use mathlib.Core.Bool.{true, false}
 use lib.IntN.{ℤ, ◌+ℤ◌, +ℤ_idl}
 use mir.Syntax.{w64}
 use Rattle.whole.specs.Cramer.{Four}
-use Rattle.whole.specs.Sizes.{fits}
+use Rattle.whole.proofs.Sizes.{fits}
 use Rattle.exact_signs.specs.BySigns.{signs_of, sum, keep, kept}
 use Rattle.exact_signs.specs.OneSign.{edge_one_sign}
 use Rattle.exact.specs.Volumes.{four, four_of, turned, held_small}

@@ -5,7 +5,8 @@ use mathlib.Core.Bool.{Bool, true, false}
 use lib.IntN.{ℤ}
 use lib.Dec.{lit≤}
 use mir.Syntax.{w64}
-use Rattle.whole.specs.Sizes.{Within, Is, held, back}
+use Rattle.whole.specs.Sizes.{Within, Is, held}
+use Rattle.whole.proofs.Sizes.{back}
 use Rattle.exact.specs.Limits.{determinant_limit}
 use Rattle.exact_signs.specs.BySigns.{keep}
 use Rattle.exact_signs.proofs.keep_where.Goals as goal

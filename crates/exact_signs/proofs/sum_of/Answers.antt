@@ -4,8 +4,9 @@ use Prim.Native.Nat.{◌+◌}
 use lib.Dec.{lit≤}
 use lib.IntN.{ℤ, pos, ◌+ℤ◌, ◌-ℤ◌}
 use mir.Syntax.{w64}
-use Rattle.whole.specs.Sizes.{Is, is_exact, is_add, is_sub, held, fits, back}
-use Rattle.whole.specs.Sized.{sized, fitting}
+use Rattle.whole.specs.Sizes.{Is, is_exact, held}
+use Rattle.whole.proofs.Sizes.{is_add, is_sub, fits, back}
+use Rattle.whole.proofs.Sized.{sized, fitting}
 use Rattle.exact.specs.Limits.{determinant_limit}
 use Rattle.exact.specs.Volumes.{four_of, Small}
 use Rattle.exact.specs.declared.Volumes.{Volumes}

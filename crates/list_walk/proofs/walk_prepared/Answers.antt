@@ -4,7 +4,7 @@ use native.Mathlib.Omega.{arith}
 use mathlib.Core.Path.{◌∙◌}
 use Rattle.scene_seams.specs.Alone.{tabled}
 use Rattle.meaning.specs.declared.Kind.TheVariants.{PointTriangle, EdgeEdge}
-use Rattle.list_entries.specs.UpTo.{walked_then, walked_length}
+use Rattle.list_entries.proofs.UpTo.{walked_then, walked_length}
 use Rattle.list_candidates.specs.Rows.{rows_of, rows_short, pairs_rows}
 use Rattle.list_walk.specs.Testing.{point_rows}
 use Rattle.list_walk.proofs.walk_prepared.Goals as goal

@@ -1,10 +1,10 @@
 -- Contacts, shown: the last coordinate that they are given for and the first that they are refused for; and of weights that solve a piece the time and
 -- the shares that are cut from them, so that each point of a piece counts for the corner, or for the end, that it is.
-use Rattle.std.specs.Prelude.{ℕ, List, [], ◌∷◌, ◌≡◌, refl, ℤ, pos, neg_ℤ}
+use Rattle.std.specs.Prelude.{ℕ, [], ◌∷◌, refl, ℤ, pos, neg_ℤ}
 use Rattle.std.proofs.Common.{arith}
 use Rattle.std.specs.Int.Signed.{le_z_yes, lt_z_yes}
 use Rattle.meaning.specs.Scene.{Scene, scene_of, stood_for, some_below}
-use Rattle.meaning.specs.Pieces.{moving_point, moving_edge, moving_triangle, piece_of}
+use Rattle.meaning.specs.Pieces.{moving_edge, moving_triangle, piece_of}
 use Rattle.meaning.specs.Equations.{one, time_of, total, Touches}
 use Rattle.meaning.specs.Contacts.{Cut, weights, only, corner_of_point, at_corner, end_of_point, at_higher_end}
 use Rattle.meaning.specs.Refusals.{given, refused, Answers, not_there, shares}

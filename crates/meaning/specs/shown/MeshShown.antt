@@ -1,13 +1,13 @@
 -- Meshes, shown: a listed pair that is far and one that is near, rows and entries, orders, sides that are edges, the pierced of a row, and answers
 -- of the calls, each by computing.
-use Rattle.std.specs.Prelude.{ℕ, zero, suc, ◌+◌, ◌-◌, ◌*◌, ◌^◌, ◌<◌, Bool, true, false, List, [], ◌∷◌, ◌≡◌, refl, eqb, ℤ, pos, neg_ℤ, nat_abs}
+use Rattle.std.specs.Prelude.{ℕ, zero, suc, ◌+◌, ◌*◌, ◌^◌, ◌<◌, true, false, List, [], ◌∷◌, ◌≡◌, refl, eqb, ℤ, pos, neg_ℤ, nat_abs}
 use Rattle.std.proofs.Common.{true≢false, sym, ap, arith}
 use Rattle.sequences.specs.Range.{over}
 use Rattle.sequences.specs.Gather.{gather}
 use Rattle.meaning.specs.Scene.{Scene, scene_of, stood_for, some_below}
-use Rattle.meaning.specs.Refusals.{Answers, given, refused, shares, number_of, scene_says}
+use Rattle.meaning.specs.Refusals.{Answers, shares, number_of, scene_says}
 use Rattle.meaning.specs.Boxes.{meet_on, listed}
-use Rattle.meaning.specs.List.{Pair, pair, list_says, leaves}
+use Rattle.meaning.specs.List.{pair, list_says, leaves}
 use Rattle.meaning.specs.Report.{is_one, how_many}
 use Rattle.meaning.specs.SceneWords.{byte_of, AllSettled}
 use Rattle.meaning.specs.Pieces.{moving_triangle, piece_of, piece_count}
@@ -19,9 +19,9 @@ use Rattle.meaning.specs.WholeContacts.{rows_left, rows_after, AllContacts}
 use Rattle.meaning.specs.Mesh.{MeshChecked, MeshAccepted}
 use Rattle.meaning.specs.Near.{where_at, first_span_at, second_span_at, far, near}
 use Rattle.meaning.specs.MeshRows.{row_test, mesh_row, mesh_kind_part, mesh_number, no_order, Lent, RowsCounted, RowsListed, RowsSettled, RowsContacts, wants_word, kept, kept_told, kept_says, RowsKept, ContactsKept}
-use Rattle.meaning.specs.MeshEdges.{EdgesTold, whole, bare, twice, edges_say, EdgesAre, EdgesChecked, ends_fall, bare_side}
+use Rattle.meaning.specs.MeshEdges.{bare, EdgesAre, bare_side}
 use Rattle.meaning.specs.PiercedRows.{Through, through_row, AllPierced, through_number, yes_of, PiercedListed}
-use Rattle.meaning.specs.MeshNumbers.{refusal_of, edges_left, Left, wanted_by}
+use Rattle.meaning.specs.MeshNumbers.{wanted_by}
 use Rattle.meaning.specs.shown.ContactsShown.{fall_from, point_touches}
 use Rattle.meaning.specs.shown.PiercedShown.{pulled_out, pierced_at_start}
 use Rattle.meaning.specs.declared.Frame.TheVariants.{Start, End}
@@ -33,7 +33,6 @@ use Rattle.meaning.specs.declared.Refusal.TheVariants.{NoRoom}
 use Rattle.meaning.specs.declared.ListAnswer as ListAnswers
 use Rattle.meaning.specs.declared.SceneAnswer as SceneAnswers
 use Rattle.meaning.specs.declared.KeptAnswer as KeptAnswers
-use Rattle.meaning.specs.declared.EdgesAnswer as EdgesAnswers
 
 -- ---- far and near: the triangle of case 1 goes ten to the right, and a point goes along from one place to another
 
@@ -151,36 +150,8 @@ none_met_kept = record { words = []; right = tt; answer = refl; list = refl; byt
 abbrev pub one_triangle : Scene
 one_triangle = scene_of chased.positions (0 ∷ 1 ∷ 2 ∷ 1 ∷ 0 ∷ 2 ∷ []) (0 ∷ 1 ∷ 2 ∷ []) []
 
-below_three : (P : ℕ → Type 0) → P 0 → P 1 → P 2 → (k : ℕ) → k < 3 → P k
-below_three P a b c zero h = a
-below_three P a b c (suc zero) h = b
-below_three P a b c (suc (suc zero)) h = c
-below_three P a b c (suc (suc (suc k))) h = absurd (omega arith)
-
-below_two : (P : ℕ → Type 0) → P 0 → P 1 → (k : ℕ) → k < 2 → P k
-below_two P a b zero h = a
-below_two P a b (suc zero) h = b
-below_two P a b (suc (suc k)) h = absurd (omega arith)
-
 abbrev pub sides_of : List ℕ
 sides_of = 0 ∷ 1 ∷ 2 ∷ []
-
-joined : (k : ℕ) → k < 3 → bare_side one_triangle sides_of k ≡ false
-joined = below_three (λ k. bare_side one_triangle sides_of k ≡ false) refl refl refl
-
--- edges 0, 2, 1 have rising ends
-pub edges_whole : EdgesAre one_triangle sides_of (0 ∷ 2 ∷ 1 ∷ []) whole
-unfolding EdgesAre
-edges_whole = (joined, below_two (λ k. ends_fall one_triangle (0 ∷ 2 ∷ 1 ∷ []) k ≡ false) refl refl)
-
--- the answer, and what it leaves for C
-pub edges_told : EdgesChecked one_triangle sides_of (0 ∷ 2 ∷ 1 ∷ []) 0 3 EdgesAnswers.TheVariants.Whole
-unfolding Answers edges_say some_below stood_for
-edges_told = edges_whole
-
-pub edges_left_lem : Left edges_say edges_left (EdgesChecked one_triangle sides_of (0 ∷ 2 ∷ 1 ∷ []) 0 3) (7 ∷ 7 ∷ 7 ∷ []) (0 ∷ 0 ∷ 7 ∷ []) 0
-unfolding edges_say edges_left refusal_of
-edges_left_lem = record { answer = EdgesAnswers.TheVariants.Whole; right = edges_told; is = refl; told = refl }
 
 -- side 1 has edge 1, and edge 2 was lent for it
 pub side_bare : EdgesAre one_triangle (0 ∷ 2 ∷ 2 ∷ []) (0 ∷ 2 ∷ 1 ∷ []) (bare 1)
@@ -188,15 +159,6 @@ unfolding EdgesAre
 side_bare = (omega arith, first, refl)
   where
     first : (k : ℕ) → k < 1 → bare_side one_triangle (0 ∷ 2 ∷ 2 ∷ []) k ≡ false
-    first zero h = refl
-    first (suc k) h = absurd (omega arith)
-
--- the ends of edges 1 and 2 fall
-pub order_falls : EdgesAre one_triangle sides_of (0 ∷ 1 ∷ 2 ∷ []) (twice 1)
-unfolding EdgesAre
-order_falls = (omega arith, joined, first, refl)
-  where
-    first : (k : ℕ) → k < 1 → ends_fall one_triangle (0 ∷ 1 ∷ 2 ∷ []) k ≡ false
     first zero h = refl
     first (suc k) h = absurd (omega arith)
 

@@ -11,7 +11,8 @@ use lib.ListN.{get_or}
 use mir.Syntax.{w32, w64}
 use mir.Val.{Fits}
 use Rattle.whole.specs.Signs.{turned_size, turned_up, not_down}
-use Rattle.whole.specs.Sizes.{Within, Is, is_exact, is_sub, held, fits, back}
+use Rattle.whole.specs.Sizes.{Within, Is, is_exact, held}
+use Rattle.whole.proofs.Sizes.{is_sub, fits, back}
 use Rattle.meaning.specs.Limits.{coordinate_limit}
 use Rattle.saved_numbers.specs.Marked.{Coordinates}
 use Rattle.saved_numbers.proofs.size_of.Goals as goal

@@ -1,6 +1,6 @@
 -- The first volume turned round is no larger than it was.
 use mir.Syntax.{w64}
-use Rattle.whole.specs.Sizes.{fits, back}
+use Rattle.whole.proofs.Sizes.{fits, back}
 use Rattle.exact.specs.Volumes.{turned}
 use Rattle.contact_laws.specs.Numbers.{turned_in}
 use Rattle.contact_times.proofs.numbers.turn_first.Goals as goal

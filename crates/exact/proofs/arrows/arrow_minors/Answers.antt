@@ -1,5 +1,5 @@
 use mir.Syntax.{w64}
-use Rattle.whole.specs.Sizes.{back}
+use Rattle.whole.proofs.Sizes.{back}
 use Rattle.exact.specs.Arrows.{arrow_short}
 use Rattle.exact.proofs.Products.{product_fits, two_products, two_fit}
 use Rattle.exact.proofs.arrows.arrow_minors.Goals as goal

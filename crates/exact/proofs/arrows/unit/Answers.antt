@@ -7,7 +7,8 @@ use lib.IntN.{ℤ, pos}
 use lib.Dec.{lit≤}
 use mir.Syntax.{w64}
 use Rattle.whole.specs.Vector.{axis}
-use Rattle.whole.specs.Sizes.{Is, held, is_exact, back}
+use Rattle.whole.specs.Sizes.{Is, held, is_exact}
+use Rattle.whole.proofs.Sizes.{back}
 use Rattle.exact.specs.Limits.{difference_limit}
 use Rattle.exact.specs.Places.{along}
 use Rattle.exact.proofs.arrows.unit.Goals as goal

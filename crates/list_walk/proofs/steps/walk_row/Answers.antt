@@ -4,7 +4,8 @@ use Prim.Native.Nat.{◌-◌, ◌/◌, ◌≤◌}
 use mathlib.Core.Path.{◌≡◌, sym}
 use Rattle.scene_seams.specs.Alone.{tabled}
 use Rattle.meaning.specs.Runs.{run_to}
-use Rattle.list_entries.specs.UpTo.{Walking, walking_starts, walking_more, walked_length}
+use Rattle.list_entries.specs.UpTo.{Walking, walking_starts}
+use Rattle.list_entries.proofs.UpTo.{walking_more, walked_length}
 use Rattle.list_candidates.specs.Rows.{second_count, second_from, candidate, row_begins, stretch_short, few_firsts, few_seconds}
 use Rattle.list_walk.specs.Testing.{tests_up_to, AtRun, at_begun, at_next, row_tests_begun, row_tests_go, tests_few, row_tests_few}
 use Rattle.list_walk.proofs.steps.walk_row.Goals as goal

@@ -5,7 +5,8 @@ use Prim.Native.Nat.{◌-◌, ◌≤◌}
 use mathlib.Core.Path.{◌≡◌, sym}
 use Rattle.sequences.specs.Gather.{sum, sum_none}
 use Rattle.scene_seams.specs.Alone.{tabled}
-use Rattle.list_entries.specs.UpTo.{Walking, walking_starts, walking_next, walked_length}
+use Rattle.list_entries.specs.UpTo.{Walking, walking_starts}
+use Rattle.list_entries.proofs.UpTo.{walking_next, walked_length}
 use Rattle.list_candidates.specs.Rows.{first_count, second_count, row_of, rows_up_to, few_firsts, few_seconds}
 use Rattle.list_walk.specs.Testing.{tests_of_row, row_tests_few, rows_tests_few, rows_tests_go}
 use Rattle.list_walk.proofs.steps.walk_rows.Given as goal

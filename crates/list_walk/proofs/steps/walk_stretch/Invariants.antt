@@ -4,7 +4,8 @@ use native.Mathlib.Omega.{arith}
 use Prim.Native.Nat.{◌-◌, ◌≤◌}
 use mathlib.Core.Path.{◌≡◌}
 use Rattle.scene_seams.specs.Alone.{tabled}
-use Rattle.list_entries.specs.UpTo.{Walking, walking_starts, walking_next, walked_length}
+use Rattle.list_entries.specs.UpTo.{Walking, walking_starts}
+use Rattle.list_entries.proofs.UpTo.{walking_next, walked_length}
 use Rattle.list_candidates.specs.Rows.{candidate, stretch_short, few_seconds}
 use Rattle.list_walk.proofs.steps.walk_stretch.Given as goal
 

@@ -13,7 +13,8 @@ use mir.Facts.{to_z-of_z}
 use mir.Syntax.{w32, w64}
 use mir.Val.{Fits, hbits}
 use Rattle.whole.specs.Signs.{turned_size, turned_up, not_down}
-use Rattle.whole.specs.Sizes.{Within, Is, is_exact, is_sub, held, fits, back}
+use Rattle.whole.specs.Sizes.{Within, Is, is_exact, held}
+use Rattle.whole.proofs.Sizes.{is_sub, fits, back}
 use Rattle.mesh_led_runs.proofs.ends.gap.Goals as goal
 
 within-bits : (z : ℤ) → mag z < 2 ^ hbits w32 → Within 2147483648 z

@@ -6,7 +6,8 @@ use Rattle.meaning.specs.Scene.{Scene, Accepted, triangle_count, seam_count, sew
 use Rattle.meaning.specs.Pieces.{Event, moving_edge}
 use Rattle.meaning.specs.Equations.{Touch}
 use Rattle.theory.specs.NoCrack.{HasTwo}
-use Rattle.demands.specs.NoCracks.{ShareAnEdge, TouchesTriangle, no_cracks_at_seams}
+use Rattle.demands.specs.NoCracks.{ShareAnEdge, TouchesTriangle}
+use Rattle.demands.proofs.NoCracks.{no_cracks_at_seams}
 use Rattle.demands.specs.StandForOne.{stand_for_one}
 
 module _ (s : Scene) (accepted : Accepted s) (t t' m n : ℕ) (first : m < seam_count s) (second : n < seam_count s)
