@@ -28,13 +28,13 @@ fn scene_refused(text: &[u8]) -> bool {
 }
 
 // A refusal's line is counted in its own file, and the printed bytes do not tell in which: standard error does.
-fn tell_whose(rt: &impl Eprint, scene: &[u8]) {
-    let whose = if scene_refused(scene) {
-        "claims: it is the scene that is refused"
+fn tell_whose(errors: &impl Print, scene: &[u8]) {
+    let whose: &[u8] = if scene_refused(scene) {
+        b"claims: it is the scene that is refused\n"
     } else {
-        "claims: it is the claims that are refused"
+        b"claims: it is the claims that are refused\n"
     };
-    let _ = rt.eprintln(whose);
+    let _ = errors.write_all(whose);
 }
 
 fn main(rt: HostRuntime) {
@@ -43,9 +43,10 @@ fn main(rt: HostRuntime) {
     let mut claims = [0u8; READ_BYTES];
     let PairRead::Lengths(scene_length, claims_length) = read_pair(
         &rt,
-        "usage: claims SCENE CLAIMS",
-        "claims: the scene could not be read",
-        "claims: the claims could not be read",
+        &rt.stderr(),
+        b"usage: claims SCENE CLAIMS\n",
+        b"claims: the scene could not be read\n",
+        b"claims: the claims could not be read\n",
         &mut scene,
         &mut claims,
     ) else {
@@ -54,11 +55,12 @@ fn main(rt: HostRuntime) {
     let mut out = [0u8; ANSWERS_BYTES];
     let length = claim_report::answers_read(&scene, scene_length, &claims, claims_length, &mut out);
     write_out(
-        &rt,
+        &rt.stdout(),
+        &rt.stderr(),
         &out[..length],
-        "claims: the answers could not be written",
+        b"claims: the answers could not be written\n",
     );
     if out[0] == b'r' {
-        tell_whose(&rt, &scene[..scene_length]);
+        tell_whose(&rt.stderr(), &scene[..scene_length]);
     }
 }

@@ -9,15 +9,18 @@ fn main(rt: HostRuntime) {
     // a full buffer is enough for the answer, so that nothing is read for ever
     let mut text = [0u8; READ_BYTES];
     let Ok(count) = read_text(&mut rt.stdin(), &mut text) else {
-        let _ = rt.eprintln("contacts: standard input could not be read");
+        let _ = rt
+            .stderr()
+            .write_all(b"contacts: standard input could not be read\n");
         return;
     };
     let mut out = [0u8; CONTACTS_BYTES];
     let length = contact_report::contacts_read(&text, count, &mut out);
     // a part of the contacts may have gone out, and it is no answer
     write_out(
-        &rt,
+        &rt.stdout(),
+        &rt.stderr(),
         &out[..length],
-        "contacts: standard output could not be written",
+        b"contacts: standard output could not be written\n",
     );
 }

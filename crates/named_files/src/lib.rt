@@ -13,7 +13,7 @@ use streams::read_text;
 const NAME_BYTES: usize = 4096;
 
 // What reading a file gives: how many of its bytes are in front of the buffer, or nothing.
-#[derive(Drop)]
+#[derive(Clone, Copy)]
 enum FileRead {
     Bytes(usize),
     Failed,
@@ -40,7 +40,7 @@ fn read_file(rt: &(impl Env + Files), place: usize, text: &mut [u8]) -> FileRead
 }
 
 // What reading two files gives: how many bytes of each are in front of its buffer, or nothing.
-#[derive(Drop)]
+#[derive(Clone, Copy)]
 pub enum PairRead {
     Lengths(usize, usize),
     Failed,
@@ -54,25 +54,26 @@ fn is_given(rt: &impl Env, place: usize) -> bool {
 
 // The two files that the arguments name. Where there are not two, or one cannot be read, a line goes to standard error.
 pub fn read_pair(
-    rt: &(impl Env + Files + Eprint),
-    usage: &str,
-    first_failed: &str,
-    second_failed: &str,
+    rt: &(impl Env + Files),
+    errors: &impl Print,
+    usage: &[u8],
+    first_failed: &[u8],
+    second_failed: &[u8],
     first: &mut [u8],
     second: &mut [u8],
 ) -> PairRead
     ensures { BothInto first.new second.new result }
 {
     if !is_given(rt, 2) || is_given(rt, 3) {
-        let _ = rt.eprintln(usage);
+        let _ = errors.write_all(usage);
         return PairRead::Failed;
     }
     let FileRead::Bytes(one) = read_file(rt, 1, first) else {
-        let _ = rt.eprintln(first_failed);
+        let _ = errors.write_all(first_failed);
         return PairRead::Failed;
     };
     let FileRead::Bytes(two) = read_file(rt, 2, second) else {
-        let _ = rt.eprintln(second_failed);
+        let _ = errors.write_all(second_failed);
         return PairRead::Failed;
     };
     PairRead::Lengths(one, two)

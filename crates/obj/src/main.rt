@@ -11,9 +11,10 @@ fn main(rt: HostRuntime) {
     let mut end = [0u8; READ_BYTES];
     let PairRead::Lengths(start_length, end_length) = read_pair(
         &rt,
-        "usage: obj START END",
-        "obj: the start file could not be read",
-        "obj: the end file could not be read",
+        &rt.stderr(),
+        b"usage: obj START END\n",
+        b"obj: the start file could not be read\n",
+        b"obj: the end file could not be read\n",
         &mut start,
         &mut end,
     ) else {
@@ -21,5 +22,10 @@ fn main(rt: HostRuntime) {
     };
     let mut out = [0u8; REPORT_BYTES];
     let length = obj_report::obj_report_read(&start, start_length, &end, end_length, &mut out);
-    write_out(&rt, &out[..length], "obj: the report could not be written");
+    write_out(
+        &rt.stdout(),
+        &rt.stderr(),
+        &out[..length],
+        b"obj: the report could not be written\n",
+    );
 }

@@ -10,15 +10,18 @@ fn main(rt: HostRuntime) {
     // a full buffer is enough for the answer, so that nothing is read for ever
     let mut text = [0u8; READ_BYTES];
     let Ok(count) = read_text(&mut rt.stdin(), &mut text) else {
-        let _ = rt.eprintln("series: standard input could not be read");
+        let _ = rt
+            .stderr()
+            .write_all(b"series: standard input could not be read\n");
         return;
     };
     let mut out = [0u8; SERIES_BYTES];
     let length = series_report::series_read(&text, count, &mut out);
     // a part of the lines may have gone out, and it is no answer
     write_out(
-        &rt,
+        &rt.stdout(),
+        &rt.stderr(),
         &out[..length],
-        "series: standard output could not be written",
+        b"series: standard output could not be written\n",
     );
 }

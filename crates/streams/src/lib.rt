@@ -35,8 +35,8 @@ pub fn read_text<R: Read>(reader: &mut R, text: &mut [u8]) -> io::Result<usize>
 }
 
 // What is printed, to standard output; where it cannot be written in full, a line to standard error.
-pub fn write_out(rt: &(impl Print + Eprint), bytes: &[u8], failed: &str) {
-    if rt.write_all(bytes).is_err() {
-        let _ = rt.eprintln(failed);
+pub fn write_out(output: &impl Print, errors: &impl Print, bytes: &[u8], failed: &[u8]) {
+    if output.write_all(bytes).is_err() {
+        let _ = errors.write_all(failed);
     }
 }
