@@ -7,8 +7,6 @@ pub mod OnePair
 pub mod Words
 -- a scene or a mesh in which every side is an edge
 pub mod Mesh
--- that every side is an edge, by a certificate
-pub mod Lent
 -- that nothing is touched, by the list and its words
 pub mod Listed
 -- by the rows of a mesh, listed or near

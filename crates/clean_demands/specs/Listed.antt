@@ -7,14 +7,13 @@ use Rattle.std.proofs.Math.Path.{refl}
 use Rattle.std.proofs.Math.Bool.{true, false, true≢false}
 use mathlib.Core.List.Memᴰ
 use mathlib.Core.List.{List, [], ◌∷◌, Memᴰ}
-use Rattle.meaning.specs.Scene.{Scene, Accepted, edge_end, counts_as, same}
+use Rattle.meaning.specs.Scene.{Scene, edge_end, counts_as, same}
 use Rattle.meaning.specs.Refusals.{not_there, shares}
 use Rattle.meaning.specs.Boxes.{boxes_meet}
 use Rattle.meaning.specs.List.{Pair, pair, pairs}
 use Rattle.meaning.specs.Report.{is_one, how_many}
 use Rattle.meaning.specs.Resting.{PairSettled}
 use Rattle.meaning.specs.SceneWords.{byte_of, AllSettled}
-use Rattle.meaning.specs.declared.Frame.TheVariants.{Start, End}
 use Rattle.meaning.specs.declared.Kind.{Kind}
 use Rattle.meaning.specs.declared.Kind.TheVariants.{PointTriangle, EdgeEdge}
 use Rattle.meaning.specs.declared.Settled.{Settled}
@@ -23,10 +22,9 @@ use Rattle.theory.specs.Cull.{culled_apart}
 use Rattle.theory.specs.EitherOrder.{piece_either_order, shares_either_order, not_there_either_order}
 use Rattle.answers.specs.Below.{or_left}
 use Rattle.list_pairs.specs.InOrder.{FirstBelow, ToList, list_is}
-use Rattle.mesh_checks.specs.Meshes.{AcceptedMesh}
 use Rattle.pierced_laws.specs.SomeWeights.{SomeTouches}
 use Rattle.clean_demands.specs.Words.{Untroubled, untroubled_touches_not, miss_or_apart}
-use Rattle.clean_demands.specs.Mesh.{scene_well_made, mesh_well_made, SidesAreEdges, NothingTouched, CleanAt, clean_at_the_end}
+use Rattle.clean_demands.specs.Mesh.{NothingTouched}
 
 module _ (s : Scene) where
   touches_either_order : (i j : ℕ) → SomeTouches s EdgeEdge i j → SomeTouches s EdgeEdge j i
@@ -67,13 +65,6 @@ module _ (s : Scene) where
 
   pub nothing_touched : ListUntroubled → NothingTouched s
   nothing_touched l = of_listed (λ p there. (untroubled_touches_not s p.kind p.first p.second).0 (l.none p (((list_is s).stands p).1 there)))
-
--- an accepted scene, or mesh, whose sides are edges: clean at the start and no pair of its list hit or touch, so clean at the end
-pub scene_stays_clean : {s : Scene} → Accepted s → SidesAreEdges s → ListUntroubled s → CleanAt s Start → CleanAt s End
-scene_stays_clean {s} accepted sides list = clean_at_the_end (scene_well_made accepted) sides (nothing_touched s list)
-
-pub mesh_stays_clean : {s : Scene} → AcceptedMesh s → SidesAreEdges s → ListUntroubled s → CleanAt s Start → CleanAt s End
-mesh_stays_clean {s} accepted sides list = clean_at_the_end (mesh_well_made accepted) sides (nothing_touched s list)
 
 -- ---- by the words of a list
 

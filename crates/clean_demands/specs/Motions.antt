@@ -26,7 +26,6 @@ use Rattle.corner_search.specs.Decided.{by_leaf, touching, settled_by, piece_wor
 use Rattle.pierced_laws.specs.SomeWeights.{SomeTouches, hit_or_touch}
 use Rattle.pierced_laws.specs.Crossing.{crossing_of}
 use Rattle.pierced_laws.proofs.Crossing.{pierced_word}
-use Rattle.clean_demands.specs.Sides.{along, against, SidesOf}
 
 -- ---- by computing
 
@@ -63,10 +62,6 @@ pierced_said s f i j b e =
 
 abbrev pub motion : List ℤ → Scene
 motion ps = scene_of ps (0 ∷ 1 ∷ 2 ∷ 3 ∷ 3 ∷ 4 ∷ 2 ∷ 4 ∷ []) (2 ∷ 3 ∷ 4 ∷ []) []
-
-pub motion_sides : (ps : List ℤ) → SidesOf (motion ps) 0 1 2 3
-unfolding stood_for
-motion_sides ps = record { first = along refl refl; second = along refl refl; third = against refl refl }
 
 -- the edge touches with its first end, with its second, on the first side, the second, the third; pierced at the start, and at the end
 unfoldable pub seven_answers : Scene → List Bool

@@ -1,6 +1,6 @@
 -- Of what it is said: a step in which an edge comes near a triangle and does not touch it, and goes on towards it in a second step; and an edge that
 -- is through a triangle at the start, moves without touching anything, and is through it at the end. All hypotheses hold, by computing.
-use Rattle.std.specs.Prelude.{ℕ, zero, suc, ◌≡◌, refl, true, false, List, [], ◌∷◌, ◌↔◌, leb, ℤ, pos}
+use Rattle.std.specs.Prelude.{ℕ, zero, suc, ◌≡◌, refl, true, false, List, [], ◌∷◌, leb, ℤ, pos}
 use Rattle.std.proofs.Common.{arith, sym, subst, true≢false, ⊎_elim, leb-false}
 use mathlib.Core.List.Memᴰ
 use Rattle.whole.specs.Vector.{volume}
@@ -11,32 +11,22 @@ use Rattle.meaning.specs.Refusals.{shares}
 use Rattle.meaning.specs.Boxes.{meet_on}
 use Rattle.meaning.specs.List.{pair, pairs}
 use Rattle.meaning.specs.MeshEdges.{JoinedTo}
-use Rattle.meaning.specs.Near.{where_at, first_span_at, second_span_at}
-use Rattle.meaning.specs.MeshRows.{row_test, row_count, rows_in}
-use Rattle.meaning.specs.PiercedRows.{AllPierced, yes_of}
-use Rattle.meaning.specs.declared.RowPairs.TheVariants.{Near}
 use Rattle.meaning.specs.Pierced.{Pierced, no_edge_or_triangle, end_is_corner}
 use Rattle.meaning.specs.Report.{is_one, how_many}
 use Rattle.meaning.specs.Series.{Series, step_after, steps_from, steps_of}
 use Rattle.meaning.specs.SceneWords.{byte_of, AllSettled}
 use Rattle.meaning.specs.declared.Frame.{Frame}
-use Rattle.meaning.specs.declared.Frame.TheVariants.{Start, End}
+use Rattle.meaning.specs.declared.Frame.TheVariants.{Start}
 use Rattle.meaning.specs.declared.Kind.TheVariants.{PointTriangle, EdgeEdge}
 use Rattle.meaning.specs.declared.Settled.TheVariants.{Miss}
 use Rattle.theory.specs.Reading.{verdict_of, agreeing}
 use Rattle.theory.specs.Computed.{piece_verdict, joined, joined_below, point_differences, edge_differences, start_sum, end_sum}
 use Rattle.answers.specs.Below.{or_left, or_rest}
 use Rattle.corner_search.specs.Decided.{settled_by, pair_word, pair_word_is}
-use Rattle.clean_demands.specs.Sides.{along, against, SidesOf}
-use Rattle.clean_demands.specs.OnePair.{NothingTouches, stays_pierced}
-use Rattle.clean_demands.specs.Words.{FiveUntroubled, five_touch_nothing}
-use Rattle.clean_demands.specs.Mesh.{scene_well_made, SidesAreEdges, CleanAt, clean_at_the_end}
-use Rattle.clean_demands.specs.Lent.{sides_are_edges}
+use Rattle.clean_demands.specs.OnePair.{NothingTouches}
+use Rattle.clean_demands.specs.Mesh.{scene_well_made, CleanAt}
 use Rattle.clean_demands.specs.Listed.{ListUntroubled, words_untroubled, nothing_touched}
-use Rattle.clean_demands.specs.Rows.{stretch_untroubled}
-use Rattle.clean_demands.specs.Through.{stretch_clean}
-use Rattle.clean_demands.specs.Drape.{ToldClean, ToldStep}
-use Rattle.clean_demands.specs.Steps.{UntouchedStep, CleanStep, EachStep, clean_series}
+use Rattle.clean_demands.specs.Steps.{UntouchedStep, EachStep}
 use Rattle.clean_demands.specs.Motions.{Says, motion, Seven, seven, down_to, comes_near, comes_nearer, sewn_side, stays_through, all_computed}
 
 -- ---- an edge, a triangle and its sides
@@ -47,9 +37,6 @@ motion_joined ps zero h = refl
 motion_joined ps (suc zero) h = refl
 motion_joined ps (suc (suc zero)) h = refl
 motion_joined ps (suc (suc (suc i))) h = absurd (omega arith)
-
-pub all_sides : (ps : List ℤ) → SidesAreEdges (motion ps)
-all_sides ps = sides_are_edges (motion ps) (1 ∷ 2 ∷ 3 ∷ []) [] (motion_joined ps)
 
 -- the sides themselves share corners with the triangle, so edge 0 is left
 motion_clean : (ps : List ℤ) (f : Frame) → ¬ Pierced (motion ps) f 0 0 → CleanAt (motion ps) f
@@ -74,7 +61,7 @@ near_accepted = (
 )
 
 -- both ends and one side are listed, the other sides are culled
-near_pairs : pairs comes_near ≡ pair PointTriangle 0 0 ∷ pair PointTriangle 1 0 ∷ pair EdgeEdge 0 2 ∷ []
+pub near_pairs : pairs comes_near ≡ pair PointTriangle 0 0 ∷ pair PointTriangle 1 0 ∷ pair EdgeEdge 0 2 ∷ []
 unfolding pairs gather shares meet_on stood_for
 near_pairs = refl
 
@@ -107,35 +94,10 @@ near_touches_nothing =
     let n = near_seven in
     record { first_end = n.first_end; second_end = n.second_end; first_side = n.first_side; second_side = n.second_side; third_side = n.third_side }
 
-pub near_in_words : FiveUntroubled comes_near 0 0 1 2 3
-near_in_words = (five_touch_nothing comes_near 0 0 1 2 3).1 near_touches_nothing
-
 -- clean at the start, so clean at the end
 pub near_clean_at_start : CleanAt comes_near Start
 unfolding Says
 near_clean_at_start = motion_clean (down_to (pos 6) (pos 3)) Start near_seven.at_start
-
-pub near_clean_at_end : CleanAt comes_near End
-near_clean_at_end = clean_at_the_end (scene_well_made near_accepted.0) (all_sides (down_to (pos 6) (pos 3))) (nothing_touched comes_near near_untroubled) near_clean_at_start
-
--- ---- by rows
-
-near_rows : rows_in Near comes_near 0 (row_count comes_near) ≡ pair PointTriangle 0 0 ∷ pair PointTriangle 1 0 ∷ pair EdgeEdge 0 2 ∷ []
-unfolding gather row_test shares meet_on stood_for where_at first_span_at second_span_at
-near_rows = refl
-
--- its near rows have no hit and no touch, and no row of edges is pierced at the start
-pub near_told : ToldClean Near comes_near
-unfolding gather shares stood_for where_at AllPierced yes_of how_many is_one byte_of
-near_told = record {
-  well = scene_well_made near_accepted.0;
-  sides = all_sides (down_to (pos 6) (pos 3));
-  start = λ i h. stretch_clean Start comes_near 0 4 [] tt refl i (omega arith) h;
-  rows = λ i h. stretch_untroubled Near comes_near 0 (row_count comes_near) (Miss ∷ Miss ∷ Miss ∷ []) (rw (near_rows, ← near_pairs) near_missed.0) refl refl i (omega arith) h;
-}
-
-pub near_step : ToldStep Near comes_near
-near_step = record { well = near_told.well; rows = near_told.rows }
 
 -- ---- and nearer still: a series of two steps
 
@@ -160,25 +122,11 @@ untouched_steps = subst (EachStep UntouchedStep) (sym two_steps_lem) each
         (λ l. ⊎_elim (λ e. subst UntouchedStep (sym e) (record { well = scene_well_made near_accepted.1; nothing = nothing_touched comes_nearer nearer_untroubled })) (λ none. absurd (Memᴰ.not-nil none)) (Memᴰ.cases_cons l))
         (Memᴰ.cases_cons m)
 
-pub clean_steps : EachStep CleanStep (steps_of two_steps)
-clean_steps = clean_series two_steps (all_sides (down_to (pos 6) (pos 3))) untouched_steps near_clean_at_start
-
 -- ---- with a seam: the sides bear another number than the corner, and are edges all the same
 
 pub sewn_accepted : Accepted sewn_side
 unfolding some_below stood_for
 sewn_accepted = record { shapely = refl; in_range = refl; known = refl; sewn_well = refl; distinct = refl }
-
-pub sewn_sides : SidesOf sewn_side 0 1 2 3
-unfolding stood_for
-sewn_sides = record { first = along refl refl; second = against refl refl; third = against refl refl }
-
-pub sewn_alike : Pierced sewn_side Start 0 0 ↔ Pierced sewn_side End 0 0
-unfolding Says
-sewn_alike =
-    let n = seven sewn_side false false false false false false false all_computed.sewn in
-    stays_pierced (scene_well_made sewn_accepted).in_one_place 0 0 1 2 3 sewn_sides
-    (record { first_end = n.first_end; second_end = n.second_end; first_side = n.first_side; second_side = n.second_side; third_side = n.third_side })
 
 -- ---- through at the start, and still
 

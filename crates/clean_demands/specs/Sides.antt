@@ -4,7 +4,7 @@ use Prim.Native.Nat.{ℕ, zero, suc, min, max, ◌≤◌}
 use Rattle.std.proofs.Common.{arith, sym, ap, subst₂, ltb-true, ltb-false, eqb-true}
 use Rattle.std.proofs.Math.Decide.{dec_le}
 use Rattle.std.specs.Prelude.{◌≡◌, refl, Bool, true, false}
-use Rattle.meaning.specs.Scene.{Scene, edge_end, corner, counts_as, same, before, rising, among, ends_of, corners_of}
+use Rattle.meaning.specs.Scene.{Scene, edge_end, corner, counts_as, same, before, rising, among, ends_of}
 use Rattle.meaning.specs.Pieces.{moving_edge, piece_of, piece_count}
 use Rattle.meaning.specs.Equations.{Touch}
 use Rattle.meaning.specs.declared.Ends.{Ends}
@@ -32,7 +32,7 @@ module _ (s : Scene) (i : ℕ) where
   pub record ClearOf (e : Ends) : Type 0 where
     pub none : (m n : ℕ) → ¬ Touch (moving_edge s.positions (ends_of s i) m) (moving_edge s.positions e n)
 
-  cut_so : {d e : Ends} → ((n : ℕ) → moving_edge s.positions d n ≡ moving_edge s.positions e n) → ClearOf d → ClearOf e
+  pub cut_so : {d e : Ends} → ((n : ℕ) → moving_edge s.positions d n ≡ moving_edge s.positions e n) → ClearOf d → ClearOf e
   cut_so same h = record { none = λ m n t. h.none m n (rw (same n) t) }
 
 -- an ee pair has the edge with the lower place first: nothing touched in its pieces, either edge touches no piece of the other
@@ -67,10 +67,6 @@ module _ {s : Scene} (sewn : Sewn s) where
   pub clear_turned : (i a b : ℕ) → ClearOf s i (rising s a b) → ClearOf s i (rising s b a)
   clear_turned i a b h = cut_so s i (turned_alike a b) h
 
-  pub clear_between : (i x a b : ℕ) → Between s x a b → ClearOf s i (ends_of s x) → ClearOf s i (rising s a b)
-  clear_between i x a b (along h k) c = cut_so s i (cut_alike sewn (edge_end s x 0) (edge_end s x 1) a b h k) c
-  clear_between i x a b (against h k) c = clear_turned i b a (cut_so s i (cut_alike sewn (edge_end s x 0) (edge_end s x 1) b a h k) c)
-
 -- ---- the sides of the corners in rising order
 
 pub record EachSide (P : Ends → Type 0) (c : Corners) : Type 0 where
@@ -90,12 +86,3 @@ each_side P s a b c ab bc ac = go (before s b a) (before s c b) (before s c a) r
     go false false true e f g = absurd (omega (arith, ltb-false (counts_as s b) (counts_as s a) e, ltb-false (counts_as s c) (counts_as s b) f, ltb-true (counts_as s c) (counts_as s a) g))
     go false true false e f g = rw (e, g, f) (record { low_middle = rw g at ac; low_high = rw e at ab; middle_high = rw f at bc })
     go false false false e f g = rw (e, g, f) (record { low_middle = rw e at ab; low_high = rw g at ac; middle_high = rw f at bc })
-
--- edge i is clear of the three sides of triangle j, whatever the edges are that lie there
-pub clear_of_sides : {s : Scene} → Sewn s → (i j x y z : ℕ) → SidesOf s j x y z
-    → ¬ SomeTouches s EdgeEdge i x → ¬ SomeTouches s EdgeEdge i y → ¬ SomeTouches s EdgeEdge i z → EachSide (ClearOf s i) (corners_of s j)
-clear_of_sides {s} sewn i j x y z sides first second third =
-    each_side (ClearOf s i) s (corner s j 0) (corner s j 1) (corner s j 2)
-    (clear_between sewn i x (corner s j 0) (corner s j 1) sides.first (clear_of_edge s i x first))
-    (clear_between sewn i y (corner s j 1) (corner s j 2) sides.second (clear_of_edge s i y second))
-    (clear_turned sewn i (corner s j 2) (corner s j 0) (clear_between sewn i z (corner s j 2) (corner s j 0) sides.third (clear_of_edge s i z third)))

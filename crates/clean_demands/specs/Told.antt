@@ -4,14 +4,11 @@ use Rattle.std.proofs.Common.{arith, sym, ◌∙◌, ap, subst, ⊎_elim}
 use mathlib.Core.List.Memᴰ
 use Rattle.meaning.specs.Scene.{Scene}
 use Rattle.meaning.specs.Series.{Series, steps_of, StepsSettled, total_of, counted, Told, ToldRight}
-use Rattle.meaning.specs.SeriesText.{HoldsSeries}
-use Rattle.meaning.specs.declared.Frame.TheVariants.{Start}
 use Rattle.meaning.specs.declared.Settled.{Settled}
 use Rattle.meaning.specs.declared.Settled.TheVariants.{Hit, Touch}
-use Rattle.series_laws.specs.AllAccepted.{EachAccepted, steps_accepted}
-use Rattle.clean_demands.specs.Mesh.{scene_well_made, SidesAreEdges, NothingTouched, CleanAt}
+use Rattle.clean_demands.specs.Mesh.{NothingTouched}
 use Rattle.clean_demands.specs.Listed.{totals_untroubled}
-use Rattle.clean_demands.specs.Steps.{EachStep, CleanStep, clean_series}
+use Rattle.clean_demands.specs.Steps.{EachStep}
 
 -- the words of all steps, none of them hit and none touch
 steps_untouched : (ss : List Scene) (wss : List (List Settled)) → StepsSettled ss wss → total_of Hit wss ≡ 0 → total_of Touch wss ≡ 0 → EachStep NothingTouched ss
@@ -32,14 +29,3 @@ told_untouched x t right hits touches =
     steps_untouched (steps_of x) right.words right.settled
     (none_counted (total_of Hit right.words) (sym (ap (λ (u : Told). u.hits) right.told) ∙ hits))
     (none_counted (total_of Touch right.words) (sym (ap (λ (u : Told). u.touches) right.told) ∙ touches))
-
--- and whose steps are accepted: clean at first, so clean throughout
-pub told_clean : (x : Series) (t : Told) → EachAccepted (steps_of x) → SidesAreEdges x.scene → ToldRight x t → t.hits ≡ 0 → t.touches ≡ 0
-    → CleanAt x.scene Start → EachStep CleanStep (steps_of x)
-told_clean x t accepted sides right hits touches clean =
-    clean_series x sides (λ s m. record { well = scene_well_made (accepted s m); nothing = told_untouched x t right hits touches s m }) clean
-
--- as they are where it was read from a text
-pub read_clean : {text : List ℕ} {x : Series} → HoldsSeries text x → (t : Told) → SidesAreEdges x.scene → ToldRight x t → t.hits ≡ 0 → t.touches ≡ 0
-    → CleanAt x.scene Start → EachStep CleanStep (steps_of x)
-read_clean {x = x} holds t = told_clean x t (steps_accepted holds)

@@ -5,20 +5,15 @@ use Rattle.std.proofs.Common.{arith, inl, inr, ⊎_elim}
 use Rattle.meaning.specs.Scene.{Scene, edge_end}
 use Rattle.meaning.specs.Pieces.{piece_of}
 use Rattle.meaning.specs.Equations.{Touches}
-use Rattle.meaning.specs.Pierced.{Pierced}
 use Rattle.meaning.specs.Resting.{SomeSettled, PieceSettled, PairSettled}
-use Rattle.meaning.specs.declared.Frame.TheVariants.{Start, End}
 use Rattle.meaning.specs.declared.Kind.{Kind}
 use Rattle.meaning.specs.declared.Kind.TheVariants.{PointTriangle, EdgeEdge}
 use Rattle.meaning.specs.declared.Settled.{Settled}
 use Rattle.meaning.specs.declared.Settled.TheVariants.{Hit, Miss, Touch, Apart}
-use Rattle.theory.specs.NoCrack.{Sewn}
 use Rattle.theory.specs.Rational.{touch_rational}
 use Rattle.corner_search.specs.Decided.{pair_word, settled_pair}
 use Rattle.pierced_laws.specs.SomeWeights.{SomeTouches, hit_or_touch}
 use Rattle.demands.specs.Demand2.{demand2_verdicts}
-use Rattle.clean_demands.specs.Sides.{SidesOf}
-use Rattle.clean_demands.specs.OnePair.{NothingTouches, stays_pierced}
 
 module _ (s : Scene) (kind : Kind) (i j : ℕ) where
   -- the pair's word is neither hit nor touch
@@ -65,26 +60,3 @@ pub record FiveUntroubled (s : Scene) (i j x y z : ℕ) : Type 0 where
   pub first_side : Untroubled s EdgeEdge i x
   pub second_side : Untroubled s EdgeEdge i y
   pub third_side : Untroubled s EdgeEdge i z
-
-pub five_touch_nothing : (s : Scene) (i j x y z : ℕ) → FiveUntroubled s i j x y z ↔ NothingTouches s i j x y z
-five_touch_nothing s i j x y z = (
-  λ w. record {
-    first_end = (untroubled_touches_not s PointTriangle (edge_end s i 0) j).0 w.first_end;
-    second_end = (untroubled_touches_not s PointTriangle (edge_end s i 1) j).0 w.second_end;
-    first_side = (untroubled_touches_not s EdgeEdge i x).0 w.first_side;
-    second_side = (untroubled_touches_not s EdgeEdge i y).0 w.second_side;
-    third_side = (untroubled_touches_not s EdgeEdge i z).0 w.third_side;
-  },
-  λ n. record {
-    first_end = (untroubled_touches_not s PointTriangle (edge_end s i 0) j).1 n.first_end;
-    second_end = (untroubled_touches_not s PointTriangle (edge_end s i 1) j).1 n.second_end;
-    first_side = (untroubled_touches_not s EdgeEdge i x).1 n.first_side;
-    second_side = (untroubled_touches_not s EdgeEdge i y).1 n.second_side;
-    third_side = (untroubled_touches_not s EdgeEdge i z).1 n.third_side;
-  },
-)
-
--- the theorem, with words for its hypotheses
-pub stays_pierced_by_words : {s : Scene} → Sewn s → (i j x y z : ℕ) → SidesOf s j x y z → FiveUntroubled s i j x y z
-    → Pierced s Start i j ↔ Pierced s End i j
-stays_pierced_by_words {s} sewn i j x y z sides words = stays_pierced sewn i j x y z sides ((five_touch_nothing s i j x y z).0 words)

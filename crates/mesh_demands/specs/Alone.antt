@@ -1,45 +1,28 @@
 -- A pair alone: its four vertices in rising order of the vertex stood for, and its triangle or its two edges, as a scene without seams. The scene is accepted
 -- where these four are in range, and the library answers a word of it, or a contact, exactly when the pair has it in the mesh.
-use Rattle.std.specs.Prelude.{ℕ, ◌+◌, ◌*◌, ◌≤◌, ◌<◌, false, ◌||◌, ◌↔◌, ◌≡◌, leb, pos, nat_abs, length, get_or}
+use Rattle.std.specs.Prelude.{ℕ, ◌+◌, ◌*◌, ◌≤◌, ◌<◌, false, ◌≡◌, pos, nat_abs, length, get_or}
 use mathlib.Core.List.Memᴰ
 use mathlib.Core.List.{List, [], ◌∷◌, ◌++◌, Memᴰ}
 use Rattle.std.proofs.Math.Logic.{⊎_elim}
 use Rattle.std.proofs.Math.Path.{refl}
-use Rattle.std.proofs.Common.{sym, ◌∙◌, subst₂, arith}
+use Rattle.std.proofs.Common.{◌∙◌, arith}
 use borrow.Author.Tests.{lt-leb, ltb-false}
 use Rattle.sequences.specs.Rising.{Rising}
-use Rattle.meaning.specs.Limits.{coordinate_limit, contact_limit}
-use Rattle.meaning.specs.Scene.{Scene, AcceptedWithin, vertex_count, edge_count, triangle_count, beyond, reaches_beyond}
-use Rattle.meaning.specs.Pieces.{piece_count, piece_of}
-use Rattle.meaning.specs.Verdicts.{PieceIs, PairIs}
-use Rattle.meaning.specs.Resting.{PieceSettled, PairSettled, settled_says, PairDecided, PieceDecided}
-use Rattle.meaning.specs.WholeContacts.{WholeContactIs, ContactIs, contact_checks, whole_contact_says, contact_says, WholeContactFound, ContactGiven}
+use Rattle.meaning.specs.Scene.{Scene, vertex_count, edge_count, triangle_count, beyond, reaches_beyond}
 use Rattle.meaning.specs.Motion.{first_part, second_part}
-use Rattle.meaning.specs.Refusals.{given, not_there, shares, pair_says, PairJudged, PieceJudged}
+use Rattle.meaning.specs.Refusals.{not_there, shares}
 use Rattle.meaning.specs.declared.Kind.{Kind}
 use Rattle.meaning.specs.declared.Kind.TheVariants.{PointTriangle, EdgeEdge}
-use Rattle.meaning.specs.declared.Verdict.{Verdict}
-use Rattle.meaning.specs.declared.Settled.{Settled}
-use Rattle.meaning.specs.declared.WholeContact.{WholeContact}
-use Rattle.meaning.specs.declared.Contact.{Contact}
-use Rattle.meaning.specs.declared.PairAnswer.{PairAnswer}
-use Rattle.meaning.specs.declared.SettledAnswer.{SettledAnswer}
-use Rattle.meaning.specs.declared.WholeContactAnswer.{WholeContactAnswer}
-use Rattle.meaning.specs.declared.ContactAnswer.{ContactAnswer}
 use Rattle.theory.specs.Bounds.{Every, every_imp}
 use Rattle.theory.specs.Rewritten.{WellMade}
 use Rattle.theory.specs.Written.{ends_written, corners_written, Different}
 use Rattle.answers.specs.Below.{or_left, or_rest, none_passes}
-use Rattle.scene_checks.specs.Facts.{vertex_inside, accepted_wider}
+use Rattle.scene_checks.specs.Facts.{vertex_inside}
 use Rattle.list_pairs.specs.InOrder.{FirstBelow}
-use Rattle.contact_entries.specs.OneContact.{one_whole_contact, one_contact}
-use Rattle.answers.specs.Deciding.{NoneHolds, gives_exactly}
-use Rattle.demands.specs.Demand1.{demand1_pair, demand1_piece, demand1_settled_pair, demand1_settled_piece}
-use Rattle.mesh_demands.specs.Part.{PartOf, first_place, second_place}
+use Rattle.mesh_demands.specs.Part.{first_place, second_place}
 use Rattle.mesh_demands.specs.Meshes.{Mesh, mesh_known, mesh_made}
-use Rattle.mesh_demands.specs.Says.{SaysTheSame, a_part_says_the_same}
 use Rattle.mesh_demands.specs.Sorted.{in_order, in_order_moved, in_order_rises, member_moved, as_long, every_member}
-use Rattle.mesh_demands.specs.CutOut.{place_in, place_there, cut_out, cut_at, OneOf, InRange, Cuttable, cut_out_is_a_part, cut_out_is_a_mesh, cut_out_is_accepted, vertices_many, edges_many, triangles_many}
+use Rattle.mesh_demands.specs.CutOut.{place_in, place_there, cut_out, cut_at, OneOf, InRange, Cuttable, vertices_many, edges_many, triangles_many}
 use Rattle.theory.specs.Rearranged.{rearranged_back}
 
 -- ---- the scene
@@ -100,7 +83,7 @@ all_there s mesh EdgeEdge i j there =
     let known = mesh_known mesh EdgeEdge i j there in
     (known.first.0, (known.first.1.0, known.second))
 
-four_long : (s : Scene) (kind : Kind) (i j : ℕ) → length (vertices_of s kind i j) ≡ 4
+pub four_long : (s : Scene) (kind : Kind) (i j : ℕ) → length (vertices_of s kind i j) ≡ 4
 unfolding first_part second_part
 four_long s PointTriangle i j = refl
 four_long s EdgeEdge i j = refl
@@ -142,7 +125,7 @@ module _ {s : Scene} (mesh : Mesh s) where
   )
 
   -- its triangle, or its two edges
-  edges_fit : (kind : Kind) (i j : ℕ) → not_there s kind i j ≡ false → (e : ℕ) → OneOf (edges_of kind i j) e
+  pub edges_fit : (kind : Kind) (i j : ℕ) → not_there s kind i j ≡ false → (e : ℕ) → OneOf (edges_of kind i j) e
       → (e < edge_count s) × Every (OneOf (four_of s kind i j)) (ends_written s e) × Different s (ends_written s e)
   unfolding edges_of first_part second_part WellMade
   edges_fit PointTriangle i j there e m = absurd (Memᴰ.not-nil m)
@@ -153,7 +136,7 @@ module _ {s : Scene} (mesh : Mesh s) where
       (λ n. let q : e ≡ j = Memᴰ.eq_of_singleton n in rw q (made.2, all_among EdgeEdge i j (ends_written s j) (third, (fourth, tt)), made.3))
       (Memᴰ.cases_cons m)
 
-  triangles_fit : (kind : Kind) (i j : ℕ) → not_there s kind i j ≡ false → (t : ℕ) → OneOf (triangles_of kind i j) t
+  pub triangles_fit : (kind : Kind) (i j : ℕ) → not_there s kind i j ≡ false → (t : ℕ) → OneOf (triangles_of kind i j) t
       → (t < triangle_count s) × Every (OneOf (four_of s kind i j)) (corners_written s t) × Different s (corners_written s t)
   unfolding triangles_of first_part second_part WellMade
   triangles_fit EdgeEdge i j there t m = absurd (Memᴰ.not-nil m)
@@ -206,99 +189,6 @@ module _ {s : Scene} (mesh : Mesh s) where
     four_vertices =
         vertices_many s (four_of s kind i j) (edges_of kind i j) (triangles_of kind i j)
         ∙ as_long (in_order_moved s (vertices_of s kind i j)) ∙ four_long s kind i j
-
-    -- ---- it is a part of the mesh
-
-    pub alone_is_a_part : PartOf (cut_at (four_of s kind i j) (edges_of kind i j) (triangles_of kind i j)) (alone s kind i j) s
-    alone_is_a_part = cut_out_is_a_part s (four_of s kind i j) (edges_of kind i j) (triangles_of kind i j) can_be_cut
-
-    pub alone_is_a_mesh : Mesh (alone s kind i j)
-    alone_is_a_mesh =
-        cut_out_is_a_mesh s (four_of s kind i j) (edges_of kind i j) (triangles_of kind i j) can_be_cut
-        (λ e m. (edges_fit kind i j a.there e m).2) (λ t m. (triangles_fit kind i j a.there t m).2)
-
-    -- and says of the pair what the mesh says
-    pub alone_says_the_same : SaysTheSame (alone s kind i j) s kind (alone_first s kind i j) (alone_second kind) i j
-    alone_says_the_same =
-        subst₂ (λ x y. SaysTheSame (alone s kind i j) s kind (alone_first s kind i j) (alone_second kind) x y) (first_back kind i j) (second_back kind i j)
-        (a_part_says_the_same alone_is_a_part alone_is_a_mesh kind (alone_first s kind i j) (alone_second kind) (alone_there kind i j))
-
-    -- ---- it is accepted where its four vertices are in range
-
-    pub alone_is_accepted : (B : ℕ) → ((v : ℕ) → OneOf (vertices_of s kind i j) v → InRange B s v) → AcceptedWithin B (alone s kind i j)
-    alone_is_accepted B range =
-        let (edges, triangles) = few_parts kind i j in
-        let moved = in_order_moved s (vertices_of s kind i j) in
-        cut_out_is_accepted s (four_of s kind i j) (edges_of kind i j) (triangles_of kind i j) can_be_cut B
-        (omega (arith, as_long moved, four_long s kind i j)) (omega arith) (omega arith) (λ v m. range v (member_moved moved m))
-        (λ e m. (edges_fit kind i j a.there e m).2) (λ t m. (triangles_fit kind i j a.there t m).2)
-
-    unshared_there : shares (alone s kind i j) kind (alone_first s kind i j) (alone_second kind) ≡ false
-    unshared_there = sym alone_says_the_same.shared ∙ a.unshared
-
-    -- ---- what the library answers of it
-
-    module _ (range : (v : ℕ) → OneOf (vertices_of s kind i j) v → InRange coordinate_limit s v) where
-      -- a verdict, exactly when the pair has it in the mesh
-      pub judged_alone : (r : PairAnswer) → PairJudged (alone s kind i j) kind (alone_first s kind i j) (alone_second kind) r
-          → (v : Verdict) → (pair_says r ≡ given v) ↔ PairIs s kind i j v
-      judged_alone r answered v =
-          let table = demand1_pair (alone s kind i j) kind (alone_first s kind i j) (alone_second kind) r answered in (
-            λ e. (alone_says_the_same.verdict v).0 ((table.judged v).0 e).1.2,
-            λ h. (table.judged v).1 (alone_is_accepted coordinate_limit range, (alone_there kind i j, unshared_there, (alone_says_the_same.verdict v).1 h)),
-          )
-
-      -- a word
-      pub settled_alone : (r : SettledAnswer) → PairDecided (alone s kind i j) kind (alone_first s kind i j) (alone_second kind) r
-          → (w : Settled) → (settled_says r ≡ given w) ↔ PairSettled s kind i j w
-      settled_alone r answered w =
-          let table = demand1_settled_pair (alone s kind i j) kind (alone_first s kind i j) (alone_second kind) r answered in (
-            λ e. (alone_says_the_same.word w).0 ((table.judged w).0 e).1.2,
-            λ h. (table.judged w).1 (alone_is_accepted coordinate_limit range, (alone_there kind i j, unshared_there, (alone_says_the_same.word w).1 h)),
-          )
-
-      -- so of each piece
-      piece_there : (k : ℕ) → k < piece_count kind → not_there (alone s kind i j) kind (alone_first s kind i j) (alone_second kind) || leb (piece_count kind) k ≡ false
-      piece_there k h = rw (alone_there kind i j, lt-leb (piece_count kind) k h) refl
-
-      pub piece_judged_alone : (k : ℕ) → k < piece_count kind → (r : PairAnswer) → PieceJudged (alone s kind i j) kind (alone_first s kind i j) (alone_second kind) k r
-          → (v : Verdict) → (pair_says r ≡ given v) ↔ PieceIs (piece_of s kind i j k) v
-      piece_judged_alone k h r answered v =
-          let table = demand1_piece (alone s kind i j) kind (alone_first s kind i j) (alone_second kind) k r answered in (
-            λ e. (alone_says_the_same.pieces k v).0 ((table.judged v).0 e).1.2,
-            λ is. (table.judged v).1 (alone_is_accepted coordinate_limit range, (piece_there k h, unshared_there, (alone_says_the_same.pieces k v).1 is)),
-          )
-
-      pub piece_settled_alone : (k : ℕ) → k < piece_count kind → (r : SettledAnswer) → PieceDecided (alone s kind i j) kind (alone_first s kind i j) (alone_second kind) k r
-          → (w : Settled) → (settled_says r ≡ given w) ↔ PieceSettled (piece_of s kind i j k) w
-      piece_settled_alone k h r answered w =
-          let table = demand1_settled_piece (alone s kind i j) kind (alone_first s kind i j) (alone_second kind) k r answered in (
-            λ e. (alone_says_the_same.piece_words k w).0 ((table.judged w).0 e).1.2,
-            λ is. (table.judged w).1 (alone_is_accepted coordinate_limit range, (piece_there k h, unshared_there, (alone_says_the_same.piece_words k w).1 is)),
-          )
-
-    -- a contact, where the four are in the range that coordinates had at first
-    module _ (range : (v : ℕ) → OneOf (vertices_of s kind i j) v → InRange contact_limit s v) where
-      none_refuses : NoneHolds (contact_checks (alone s kind i j) kind (alone_first s kind i j) (alone_second kind))
-      unfolding NoneHolds
-      none_refuses =
-          let near = alone_is_accepted contact_limit range in
-          let far = accepted_wider {C = coordinate_limit} (omega arith) near in
-          (far.shapely, (far.in_range, (far.known, (far.sewn_well, (far.distinct, (alone_there kind i j, (unshared_there, (near.in_range, tt))))))))
-
-      pub met_alone : (r : WholeContactAnswer) → WholeContactFound (alone s kind i j) kind (alone_first s kind i j) (alone_second kind) r
-          → (x : WholeContact) → (whole_contact_says r ≡ given x) ↔ WholeContactIs s kind i j x
-      met_alone r answered x =
-          let gives = gives_exactly (WholeContactIs (alone s kind i j) kind (alone_first s kind i j) (alone_second kind)) (one_whole_contact (alone s kind i j) kind (alone_first s kind i j) (alone_second kind))
-          (contact_checks (alone s kind i j) kind (alone_first s kind i j) (alone_second kind)) (whole_contact_says r) answered x in
-          (λ e. (alone_says_the_same.whole_contact x).0 (gives.0 e).1, λ h. gives.1 (none_refuses, (alone_says_the_same.whole_contact x).1 h))
-
-      pub contact_alone : (r : ContactAnswer) → ContactGiven (alone s kind i j) kind (alone_first s kind i j) (alone_second kind) r
-          → (c : Contact) → (contact_says r ≡ given c) ↔ ContactIs s kind i j c
-      contact_alone r answered c =
-          let gives = gives_exactly (ContactIs (alone s kind i j) kind (alone_first s kind i j) (alone_second kind)) (one_contact (alone s kind i j) kind (alone_first s kind i j) (alone_second kind))
-          (contact_checks (alone s kind i j) kind (alone_first s kind i j) (alone_second kind)) (contact_says r) answered c in
-          (λ e. (alone_says_the_same.contact c).0 (gives.0 e).1, λ h. gives.1 (none_refuses, (alone_says_the_same.contact c).1 h))
 
 -- ---- the range
 

@@ -29,8 +29,6 @@ pub mod Beside
 pub mod Together
 -- pairs side by side make a scene that is accepted, where their vertices are in range
 pub mod Answered
--- so the one call gives all of their words
-pub mod Given
 -- what is asked of pairs is so of those that a mesh lists
 pub mod ListedPairs
 -- why the orders are kept

@@ -12,21 +12,9 @@ use Rattle.meaning.specs.declared.WholeContact.{WholeContact}
 use Rattle.answers.specs.Below.{none_passes}
 use Rattle.corner_search.specs.Decided.{pair_word, pair_word_is}
 use Rattle.contact_entries.specs.Computed.{whole_contact_of, met_pair}
-use Rattle.mesh_demands.specs.Joined.{Reported, Met, PartsOf, HoldAll, SomeLists, stands_there}
-use Rattle.mesh_demands.specs.EachAlone.{listed_apart}
+use Rattle.mesh_demands.specs.Joined.{Reported, Met}
 use Rattle.mesh_demands.specs.Beside.{Around, Before}
-use Rattle.mesh_demands.specs.Together.{AllApart}
 use Rattle.mesh_demands.specs.Answered.{AllNear}
-
--- pairs out of the list, any of them, in any order, points and edges
-pub picked_apart : (s : Scene) (xs : List Pair) → ((x : Pair) → Memᴰ x xs → Memᴰ x (pairs s)) → AllApart s xs
-unfolding AllApart
-picked_apart s [] out = tt
-picked_apart s (x ∷ xs) out =
-    (listed_apart s x (out x (Memᴰ.head refl)), picked_apart s xs (λ y m. out y (Memᴰ.tail m)))
-
-pub all_listed_apart : (s : Scene) → AllApart s (pairs s)
-all_listed_apart s = picked_apart s (pairs s) (λ x m. m)
 
 -- a listed pair has some word, and that line is in the report; and it has what a contact carries, or a word
 module _ (s : Scene) (q : Pair) (stands : Memᴰ q (pairs s)) where
@@ -56,11 +44,6 @@ picked_near B s near [] = tt
 picked_near B s near (x ∷ xs) = (λ v m k below. in_range_lem B s near (6 * v + k), picked_near B s near xs)
 
 -- ---- in parts
-
-pub some_part_lists : {s : Scene} (ps : PartsOf s) (all : HoldAll ps) (q : Pair) → Memᴰ q (pairs s) → SomeLists ps all q
-some_part_lists ps all q m =
-    let (n, below, h) = all q m in
-    (n, below, h, (stands_there ps n below q h).1 m)
 
 -- the first of pairs that are packed has nothing before it
 abbrev pub nothing_around : Around

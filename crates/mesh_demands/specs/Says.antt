@@ -1,31 +1,21 @@
 -- A part of a mesh says the same of its pairs as the mesh: the theorem. No length stands in it, and nothing is asked of the whole but what `PartOf`
 -- says of the part's own range: a mesh of a whole garment is refused by its size, and its parts speak for it.
-use Rattle.std.specs.Prelude.{ℕ, false, not, ◌&&◌, ◌↔◌, ◌≡◌}
-use mathlib.Core.List.{Memᴰ}
+use Rattle.std.specs.Prelude.{ℕ, not, ◌&&◌, ◌↔◌, ◌≡◌}
 use Rattle.std.proofs.Common.{sym, ◌∙◌, ap₂}
-use Rattle.meaning.specs.Scene.{Scene, edge_count}
+use Rattle.meaning.specs.Scene.{Scene}
 use Rattle.meaning.specs.Pieces.{piece_of}
 use Rattle.meaning.specs.Verdicts.{PieceIs, PairIs}
 use Rattle.meaning.specs.Resting.{PieceSettled, PairSettled}
 use Rattle.meaning.specs.WholeContacts.{WholeContactIs, ContactIs}
-use Rattle.meaning.specs.Refusals.{not_there, shares}
+use Rattle.meaning.specs.Refusals.{shares}
 use Rattle.meaning.specs.Boxes.{boxes_meet, listed, culled}
-use Rattle.meaning.specs.List.{Pair, pairs}
 use Rattle.meaning.specs.declared.Kind.{Kind}
-use Rattle.meaning.specs.declared.Kind.TheVariants.{PointTriangle, EdgeEdge}
 use Rattle.meaning.specs.declared.Verdict.{Verdict}
 use Rattle.meaning.specs.declared.Settled.{Settled}
 use Rattle.meaning.specs.declared.WholeContact.{WholeContact}
 use Rattle.meaning.specs.declared.Contact.{Contact}
 use Rattle.theory.specs.Alike.{alike_same, alike_piece, alike_word, piece_for_piece, alike_pair, alike_pair_word}
-use Rattle.theory.specs.Moved.{Known}
-use Rattle.theory.specs.Rewritten.{WellMade}
-use Rattle.list_pairs.specs.InOrder.{FirstBelow, list_is}
 use Rattle.contact_demands.specs.Carried.{carries_same, whole_contact_carried}
-use Rattle.mesh_demands.specs.Meshes.{Mesh, mesh_known, mesh_made}
-use Rattle.mesh_demands.specs.Order.{lower_before}
-use Rattle.mesh_demands.specs.Part.{Places, PartOf, first_place, second_place, in_whole}
-use Rattle.mesh_demands.specs.Kept.{edges_rise_lem, piece_kept, shares_kept, boxes_kept, there_too}
 
 -- the pair i j of p and the pair a b of s say the same: verdicts and words of the pieces and of the pair, the contact in whole numbers and as it is
 -- handed out, whether a vertex is shared, whether the pair is listed and whether it is culled
@@ -79,54 +69,3 @@ says_back h = says_by (λ k. sym (h.points k)) (sym h.shared) (sym h.meet)
 
 pub says_on : {p s t : Scene} {kind : Kind} {i j a b c d : ℕ} → SaysTheSame p s kind i j a b → SaysTheSame s t kind a b c d → SaysTheSame p t kind i j c d
 says_on h k = says_by (λ n. k.points n ∙ h.points n) (k.shared ∙ h.shared) (k.meet ∙ h.meet)
-
--- ---- the theorem
-
-module _ {m : Places} {p s : Scene} (h : PartOf m p s) where
-  -- a pair whose vertices are there, with no vertex twice in an edge or triangle
-  pub the_same_is_said : (kind : Kind) (i j : ℕ) → Known p kind i j → WellMade p kind i j
-      → SaysTheSame p s kind i j (first_place m kind i) (second_place m kind j)
-  the_same_is_said kind i j known made =
-      says_by (piece_kept h kind i j known made) (shares_kept h kind i j known made) (boxes_kept h kind i j known made)
-
-  -- so every pair of a part of any length
-  pub a_part_says_the_same : Mesh p → (kind : Kind) (i j : ℕ) → not_there p kind i j ≡ false
-      → SaysTheSame p s kind i j (first_place m kind i) (second_place m kind j)
-  a_part_says_the_same mesh kind i j there =
-      the_same_is_said kind i j (mesh_known mesh kind i j there) (mesh_made mesh kind i j there)
-
-  -- ---- the list
-
-  below_kept : (kind : Kind) (i j : ℕ) → WellMade p kind i j → FirstBelow kind i j ↔ FirstBelow kind (first_place m kind i) (second_place m kind j)
-  unfolding FirstBelow first_place second_place WellMade
-  below_kept PointTriangle i j made = (λ t. tt, λ t. tt)
-  below_kept EdgeEdge i j made = (λ l. edges_rise_lem h i j l made.2, λ l. lower_before m.edge (edge_count p) (edges_rise_lem h) i j made.0 made.2 l)
-
-  -- a pair of the part stands in its list exactly when it stands in the whole's
-  pub stands_in_both : Mesh p → (q : Pair) → not_there p q.kind q.first q.second ≡ false
-      → Memᴰ q (pairs p) ↔ Memᴰ (in_whole m q) (pairs s)
-  stands_in_both mesh q there =
-      let kind : Kind = q.kind in
-      let known = mesh_known mesh kind q.first q.second there in
-      let made = mesh_made mesh kind q.first q.second there in
-      let same = the_same_is_said kind q.first q.second known made in
-      let below = below_kept kind q.first q.second made in (
-        λ l.
-            let t = ((list_is p).stands q).0 l in
-            ((list_is s).stands (in_whole m q)).1
-            (record {
-              there = there_too h kind q.first q.second known made;
-              ordered = below.0 t.ordered;
-              apart = same.shared ∙ t.apart;
-              meet = same.meet ∙ t.meet;
-            }),
-        λ l.
-            let t = ((list_is s).stands (in_whole m q)).0 l in
-            ((list_is p).stands q).1
-            (record {
-              there = there;
-              ordered = below.1 t.ordered;
-              apart = sym same.shared ∙ t.apart;
-              meet = sym same.meet ∙ t.meet;
-            }),
-      )

@@ -1,11 +1,11 @@
 -- The edges of a file that is read are the edges of its triangles: what is said of `edgesOf` is said of the scene. Each side of each face is there, no
 -- edge is there that is no side, and an edge is written the way round in which it first appears.
-use Rattle.std.specs.Prelude.{ℕ, zero, suc, ◌+◌, ◌-◌, ◌*◌, ◌/◌, ◌<◌, Bool, true, false, ◌||◌, ◌⊎◌, ◌≡◌, refl, length, get_or}
-use Rattle.std.proofs.Common.{true≢false, sym, ap, ◌∙◌, subst, arith}
+use Rattle.std.specs.Prelude.{ℕ, ◌-◌, Bool, true, false, ◌||◌, ◌⊎◌, ◌≡◌, refl}
+use Rattle.std.proofs.Common.{true≢false, sym, ap, ◌∙◌, subst}
 use mathlib.Core.List.{List, [], ◌∷◌, ◌++◌, append_assoc, append-nil}
 use Rattle.std.proofs.Math.Logic.{inl, inr, ⊎_elim}
 use Rattle.sequences.specs.Pick.{pick, pick_gave}
-use Rattle.meaning.specs.Scene.{Scene, triangle_count, corner}
+use Rattle.meaning.specs.Scene.{Scene}
 use Rattle.meaning.specs.Lines.{after_all}
 use Rattle.meaning.specs.Text.{none, coordinates_in, ends_in, corners_in, seam_in}
 use Rattle.meaning.specs.ObjLine.{says}
@@ -13,7 +13,7 @@ use Rattle.meaning.specs.ObjFile.{joined, with_side, with_sides, edges_from, edg
 use Rattle.meaning.specs.ObjPair.{FileRead, BothRead, imported}
 use Rattle.meaning.specs.declared.ObjLine.{ObjLine}
 use Rattle.meaning.specs.declared.ObjLine.TheVariants.{Skipped, Vertex, Face, Bad}
-use Rattle.obj_demands.specs.Edges.{Paired, HasFace, SidesIn, Once, joined_append, same_edge, paired_side, paired_sides, side_in_front, every_side, none_twice, first_in_front}
+use Rattle.obj_demands.specs.Edges.{Paired, Once, joined_append, same_edge, paired_side, paired_sides, side_in_front, none_twice, first_in_front}
 
 -- ---- faces behind faces
 
@@ -88,30 +88,8 @@ import_of_faces start end b = let one = file_of_faces start b.starts b.first in 
 
 -- ---- each side is there, and none twice
 
--- face j of a list is one
-pub has_face : (k : List ℕ) (j : ℕ) → j < length k / 3 → HasFace (get_or k (3 * j) 0) (get_or k (3 * j + 1) 0) (get_or k (3 * j + 2) 0) k
-unfolding HasFace
-has_face [] j h = absurd (omega arith)
-has_face (x ∷ []) j h = absurd (omega arith)
-has_face (x ∷ y ∷ []) j h = absurd (omega arith)
-has_face (x ∷ y ∷ z ∷ k) zero h = let here : (x ≡ x) × (y ≡ y) × (z ≡ z) = (refl, refl, refl) in inl here
-has_face (x ∷ y ∷ z ∷ k) (suc j) h =
-    let e : 3 * suc j ≡ suc (suc (suc (3 * j))) = omega arith in
-    let f : 3 * suc j + 1 ≡ suc (suc (suc (3 * j + 1))) = omega arith in
-    let g : 3 * suc j + 2 ≡ suc (suc (suc (3 * j + 2))) = omega arith in
-    let l : List ℕ = x ∷ y ∷ z ∷ k in
-    let rest : HasFace (get_or k (3 * j) 0) (get_or k (3 * j + 1) 0) (get_or k (3 * j + 2) 0) k = has_face k j (omega arith) in
-    subst (λ (n : ℕ). HasFace (get_or l n 0) (get_or l (3 * suc j + 1) 0) (get_or l (3 * suc j + 2) 0) l) (sym e)
-    (subst (λ (n : ℕ). HasFace (get_or k (3 * j) 0) (get_or l n 0) (get_or l (3 * suc j + 2) 0) l) (sym f)
-    (subst (λ (n : ℕ). HasFace (get_or k (3 * j) 0) (get_or k (3 * j + 1) 0) (get_or l n 0) l) (sym g) (inr rest)))
-
 -- of the scene of a file
 module _ (text : List ℕ) (s : Scene) (r : FileRead text s) where
-  pub sides_of_faces : (j : ℕ) → j < triangle_count s → SidesIn (corner s j 0) (corner s j 1) (corner s j 2) s.edges
-  sides_of_faces j h =
-      let e : 3 * j + 0 ≡ 3 * j = omega arith in
-      rw (e, (file_of_faces text s r).edges) (every_side _ _ _ s.triangles (has_face s.triangles j h))
-
   pub edges_once : Once s.edges
   edges_once = subst Once (sym (file_of_faces text s r).edges) (none_twice s.triangles)
 

@@ -14,7 +14,8 @@ use Rattle.through_laws.specs.Listing.{entries_of, count_of}
 use Rattle.pierced_rows.specs.OneResult.{answer_told, list_told, one_pierced_listing}
 use Rattle.rows_demands.specs.Refused.{RoomTable, room_table}
 use Rattle.rows_demands.specs.Demand1.{AsDemanded, Equals}
-use Rattle.rows_demands.specs.AnyLent.{Taken, as_lent}
+use Rattle.rows_demands.specs.AnyLent.{Taken}
+use Rattle.rows_demands.proofs.AnyLent.{as_lent}
 
 module _ (f : Frame) (s : Scene) (l : Lent) (first end : ℕ) where
   abbrev Count : ℕ

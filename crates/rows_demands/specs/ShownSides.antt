@@ -5,11 +5,9 @@ use Rattle.std.proofs.Common.{arith}
 use Rattle.meaning.specs.Scene.{Scene, scene_of, stood_for, some_below}
 use Rattle.meaning.specs.Refusals.{given, Answers}
 use Rattle.meaning.specs.MeshEdges.{whole, edges_say, bare_side, ends_fall, EdgesAre, EdgesChecked}
-use Rattle.meaning.specs.MeshRows.{Lent, row_count, rows_in}
+use Rattle.meaning.specs.MeshRows.{Lent}
 use Rattle.meaning.specs.declared.EdgesAnswer as EdgesAnswers
-use Rattle.meaning.specs.declared.RowPairs.TheVariants.{Listed}
 use Rattle.mesh_checks.specs.Meshes.{AcceptedMesh}
-use Rattle.rows_demands.specs.AllSides.{OfSides, StandsOnce, all_sides_listed}
 use Rattle.rows_demands.specs.AnyLent.{Taken}
 use Rattle.rows_demands.specs.Shown.{accepted_answers}
 
@@ -52,11 +50,6 @@ unfolding Answers edges_say EdgesAre some_below
 triangles_whole =
     accepted_answers (EdgesAre two_triangles their_sides by_place) (record { number = 18; holds = false; carries = 0 } ∷ []) (given whole) refl triangles_accepted
     (no_side_bare, ends_rise)
-
-pub sides_stand_once : StandsOnce (OfSides two_triangles 0 1 3 2) (rows_in Listed two_triangles 0 (row_count two_triangles))
-unfolding stood_for
-sides_stand_once =
-    all_sides_listed two_triangles their_sides by_place 0 5 triangles_whole 0 0 1 2 (omega arith) (omega arith) (omega arith) (omega arith) refl refl
 
 -- ---- orders
 

@@ -9,17 +9,16 @@ use Rattle.meaning.specs.Lines.{lines_of}
 use Rattle.meaning.specs.List.{pairs}
 use Rattle.meaning.specs.Text.{short_buffer, long_text}
 use Rattle.meaning.specs.StoredBoxes.{short_boxes}
-use Rattle.meaning.specs.Series.{Series, steps_of, last_step, HitAt, Told, ToldRight}
+use Rattle.meaning.specs.Series.{Series, steps_of, last_step, HitAt, ToldRight}
 use Rattle.meaning.specs.SeriesText.{nothing_yet, series_lines, HoldsSeries, SeriesFaultyAt, step_room, Ended, SeriesIs, faulty, read}
 use Rattle.answers.specs.Answering.{is_refused, is_past, is_given}
 use Rattle.list_entries.specs.Entries.{Narrow}
-use Rattle.list_pairs.specs.Sizes.{few_pairs, pairs_narrow}
+use Rattle.list_pairs.specs.Sizes.{few_pairs}
 use Rattle.text_laws.specs.Unique.{records_few}
 use Rattle.answers.specs.Deciding.{holds_or_not}
 use Rattle.series_laws.specs.Longer.{steps_count, last_among, blocks_few}
 use Rattle.series_line.specs.Rendered.{series_readable}
 use Rattle.series_laws.specs.AllAccepted.{EachAccepted, steps_accepted}
-use Rattle.series_laws.specs.TrueHits.{HitThere, logged_hits}
 use Rattle.meaning.specs.SeriesCall.{BoxedSeries}
 use Rattle.meaning.specs.Numbers.{upper}
 use Rattle.c_numbers.specs.Small.{line_in}
@@ -51,23 +50,6 @@ line_few h =
 pub record Fits (h : HitAt) : Type 0 where
   pub step : h.step < upper
   pub places : Narrow h.pair
-
-pub logged_fits : {text : List ℕ} {x : Series} {t : Told} → HoldsSeries text x → length text ≤ text_limit → ToldRight x t
-    → (h : HitAt) → Memᴰ h t.log → Fits h
-logged_fits {text} {x} {t} holds brief right h m =
-    let g : HitThere 1 (steps_of x) h = logged_hits x t right h m in
-    let among : Memᴰ g.here (steps_of x) =
-    subst (Memᴰ g.here) (sym g.steps) (mathlib.Core.List.Memᴰ.append_right g.before (mathlib.Core.List.Memᴰ.head refl)) in
-    record {
-      step = omega (
-        arith,
-        g.number,
-        steps_few holds,
-        ap length g.steps ∙ length-append g.before (g.here ∷ g.behind),
-        brief,
-      );
-      places = pairs_narrow g.here (steps_accepted holds g.here among) h.pair g.listed;
-    }
 
 -- ---- what a refusal carries
 

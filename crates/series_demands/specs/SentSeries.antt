@@ -1,22 +1,20 @@
 -- The series that demand 3 speaks of, made: the scene sent as a scene is, with the shifts of the first two boundaries, and each block sent with the
 -- shift of its own. So demand 3 of a series is of no empty set; and it leads from two texts that are read, of which one is the other sent.
-use Rattle.std.specs.Prelude.{ℕ, zero, suc, ◌+◌, ◌*◌, ◌<◌, ◌≢◌, ◌≡◌, refl, ℤ, pos}
+use Rattle.std.specs.Prelude.{ℕ, zero, suc, ◌+◌, ◌*◌, ◌<◌, ◌≡◌, refl, ℤ, pos}
 use mathlib.Core.List.{List, [], ◌∷◌, flat_map, Memᴰ}
 use Rattle.std.proofs.Math.Path.{ap}
-use Rattle.std.proofs.Common.{◌∙◌, subst, arith}
+use Rattle.std.proofs.Common.{◌∙◌, arith}
 use Rattle.std.proofs.Math.ListN.{get_or}
-use Rattle.whole.specs.Vector.{Vector, plus, volume}
-use Rattle.whole.specs.VectorLaws.{Matrix, apply, det, vector_eq}
+use Rattle.whole.specs.Vector.{Vector, plus}
+use Rattle.whole.specs.VectorLaws.{Matrix, apply, vector_eq}
 use Rattle.sequences.specs.Gather.{gather}
 use Rattle.sequences.specs.Range.{over, times}
 use Rattle.sequences.specs.Blocks.{gather_at}
 use Rattle.meaning.specs.Scene.{Scene, Accepted, vertex_count, vector_at, some_below, stood_for}
 use Rattle.meaning.specs.Series.{Series, step_after, steps_from, steps_of}
-use Rattle.meaning.specs.SeriesText.{HoldsSeries}
 use Rattle.demands.specs.Table.{neg, at, numbered}
-use Rattle.demands.specs.Sending.{up_to, send, moves_sent, turning}
-use Rattle.series_laws.specs.AllAccepted.{steps_accepted}
-use Rattle.series_demands.specs.Demand3.{BlockMoves, BlocksMove, SeriesMoves, AllAccepted, StepsKeep, demand3_series}
+use Rattle.demands.specs.Sending.{up_to, send, turning}
+use Rattle.series_demands.specs.Demand3.{BlockMoves, AllAccepted}
 
 -- ---- accepted, one by one and all together
 
@@ -30,12 +28,6 @@ each_gives_all (s ∷ ss) each = (each s (Memᴰ.head refl), each_gives_all ss (
 -- the three numbers of a point
 abbrev pub three_of : Vector → List ℤ
 three_of p = p.x ∷ p.y ∷ p.z ∷ []
-
--- the first step of a series is its scene
-first_step : (s : Scene) (bs : List (List ℤ)) → Memᴰ s (steps_from s bs)
-unfolding steps_from
-first_step s [] = Memᴰ.head refl
-first_step s (b ∷ bs) = Memᴰ.head refl
 
 module _ (m : Matrix) (shift : ℕ → Vector) where
   abbrev pub sent_end : ℕ → List ℤ → ℕ → List ℤ
@@ -63,25 +55,6 @@ module _ (m : Matrix) (shift : ℕ → Vector) where
   block_sent n count e v h =
       vector_eq (sent_number n count e v 0 (3 * v) h (omega arith) (omega arith)) (sent_number n count e v 1 (3 * v + 1) h (omega arith) (omega arith)) (sent_number n count e v 2 (3 * v + 2) h (omega arith) (omega arith))
 
-  pub blocks_sent : (n count : ℕ) (es : List (List ℤ)) → BlocksMove m shift n count es (send_blocks n count es)
-  unfolding BlocksMove send_blocks
-  blocks_sent n count [] = tt
-  blocks_sent n count (e ∷ es) = (block_sent n count e, blocks_sent (n + 1) count es)
-
-  pub series_sent : det m ≢ pos 0 → (x : Series) → Accepted x.scene → SeriesMoves m shift x (send_series x)
-  unfolding send_series
-  series_sent nonzero x accepted = record {
-    scene = moves_sent m (shift 0) (shift 1) x.scene nonzero accepted;
-    blocks = blocks_sent 2 (vertex_count x.scene) x.blocks;
-  }
-
-  -- two texts that are read, the one sent through the matrix and the shifts: each step keeps its verdicts and words
-  pub texts_keep : det m ≢ pos 0 → {text text' : List ℕ} (x : Series) → HoldsSeries text x → HoldsSeries text' (send_series x)
-      → StepsKeep (steps_of x) (steps_of (send_series x))
-  texts_keep nonzero x held sent =
-      demand3_series m shift x (send_series x) (series_sent nonzero x (steps_accepted held x.scene (first_step x.scene x.blocks)))
-      (each_gives_all (steps_of x) (steps_accepted held)) (each_gives_all (steps_of (send_series x)) (steps_accepted sent))
-
 -- ---- one of two blocks: the scene of case 1, whose point comes back and falls again
 
 abbrev pub back : List ℤ
@@ -96,10 +69,6 @@ two_blocks = record { scene = (numbered 1).scene; blocks = back ∷ again ∷ []
 -- a shift for each boundary, no two alike
 abbrev pub apart_from : ℕ → Vector
 apart_from n = at (pos (5 + n)) (pos (3 * n)) (neg 7)
-
-turned : det turning ≡ neg 2
-unfolding volume
-turned = refl
 
 pub two_blocks_accepted : AllAccepted (steps_of two_blocks)
 unfolding AllAccepted steps_from step_after gather over times some_below stood_for
@@ -120,13 +89,3 @@ sent_too_accepted = (
     (record { shapely = refl; in_range = refl; known = refl; sewn_well = refl; distinct = refl }, tt),
   ),
 )
-
-pub two_blocks_moved : SeriesMoves turning apart_from two_blocks (send_series turning apart_from two_blocks)
-unfolding AllAccepted steps_from
-two_blocks_moved = series_sent turning apart_from (λ e. absurd (never (subst (λ z. z ≡ pos 0) turned e))) two_blocks two_blocks_accepted.0
-  where
-    never : neg 2 ≡ pos 0 → ⊥
-    never e = let z : ◌≡◌ {A = ℕ} 0 1 = cc in omega arith
-
-pub two_blocks_keep : StepsKeep (steps_of two_blocks) (steps_of (send_series turning apart_from two_blocks))
-two_blocks_keep = demand3_series turning apart_from two_blocks (send_series turning apart_from two_blocks) two_blocks_moved two_blocks_accepted sent_too_accepted

@@ -5,15 +5,13 @@ use Rattle.std.proofs.Common.{sym, ◌∙◌, arith, le-ltb}
 use Rattle.std.proofs.Math.Dec.{eqb}
 use Rattle.std.proofs.Math.ListN.{length-append}
 use Rattle.std.proofs.lemmas.List.{length-replicate}
-use Rattle.meaning.specs.Scene.{Scene, scene_of, Accepted, stood_for, counts_as, some_below}
+use Rattle.meaning.specs.Scene.{Scene, Accepted, stood_for, some_below}
 use Rattle.meaning.specs.Refusals.{Answers, given, scene_says}
 use Rattle.meaning.specs.StoredBoxes.{box_at, vertex_box, edge_box, triangle_box, edge_place, triangle_place, KeptBehind, short_boxes, box_numbers}
 use Rattle.meaning.specs.Dragging.{placed, moved_scene, move_checks, edge_has, triangle_has, BoxesMoved, MovesAfter, VertexMoved}
 use Rattle.meaning.specs.declared.SceneAnswer as SceneAnswers
 use Rattle.stored_laws.specs.Checks.{boxed_accepted}
 use Rattle.stored_demands.specs.Chain.{Move, Dragged, Right}
-use Rattle.stored_demands.specs.SewnMoves.{unsewn, to_one_place, placed_all, has}
-use Rattle.stored_demands.specs.SewnTogether.{sewn_dragged}
 use Rattle.stored_demands.specs.Shown.{six, scene, boxes, sewn}
 
 -- ---- what stands behind two lists of one length
@@ -25,7 +23,7 @@ behind_alike (x ∷ a) [] rest e i h = absurd (omega arith)
 behind_alike (x ∷ a) (y ∷ b) rest e zero h = absurd (omega arith)
 behind_alike (x ∷ a) (y ∷ b) rest e (suc i) h = behind_alike a b rest (omega arith) i (omega arith)
 
-kept : (a b rest : List ℤ) (n : ℕ) → length a ≡ 6 * n → length b ≡ 6 * n → KeptBehind (a ++ rest) (b ++ rest) n
+pub kept : (a b rest : List ℤ) (n : ℕ) → length a ≡ 6 * n → length b ≡ 6 * n → KeptBehind (a ++ rest) (b ++ rest) n
 kept a b rest n many also = record {
   at = λ i h. behind_alike a b rest (many ∙ sym also) i (omega arith);
   same = omega (arith, length-append a rest, length-append b rest);
@@ -36,7 +34,7 @@ kept a b rest n many also = record {
 abbrev Fine : Unit {0} → Type 0
 Fine t = Unit {0}
 
-move_shown : (s : Scene) (v : ℕ) (c b b' : List ℤ) → short_boxes b ≡ false → Accepted s
+pub move_shown : (s : Scene) (v : ℕ) (c b b' : List ℤ) → short_boxes b ≡ false → Accepted s
     → Answers (move_checks s v c) Fine (given tt) → BoxesMoved (moved_scene s v c) v b b'
     → VertexMoved s v c (placed s.positions v c) b b' SceneAnswers.TheVariants.Accepted
 unfolding scene_says MovesAfter
@@ -46,25 +44,25 @@ move_shown s v c b b' long accepted checks boxes = record {
 }
 
 -- what holds of each of four, and of the only one
-each_of_four : (P : ℕ → Type 0) → P 0 → P 1 → P 2 → P 3 → (u : ℕ) → u < 4 → P u
+pub each_of_four : (P : ℕ → Type 0) → P 0 → P 1 → P 2 → P 3 → (u : ℕ) → u < 4 → P u
 each_of_four P a b c d zero h = a
 each_of_four P a b c d (suc zero) h = b
 each_of_four P a b c d (suc (suc zero)) h = c
 each_of_four P a b c d (suc (suc (suc zero))) h = d
 each_of_four P a b c d (suc (suc (suc (suc u)))) h = absurd (omega arith)
 
-only_one : (P : ℕ → Type 0) → P 0 → (u : ℕ) → u < 1 → P u
+pub only_one : (P : ℕ → Type 0) → P 0 → (u : ℕ) → u < 1 → P u
 only_one P a zero h = a
 only_one P a (suc u) h = absurd (omega arith)
 
 -- the boxes of four vertices, of an edge and of a triangle, as a move of vertex v to the scene s leaves them
-abbrev VertexAfter : Scene → ℕ → List ℤ → List ℤ → ℕ → Type 0
+abbrev pub VertexAfter : Scene → ℕ → List ℤ → List ℤ → ℕ → Type 0
 VertexAfter s v b b' u = box_at b' u ≡ cond (eqb u v) (vertex_box s u) (box_at b u)
 
-abbrev EdgeAfter : Scene → ℕ → List ℤ → List ℤ → ℕ → Type 0
+abbrev pub EdgeAfter : Scene → ℕ → List ℤ → List ℤ → ℕ → Type 0
 EdgeAfter s v b b' j = box_at b' (edge_place s j) ≡ cond (edge_has s v j) (edge_box s j) (box_at b (edge_place s j))
 
-abbrev TriangleAfter : Scene → ℕ → List ℤ → List ℤ → ℕ → Type 0
+abbrev pub TriangleAfter : Scene → ℕ → List ℤ → List ℤ → ℕ → Type 0
 TriangleAfter s v b b' j = box_at b' (triangle_place s j) ≡ cond (triangle_has s v j) (triangle_box s j) (box_at b (triangle_place s j))
 
 -- ---- two vertices of a scene without seams
@@ -97,7 +95,7 @@ boxes_after =
 
 -- any numbers may stand behind the six boxes, so many that the buffer is long enough
 module _ (rest : List ℤ) (room : box_numbers ≤ length rest) where
-  long : (b : List ℤ) → short_boxes (b ++ rest) ≡ false
+  pub long : (b : List ℤ) → short_boxes (b ++ rest) ≡ false
   long b = le-ltb (length (b ++ rest)) box_numbers (omega (arith, length-append b rest))
 
   first_boxes : BoxesMoved (moved_scene scene 3 up) 3 (boxes ++ rest) (boxes_between ++ rest)
@@ -166,38 +164,6 @@ abbrev pub both : List ℕ
 both = 3 ∷ 0 ∷ []
 
 module _ (rest : List ℤ) (room : box_numbers ≤ length rest) where
-  sewn_first : BoxesMoved (moved_scene (unsewn sewn) 3 aside) 3 (sewn_boxes ++ rest) (sewn_between ++ rest)
-  sewn_first = record {
-    vertices = each_of_four (VertexAfter (moved_scene (unsewn sewn) 3 aside) 3 (sewn_boxes ++ rest) (sewn_between ++ rest)) refl refl refl refl;
-    edges = only_one (EdgeAfter (moved_scene (unsewn sewn) 3 aside) 3 (sewn_boxes ++ rest) (sewn_between ++ rest)) refl;
-    triangles = only_one (TriangleAfter (moved_scene (unsewn sewn) 3 aside) 3 (sewn_boxes ++ rest) (sewn_between ++ rest)) refl;
-    behind = kept sewn_boxes sewn_between rest 6 refl refl;
-  }
-
-  sewn_second : BoxesMoved (moved_scene (moved_scene (unsewn sewn) 3 aside) 0 aside) 0 (sewn_between ++ rest) (sewn_after ++ rest)
-  sewn_second = record {
-    vertices = each_of_four (VertexAfter (moved_scene (moved_scene (unsewn sewn) 3 aside) 0 aside) 0 (sewn_between ++ rest) (sewn_after ++ rest)) refl refl refl refl;
-    edges = only_one (EdgeAfter (moved_scene (moved_scene (unsewn sewn) 3 aside) 0 aside) 0 (sewn_between ++ rest) (sewn_after ++ rest)) refl;
-    triangles = only_one (TriangleAfter (moved_scene (moved_scene (unsewn sewn) 3 aside) 0 aside) 0 (sewn_between ++ rest) (sewn_after ++ rest)) refl;
-    behind = kept sewn_between sewn_after rest 6 refl refl;
-  }
-
-  pub seam_moved : Dragged (unsewn sewn) (sewn_boxes ++ rest) (to_one_place both aside) (sewn_after ++ rest)
-  unfolding Dragged to_one_place Answers some_below stood_for
-  seam_moved = (
-    sewn_between ++ rest,
-    placed sewn.positions 3 aside,
-    move_shown (unsewn sewn) 3 aside (sewn_boxes ++ rest) (sewn_between ++ rest) (long rest room sewn_boxes)
-        (record { shapely = refl; in_range = refl; known = refl; sewn_well = refl; distinct = refl }) tt sewn_first,
-    (
-      sewn_after ++ rest,
-      placed (moved_scene (unsewn sewn) 3 aside).positions 0 aside,
-      move_shown (moved_scene (unsewn sewn) 3 aside) 0 aside (sewn_between ++ rest) (sewn_after ++ rest) (long rest room sewn_between)
-          (record { shapely = refl; in_range = refl; known = refl; sewn_well = refl; distinct = refl }) tt sewn_second,
-      refl,
-    ),
-  )
-
   -- the scene and its boxes before
   pub sewn_right : Right sewn (sewn_boxes ++ rest)
   unfolding some_below stood_for
@@ -211,13 +177,6 @@ module _ (rest : List ℤ) (room : box_numbers ≤ length rest) where
     };
     long = long rest room sewn_boxes;
   }
-
-  -- and after: the seam whole again, and each box the one worked out
-  pub seam_right : Right (scene_of (placed_all sewn.positions both aside) sewn.edges sewn.triangles sewn.seams) (sewn_after ++ rest)
-  unfolding has stood_for
-  seam_right =
-      sewn_dragged sewn (sewn_boxes ++ rest) 3 both aside (sewn_after ++ rest) sewn_right
-      (each_of_four (λ u. has both u ≡ eqb (counts_as sewn u) (counts_as sewn 3)) refl refl refl refl) seam_moved
 
 -- there are such numbers
 pub so_much_room : box_numbers ≤ length (replicate box_numbers (pos 0))

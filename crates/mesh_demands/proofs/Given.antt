@@ -10,7 +10,7 @@ use Rattle.sequences.specs.Wrote.{written}
 use Rattle.meaning.specs.Limits.{coordinate_limit}
 use Rattle.meaning.specs.Scene.{Scene}
 use Rattle.meaning.specs.Refusals.{Outcome, given, refused, Check, Answers, not_there, shares}
-use Rattle.meaning.specs.List.{Pair, no_number, number, list_says}
+use Rattle.meaning.specs.List.{Pair, no_number, list_says}
 use Rattle.meaning.specs.OwnList.{entry_missing, faulty_from, size_check, word_room, own_limit, OwnSettled}
 use Rattle.meaning.specs.declared.ListAnswer.{ListAnswer}
 use Rattle.answers.specs.Answering.{is_past}
@@ -21,11 +21,15 @@ use Rattle.list_words.specs.Listed.{bytes_of}
 use Rattle.mesh_demands.specs.Part.{in_whole}
 use Rattle.mesh_demands.specs.Meshes.{Mesh, mesh_known, mesh_made}
 use Rattle.mesh_demands.specs.Kept.{there_too}
-use Rattle.mesh_demands.specs.Alone.{few_parts, alone_is_a_mesh, alone_there}
-use Rattle.mesh_demands.specs.Packed.{Holds, AllHeld, own_pair, packed_says_the_same}
+use Rattle.mesh_demands.specs.Alone.{few_parts, alone_there}
+use Rattle.mesh_demands.proofs.Alone.{alone_is_a_mesh}
+use Rattle.mesh_demands.specs.Packed.{Holds, AllHeld, own_pair}
+use Rattle.mesh_demands.proofs.Packed.{packed_says_the_same}
 use Rattle.mesh_demands.specs.Beside.{moved_up}
-use Rattle.mesh_demands.specs.Together.{edges_in, triangles_in, entries_from, entries_of, together, AllApart, narrow, all_held, words_together}
-use Rattle.mesh_demands.specs.Answered.{AllNear, together_is_accepted}
+use Rattle.mesh_demands.specs.Together.{edges_in, triangles_in, entries_from, entries_of, together, AllApart}
+use Rattle.mesh_demands.proofs.Together.{narrow, all_held, words_together}
+use Rattle.mesh_demands.specs.Answered.{AllNear}
+use Rattle.mesh_demands.proofs.Answered.{together_is_accepted}
 
 -- ---- an entry is not at fault
 

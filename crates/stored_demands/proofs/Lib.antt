@@ -1,0 +1,3 @@
+-- Theorems that rest on definitions of specs/.
+-- what rests on the definitions of `MovedTwice`
+pub mod MovedTwice
