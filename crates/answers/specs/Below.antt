@@ -1,4 +1,4 @@
--- What the computed `someBelow` says: some number below n passes the test, or none does.
+-- What the computed `some_below` says: some number below n passes the test, or none does.
 use Rattle.std.specs.Prelude.{ℕ, zero, suc, ◌+◌, ◌<◌, Bool, true, false, ◌||◌, ◌≡◌, refl}
 use Rattle.std.proofs.Math.Bool.{or_assoc, or-false}
 use Rattle.std.proofs.Common.{⊎_elim, sym, ◌∙◌, ap, not-suc-le-zero, le_of_suc-le-suc, eq-or-lt_of_le, add-one, arith}

@@ -1,1 +1,3 @@
 // What a caller in C hears, as theorems, in specs/. No code stands here.
+
+#![tactic(auto)]

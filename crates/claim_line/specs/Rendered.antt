@@ -1,4 +1,4 @@
--- Rendering is one_to_one: a text begins with the line of one claim at most.
+-- Rendering is one-to-one: a text begins with the line of one claim at most.
 use Rattle.std.specs.Prelude.{false, ◌≡◌, refl, ℕ, ◌<◌, ℤ, pos, nat_abs, length}
 use mathlib.Core.List.{List, [], ◌∷◌, ◌++◌, map, append_assoc, head-eq_of_cons-eq, tail-eq_of_cons-eq}
 use Rattle.std.proofs.Common.{sym, ap, ◌∙◌, arith, length-append}

@@ -139,10 +139,10 @@ module _ {s : Scene} {text a a' : List ℕ} {r : ClaimsAnswer} (h : ClaimsChecke
 
 -- ---- from a scene's answers to a text's
 
-pub scene_to_text : {sceneText text o o' : List ℕ} {n : ℕ} (s : Scene) → length sceneText ≤ text_limit → Holds sceneText s → SceneAnswered s text o o' n
-    → AnswersReported sceneText text o o' n
+pub scene_to_text : {scene_text text o o' : List ℕ} {n : ℕ} (s : Scene) → length scene_text ≤ text_limit → Holds scene_text s → SceneAnswered s text o o' n
+    → AnswersReported scene_text text o o' n
 unfolding printed_for
-scene_to_text {sceneText} {text} {o} {o'} {n} s short holds w =
+scene_to_text {scene_text} {text} {o} {o'} {n} s short holds w =
     record {
       report = printed_for w.outcome;
       right = as_text w.outcome w.right;
@@ -150,27 +150,27 @@ scene_to_text {sceneText} {text} {o} {o'} {n} s short holds w =
       buffer = wrote_front w.wrote;
     }
   where
-    as_text : (q : Outcome (List Bool)) → ClaimsOutcome s text claim_room q → AnswersOf sceneText text (printed_for q)
+    as_text : (q : Outcome (List Bool)) → ClaimsOutcome s text claim_room q → AnswersOf scene_text text (printed_for q)
     as_text (given bs) h = answered s bs short holds h
     as_text (refused m c) h = refused_claims s m c short holds h
 
 -- a scene's text that is refused
-pub refused_scene : {sceneText : List ℕ} (text : List ℕ) {lent left : Scene} {r : TextAnswer} {x : Refusal} {line : ℕ} {o o' : List ℕ} {n : ℕ}
-    → short_buffer lent ≡ false → TextRead sceneText lent left r → r ≡ TextAnswers.TheVariants.Refused x line
-    → Wrote o 0 (refused_line (number_of x) line) o' n → AnswersReported sceneText text o o' n
+pub refused_scene : {scene_text : List ℕ} (text : List ℕ) {lent left : Scene} {r : TextAnswer} {x : Refusal} {line : ℕ} {o o' : List ℕ} {n : ℕ}
+    → short_buffer lent ≡ false → TextRead scene_text lent left r → r ≡ TextAnswers.TheVariants.Refused x line
+    → Wrote o 0 (refused_line (number_of x) line) o' n → AnswersReported scene_text text o o' n
 unfolding TextIs
-refused_scene {sceneText} text {lent} {left} {r} {x} {line} {o} {o'} {n} fits a e w =
+refused_scene {scene_text} text {lent} {left} {r} {x} {line} {o} {o'} {n} fits a e w =
     record {
       report = refused_line (number_of x) line;
-      right = by_way (read_refusal_of (subst (TextRead sceneText lent left) e a)).1;
+      right = by_way (read_refusal_of (subst (TextRead scene_text lent left) e a)).1;
       length_is = w.place ∙ zero-add (length (refused_line (number_of x) line));
       buffer = wrote_front w;
     }
   where
-    by_way : Came sceneText lent (refused (number_of x) line) → AnswersOf sceneText text (refused_line (number_of x) line)
+    by_way : Came scene_text lent (refused (number_of x) line) → AnswersOf scene_text text (refused_line (number_of x) line)
     by_way (by_buffers e p) = let z : ◌≡◌ {A = Bool} true false = sym e ∙ fits in absurd (true≢false z)
     by_way (by_length e d p) =
         let number : number_of x ≡ 8 = cc in
         let none : line ≡ 0 = cc in
-        rw (number, none) (AnswersOf.too_long (ltb-true text_limit (length sceneText) d))
-    by_way (by_lines e d f) = no_scene (number_of x) line (ltb-false text_limit (length sceneText) d) f
+        rw (number, none) (AnswersOf.too_long (ltb-true text_limit (length scene_text) d))
+    by_way (by_lines e d f) = no_scene (number_of x) line (ltb-false text_limit (length scene_text) d) f

@@ -9,7 +9,7 @@ use Rattle.clean_demands.specs.Mesh.{WellMade, SidesAreEdges}
 use Rattle.clean_demands.specs.Rows.{RowUntroubled}
 use Rattle.clean_demands.specs.Through.{RowClean}
 
--- `Lent.whole-edges` gives the first two, `Through.none-listed-clean` the third of a stretch of rows, `Rows.kept-untroubled` the last of one
+-- `Lent.whole_edges` gives the first two, `Through.none_listed_clean` the third of a stretch of rows, `Rows.kept_untroubled` the last of one
 pub record ToldClean (w : RowPairs) (s : Scene) : Type 0 where
   pub well : WellMade s
   pub sides : SidesAreEdges s

@@ -1,3 +1,3 @@
-#![tactic(auto)]
+// Weights of a piece where corners are left out: theorems only, in specs/ and proofs/. No code stands here.
 
-// Weights of a piece where corners are left out: theorems only, in specs/. No code stands here.
+#![tactic(auto)]

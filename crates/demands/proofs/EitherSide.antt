@@ -1,4 +1,4 @@
--- 'Faces either side of a seam share an edge': what `no-cracks-at-seams` asks for is so of two faces of which one has the first vertices of two seams
+-- 'Faces either side of a seam share an edge': what `no_cracks_at_seams` asks for is so of two faces of which one has the first vertices of two seams
 -- and the other their second.
 use Rattle.std.specs.Prelude.{ℕ, ◌<◌, List}
 use Rattle.std.proofs.Common.{sym}

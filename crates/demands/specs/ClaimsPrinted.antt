@@ -25,7 +25,7 @@ same_lines : {s t : Scene} {text : List ℕ} → s ≡ t → (o p : Outcome (Lis
 same_lines {s} {t} {text} e o p h k =
     ap lines_for (one_outcome t text claim_room o p (subst (λ (u : Scene). ClaimsOutcome u text claim_room o) e h) k)
 
-pub one_answers : {sceneText text r r' : List ℕ} → AnswersOf sceneText text r → AnswersOf sceneText text r' → r ≡ r'
+pub one_answers : {scene_text text r r' : List ℕ} → AnswersOf scene_text text r → AnswersOf scene_text text r' → r ≡ r'
 unfolding lines_for
 one_answers (too_long h) (too_long k) = refl
 one_answers (too_long h) (no_scene m place k g) = absurd (omega arith)
@@ -44,9 +44,9 @@ one_answers (answered s ys h a p) (no_scene m place k g) = absurd (held_or_fault
 one_answers (answered s ys h a p) (refused_claims t m d k b q) = same_lines (same_scene a b) (given ys) (refused m d) p q
 one_answers (answered s ys h a p) (answered t bs k b q) = same_lines (same_scene a b) (given ys) (given bs) p q
 
-pub one_answers_reported : (sceneText text o o' o'' : List ℕ) (n n' : ℕ) → AnswersReported sceneText text o o' n → AnswersReported sceneText text o o'' n'
+pub one_answers_reported : (scene_text text o o' o'' : List ℕ) (n n' : ℕ) → AnswersReported scene_text text o o' n → AnswersReported scene_text text o o'' n'
     → (n ≡ n') × (o' ≡ o'')
-one_answers_reported sceneText text o o' o'' n n' p q = one_in_front (AnswersOf sceneText text) (λ l k h g. one_answers h g) p q
+one_answers_reported scene_text text o o' o'' n n' p q = one_in_front (AnswersOf scene_text text) (λ l k h g. one_answers h g) p q
 
 -- of what was read: there are always texts of which that was read
 pub one_answers_read : (scene claims o o' o'' : List ℕ) (count claimed n n' : ℕ)
@@ -60,16 +60,16 @@ one_answers_read scene claims o o' o'' count claimed n n' p q =
 
 -- ---- taken apart: whose fault a line tells
 
-module _ {sceneText text r : List ℕ} (printed : AnswersOf sceneText text r) where
-  pub long_scene_printed : text_limit < length sceneText → r ≡ refused_line 8 0
+module _ {scene_text text r : List ℕ} (printed : AnswersOf scene_text text r) where
+  pub long_scene_printed : text_limit < length scene_text → r ≡ refused_line 8 0
   long_scene_printed long = one_answers printed (too_long long)
 
-  module _ (short : length sceneText ≤ text_limit) where
-    pub scene_fault_printed : (n line : ℕ) → SceneFaultyAt sceneText n line → r ≡ refused_line n line
+  module _ (short : length scene_text ≤ text_limit) where
+    pub scene_fault_printed : (n line : ℕ) → SceneFaultyAt scene_text n line → r ≡ refused_line n line
     scene_fault_printed n line f = one_answers printed (no_scene n line short f)
 
-    pub claims_fault_printed : (s : Scene) (n c : ℕ) → Holds sceneText s → ClaimsOutcome s text claim_room (refused n c) → r ≡ refused_line n c
+    pub claims_fault_printed : (s : Scene) (n c : ℕ) → Holds scene_text s → ClaimsOutcome s text claim_room (refused n c) → r ≡ refused_line n c
     claims_fault_printed s n c held out = one_answers printed (refused_claims s n c short held out)
 
-    pub answers_printed : (s : Scene) (bs : List Bool) → Holds sceneText s → ClaimsOutcome s text claim_room (given bs) → r ≡ answer_lines bs
+    pub answers_printed : (s : Scene) (bs : List Bool) → Holds scene_text s → ClaimsOutcome s text claim_room (given bs) → r ≡ answer_lines bs
     answers_printed s bs held out = one_answers printed (answered s bs short held out)

@@ -10,7 +10,7 @@ use Rattle.meaning.specs.Pieces.{Event}
 use Rattle.meaning.specs.Equations.{determinant}
 use Rattle.theory.specs.Symbols.{determinant_same}
 
--- a point as a column of five numbers. At-start is 1 for a point at the start and 0 for one at the end, at_end_lem the other way round
+-- a point as a column of five numbers. At-start is 1 for a point at the start and 0 for one at the end, at-end the other way round
 pub record Column (N : Type 0) : Type 0 where
   pub x : N
   pub y : N
@@ -40,7 +40,7 @@ pub five_worth : (e : List ℤ) (columns : List (Column Expr)) (b : Expr) → no
 five_worth e columns b h =
     determinant_same (five_rows ℤ) (map (worth_of e) columns) ∙ det_solve e (worth_of e) (five_rows Expr) (five_rows ℤ) (rows_worth e) columns b h
 
--- p at the start, q at the end, and four others, of which at_start_lem and at_end_lem are letters too
+-- p at the start, q at the end, and four others, of which at-start and at-end are letters too
 abbrev pub startˣ : Column Expr
 startˣ = record { x = var 0; y = var 1; z = var 2; start = con (pos 1); end = con (pos 0) }
 

@@ -1,4 +1,4 @@
--- Demand 3: 'Send a scene through a whole_number 3 by 3 matrix of nonzero determinant, then add one shift to all start positions and another
+-- Demand 3: 'Send a scene through a whole-number 3 by 3 matrix of nonzero determinant, then add one shift to all start positions and another
 -- to all end positions. If both scenes are accepted, every pair without a shared vertex, and each of its pieces, keeps its verdict. A pair
 -- culled in either scene is hit in neither.' The verdicts are those of demand 2, in three words and in four; culled in either, a pair is also touch
 -- in neither.

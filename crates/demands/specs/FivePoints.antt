@@ -1,4 +1,4 @@
--- 'By Cramer's rule each weight is, up to one common factor, a signed determinant of the other five points with rows x, y, z, at_start_lem,
+-- 'By Cramer's rule each weight is, up to one common factor, a signed determinant of the other five points with rows x, y, z, at-start,
 -- at-end': the numbers that solve a piece are these determinants, with signs that depend on the place alone, in both forms that a piece
 -- can have.
 use Rattle.std.specs.Prelude.{ℕ, ◌≡◌, ℤ}

@@ -43,7 +43,7 @@ pub mod NoCracks
 pub mod StandForOne
 -- a point as a column of five numbers, the determinant of five of them, and both with letters for the numbers, so that an identity is settled by computing
 pub mod Columns
--- 'By Cramer's rule each weight is, up to one common factor, a signed determinant of the other five points with rows x, y, z, at_start_lem, at-end'
+-- 'By Cramer's rule each weight is, up to one common factor, a signed determinant of the other five points with rows x, y, z, at-start, at-end'
 pub mod FivePoints
 -- 'Given this on standard input, the report program prints exactly'
 pub mod Printed

@@ -273,7 +273,7 @@ module _ (s : Scene) (unsewn : s.seams ≡ []) (kind : Kind) (i j : ℕ) where
       (asked_alike (λ n. n) (demand1_settled_pair s kind i j r p) (rw (there_turned s kind i j) at (demand1_settled_pair (turned_round s) kind (first_turned s kind i) j r' q))
       (demand2_verdicts s kind i j).pair.one_word (λ c. c.word))
 
-  -- a piece that is there is piece `pieceTurned kind k` of the corresponding pair
+  -- a piece that is there is piece `piece_turned kind k` of the corresponding pair
   module _ (k : ℕ) (below : k < piece_count kind) where
     pieces_there : not_there (turned_round s) kind (first_turned s kind i) j || leb (piece_count kind) (piece_turned kind k) ≡ not_there s kind i j || leb (piece_count kind) k
     pieces_there = ap₂ ◌||◌ (there_turned s kind i j) (lt-leb (piece_count kind) (piece_turned kind k) (piece_there kind k below) ∙ sym (lt-leb (piece_count kind) k below))

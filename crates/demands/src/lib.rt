@@ -1,1 +1,3 @@
-// The demands as theorems about the meaning, in specs/. No code stands here.
+// The demands as theorems about the meaning, in specs/ and proofs/. No code stands here.
+
+#![tactic(auto)]

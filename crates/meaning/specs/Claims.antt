@@ -149,15 +149,15 @@ abbrev pub answer_lines : List Bool → List ℕ
 answer_lines bs = flat_map answer_line bs
 
 -- of two texts, a scene's and the claims': a refusal of the scene, or one of the claims, or a line for each claim
-pub data AnswersOf (sceneText text : List ℕ) : List ℕ → Type 0 where
-  too_long : text_limit < length sceneText → AnswersOf sceneText text (refused_line 8 0)
-  no_scene : (n line : ℕ) → length sceneText ≤ text_limit → SceneFaultyAt sceneText n line → AnswersOf sceneText text (refused_line n line)
-  refused_claims : (s : Scene) (n c : ℕ) → length sceneText ≤ text_limit → Holds sceneText s
+pub data AnswersOf (scene_text text : List ℕ) : List ℕ → Type 0 where
+  too_long : text_limit < length scene_text → AnswersOf scene_text text (refused_line 8 0)
+  no_scene : (n line : ℕ) → length scene_text ≤ text_limit → SceneFaultyAt scene_text n line → AnswersOf scene_text text (refused_line n line)
+  refused_claims : (s : Scene) (n c : ℕ) → length scene_text ≤ text_limit → Holds scene_text s
       → ClaimsOutcome s text claim_room (refused n c)
-      → AnswersOf sceneText text (refused_line n c)
-  answered : (s : Scene) (bs : List Bool) → length sceneText ≤ text_limit → Holds sceneText s
+      → AnswersOf scene_text text (refused_line n c)
+  answered : (s : Scene) (bs : List Bool) → length scene_text ≤ text_limit → Holds scene_text s
       → ClaimsOutcome s text claim_room (given bs)
-      → AnswersOf sceneText text (answer_lines bs)
+      → AnswersOf scene_text text (answer_lines bs)
 
 abbrev pub AnswersReported : List ℕ → List ℕ → List ℕ → List ℕ → ℕ → Type 0
-AnswersReported sceneText text = InFront (AnswersOf sceneText text)
+AnswersReported scene_text text = InFront (AnswersOf scene_text text)

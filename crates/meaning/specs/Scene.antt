@@ -1,4 +1,4 @@
--- A scene: a mesh at two times, start and end. Vertices have whole_number positions, edges and triangles go by vertex number, and a
+-- A scene: a mesh at two times, start and end. Vertices have whole-number positions, edges and triangles go by vertex number, and a
 -- seam says that one vertex stands for another (document 02, §6).
 -- Here too: what refusals 1, 2, 3, 15 and 4 say, each of the whole scene.
 use Rattle.std.specs.Prelude.{ℕ, zero, suc, pred, ◌+◌, ◌*◌, ◌/◌, ◌%◌, Bool, false, not, cond, ◌||◌, ◌&&◌, List, [], ◌∷◌, ◌≡◌, leb, ltb, eqb, ℤ, pos, nat_abs, length, get_or}

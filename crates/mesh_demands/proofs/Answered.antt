@@ -106,12 +106,12 @@ module _ {B : ℕ} {f p : Scene} {v e t n m k : ℕ} (g : Fine B f v e t) (h : F
 accepted_fine : (B : ℕ) (ps : List ℤ) (es ts : List ℕ) (v e t : ℕ) → length ps ≡ 6 * v → length es ≡ 2 * e → length ts ≡ 3 * t
     → AcceptedWithin B (scene_of ps es ts []) → Fine B (scene_of ps es ts []) v e t
 unfolding stood_for
-accepted_fine B ps es ts v e t long longEdges longTriangles a =
+accepted_fine B ps es ts v e t long long_edges long_triangles a =
     let s : Scene = scene_of ps es ts [] in
     record {
       vertices = long;
-      edges = longEdges;
-      triangles = longTriangles;
+      edges = long_edges;
+      triangles = long_triangles;
       near = λ i h. ltb-false B _ (none_passes (λ i. beyond B (get_or ps i (pos 0))) (length ps) a.in_range i (omega arith));
       ends = λ j h.
           let there : j < edge_count s = omega arith in

@@ -49,8 +49,8 @@ module _ {s : Scene} (mesh : Mesh s) where
       → (xs : List Pair) → n + length xs ≤ 128 → AllApart s xs
       → AllHeld (scene_of (ps ++ positions_of s xs) (es ++ edges_from s v xs) (ts ++ triangles_from s v xs) []) s (entries_from s v e t xs) xs
   unfolding AllHeld AllApart entries_from positions_of edges_from triangles_from
-  all_held_from ps es ts n v e t four few fewer long longEdges longTriangles [] room apart = tt
-  all_held_from ps es ts n v e t four few fewer long longEdges longTriangles (x ∷ xs) room apart =
+  all_held_from ps es ts n v e t four few fewer long long_edges long_triangles [] room apart = tt
+  all_held_from ps es ts n v e t four few fewer long long_edges long_triangles (x ∷ xs) room apart =
       let own : Scene = alone_of s x in
       let r : Around = record {
         positions = ps;
@@ -63,17 +63,17 @@ module _ {s : Scene} (mesh : Mesh s) where
       let parts = few_parts x.kind x.first x.second in
       let many : length (four_of s x.kind x.first x.second) ≡ 4 = sym (vertices_many s (four_of s x.kind x.first x.second) (edges_of x.kind x.first x.second) (triangles_of x.kind x.first x.second)) ∙ four_vertices mesh x.kind x.first x.second apart.0 in
       let wide = positions_long s (four_of s x.kind x.first x.second) (edges_of x.kind x.first x.second) (triangles_of x.kind x.first x.second) in
-      let wideEdges = edges_long s (four_of s x.kind x.first x.second) (edges_of x.kind x.first x.second) (triangles_of x.kind x.first x.second) in
-      let wideTriangles = triangles_long s (four_of s x.kind x.first x.second) (edges_of x.kind x.first x.second) (triangles_of x.kind x.first x.second) in
+      let wide_edges = edges_long s (four_of s x.kind x.first x.second) (edges_of x.kind x.first x.second) (triangles_of x.kind x.first x.second) in
+      let wide_triangles = triangles_long s (four_of s x.kind x.first x.second) (edges_of x.kind x.first x.second) (triangles_of x.kind x.first x.second) in
       let later = all_held_from (ps ++ own.positions) (es ++ map (λ y. v + y) own.edges) (ts ++ map (λ y. v + y) own.triangles) (n + 1) (v + 4) (e + edges_in x) (t + triangles_in x)
       (omega arith) (omega (arith, parts.0)) (omega (arith, parts.1))
       (omega (arith, length-append ps own.positions, wide, many))
-      (omega (arith, length-append es (map (λ y. v + y) own.edges), length-map own.edges (λ y. v + y), wideEdges))
-      (omega (arith, length-append ts (map (λ y. v + y) own.triangles), length-map own.triangles (λ y. v + y), wideTriangles))
+      (omega (arith, length-append es (map (λ y. v + y) own.edges), length-map own.edges (λ y. v + y), wide_edges))
+      (omega (arith, length-append ts (map (λ y. v + y) own.triangles), length-map own.triangles (λ y. v + y), wide_triangles))
       xs (omega arith) apart.1 in (
         subst (λ (q : Pair). Holds (scene_of (ps ++ (own.positions ++ positions_of s xs)) (es ++ (map (λ y. v + y) own.edges ++ edges_from s (v + 4) xs)) (ts ++ (map (λ y. v + y) own.triangles ++ triangles_from s (v + 4) xs)) []) s q x)
             (sym (number_back (in_whole (moved_up v e t) (own_pair s x)) (narrow s mesh x v e t (omega arith) (omega arith) (omega arith))))
-            (held_amid s x apart.0 r v e t (record { vertices = long; edges = longEdges; triangles = longTriangles })),
+            (held_amid s x apart.0 r v e t (record { vertices = long; edges = long_edges; triangles = long_triangles })),
         subst (λ (w : Scene). AllHeld w s (entries_from s (v + 4) (e + edges_in x) (t + triangles_in x) xs) xs)
             (λ i. scene_of (append_assoc ps own.positions (positions_of s xs) i) (append_assoc es (map (λ y. v + y) own.edges) (edges_from s (v + 4) xs) i) (append_assoc ts (map (λ y. v + y) own.triangles) (triangles_from s (v + 4) xs) i) [])
             later,

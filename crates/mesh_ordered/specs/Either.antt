@@ -35,8 +35,8 @@ pub record OrdersRoomed (s : Scene) (edge_order triangle_order : List ℕ) (n : 
   pub triangles : OrderLent (triangle_count s) triangle_order
   pub room : 2 * (length edge_order + length triangle_order) ≤ n
 
-module _ {s : Scene} {p q : List ℕ} {l : List ℤ} {e t : List ℕ} {edgeTop triangleTop : ℕ} (so : Forest s p q l e t edgeTop triangleTop) where
-  pub vertex_either : (n : ℕ) → n ≡ triangle_count s → EitherTree s PointTriangle l t n triangleTop 0 q
+module _ {s : Scene} {p q : List ℕ} {l : List ℤ} {e t : List ℕ} {edge_top triangle_top : ℕ} (so : Forest s p q l e t edge_top triangle_top) where
+  pub vertex_either : (n : ℕ) → n ≡ triangle_count s → EitherTree s PointTriangle l t n triangle_top 0 q
   unfolding first_count second_count second_box
   vertex_either n k =
       record {
@@ -61,7 +61,7 @@ module _ {s : Scene} {p q : List ℕ} {l : List ℤ} {e t : List ℕ} {edgeTop t
         low = omega arith;
       }
 
-  pub edge_either : (n offset : ℕ) → n ≡ edge_count s → offset ≡ vertex_count s → EitherTree s EdgeEdge l e n edgeTop offset p
+  pub edge_either : (n offset : ℕ) → n ≡ edge_count s → offset ≡ vertex_count s → EitherTree s EdgeEdge l e n edge_top offset p
   unfolding first_count second_count second_box
   edge_either n offset k o =
       record {

@@ -150,7 +150,7 @@ seconds_as e p = rw e at p
 
 -- ---- the two kinds of rows in a forest, where no order is lent for the second parts
 
-module _ {s : Scene} {p q : List ℕ} {l : List ℤ} {e t : List ℕ} {edgeTop triangleTop : ℕ} (so : Forest s p q l e t edgeTop triangleTop) where
+module _ {s : Scene} {p q : List ℕ} {l : List ℤ} {e t : List ℕ} {edge_top triangle_top : ℕ} (so : Forest s p q l e t edge_top triangle_top) where
   triangle_at : length q ≡ 0 → (j : ℕ) → j < triangle_count s → box_at l (get_or t 0 0 + j) ≡ triangle_box s j
   triangle_at none j h =
       ap (λ (n : ℕ). box_at l (n + j)) so.triangles_from ∙ so.boxed.triangles.at j h ∙ ap (triangle_box s) (part_itself q j none)
@@ -160,7 +160,7 @@ module _ {s : Scene} {p q : List ℕ} {l : List ℤ} {e t : List ℕ} {edgeTop t
       ap (λ (n : ℕ). box_at l (n + j)) from ∙ so.boxed.edges.at j h ∙ ap (edge_box s) (part_itself p j none)
 
   pub vertex_tree : length q ≡ 0 → (v n from : ℕ) → v < vertex_count s → n ≡ triangle_count s → from ≡ 0
-      → RowTree s PointTriangle v l t n triangleTop v from
+      → RowTree s PointTriangle v l t n triangle_top v from
   unfolding first_count second_count second_from meet_on
   vertex_tree none v n from h k b =
       let own : box_at l v ≡ vertex_box s v = rw zero-add at (so.boxed.vertices.at v h) in
@@ -178,7 +178,7 @@ module _ {s : Scene} {p q : List ℕ} {l : List ℤ} {e t : List ℕ} {edgeTop t
       })
 
   pub edge_tree : length p ≡ 0 → (i row n from : ℕ) → i < edge_count s → row ≡ vertex_count s + i → n ≡ edge_count s → from ≡ i + 1
-      → RowTree s EdgeEdge i l e n edgeTop row from
+      → RowTree s EdgeEdge i l e n edge_top row from
   unfolding first_count second_count second_from meet_on
   edge_tree none i row n from h p k b =
       let own : box_at l row ≡ edge_box s i = ap (box_at l) p ∙ edge_at none (vertex_count s) i refl h in

@@ -24,13 +24,13 @@ pub record Parted (n first end middle : ℕ) : Type 0 where
 
 -- ---- the rows of a kind in a forest, where no order is lent for the second parts
 
-module _ {s : Scene} {p q : List ℕ} {l : List ℤ} {e t : List ℕ} {edgeTop triangleTop : ℕ} (so : Forest s p q l e t edgeTop triangleTop) where
-  pub vertex_kind : length q ≡ 0 → (n : ℕ) → n ≡ triangle_count s → KindTree s PointTriangle l t n triangleTop 0
+module _ {s : Scene} {p q : List ℕ} {l : List ℤ} {e t : List ℕ} {edge_top triangle_top : ℕ} (so : Forest s p q l e t edge_top triangle_top) where
+  pub vertex_kind : length q ≡ 0 → (n : ℕ) → n ≡ triangle_count s → KindTree s PointTriangle l t n triangle_top 0
   unfolding first_count second_from
   vertex_kind none n k =
       record {
         row = λ i h.
-            subst (λ (row : ℕ). RowTree s PointTriangle i l t n triangleTop row 0) (sym (zero-add i)) (vertex_tree so none i n 0 h k refl);
+            subst (λ (row : ℕ). RowTree s PointTriangle i l t n triangle_top row 0) (sym (zero-add i)) (vertex_tree so none i n 0 h k refl);
         tree = rw k so.over_triangles;
         inside = omega (arith, so.boxed.room);
         few = omega (arith, so.few_triangles);
@@ -38,7 +38,7 @@ module _ {s : Scene} {p q : List ℕ} {l : List ℤ} {e t : List ℕ} {edgeTop t
         low = omega arith;
       }
 
-  pub edge_kind : length p ≡ 0 → (n offset : ℕ) → n ≡ edge_count s → offset ≡ vertex_count s → KindTree s EdgeEdge l e n edgeTop offset
+  pub edge_kind : length p ≡ 0 → (n offset : ℕ) → n ≡ edge_count s → offset ≡ vertex_count s → KindTree s EdgeEdge l e n edge_top offset
   unfolding first_count second_from
   edge_kind none n offset k o =
       record {

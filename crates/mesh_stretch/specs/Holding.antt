@@ -29,7 +29,7 @@ rows_held_starts w s a l from h =
     record { counts = sym (ap length none); holds = λ e. rw none (holds_none l from h) }
 
 -- a stretch of rows has fewer than 2^62 pairs
-module _ (w : RowPairs) (s : Scene) {p q : List ℕ} {l : List ℤ} {e t : List ℕ} {edgeTop triangleTop : ℕ} (f : Forest s p q l e t edgeTop triangleTop) where
+module _ (w : RowPairs) (s : Scene) {p q : List ℕ} {l : List ℤ} {e t : List ℕ} {edge_top triangle_top : ℕ} (f : Forest s p q l e t edge_top triangle_top) where
   row_few : (row : ℕ) → length (mesh_row w s row) ≤ 1073741824
   unfolding second_count
   row_few row =

@@ -17,13 +17,13 @@ use Rattle.mesh_boxes.specs.Joining.{BoxedBy}
 use Rattle.mesh_trees.specs.Scratch.{edge_nodes, triangle_nodes}
 use Rattle.mesh_trees.specs.Planting.{Plantable, Planted}
 
-pub record Forest (s : Scene) (edge_order triangle_order : List ℕ) (l : List ℤ) (e t : List ℕ) (edgeTop triangleTop : ℕ) : Type 0 where
+pub record Forest (s : Scene) (edge_order triangle_order : List ℕ) (l : List ℤ) (e t : List ℕ) (edge_top triangle_top : ℕ) : Type 0 where
   pub edges_lent : OrderLent (edge_count s) edge_order
   pub triangles_lent : OrderLent (triangle_count s) triangle_order
   pub boxed : BoxedBy s (vertex_box s) edge_order triangle_order l
-  pub over_edges : Tree l e (edge_count s) edgeTop
+  pub over_edges : Tree l e (edge_count s) edge_top
   pub edges_from : get_or e 0 0 ≡ vertex_count s
-  pub over_triangles : Tree l t (triangle_count s) triangleTop
+  pub over_triangles : Tree l t (triangle_count s) triangle_top
   pub triangles_from : get_or t 0 0 ≡ vertex_count s + edge_count s
   pub few_vertices : vertex_count s ≤ part_limit
   pub few_edges : edge_count s ≤ part_limit
@@ -86,10 +86,10 @@ unfolding level_place
 first_level g = g.levels.places 0 (omega arith)
 
 -- what was planted is such a forest
-pub planted_forest : {s : Scene} {m n : List ℕ} {b b' : List ℤ} {e e' t t' : List ℕ} {edgeTop triangleTop : ℕ} → Plantable s b
+pub planted_forest : {s : Scene} {m n : List ℕ} {b b' : List ℤ} {e e' t t' : List ℕ} {edge_top triangle_top : ℕ} → Plantable s b
     → 34 ≤ length e → 34 ≤ length t
-    → OrderLent (edge_count s) m → OrderLent (triangle_count s) n → Planted s m n b b' e e' t t' edgeTop triangleTop
-    → Forest s m n b' e' t' edgeTop triangleTop
+    → OrderLent (edge_count s) m → OrderLent (triangle_count s) n → Planted s m n b b' e e' t t' edge_top triangle_top
+    → Forest s m n b' e' t' edge_top triangle_top
 planted_forest {s} can long wide orders lent p =
     let edges = grown_same p.over_edges in
     let triangles = grown_same p.over_triangles in

@@ -35,12 +35,12 @@ mesh_plantable {s} l a h =
     }
 
 -- by two orders the scratch was b and is b', the lists of levels of the two trees were e and t and are e' and t'
-pub record Planted (s : Scene) (edge_order triangle_order : List ℕ) (b b' : List ℤ) (e e' t t' : List ℕ) (edgeTop triangleTop : ℕ) : Type 0 where
+pub record Planted (s : Scene) (edge_order triangle_order : List ℕ) (b b' : List ℤ) (e e' t t' : List ℕ) (edge_top triangle_top : ℕ) : Type 0 where
   pub boxes : List ℤ
   pub nodes : List ℤ
   pub filled : FilledBy s (vertex_box s) edge_order triangle_order b boxes
-  pub over_edges : Grown boxes nodes e e' (vertex_count s) (edge_count s) (edge_nodes s) edgeTop
-  pub over_triangles : Grown nodes b' t t' (vertex_count s + edge_count s) (triangle_count s) (triangle_nodes s) triangleTop
+  pub over_edges : Grown boxes nodes e e' (vertex_count s) (edge_count s) (edge_nodes s) edge_top
+  pub over_triangles : Grown nodes b' t t' (vertex_count s + edge_count s) (triangle_count s) (triangle_nodes s) triangle_top
 
 -- ---- as it is made, by counts that were taken
 
@@ -52,9 +52,9 @@ module _ {s : Scene} {v e t room : ℕ} (vs : v ≡ vertex_count s) (es : e ≡ 
       let all = can.room in
       (omega arith, omega arith, rw (behind, vs, es, ts) (omega arith))
 
-  pub planting_done : {p q : List ℕ} {b b₁ b₂ b₃ : List ℤ} {k k' m m' : List ℕ} {edgeTop triangleTop : ℕ} → FilledBy s (vertex_box s) p q b b₁
-      → Grown b₁ b₂ k k' v e (v + e + t) edgeTop → Grown b₂ b₃ m m' (v + e) t (v + e + t + room) triangleTop
-      → Planted s p q b b₃ k k' m m' edgeTop triangleTop
+  pub planting_done : {p q : List ℕ} {b b₁ b₂ b₃ : List ℤ} {k k' m m' : List ℕ} {edge_top triangle_top : ℕ} → FilledBy s (vertex_box s) p q b b₁
+      → Grown b₁ b₂ k k' v e (v + e + t) edge_top → Grown b₂ b₃ m m' (v + e) t (v + e + t + room) triangle_top
+      → Planted s p q b b₃ k k' m m' edge_top triangle_top
   planting_done {b₁ = b₁} {b₂ = b₂} filled first second =
       record {
         boxes = b₁;
@@ -66,21 +66,21 @@ module _ {s : Scene} {v e t room : ℕ} (vs : v ≡ vertex_count s) (es : e ≡ 
 
 -- ---- nothing is left open
 
-module _ {s : Scene} {m n : List ℕ} {b b₁ b₂ : List ℤ} {e e₁ e₂ t t₁ t₂ : List ℕ} {edgeTop triangleTop edge_high triangle_high : ℕ}
-    (p : Planted s m n b b₁ e e₁ t t₁ edgeTop triangleTop) (q : Planted s m n b b₂ e e₂ t t₂ edge_high triangle_high) where
-  pub one_edge_top : edgeTop ≡ edge_high
+module _ {s : Scene} {m n : List ℕ} {b b₁ b₂ : List ℤ} {e e₁ e₂ t t₁ t₂ : List ℕ} {edge_top triangle_top edge_high triangle_high : ℕ}
+    (p : Planted s m n b b₁ e e₁ t t₁ edge_top triangle_top) (q : Planted s m n b b₂ e e₂ t t₂ edge_high triangle_high) where
+  pub one_edge_top : edge_top ≡ edge_high
   one_edge_top = one_height p.over_edges.height q.over_edges.height
 
-  pub one_triangle_top : triangleTop ≡ triangle_high
+  pub one_triangle_top : triangle_top ≡ triangle_high
   one_triangle_top = one_height p.over_triangles.height q.over_triangles.height
 
-  edges_grown : Grown p.boxes q.nodes e e₂ (vertex_count s) (edge_count s) (edge_nodes s) edgeTop
+  edges_grown : Grown p.boxes q.nodes e e₂ (vertex_count s) (edge_count s) (edge_nodes s) edge_top
   edges_grown = rw (one_edge_top, one_filling_by s p.filled q.filled) q.over_edges
 
   same_nodes : p.nodes ≡ q.nodes
   same_nodes = one_growing p.over_edges.nodes edges_grown.nodes
 
-  triangles_grown : Grown p.nodes b₂ t t₂ (vertex_count s + edge_count s) (triangle_count s) (triangle_nodes s) triangleTop
+  triangles_grown : Grown p.nodes b₂ t t₂ (vertex_count s + edge_count s) (triangle_count s) (triangle_nodes s) triangle_top
   triangles_grown = rw (one_triangle_top, same_nodes) q.over_triangles
 
   pub one_planting : b₁ ≡ b₂

@@ -22,7 +22,7 @@ use Rattle.mesh_keep.specs.Entries.{EntriesOf}
 use Rattle.mesh_keep.specs.OfRows.{RowOf, pairs_of, row_of, row_pairs, row_short, rows_next, rows_none}
 use Rattle.mesh_keep.specs.declared.Going.{Going}
 
-pub forest_sized : {s : Scene} {p q : List ℕ} {l : List ℤ} {e t : List ℕ} {edgeTop triangleTop : ℕ} → Forest s p q l e t edgeTop triangleTop → MeshSized s
+pub forest_sized : {s : Scene} {p q : List ℕ} {l : List ℤ} {e t : List ℕ} {edge_top triangle_top : ℕ} → Forest s p q l e t edge_top triangle_top → MeshSized s
 forest_sized f = record { few_vertices = f.few_vertices; few_edges = f.few_edges; few_triangles = f.few_triangles }
 
 -- a stretch of rows has fewer than 2^62 pairs
@@ -65,8 +65,8 @@ module _ {w : RowPairs} {s : Scene} {m : Wanted} {most first end : ℕ} {o v : L
       record { past = omega (arith, so.past); within = omega arith; done = kept_as (rows_next w s first row so.past) (kept_then so.done b) }
 
   -- what is kept so far, and the next rows: few
-  pub stretch_few : (next : ℕ) → row ≤ next → {p q : List ℕ} {l : List ℤ} {e t : List ℕ} {edgeTop triangleTop : ℕ}
-      → Forest s p q l e t edgeTop triangleTop
+  pub stretch_few : (next : ℕ) → row ≤ next → {p q : List ℕ} {l : List ℤ} {e t : List ℕ} {edge_top triangle_top : ℕ}
+      → Forest s p q l e t edge_top triangle_top
       → next ≤ row_count s
       → g.count ≤ 0
       → g₁.count + length (rows_in w s row next) < 4611686018427387904

@@ -18,10 +18,10 @@ pub record GoesNear (w : RowPairs) (s : Scene) (m n : List ℕ) (l : List ℤ) :
   pub no_triangles : length n ≡ 0
   pub room : frames_room s ≤ length l
 
-pub near_forest : {s : Scene} {m n : List ℕ} {b b' : List ℤ} {e e' t t' : List ℕ} {edgeTop triangleTop : ℕ} → Plantable s b → 34 ≤ length e
+pub near_forest : {s : Scene} {m n : List ℕ} {b b' : List ℤ} {e e' t t' : List ℕ} {edge_top triangle_top : ℕ} → Plantable s b → 34 ≤ length e
     → 34 ≤ length t
-    → length m ≡ 0 → length n ≡ 0 → Frames s b → Planted s m n b b' e e' t t' edgeTop triangleTop
-    → NearForest s b' e' t' edgeTop triangleTop (node_room s)
+    → length m ≡ 0 → length n ≡ 0 → Frames s b → Planted s m n b b' e e' t t' edge_top triangle_top
+    → NearForest s b' e' t' edge_top triangle_top (node_room s)
 near_forest {s} {m} {n} can long wide edgeless faceless frames p =
     let forest = planted_forest can long wide (none_lent _ m edgeless) (none_lent _ n faceless) p in
     let stay = frames_stay (planted_from p) frames in
@@ -46,9 +46,9 @@ pub record NodesPlanted (w : RowPairs) (s : Scene) (m n : List ℕ) (l : List �
   pub far : 0 < shift → shift ≡ node_room s
 
 -- and the trees of swept boxes in front of them
-pub record NodesReady (w : RowPairs) (s : Scene) (l : List ℤ) (e t : List ℕ) (edgeTop triangleTop shift : ℕ) : Type 0 where
+pub record NodesReady (w : RowPairs) (s : Scene) (l : List ℤ) (e t : List ℕ) (edge_top triangle_top shift : ℕ) : Type 0 where
   pub near : 0 < shift → w ≡ Near
-  pub forest : 0 < shift → NearForest s l e t edgeTop triangleTop shift
+  pub forest : 0 < shift → NearForest s l e t edge_top triangle_top shift
 
 pub nodes_planted : {w : RowPairs} {s : Scene} {m n : List ℕ} {l : List ℤ} {shift : ℕ} → w ≡ Near → length m ≡ 0 → length n ≡ 0 → Frames s l
     → shift ≡ node_room s
@@ -66,11 +66,11 @@ none_planted w s m n l =
       far = λ h. absurd (not-suc-le-zero h);
     }
 
-pub nodes_ready : {w : RowPairs} {s : Scene} {m n : List ℕ} {b b' : List ℤ} {e e' t t' : List ℕ} {edgeTop triangleTop shift : ℕ} → Plantable s b
+pub nodes_ready : {w : RowPairs} {s : Scene} {m n : List ℕ} {b b' : List ℤ} {e e' t t' : List ℕ} {edge_top triangle_top shift : ℕ} → Plantable s b
     → 34 ≤ length e → 34 ≤ length t
     → NodesPlanted w s m n b shift
-    → Planted s m n b b' e e' t t' edgeTop triangleTop
-    → NodesReady w s b' e' t' edgeTop triangleTop shift
+    → Planted s m n b b' e e' t t' edge_top triangle_top
+    → NodesReady w s b' e' t' edge_top triangle_top shift
 nodes_ready can long wide so p =
     record {
       near = so.near;

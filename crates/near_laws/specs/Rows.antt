@@ -96,12 +96,12 @@ module _ (s : Scene) where
   left_far : (p : Pair) → not_far s p ≡ false → far s p.kind p.first p.second ≡ true
   left_far p e = not-false (far s p.kind p.first p.second) e
 
-  module _ (m : Wanted) (noMiss : m.miss ≡ false) (noApart : m.apart ≡ false) where
+  module _ (m : Wanted) (no_miss : m.miss ≡ false) (no_apart : m.apart ≡ false) where
     -- far pairs are not asked for
     unwanted : (p : Pair) (w : Settled) → not_far s p ≡ false → PairSettled s p.kind p.first p.second w → wants_word m w ≡ false
     unfolding wants_word
     unwanted p w f h =
-        ⊎_elim (λ e. rw e noMiss) (λ e. rw e noApart) (far_left s p.kind p.first p.second (left_far p f) w h)
+        ⊎_elim (λ e. rw e no_miss) (λ e. rw e no_apart) (far_left s p.kind p.first p.second (left_far p f) w h)
 
     kept_none : {A : Type 0} (vs : List Settled) → kept {A = A} m vs [] ≡ []
     unfolding kept
@@ -151,13 +151,13 @@ pub record SaysTheSame (s : Scene) (m : Wanted) (a b : ℕ) (ws vs : List Settle
 
 pub near_says_the_same : (s : Scene) (m : Wanted) (a b : ℕ) {ws vs : List Settled} → m.miss ≡ false → m.apart ≡ false
     → AllSettled s (rows_in Listed s a b) ws → AllSettled s (rows_in Near s a b) vs → SaysTheSame s m a b ws vs
-near_says_the_same s m a b {ws} {vs} noMiss noApart all near =
+near_says_the_same s m a b {ws} {vs} no_miss no_apart all near =
     let l = rows_in Listed s a b in
     let only = near_rows s a b in
     let same = near_words s l ws vs all (subst (λ (k : List Pair). AllSettled s k vs) only near) in
     record {
-      pairs = near_kept s m noMiss noApart l ws l all ∙ λ t. kept m (sym same t) ((near_own s l ∙ sym only) t);
-      words = near_kept s m noMiss noApart l ws ws all ∙ λ t. kept m (sym same t) (sym same t);
+      pairs = near_kept s m no_miss no_apart l ws l all ∙ λ t. kept m (sym same t) ((near_own s l ∙ sym only) t);
+      words = near_kept s m no_miss no_apart l ws ws all ∙ λ t. kept m (sym same t) (sym same t);
       hits = near_how_many s Hit (inl refl) l ws all ∙ ap (how_many Hit) (sym same);
       touches = near_how_many s Touch (inr refl) l ws all ∙ ap (how_many Touch) (sym same);
     }

@@ -65,23 +65,23 @@ pub record NearKind (s : Scene) (kind : Kind) (l : List ℤ) (t : List ℕ) (shi
   pub nodes : Nodes s kind l t shift parts top
   pub known : Known s
 
-pub record NearForest (s : Scene) (l : List ℤ) (e t : List ℕ) (edgeTop triangleTop shift : ℕ) : Type 0 where
+pub record NearForest (s : Scene) (l : List ℤ) (e t : List ℕ) (edge_top triangle_top shift : ℕ) : Type 0 where
   pub edge_order : List ℕ
   pub triangle_order : List ℕ
   pub no_edges : length edge_order ≡ 0
   pub no_triangles : length triangle_order ≡ 0
-  pub forest : Forest s edge_order triangle_order l e t edgeTop triangleTop
-  pub edges : Nodes s EdgeEdge l e shift (edge_count s) edgeTop
-  pub triangles : Nodes s PointTriangle l t shift (triangle_count s) triangleTop
+  pub forest : Forest s edge_order triangle_order l e t edge_top triangle_top
+  pub edges : Nodes s EdgeEdge l e shift (edge_count s) edge_top
+  pub triangles : Nodes s PointTriangle l t shift (triangle_count s) triangle_top
 
-module _ {s : Scene} {l : List ℤ} {e t : List ℕ} {edgeTop triangleTop shift : ℕ} (so : NearForest s l e t edgeTop triangleTop shift) where
+module _ {s : Scene} {l : List ℤ} {e t : List ℕ} {edge_top triangle_top shift : ℕ} (so : NearForest s l e t edge_top triangle_top shift) where
   known_here : Known s
   known_here = record { few = so.forest.few_vertices; ends = so.forest.ends }
 
-  pub vertex_near : (n : ℕ) → n ≡ triangle_count s → NearKind s PointTriangle l t shift n triangleTop 0
+  pub vertex_near : (n : ℕ) → n ≡ triangle_count s → NearKind s PointTriangle l t shift n triangle_top 0
   vertex_near n k = record { rows = vertex_kind so.forest so.no_triangles n k; nodes = rw k so.triangles; known = known_here }
 
-  pub edge_near : (n offset : ℕ) → n ≡ edge_count s → offset ≡ vertex_count s → NearKind s EdgeEdge l e shift n edgeTop offset
+  pub edge_near : (n offset : ℕ) → n ≡ edge_count s → offset ≡ vertex_count s → NearKind s EdgeEdge l e shift n edge_top offset
   edge_near n offset k o = record { rows = edge_kind so.forest so.no_edges n offset k o; nodes = rw k so.edges; known = known_here }
 
 -- the rows of a kind have at most 2^60 pairs

@@ -79,10 +79,10 @@ module _ {l l' : List ℤ} {t t' : List ℕ} {first n to top : ℕ} (g : Grown l
             ∙ node_same (λ j. box_at l (first + j)) want n (suc v) i leaves p;
       }
 
-module _ (f : Frame) (s : Scene) {l l₁ l₂ l₃ : List ℤ} {e e' t t' : List ℕ} {to edgeTop triangleTop : ℕ}
+module _ (f : Frame) (s : Scene) {l l₁ l₂ l₃ : List ℤ} {e e' t t' : List ℕ} {to edge_top triangle_top : ℕ}
     (filled : FilledAs s (vertex_box_at f s) l l₁)
-    (over_edges : Grown l₁ l₂ e e' (vertex_count s) (edge_count s) to edgeTop)
-    (over_triangles : Grown l₂ l₃ t t' (vertex_count s + edge_count s) (triangle_count s) (to + tree_room (edge_count s)) triangleTop)
+    (over_edges : Grown l₁ l₂ e e' (vertex_count s) (edge_count s) to edge_top)
+    (over_triangles : Grown l₂ l₃ t t' (vertex_count s + edge_count s) (triangle_count s) (to + tree_room (edge_count s)) triangle_top)
     (behind : vertex_count s + edge_count s + triangle_count s ≤ to) where
   edge_leaves : (j : ℕ) → j < edge_count s → box_at l₁ (vertex_count s + j) ≡ second_box_at f s EdgeEdge j
   unfolding second_span_at
@@ -117,9 +117,9 @@ pub record FramePlanted (f : Frame) (s : Scene) (l l' : List ℤ) (to : ℕ) : T
   pub nodes : FrameNodes f s l' to
   pub kept : SameFrom l l' (to + node_room s)
 
-pub frame_done : (f : Frame) (s : Scene) {l l₁ l₂ l₃ : List ℤ} {e e' t t' : List ℕ} {to edgeTop triangleTop v n m room : ℕ}
+pub frame_done : (f : Frame) (s : Scene) {l l₁ l₂ l₃ : List ℤ} {e e' t t' : List ℕ} {to edge_top triangle_top v n m room : ℕ}
     → v ≡ vertex_count s → n ≡ edge_count s → m ≡ triangle_count s → room ≡ tree_room n → vertex_count s + edge_count s + triangle_count s ≤ to
-    → FilledAs s (vertex_box_at f s) l l₁ → Grown l₁ l₂ e e' v n to edgeTop → Grown l₂ l₃ t t' (v + n) m (to + room) triangleTop
+    → FilledAs s (vertex_box_at f s) l l₁ → Grown l₁ l₂ e e' v n to edge_top → Grown l₂ l₃ t t' (v + n) m (to + room) triangle_top
     → FramePlanted f s l l₃ to
 frame_done f s a b c r behind filled one two =
     let first = rw (a, b) at one in

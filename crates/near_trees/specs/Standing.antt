@@ -45,8 +45,8 @@ plantable_still same can =
     }
 
 -- the trees of swept boxes are planted in front of them
-pub planted_from : {s : Scene} {m n : List ℕ} {b b' : List ℤ} {e e' t t' : List ℕ} {edgeTop triangleTop : ℕ}
-    → Planted s m n b b' e e' t t' edgeTop triangleTop
+pub planted_from : {s : Scene} {m n : List ℕ} {b b' : List ℤ} {e e' t t' : List ℕ} {edge_top triangle_top : ℕ}
+    → Planted s m n b b' e e' t t' edge_top triangle_top
     → SameFrom b b' (edge_nodes s + node_room s)
 planted_from {s} {b = b} p =
     let fill : SameFrom b p.boxes (edge_nodes s + node_room s) =
@@ -68,32 +68,32 @@ frames_stay so p =
 moved : {l : List ℤ} {a b count : ℕ} {want : ℕ → _} → a ≡ b → BoxesStand l b count want → BoxesStand l a count want
 moved e so = rw e so
 
-module _ {s : Scene} {m n : List ℕ} {b l : List ℤ} {e e' t t' : List ℕ} {edgeTop triangleTop : ℕ}
-    (p : Planted s m n b l e e' t t' edgeTop triangleTop) (forest : Forest s m n l e' t' edgeTop triangleTop) (frames : Frames s l) where
-  edge_level : (v : ℕ) → v < edgeTop → get_or e' (2 * suc v) 0 ≡ edge_nodes s + nodes_up_to (edge_count s) v
+module _ {s : Scene} {m n : List ℕ} {b l : List ℤ} {e e' t t' : List ℕ} {edge_top triangle_top : ℕ}
+    (p : Planted s m n b l e e' t t' edge_top triangle_top) (forest : Forest s m n l e' t' edge_top triangle_top) (frames : Frames s l) where
+  edge_level : (v : ℕ) → v < edge_top → get_or e' (2 * suc v) 0 ≡ edge_nodes s + nodes_up_to (edge_count s) v
   unfolding level_place
   edge_level v h = p.over_edges.levels.places (suc v) (omega arith)
 
-  triangle_level : (v : ℕ) → v < triangleTop → get_or t' (2 * suc v) 0 ≡ triangle_nodes s + nodes_up_to (triangle_count s) v
+  triangle_level : (v : ℕ) → v < triangle_top → get_or t' (2 * suc v) 0 ≡ triangle_nodes s + nodes_up_to (triangle_count s) v
   unfolding level_place
   triangle_level v h = p.over_triangles.levels.places (suc v) (omega arith)
 
-  edge_start : (u : ℕ) → 0 < u → u ≤ edgeTop
+  edge_start : (u : ℕ) → 0 < u → u ≤ edge_top
       → BoxesStand l (get_or e' (2 * u) 0 + node_room s) (nodes_at (edge_count s) u) (node_box (second_box_at Start s EdgeEdge) (edge_count s) u)
   edge_start zero h k = absurd (not-suc-le-zero h)
-  edge_start (suc v) h k = moved (omega (arith, edge_level v (omega arith))) (frames.at_start.edges edgeTop v p.over_edges.height (omega arith))
+  edge_start (suc v) h k = moved (omega (arith, edge_level v (omega arith))) (frames.at_start.edges edge_top v p.over_edges.height (omega arith))
 
-  edge_stop : (u : ℕ) → 0 < u → u ≤ edgeTop
+  edge_stop : (u : ℕ) → 0 < u → u ≤ edge_top
       → BoxesStand l (get_or e' (2 * u) 0 + node_room s + node_room s) (nodes_at (edge_count s) u) (node_box (second_box_at End s EdgeEdge) (edge_count s) u)
   edge_stop zero h k = absurd (not-suc-le-zero h)
-  edge_stop (suc v) h k = moved (omega (arith, edge_level v (omega arith))) (frames.at_end.edges edgeTop v p.over_edges.height (omega arith))
+  edge_stop (suc v) h k = moved (omega (arith, edge_level v (omega arith))) (frames.at_end.edges edge_top v p.over_edges.height (omega arith))
 
-  edge_inside : (u : ℕ) → 0 < u → u ≤ edgeTop → 6 * (get_or e' (2 * u) 0 + node_room s + node_room s + nodes_at (edge_count s) u) ≤ length l
+  edge_inside : (u : ℕ) → 0 < u → u ≤ edge_top → 6 * (get_or e' (2 * u) 0 + node_room s + node_room s + nodes_at (edge_count s) u) ≤ length l
   edge_inside zero h k = absurd (not-suc-le-zero h)
   edge_inside (suc v) h k =
       omega (arith, edge_level v (omega arith), node_low v p.over_edges.height (omega arith), frames.room)
 
-  pub edge_nodes_lem : Nodes s EdgeEdge l e' (node_room s) (edge_count s) edgeTop
+  pub edge_nodes_lem : Nodes s EdgeEdge l e' (node_room s) (edge_count s) edge_top
   unfolding second_count
   edge_nodes_lem =
       record {
@@ -106,29 +106,29 @@ module _ {s : Scene} {m n : List ℕ} {b l : List ℤ} {e e' t t' : List ℕ} {e
         corners = forest.corners;
       }
 
-  triangle_start : (u : ℕ) → 0 < u → u ≤ triangleTop
+  triangle_start : (u : ℕ) → 0 < u → u ≤ triangle_top
       → BoxesStand l (get_or t' (2 * u) 0 + node_room s) (nodes_at (triangle_count s) u)
       (node_box (second_box_at Start s PointTriangle) (triangle_count s) u)
   triangle_start zero h k = absurd (not-suc-le-zero h)
   triangle_start (suc v) h k =
       moved (omega (arith, triangle_level v (omega arith)))
-      (frames.at_start.triangles triangleTop v p.over_triangles.height (omega arith))
+      (frames.at_start.triangles triangle_top v p.over_triangles.height (omega arith))
 
-  triangle_stop : (u : ℕ) → 0 < u → u ≤ triangleTop
+  triangle_stop : (u : ℕ) → 0 < u → u ≤ triangle_top
       → BoxesStand l (get_or t' (2 * u) 0 + node_room s + node_room s) (nodes_at (triangle_count s) u)
       (node_box (second_box_at End s PointTriangle) (triangle_count s) u)
   triangle_stop zero h k = absurd (not-suc-le-zero h)
   triangle_stop (suc v) h k =
       moved (omega (arith, triangle_level v (omega arith)))
-      (frames.at_end.triangles triangleTop v p.over_triangles.height (omega arith))
+      (frames.at_end.triangles triangle_top v p.over_triangles.height (omega arith))
 
-  triangle_inside : (u : ℕ) → 0 < u → u ≤ triangleTop
+  triangle_inside : (u : ℕ) → 0 < u → u ≤ triangle_top
       → 6 * (get_or t' (2 * u) 0 + node_room s + node_room s + nodes_at (triangle_count s) u) ≤ length l
   triangle_inside zero h k = absurd (not-suc-le-zero h)
   triangle_inside (suc v) h k =
       omega (arith, triangle_level v (omega arith), node_low v p.over_triangles.height (omega arith), frames.room)
 
-  pub triangle_nodes_lem : Nodes s PointTriangle l t' (node_room s) (triangle_count s) triangleTop
+  pub triangle_nodes_lem : Nodes s PointTriangle l t' (node_room s) (triangle_count s) triangle_top
   unfolding second_count
   triangle_nodes_lem =
       record {

@@ -1,4 +1,4 @@
--- The edges of a file that is read are the edges of its triangles: what is said of `edgesOf` is said of the scene. Each side of each face is there, no
+-- The edges of a file that is read are the edges of its triangles: what is said of `edges_of` is said of the scene. Each side of each face is there, no
 -- edge is there that is no side, and an edge is written the way round in which it first appears.
 use Rattle.std.specs.Prelude.{ℕ, ◌-◌, Bool, true, false, ◌||◌, ◌⊎◌, ◌≡◌, refl}
 use Rattle.std.proofs.Common.{true≢false, sym, ap, ◌∙◌, subst}

@@ -1,1 +1,3 @@
-// What was asked of two OBJ files, as theorems, in specs/. No code stands here.
+// What was asked of two OBJ files, as theorems, in specs/ and proofs/. No code stands here.
+
+#![tactic(auto)]

@@ -129,9 +129,9 @@ other_sum : (a b x y : ℕ) → eqb (x + y) (a + b) ≡ false → here a b x y �
 other_sum a b x y n =
     ⊎_elim (λ t. absurd (eqb-false (x + y) (a + b) n (here_sum a b x y t))) (λ f. f) (either (here a b x y))
 
-or-false : (p q : Bool) → q ≡ false → p || q ≡ p
-or-false true q e = refl
-or-false false q e = e
+or_false : (p q : Bool) → q ≡ false → p || q ≡ p
+or_false true q e = refl
+or_false false q e = e
 
 module _ (a b : ℕ) (o : List ℕ) where
   abbrev up_to : ℕ → Bool
@@ -160,7 +160,7 @@ module _ (a b : ℕ) (o : List ℕ) where
       (λ t. sym (ap up_to (last_here o (a + b) n (eqb-true (sum_at o n) (a + b) t))))
       (λ t.
       one_more n (omega arith)
-      ∙ or-false (up_to n) (edge_here n) (other_sum a b (get_or o (2 * n) 0) (get_or o (2 * n + 1) 0) t)
+      ∙ or_false (up_to n) (edge_here n) (other_sum a b (get_or o (2 * n) 0) (get_or o (2 * n + 1) 0) t)
       ∙ last_same n (omega arith)
       ∙ sym (ap up_to (last_below o (a + b) n t)))
       (either (eqb (sum_at o n) (a + b)))
@@ -207,7 +207,7 @@ module _ {a b : ℕ} {o : List ℕ} {n e : ℕ} (i : Searching a b o n e) (room 
         let low : last_with o (a + b) (e - 1) ≤ e - 1 = last_within o (a + b) (e - 1) in (
           subst (Searching a b o n) next
               (record {
-                rest = step ∙ or-false (up_to a b o (e - 1)) (here a b (get_or o (2 * e - 2) 0) (get_or o (2 * e - 1) 0)) f ∙ last_same a b o (e - 1) (omega (arith, i.within));
+                rest = step ∙ or_false (up_to a b o (e - 1)) (here a b (get_or o (2 * e - 2) 0) (get_or o (2 * e - 1) 0)) f ∙ last_same a b o (e - 1) (omega (arith, i.within));
                 sum = λ j q. last_sum o (a + b) (e - 1) j q;
                 within = omega (arith, low, i.within);
               }),

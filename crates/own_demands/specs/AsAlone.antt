@@ -31,7 +31,7 @@ use Rattle.own_words.specs.Faults.{Sound, entry_is_there, each_passed}
 pub asks_for_its_pair : (p : Pair) → Narrow p → asked_for (number p) ≡ p
 asks_for_its_pair p h = number_back p h
 
--- every number below `noNumber` is that of the pair that it asks for
+-- every number below `no_number` is that of the pair that it asks for
 pub own_number : (e : ℕ) → e < no_number → number (asked_for e) ≡ e
 unfolding number kind_part
 own_number e h = by_kind (ltb e kind_step) refl

@@ -21,7 +21,7 @@ pub record PiercedMeans (s : Scene) (f : Frame) (i j : ℕ) : Type 0 where
   pub one_word : (a b : Bool) → PiercedIs s f i j a → PiercedIs s f i j b → a ≡ b
   pub weights : Pierced s f i j ↔ RationalTouch (ends_at s f i) (corners_at s f j)
   pub places : Pierced s f i j ↔ Together (end_places s f i) (corner_places s f j)
-  pub as_aPair : (w : Settled) → PairSettled (crossing_of s f i j) PointTriangle 0 0 w → Pierced s f i j ↔ (w ≡ Hit) ⊎ (w ≡ Touch)
+  pub as_a_pair : (w : Settled) → PairSettled (crossing_of s f i j) PointTriangle 0 0 w → Pierced s f i j ↔ (w ≡ Hit) ⊎ (w ≡ Touch)
   pub boxes_apart : boxes_meet_at s f i j ≡ false → ¬ Pierced s f i j
 
 pub demand2_pierced : (s : Scene) (f : Frame) (i j : ℕ) → PiercedMeans s f i j
@@ -29,6 +29,6 @@ demand2_pierced s f i j = record {
   one_word = one_word_lem s f i j;
   weights = pierced_rational s f i j;
   places = pierced_together s f i j;
-  as_aPair = pierced_word s f i j;
+  as_a_pair = pierced_word s f i j;
   boxes_apart = boxes_apart_lem s f i j;
 }

@@ -1,3 +1,3 @@
-#![tactic(auto)]
+// An edge through a triangle at one time: what follows from the definition, in specs/ and proofs/. No code stands here.
 
-// An edge through a triangle at one time: what follows from the definition, in specs/. No code stands here.
+#![tactic(auto)]

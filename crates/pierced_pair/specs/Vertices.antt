@@ -42,10 +42,10 @@ abbrev pub VerticesTell : List ℤ → Frame → ℕ → ℕ → ℕ → ℕ →
 VerticesTell ps f p q a b c r = PlacesTell ps (offset_of f p) (offset_of f q) (offset_of f a) (offset_of f b) (offset_of f c) r
 
 -- the places as code finds them
-module _ (ps : List ℤ) (f : Frame) (p q a b c : ℕ) {p' q' a' b' c' : ℕ} (pIs : p' ≡ offset_of f p) (qIs : q' ≡ offset_of f q) (aIs : a' ≡ offset_of f a)
-    (bIs : b' ≡ offset_of f b) (cIs : c' ≡ offset_of f c) where
+module _ (ps : List ℤ) (f : Frame) (p q a b c : ℕ) {p' q' a' b' c' : ℕ} (p_is : p' ≡ offset_of f p) (q_is : q' ≡ offset_of f q) (a_is : a' ≡ offset_of f a)
+    (b_is : b' ≡ offset_of f b) (c_is : c' ≡ offset_of f c) where
   pub places_in : FiveThere ps p q a b c → FiveIn ps p' q' a' b' c'
-  places_in h = rw (pIs, qIs, aIs, bIs, cIs) (record {
+  places_in h = rw (p_is, q_is, a_is, b_is, c_is) (record {
     bounded = h.bounded;
     one_end = offset_room ps f _ h.one_end;
     other_end = offset_room ps f _ h.other_end;
@@ -55,4 +55,4 @@ module _ (ps : List ℤ) (f : Frame) (p q a b c : ℕ) {p' q' a' b' c' : ℕ} (p
   })
 
   pub places_told : (r : Bool) → PlacesTell ps p' q' a' b' c' r → VerticesTell ps f p q a b c r
-  places_told r t = rw (pIs, qIs, aIs, bIs, cIs) at t
+  places_told r t = rw (p_is, q_is, a_is, b_is, c_is) at t

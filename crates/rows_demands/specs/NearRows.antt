@@ -56,7 +56,7 @@ pub data HeardTheSame (x y : Outcome KeptRows) : Type 0 where
   refused_too : (n c : ℕ) → x ≡ refused n c → y ≡ refused n c → HeardTheSame x y
   given_too : (t u : KeptRows) → x ≡ given t → y ≡ given u → SameTold t u → HeardTheSame x y
 
-module _ (m : Wanted) (noMiss : m.miss ≡ false) (noApart : m.apart ≡ false) (s : Scene) (l : Lent) (first end : ℕ) where
+module _ (m : Wanted) (no_miss : m.miss ≡ false) (no_apart : m.apart ≡ false) (s : Scene) (l : Lent) (first end : ℕ) where
   told : {ws vs : List Settled} → SaysTheSame s m first end ws vs → SameTold (kept_told m ws) (kept_told m vs)
   told e = record { counts = ap length e.words; hits = e.hits; touches = e.touches }
 
@@ -77,7 +77,7 @@ module _ (m : Wanted) (noMiss : m.miss ≡ false) (noApart : m.apart ≡ false) 
   pub near_keeps_the_same : (o o' o'' b b' b'' : List ℕ) (r r' : KeptAnswer) → RowsKept Listed m s l first end o o' b b' r
       → RowsKept Near m s l first end o o'' b b'' r' → HeardTheSame (kept_says r) (kept_says r') × (o' ≡ o'') × (b' ≡ b'')
   near_keeps_the_same o o' o'' b b' b'' r r' p q =
-      let e = near_says_the_same s m first end noMiss noApart p.right q.right in
+      let e = near_says_the_same s m first end no_miss no_apart p.right q.right in
       let alike =
       kept_alike (λ n. row_checks s l (row_count s) first end (room_check (min (length o) (length b)) n ∷ [])) e p.answer q.answer in (
         heard e alike,
@@ -94,7 +94,7 @@ module _ (m : Wanted) (noMiss : m.miss ≡ false) (noApart : m.apart ≡ false) 
   pub near_meets_the_same : (o o' o'' b b' b'' c c' c'' : List ℕ) (r r' : KeptAnswer) → ContactsKept Listed m s l first end o o' b b' c c' r
       → ContactsKept Near m s l first end o o'' b b'' c c'' r' → HeardTheSame (kept_says r) (kept_says r') × (o' ≡ o'') × (b' ≡ b'') × (c' ≡ c'')
   near_meets_the_same o o' o'' b b' b'' c c' c'' r r' p q =
-      let e = near_says_the_same s m first end noMiss noApart p.right q.right in
+      let e = near_says_the_same s m first end no_miss no_apart p.right q.right in
       let alike =
       kept_alike (λ n. row_checks s l (row_count s) first end (range_check s ∷ room_check (contact_room o b c) n ∷ [])) e p.answer q.answer in
       let met : p.contacts ≡ q.contacts =

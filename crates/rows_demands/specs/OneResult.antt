@@ -1,5 +1,5 @@
 -- Two results that meet a promise of a call over rows are one, refused calls too: the answer, and every lent number but the scratch. (Of check_mesh and
--- check_edges: `mesh_lent/Answering.one-accepted`, `mesh_edges/Saying.one-edges-answer`.)
+-- check_edges: `mesh_lent/Answering.one_accepted`, `mesh_edges/Saying.one_edges_answer`.)
 use Rattle.std.specs.Prelude.{ℕ, List, map, ◌≡◌, length}
 use Rattle.std.proofs.Common.{sym, ap, ◌∙◌}
 use Rattle.meaning.specs.Scene.{Scene}

@@ -26,8 +26,8 @@ sewn_upwards = scene_of five [] face (1 ∷ 3 ∷ [])
 abbrev pub sewn_to_itself : Scene
 sewn_to_itself = scene_of five [] face (3 ∷ 3 ∷ [])
 
-abbrev pub sewn_in_aChain : Scene
-sewn_in_aChain = scene_of five [] face (3 ∷ 1 ∷ 4 ∷ 3 ∷ [])
+abbrev pub sewn_in_a_chain : Scene
+sewn_in_a_chain = scene_of five [] face (3 ∷ 1 ∷ 4 ∷ 3 ∷ [])
 
 abbrev pub apart_at_the_start : Scene
 apart_at_the_start = scene_of (resting o ++ resting p ++ resting q ++ coordinates q p) [] face (3 ∷ 1 ∷ [])
@@ -39,10 +39,10 @@ refused_15 : (s : Scene) → wrong_shape s ≡ false → out_of_range s ≡ fals
 refused_15 s shape range known broken r h = (demand1_scene s r h).rows.no15.1 (shape, (range, (known, broken)))
 
 pub broken_refused : Every (RefusedWith 15)
-    (out_of_order ∷ sewn_twice ∷ sewn_upwards ∷ sewn_to_itself ∷ sewn_in_aChain ∷ apart_at_the_start ∷ apart_at_the_end ∷ [])
+    (out_of_order ∷ sewn_twice ∷ sewn_upwards ∷ sewn_to_itself ∷ sewn_in_a_chain ∷ apart_at_the_start ∷ apart_at_the_end ∷ [])
 unfolding some_below
 broken_refused =
-    (refused_15 out_of_order refl refl refl refl, (refused_15 sewn_twice refl refl refl refl, (refused_15 sewn_upwards refl refl refl refl, (refused_15 sewn_to_itself refl refl refl refl, (refused_15 sewn_in_aChain refl refl refl refl, (refused_15 apart_at_the_start refl refl refl refl, (refused_15 apart_at_the_end refl refl refl refl, tt)))))))
+    (refused_15 out_of_order refl refl refl refl, (refused_15 sewn_twice refl refl refl refl, (refused_15 sewn_upwards refl refl refl refl, (refused_15 sewn_to_itself refl refl refl refl, (refused_15 sewn_in_a_chain refl refl refl refl, (refused_15 apart_at_the_start refl refl refl refl, (refused_15 apart_at_the_end refl refl refl refl, tt)))))))
 
 -- ---- 4: an edge whose ends, or a triangle two of whose corners, stand for one vertex; there too where both are replaced
 
@@ -69,11 +69,11 @@ folded_refused =
 
 -- ---- 1: a seam list of odd length; 3: a vertex that isn't there, before 15
 
-abbrev pub half_aSeam : Scene
-half_aSeam = scene_of five [] face (3 ∷ 1 ∷ 4 ∷ [])
+abbrev pub half_a_seam : Scene
+half_a_seam = scene_of five [] face (3 ∷ 1 ∷ 4 ∷ [])
 
-pub odd_refused : RefusedWith 1 half_aSeam
-odd_refused r h = (demand1_scene half_aSeam r h).rows.no1.1 refl
+pub odd_refused : RefusedWith 1 half_a_seam
+odd_refused r h = (demand1_scene half_a_seam r h).rows.no1.1 refl
 
 abbrev pub sewn_to_no_vertex : Scene
 sewn_to_no_vertex = scene_of five [] face (3 ∷ 9 ∷ [])

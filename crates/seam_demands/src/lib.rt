@@ -1,1 +1,3 @@
 // Scenes with seams, shown: the theorems stand in specs/. No code stands here.
+
+#![tactic(auto)]

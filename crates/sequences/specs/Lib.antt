@@ -3,7 +3,6 @@
 pub mod Pick
 -- laws of take, drop, ++ and set that lib.ListN and lib.Seq lack, at i + 1 as code writes it, and the part of a list that stands between two places
 pub mod Parts
--- what a lent buffer held when the call began, and what it holds when it ends, as a promise names them
 -- what a writer promises of a buffer that it was lent
 pub mod Wrote
 -- what a scanner promises of a list that it reads

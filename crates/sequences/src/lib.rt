@@ -1,1 +1,3 @@
 // Lists and lent buffers: laws only, in specs/. No code stands here.
+
+#![tactic(auto)]

@@ -1,1 +1,3 @@
-// What was asked of a series, as theorems, in specs/. No code stands here.
+// What was asked of a series, as theorems, in specs/ and proofs/. No code stands here.
+
+#![tactic(auto)]

@@ -1,5 +1,5 @@
 -- 'A refusal returns its number .., and no lent byte or number changes', of the calls with stored boxes; of reading it is
--- `AfterReading.boxed-unchanged`, and the lent number of box tests is `meaning/Runs.testsLeft`.
+-- `AfterReading.boxed_unchanged`, and the lent number of box tests is `meaning/Runs.tests_left`.
 use Rattle.std.specs.Prelude.{ℕ, List, map, ◌≡◌, ℤ}
 use Rattle.std.proofs.Common.{ap, subst, ◌∙◌}
 use Rattle.meaning.specs.Scene.{Scene}

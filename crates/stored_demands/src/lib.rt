@@ -1,1 +1,3 @@
-// What was asked of dragging, as theorems: they stand in specs/. No code stands here.
+// What was asked of dragging, as theorems: they stand in specs/ and proofs/. No code stands here.
+
+#![tactic(auto)]

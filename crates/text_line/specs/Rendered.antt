@@ -1,4 +1,4 @@
--- Rendering is one_to_one: a text begins with the line of one record at most.
+-- Rendering is one-to-one: a text begins with the line of one record at most.
 use Rattle.std.specs.Prelude.{true, false, ◌≡◌, refl, ℕ, suc, ℤ, pos, negsuc, nat_abs, length}
 use mathlib.Core.List.{List, [], ◌∷◌, ◌++◌, append_assoc, head-eq_of_cons-eq, tail-eq_of_cons-eq, Memᴰ}
 use Rattle.std.proofs.Common.{sym, ap, ◌∙◌, arith}
@@ -124,7 +124,7 @@ rendered_feed (edge a b) = (λ e. omega (arith, e), row_feed (numbers_of (edge a
 rendered_feed (triangle a b c) = (λ e. omega (arith, e), row_feed (numbers_of (triangle a b c)))
 rendered_feed (seam a b) = (λ e. omega (arith, e), row_feed (numbers_of (seam a b)))
 
--- so `text_laws/Feed.first-line` and `no_line` hold of it: its line ends at the first LF, and a text without LF begins with none
+-- so `text_laws/Feed.first_line` and `no_line` hold of it: its line ends at the first LF, and a text without LF begins with none
 pub scene_bodies : Bodies scene_lines
 unfolding line_of
 scene_bodies = record { body = λ r. rendered r; ended = λ r. refl; unbroken = λ r short. rendered_feed r }

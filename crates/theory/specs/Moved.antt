@@ -1,4 +1,4 @@
--- Demand 3: a scene sent through a whole_number 3 by 3 matrix of nonzero determinant, with one shift added to all start positions and another to all
+-- Demand 3: a scene sent through a whole-number 3 by 3 matrix of nonzero determinant, with one shift added to all start positions and another to all
 -- end positions, keeps the verdict of every piece and of every pair. A pair culled in either scene is hit in neither.
 use Rattle.std.specs.Prelude.{◌≡◌, refl, ◌≢◌, ℕ, ◌<◌, pos, length}
 use Rattle.std.proofs.Common.{sym, ◌∙◌, ap, arith}

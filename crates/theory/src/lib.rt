@@ -1,3 +1,3 @@
-#![tactic(auto)]
+// What follows from the meaning: theorems only, in specs/ and proofs/. No code stands here.
 
-// What follows from the meaning: theorems only, in specs/. No code stands here.
+#![tactic(auto)]

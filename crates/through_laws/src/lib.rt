@@ -1,1 +1,3 @@
 // Edges through triangles, row by row: theorems alone.
+
+#![tactic(auto)]

@@ -1,3 +1,3 @@
-#![tactic(auto)]
+// A scene played backwards: what stays, in specs/ and proofs/. No code stands here; the call that turns a scene round stands in `turning`.
 
-// A scene played backwards: what stays, in specs/. No code stands here; the call that turns a scene round stands in `turning`.
+#![tactic(auto)]

@@ -1,5 +1,5 @@
 -- A big polynomial is written once, over a record of operations, and used at ℤ and at the expressions of the normaliser.
--- The determinant is written so: `determinant` is the one at ℤ, and `det-hom` says that the expression is worth it.
+-- The determinant is written so: `determinant` is the one at ℤ, and `det_hom` says that the expression is worth it.
 use Rattle.std.specs.Prelude.{◌≡◌, ℕ, zero, suc, get_or, ℤ, pos, neg_ℤ, ◌+ℤ◌, ◌-ℤ◌, ◌*ℤ◌}
 use Rattle.std.proofs.Math.Path.{refl, sym}
 use Rattle.std.proofs.Common.{◌∙◌, ap}
@@ -58,7 +58,7 @@ module _ (e : List ℤ) {C D : Type 0} (g : C → D) where
   det_hom rows rows' (more {r = r} {r' = r'} {rs = rs} {rs' = rs'} h hs) columns =
       expand_hom r r' (determinant_in exprs rs) (determinant_in wholes rs') h (det_hom rs rs' hs) [] columns
 
-  -- a determinant is worth an expression with its normal form; used with `refl` and `unfolding determinant_in expandIn`
+  -- a determinant is worth an expression with its normal form; used with `refl` and `unfolding determinant_in expand_in`
   pub det_solve : (rows : List (C → Expr)) (rows' : List (D → ℤ)) → Alike e g rows rows' → (columns : List C) (b : Expr) → norm (determinant_in exprs rows columns) ≡ norm b → determinant rows' (map g columns) ≡ eval e b
   det_solve rows rows' h columns b k = sym (det_hom rows rows' h columns) ∙ solve e (determinant_in exprs rows columns) b k
 

@@ -1,3 +1,3 @@
-#![tactic(auto)]
+// Whole numbers: laws only, in specs/ and proofs/. No code stands here.
 
-// Whole numbers: laws only, in specs/. No code stands here.
+#![tactic(auto)]

@@ -18,8 +18,8 @@ use Rattle.exact_shares.proofs.size_of_sum.Goals as goal
 abbrev added : ℤ → ℤ → ℤ
 added a b = held w64 a +ℤ held w64 b
 
-abbrev addedAll : Volumes → ℤ
-addedAll v = added (added (added v.e0 v.e1) v.e2) v.e3
+abbrev added_all : Volumes → ℤ
+added_all v = added (added (added v.e0 v.e1) v.e2) v.e3
 
 nothing : Is 0 (pos 0) (pos 0)
 nothing = is_exact (record { size = lit≤ tt })
@@ -31,16 +31,16 @@ module _ {v : Volumes} (h : InRange (four_of v)) where
   three-are : Is (first_volume + first_volume + first_volume) (added (added v.e0 v.e1) v.e2) (v.e0 +ℤ v.e1 +ℤ v.e2)
   three-are = is_add (back w64 two-are tt) (back w64 (is_exact h.in2) tt)
 
-  four_are : Is (first_volume + first_volume + first_volume + first_volume) (addedAll v) (sum (four_of v))
+  four_are : Is (first_volume + first_volume + first_volume + first_volume) (added_all v) (sum (four_of v))
   four_are = is_add (back w64 three-are tt) (back w64 (is_exact h.in3) tt)
 
-  is_held : held w64 (addedAll v) ≡ sum (four_of v)
+  is_held : held w64 (added_all v) ≡ sum (four_of v)
   is_held = (back w64 four_are tt).same
 
-  turned-is : Is (0 + (first_volume + first_volume + first_volume + first_volume)) (pos 0 -ℤ held w64 (addedAll v)) (pos 0 -ℤ sum (four_of v))
+  turned-is : Is (0 + (first_volume + first_volume + first_volume + first_volume)) (pos 0 -ℤ held w64 (added_all v)) (pos 0 -ℤ sum (four_of v))
   turned-is = is_sub nothing (back w64 four_are tt)
 
-  turned-held : held w64 (pos 0 -ℤ held w64 (addedAll v)) ≡ pos 0 -ℤ sum (four_of v)
+  turned-held : held w64 (pos 0 -ℤ held w64 (added_all v)) ≡ pos 0 -ℤ sum (four_of v)
   turned-held = (back w64 turned-is tt).same
 
 small-fits : (n : ℕ) → n < 2 ^ 62 → Fits w64 n

@@ -17,7 +17,7 @@ plus n = record { minus = false; size = n }
 abbrev less : ℕ → Hundredths
 less n = record { minus = true; size = n }
 
--- decimals: zeros in front and behind are fine, one digit behind the point is tenths, and -0.00 is 0 (`minus-nothing`)
+-- decimals: zeros in front and behind are fine, one digit behind the point is tenths, and -0.00 is 0 (`minus_nothing`)
 pub decimals_shown :
     (decimal_of (49 ∷ []) ≡ Of (plus 100))
     × (decimal_of (49 ∷ 46 ∷ 48 ∷ []) ≡ Of (plus 100))
