@@ -113,8 +113,7 @@ def subjects():
 
 def named(one, text):
     """The places of those definitions that a text of a declaration names."""
-    source = specs.spec_files()[one.crate, one.file]
-    return frozenset(other.place for other in specs.named_by(one.crate, one.file, source, text) if other.place in formers())
+    return frozenset(other.place for other in specs.named_by(specs.sources()[one.module], text, one.module) if other.place in formers())
 
 
 # ---- rules
@@ -162,7 +161,7 @@ def rule_of_function(function):
     for word, clause in function.clauses:
         said[word] = said.get(word, "") + " " + clause
     places = {
-        word: frozenset(one.place for one in specs.named_by(function.crate, "", source, text) if one.place in formers()) for word, text in said.items()
+        word: frozenset(one.place for one in specs.named_by(source, text) if one.place in formers()) for word, text in said.items()
     }
     return Rule(function.full, places["requires"], places["ensures"])
 
