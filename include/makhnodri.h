@@ -5,9 +5,9 @@
  * and puts into PREFIX/lib, beside this header and files for pkg-config and CMake; or which a package has, without a proof.
  *
  * What each function answers and leaves behind is proved; the promises stand beside the functions in crates/makhnodri/src/lib.rt.
- * The proof speaks of the code in Rattle. Its compiler makes one LLVM module of it, and LLVM's back end the library, on every
- * processor from the same module: these two are trusted, not proved, on x86-64 as elsewhere. The gate compares the library that it
- * made with an independent program, number for number.
+ * The proof speaks of the code in Rattle. Rattle's compiler and LLVM make the library of it, for each processor: these two are
+ * trusted, not proved, on x86-64 as elsewhere. The gate compares the library that it made with an independent program, number for
+ * number.
  *
  * A verdict speaks for the space-time pieces of a pair. A miss, and apart too, says nothing of straight motion; only the list
  * does: a pair that is not listed, and shares no vertex, meets neither in its pieces nor under straight motion.

@@ -106,15 +106,29 @@ def formers():
     return {one.place: one for one in specs.declared().values() if is_former(one)}
 
 
+def for_proofs():
+    """Those that theorems in proofs/ take from specs/. They are public for that, if for nothing else."""
+    taken = {origin for module, source in specs.sources().items() if ".proofs." in module for origin in specs.uses_in(source)[0].values()}
+    return {place for place, one in formers().items() if (one.module, one.name) in taken}
+
+
+def stated():
+    """Those that a statement names which others may use: what a public theorem says, a public definition, or the contract of a function."""
+    public = [one for one in specs.declared().values() if one.kind not in ("struct", "enum") and is_public(one)]
+    said = [named(one, f"{one.head} {one.text if one.kind in specs.DEFINING else signature(one)}") - {one.place} for one in public]
+    rules = [rule_of_function(function) for function in functions.functions()]
+    return frozenset().union(*said, *(rule.asked | rule.concluded for rule in rules))
+
+
 def subjects():
-    """Those that must be shown. One that is private is an aid of the proofs of its file."""
-    return sorted(place for place, one in formers().items() if is_subject(one.crate) and is_public(one))
+    """Those that must be shown. One that is private is an aid of the proofs of its file, and so is one that is public for proofs alone."""
+    aids = for_proofs() - stated()
+    return sorted(place for place, one in formers().items() if is_subject(one.crate) and is_public(one) and place not in aids)
 
 
 def named(one, text):
     """The places of those definitions that a text of a declaration names."""
-    source = specs.spec_files()[one.crate, one.file]
-    return frozenset(other.place for other in specs.named_by(one.crate, one.file, source, text) if other.place in formers())
+    return frozenset(other.place for other in specs.named_by(specs.sources()[one.module], text, one.module) if other.place in formers())
 
 
 # ---- rules
@@ -162,7 +176,7 @@ def rule_of_function(function):
     for word, clause in function.clauses:
         said[word] = said.get(word, "") + " " + clause
     places = {
-        word: frozenset(one.place for one in specs.named_by(function.crate, "", source, text) if one.place in formers()) for word, text in said.items()
+        word: frozenset(one.place for one in specs.named_by(source, text) if one.place in formers()) for word, text in said.items()
     }
     return Rule(function.full, places["requires"], places["ensures"])
 

@@ -1,4 +1,9 @@
-"""The declarations of crates/*/specs, and which declarations each one names. The steps of the gate that count or look up definitions read by it."""
+"""The declarations of the house, those of crates/*/specs and the theorems of crates/*/proofs, and which declarations each one names. The steps of the gate
+that count or look up definitions and theorems read by it.
+
+A module is named as in a file of Rattle, without the first word: `theory.specs.Judged` is crates/theory/specs/Judged.antt, and `theory.proofs.Judged` has
+the theorems on its definitions. A page names what stands in either by `theory/Judged.name`.
+"""
 import dataclasses
 import functools
 import pathlib
@@ -7,14 +12,13 @@ import re
 TOP = pathlib.Path(__file__).resolve().parents[1]
 WORD = r"[\w'₀-₉⁺⁻*-]+"
 HEAD = re.compile(rf"((?:(?:pub|abbrev|unfoldable|record|data) )*)({WORD}|◌\S+|\S+◌)(?=[ :])")
-USE = re.compile(r"^(?:ghost )?(?:pub )?use Rattle\.(\w+)\.specs\.([\w.-]+?)(?:\.\{(.*)\}| as (\w+))?;?$")
+USE = re.compile(r"^(?:ghost )?(?:pub )?use Rattle\.(\w+\.(?:specs|proofs)\.[\w.-]+?)(?:\.\{(.*)\}| as (\w+))?;?$")
 DEFINING = {"record", "data", "abbrev", "unfoldable"}
 
 
 @dataclasses.dataclass
 class Declaration:
-    crate: str
-    file: str  # as a page names it: `File`, or `shown/File`
+    module: str
     name: str
     kind: str  # record, data, abbrev, unfoldable; a theorem or an opaque definition is 'proof'; struct, enum of the code
     text: str  # its lines without comments
@@ -25,8 +29,13 @@ class Declaration:
         return self.text.count("\n") + 1
 
     @property
+    def crate(self):
+        return self.module.split(".")[0]
+
+    @property
     def place(self):
-        return f"{self.crate}/{self.file}.{self.name}"
+        """As a page names it: `crate/File.name`, or `crate/shown/File.name`."""
+        return f"{self.crate}/{'/'.join(self.module.split('.')[2:])}.{self.name}"
 
 
 def indent(line):
@@ -55,8 +64,8 @@ def without_comments(source):
 class Reader:
     """Reads the declarations of a file, line by line. A section `module _ ... where` has its declarations two columns further in than itself."""
 
-    def __init__(self, crate, file):
-        self.crate, self.file = crate, file
+    def __init__(self, module):
+        self.module = module
         self.found, self.current = [], None
         self.sections = []  # those that the line stands in, as [column, head]
 
@@ -77,25 +86,25 @@ class Reader:
             self.current = None
         elif start:
             head = " ".join(section for _, section in self.sections)
-            made = [Declaration(self.crate, self.file, name, kind_of(start[0]), line, head) for name in start[1]]
+            made = [Declaration(self.module, name, kind_of(start[0]), line, head) for name in start[1]]
             self.found += made
             self.current = made[0]
         elif self.current is not None and not line.startswith("use "):
             self.current.text += "\n" + line
 
 
-def declarations_in(crate, file, source):
+def declarations_in(module, source):
     """The declarations of a file, in its order."""
-    reader = Reader(crate, file)
+    reader = Reader(module)
     for line in without_comments(source):
         reader.read(line)
     return reader.found
 
 
 @functools.cache
-def is_own(crate):
-    """Whether a crate is of this house, and not a library of Rattle's."""
-    return (TOP / "crates" / crate).is_dir()
+def is_own(module):
+    """Whether a module is of a crate of this house, and not of a library of Rattle's."""
+    return (TOP / "crates" / module.split(".")[0]).is_dir()
 
 
 def uses_in(source):
@@ -105,14 +114,18 @@ def uses_in(source):
         use = USE.match(line.strip())
         if not use or not is_own(use.group(1)):
             continue
-        crate, path, listed, alias = use.groups()
-        origin = (crate, path)
+        module, listed, alias = use.groups()
         for name in re.split(r",\s*", listed or ""):
             short = name.split(" as ")[-1].strip()
             if short:
-                names[short] = (*origin, name.split(" as ")[0].strip())
-        aliases[alias or path.split(".")[-1]] = origin
+                names[short] = (module, name.split(" as ")[0].strip())
+        aliases[alias or module.split(".")[-1]] = module
     return names, aliases
+
+
+def of_types(crate):
+    """The module in which a crate's files find the types of its code."""
+    return f"{crate}.specs.declared"
 
 
 def types_in(crate, source):
@@ -122,19 +135,23 @@ def types_in(crate, source):
         lines = source[start.start() :].splitlines()
         last = next((k for k, line in enumerate(lines) if line.startswith("}") or line.endswith(";")), 0)
         kept = [line for line in lines[: last + 1] if line.strip() and not line.strip().startswith("//")]
-        found.append(Declaration(crate, "declared", start.group(2), start.group(1), "\n".join(kept)))
+        found.append(Declaration(of_types(crate), start.group(2), start.group(1), "\n".join(kept)))
     return found
 
 
-def place_of(file):
-    """The crate of a file of specs, and its name there: `File`, or `shown/File`."""
-    parts = file.relative_to(TOP).with_suffix("").parts
-    return parts[1], "/".join(parts[3:])
+def files():
+    """The files of definitions and theorems: those of specs/, and those right in proofs/. What lies in a folder there is the proof of one function."""
+    return sorted([*TOP.glob("crates/*/specs/**/*.antt"), *TOP.glob("crates/*/proofs/*.antt")])
+
+
+def module_of(file):
+    return ".".join(file.relative_to(TOP / "crates").with_suffix("").parts)
 
 
 @functools.cache
-def spec_files():
-    return {place_of(file): file.read_text(encoding="utf-8") for file in sorted(TOP.glob("crates/*/specs/**/*.antt"))}
+def sources():
+    """What stands in each file, by its module."""
+    return {module_of(file): file.read_text(encoding="utf-8") for file in files()}
 
 
 def types_of_code():
@@ -144,9 +161,9 @@ def types_of_code():
 
 @functools.cache
 def declared():
-    """Each declaration of the house, by crate, file and name."""
-    found = [one for place, source in spec_files().items() for one in declarations_in(*place, source)]
-    return {(one.crate, one.file, one.name): one for one in [*found, *types_of_code()]}
+    """Each declaration of the house, by module and name."""
+    found = [one for module, source in sources().items() for one in declarations_in(module, source)]
+    return {(one.module, one.name): one for one in [*found, *types_of_code()]}
 
 
 def cases_of(one):
@@ -158,16 +175,15 @@ def cases_of(one):
 
 @functools.cache
 def cases():
-    return {(one.crate, one.file, case): one for one in declared().values() for case in cases_of(one)}
+    return {(one.module, case): one for one in declared().values() for case in cases_of(one)}
 
 
-def origin_of(crate, path, name=""):
-    """The declaration that a name stands for in a file: itself, the type that it is a case of, or, of a path `declared.Type`, the type."""
-    parts = path.split(".")
-    if parts[0] == "declared":
-        return declared().get((crate, "declared", [part for part in parts if part != "TheVariants"][-1]))
-    file = "/".join(parts)
-    return declared().get((crate, file, name)) or cases().get((crate, file, name))
+def origin_of(module, name=""):
+    """The declaration that a name stands for in a module: itself, the type that it is a case of, or, of a path `declared.Type`, the type."""
+    crate, *path = module.split(".")
+    if path[1:2] == ["declared"]:
+        return declared().get((of_types(crate), [part for part in path if part != "TheVariants"][-1]))
+    return declared().get((module, name)) or cases().get((module, name))
 
 
 def tokens(text):
@@ -182,20 +198,20 @@ def bound_in(text):
     return bound | set(re.findall(rf"[{{;]\s*({WORD}) =", text))
 
 
-def named_by(crate, file, source, text):
-    """The declarations that a text names, which stands in a file with that source."""
+def named_by(source, text, module=""):
+    """The declarations that a text names, which stands in a file with that source; one of declarations is that module."""
     names, aliases = uses_in(source)
     bound, found = bound_in(text), {}
     for token in tokens(text):
         first, _, rest = token.partition(".")
         if first in aliases and rest:
-            one = origin_of(*aliases[first], rest.split(".")[-1])
+            one = origin_of(aliases[first], rest.split(".")[-1])
         elif first in bound:
             one = None
         elif first in names:
             one = origin_of(*names[first])
         else:
-            one = origin_of(crate, file.replace("/", "."), first)
+            one = origin_of(module, first)
         if one is not None:
             found[one.place] = one
     return list(found.values())
@@ -204,19 +220,19 @@ def named_by(crate, file, source, text):
 def named_by_type(one):
     """The types that a struct or an enum names, of its own crate or of `meaning`."""
     words = set(re.findall(r"\w+", one.text)) - {one.name}
-    places = [(crate, "declared", word) for word in words for crate in (one.crate, "meaning")]
+    places = [(of_types(crate), word) for word in words for crate in (one.crate, "meaning")]
     return [declared()[place] for place in places if place in declared()]
 
 
 def named_by_declaration(one):
     if one.kind in ("struct", "enum"):
         return named_by_type(one)
-    return named_by(one.crate, one.file, spec_files()[one.crate, one.file], f"{one.head}\n{one.text}")
+    return named_by(sources()[one.module], f"{one.head}\n{one.text}", one.module)
 
 
-def not_found(crate, file):
+def not_found(module):
     """The names that a file takes from others of the house and that this reader finds nowhere."""
-    names, _ = uses_in(spec_files()[crate, file])
+    names, _ = uses_in(sources()[module])
     return [name for name, origin in names.items() if origin_of(*origin) is None]
 
 
