@@ -5,8 +5,7 @@ use claim_report::ANSWERS_BYTES;
 use meaning::{
     EDGE_NUMBERS, POSITION_NUMBERS, READ_BYTES, SEAM_NUMBERS, TRIANGLE_NUMBERS, TextAnswer,
 };
-use named_files::{PairRead, read_pair};
-use streams::write_out;
+use named_files::{PairRead, read_pair, write_out};
 
 // Whether the text of the scene is refused by itself.
 fn scene_refused(text: &[u8]) -> bool {

@@ -8,6 +8,7 @@ use std::env::FillError;
 use std::rt::{Env, Files};
 use std::{fs, str};
 use streams::read_text;
+pub use streams::write_out;
 
 // A longer name is no file's.
 const NAME_BYTES: usize = 4096;

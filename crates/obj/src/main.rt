@@ -2,8 +2,7 @@
 #![tactic(auto)]
 
 use meaning::{READ_BYTES, REPORT_BYTES};
-use named_files::{PairRead, read_pair};
-use streams::write_out;
+use named_files::{PairRead, read_pair, write_out};
 
 fn main(rt: HostRuntime) {
     // one byte more than a text may have: a full buffer decides refusal 8
