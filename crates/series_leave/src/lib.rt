@@ -21,7 +21,8 @@ fn count_of(listed: ListAnswer) -> usize
     }
 }
 
-// How many pairs the last step lists is returned.
+// How many pairs the last step lists is returned. A call of its own also when compiled, so that its arrays take no room of the stack beside those of the steps.
+#[inline(never)]
 pub fn leave_last(
     c: SceneCounts,
     p: &[i32],
