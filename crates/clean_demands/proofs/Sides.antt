@@ -4,7 +4,7 @@ use Rattle.meaning.specs.Scene.{Scene, edge_end, corner, rising, ends_of, corner
 use Rattle.meaning.specs.declared.Kind.TheVariants.{EdgeEdge}
 use Rattle.theory.specs.NoCrack.{Sewn, cut_alike}
 use Rattle.pierced_laws.specs.SomeWeights.{SomeTouches}
-use Rattle.clean_demands.specs.Sides.{Between, SidesOf, ClearOf, cut_so, clear_of_edge, clear_turned, EachSide, each_side}
+use Rattle.clean_demands.specs.Sides.{Between, along, against, SidesOf, ClearOf, cut_so, clear_of_edge, clear_turned, EachSide, each_side}
 
 module _ {s : Scene} (sewn : Sewn s) where
   pub clear_between : (i x a b : ℕ) → Between s x a b → ClearOf s i (ends_of s x) → ClearOf s i (rising s a b)
