@@ -107,12 +107,12 @@ extern "C" {
  *     list_pairs       86,784      settle_pt, settle_pt_piece   2,816
  *     settle_scene     88,064      settle_ee, settle_ee_piece   2,816
  *     read_scene       23,808      write_report               124,928
- *     turn_scene          512      check_claims                 2,304
+ *     turn_scene        1,536      check_claims                 2,304
  *     contact_scene    87,040      contact_pt, contact_ee       3,328
  *     saved_length      1,792      save_scene                   1,792
  *     settle_list       3,328      contact_list                 3,584
  *     fill_boxes        1,536      move_vertex                  1,792
- *     count_stored     54,272      list_stored                 87,296
+ *     count_stored     54,784      list_stored                 87,296
  *     settle_stored    88,320      read_boxed                  24,064
  *     import_scene     48,128      tell_series                176,384
  *     pierced_at_start, pierced_at_end              3,328

@@ -22,6 +22,7 @@ fn count_of(listed: ListAnswer) -> usize
 }
 
 // How many pairs the last step lists is returned.
+#[inline(never)]
 pub fn leave_last(
     c: SceneCounts,
     p: &[i32],
@@ -41,6 +42,7 @@ pub fn leave_last(
     ensures { LastLeft c (scene_of p.now e.now t.now w.now) (scene_of positions.old edges.old triangles.old seams.old)
         (scene_of positions.new edges.new triangles.new seams.new) boxes.old boxes.new list.old list.new result }
 {
+    // inlined, the boxes of its list would stand on the stack beside those of the steps, and the two take more than MAKHNODRI_STACK
     copy_scene(c, p, e, t, w, positions, edges, triangles, seams);
     let np = 6 * c.vertices;
     let ne = 2 * c.edges;
