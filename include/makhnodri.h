@@ -112,7 +112,7 @@ extern "C" {
  *     saved_length      1,792      save_scene                   1,792
  *     settle_list       3,328      contact_list                 3,584
  *     fill_boxes        1,536      move_vertex                  1,792
- *     count_stored     54,272      list_stored                 87,296
+ *     count_stored     54,784      list_stored                 87,296
  *     settle_stored    88,320      read_boxed                  24,064
  *     import_scene     48,128      tell_series                176,384
  *     pierced_at_start, pierced_at_end              3,328

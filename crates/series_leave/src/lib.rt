@@ -21,8 +21,8 @@ fn count_of(listed: ListAnswer) -> usize
     }
 }
 
-// How many pairs the last step lists is returned. A call of its own also when compiled, so that its arrays take no room of the stack beside those of the steps.
-#[inline(never)]
+// How many pairs the last step lists is returned.
+#[inline(never)] // inlined, the boxes of its list would stand on the stack beside those of the steps, and the two take more than MAKHNODRI_STACK
 pub fn leave_last(
     c: SceneCounts,
     p: &[i32],
