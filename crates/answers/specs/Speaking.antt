@@ -1,17 +1,11 @@
 -- An answer is determined by what it says: a refusal by its number, so that one right answer is one result.
-use Rattle.std.specs.Prelude.{ℕ, pred, ◌≤◌, ◌<◌, [], ◌∷◌, ◌≡◌, refl, get_or}
+use Rattle.std.specs.Prelude.{ℕ, pred, ◌≤◌, ◌<◌, [], ◌∷◌, ◌≡◌, refl, get_or, Err, Ok, Result}
 use Rattle.std.proofs.Common.{sym, ◌∙◌, ap, arith}
 use Rattle.meaning.specs.Scene.{Scene}
-use Rattle.meaning.specs.Refusals.{number_of, scene_says, pair_says, scene_checks, SceneChecked}
-use Rattle.meaning.specs.Resting.{settled_says}
+use Rattle.meaning.specs.Refusals.{number_of, scene_checks, SceneChecked, outcome_alone, outcome_of}
 use Rattle.meaning.specs.declared.Refusal.{Refusal}
+use Rattle.meaning.specs.declared.Refused.{Refused}
 use Rattle.meaning.specs.declared.Refusal.TheVariants.{Shape, Coordinate, UnknownVertex, RepeatedVertex, NotThere, SharedVertex, NoRoom, LongText, BadLine, LateRecord, TooMany, ShortBuffer, BlockLength, FilesDiffer, BrokenSeam, BeyondOldRange, StaleBox, WrongOrder}
-use Rattle.meaning.specs.declared.SceneAnswer as SceneAnswers
-use Rattle.meaning.specs.declared.SceneAnswer.{SceneAnswer}
-use Rattle.meaning.specs.declared.PairAnswer as PairAnswers
-use Rattle.meaning.specs.declared.SettledAnswer as SettledAnswers
-use Rattle.meaning.specs.declared.SettledAnswer.{SettledAnswer}
-use Rattle.meaning.specs.declared.PairAnswer.{PairAnswer}
 use Rattle.answers.specs.Answering.{one_answer}
 
 -- the refusal with the number n, of those that there are
@@ -46,29 +40,22 @@ own_number WrongOrder = refl
 pub one_number : (x y : Refusal) → number_of x ≡ number_of y → x ≡ y
 one_number x y e = sym (own_number x) ∙ ap numbered e ∙ own_number y
 
-pub scene_says_one : (r r' : SceneAnswer) → scene_says r ≡ scene_says r' → r ≡ r'
-unfolding scene_says
-scene_says_one SceneAnswers.TheVariants.Accepted SceneAnswers.TheVariants.Accepted e = refl
-scene_says_one SceneAnswers.TheVariants.Accepted (SceneAnswers.TheVariants.Refused y) e = cc
-scene_says_one (SceneAnswers.TheVariants.Refused x) SceneAnswers.TheVariants.Accepted e = cc
-scene_says_one (SceneAnswers.TheVariants.Refused x) (SceneAnswers.TheVariants.Refused y) e =
-    ap SceneAnswers.TheVariants.Refused (one_number x y (cc))
+pub one_alone : {A : Type 0} (r r' : Result A Refusal) → outcome_alone r ≡ outcome_alone r' → r ≡ r'
+unfolding outcome_alone
+one_alone (Ok v) (Ok w) e = ap Ok (cc)
+one_alone (Ok v) (Err y) e = cc
+one_alone (Err x) (Ok w) e = cc
+one_alone (Err x) (Err y) e = ap Err (one_number x y (cc))
 
-pub pair_says_one : (r r' : PairAnswer) → pair_says r ≡ pair_says r' → r ≡ r'
-unfolding pair_says
-pair_says_one (PairAnswers.TheVariants.Judged v) (PairAnswers.TheVariants.Judged w) e = ap PairAnswers.TheVariants.Judged (cc)
-pair_says_one (PairAnswers.TheVariants.Judged v) (PairAnswers.TheVariants.Refused y) e = cc
-pair_says_one (PairAnswers.TheVariants.Refused x) (PairAnswers.TheVariants.Judged w) e = cc
-pair_says_one (PairAnswers.TheVariants.Refused x) (PairAnswers.TheVariants.Refused y) e =
-    ap PairAnswers.TheVariants.Refused (one_number x y (cc))
-
-pub settled_says_one : (r r' : SettledAnswer) → settled_says r ≡ settled_says r' → r ≡ r'
-unfolding settled_says
-settled_says_one (SettledAnswers.TheVariants.Decided v) (SettledAnswers.TheVariants.Decided w) e = ap SettledAnswers.TheVariants.Decided (cc)
-settled_says_one (SettledAnswers.TheVariants.Decided v) (SettledAnswers.TheVariants.Refused y) e = cc
-settled_says_one (SettledAnswers.TheVariants.Refused x) (SettledAnswers.TheVariants.Decided w) e = cc
-settled_says_one (SettledAnswers.TheVariants.Refused x) (SettledAnswers.TheVariants.Refused y) e =
-    ap SettledAnswers.TheVariants.Refused (one_number x y (cc))
+pub one_carrying : {A : Type 0} (r r' : Result A Refused) → outcome_of r ≡ outcome_of r' → r ≡ r'
+unfolding outcome_of
+one_carrying (Ok v) (Ok w) e = ap Ok (cc)
+one_carrying (Ok v) (Err y) e = cc
+one_carrying (Err x) (Ok w) e = cc
+one_carrying (Err x) (Err y) e =
+    let same : x.why ≡ y.why = one_number x.why y.why (cc) in
+    let carried : x.carries ≡ y.carries = cc in
+    λ t. Err (record { why = same t; carries = carried t })
 
 -- a number of the table, of which the largest stands here
 pub record InTable (n : ℕ) : Type 0 where
@@ -97,6 +84,6 @@ number_in_table StaleBox = record { some = omega arith; few = omega arith }
 number_in_table WrongOrder = record { some = omega arith; few = omega arith }
 
 -- the check of a scene has one right answer
-pub one_scene_answer : (s : Scene) (r r' : SceneAnswer) → SceneChecked s r → SceneChecked s r' → r ≡ r'
+pub one_scene_answer : (s : Scene) (r r' : Result (Unit {0}) Refusal) → SceneChecked s r → SceneChecked s r' → r ≡ r'
 one_scene_answer s r r' p q =
-    scene_says_one r r' (one_answer (λ t. Unit {0}) (λ a b h k. refl) (scene_checks s) (scene_says r) (scene_says r') p q)
+    one_alone r r' (one_answer (λ t. Unit {0}) (λ a b h k. refl) (scene_checks s) (outcome_alone r) (outcome_alone r') p q)

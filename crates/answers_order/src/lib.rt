@@ -5,25 +5,18 @@
 ghost use Rattle.std.specs.Prelude.{◌≡◌};
 ghost use Rattle.answers_order.specs.InOrder.{first_of, refused_if};
 
-use meaning::{Refusal, SceneAnswer};
+use meaning::Refusal;
 
 // Refused with the first one's number, or what the second says.
-pub fn first_of(first: SceneAnswer, second: SceneAnswer) -> SceneAnswer
+pub fn first_of(first: Result<(), Refusal>, second: Result<(), Refusal>) -> Result<(), Refusal>
     ensures { result ≡ first_of first second }
 {
-    match first {
-        SceneAnswer::Refused(why) => SceneAnswer::Refused(why),
-        SceneAnswer::Accepted => second,
-    }
+    first.and(second)
 }
 
 // One check: refused where it holds.
-pub fn refused_if(holds: bool, why: Refusal) -> SceneAnswer
+pub fn refused_if(holds: bool, why: Refusal) -> Result<(), Refusal>
     ensures { result ≡ refused_if holds why }
 {
-    if holds {
-        SceneAnswer::Refused(why)
-    } else {
-        SceneAnswer::Accepted
-    }
+    if holds { Err(why) } else { Ok(()) }
 }

@@ -1,23 +1,20 @@
 -- Each promise determines the number and every lent buffer, refused calls too; and what a caller hears in the number is right.
-use Rattle.std.specs.Prelude.{ℕ, ◌<◌, min, List, [], ◌∷◌, map, ◌≡◌, refl, length, get_or}
+use Rattle.std.specs.Prelude.{ℕ, ◌<◌, min, List, [], ◌∷◌, map, ◌≡◌, refl, length, get_or, Err, Ok, Result}
 use Rattle.std.proofs.Common.{sym, ap, ◌∙◌, arith}
 use Rattle.meaning.specs.Scene.{Scene}
 use Rattle.meaning.specs.Pieces.{piece_of}
 use Rattle.meaning.specs.Verdicts.{PieceIs, PairIs}
-use Rattle.meaning.specs.Refusals.{given, refused, Answers, scene_checks, pair_checks, piece_checks, SceneChecked, PairJudged, PieceJudged}
+use Rattle.meaning.specs.Refusals.{given, refused, Answers, scene_checks, pair_checks, piece_checks, SceneChecked, PairJudged, PieceJudged, outcome_alone, outcome_of}
 use Rattle.meaning.specs.Resting.{PieceSettled, PairSettled, PairDecided, PieceDecided}
 use Rattle.meaning.specs.Backwards.{turned_left, Turning}
 use Rattle.sequences.specs.Wrote.{written}
-use Rattle.meaning.specs.List.{pairs, entries, room_of, list_says, list_checks, leaves, Counted, Listing}
+use Rattle.meaning.specs.List.{pairs, entries, room_of, list_checks, leaves, Counted, Listing}
 use Rattle.meaning.specs.Runs.{tests_left, Tested}
 use Rattle.meaning.specs.SceneWords.{byte_of, SettledScene}
-use Rattle.meaning.specs.Text.{text_says}
 use Rattle.meaning.specs.declared.Kind.{Kind}
 use Rattle.meaning.specs.declared.SceneCounts.{SceneCounts}
-use Rattle.meaning.specs.declared.TextAnswer.{TextAnswer}
-use Rattle.meaning.specs.declared.TextAnswer.TheVariants.{Read, Refused}
 use Rattle.list_words.specs.Listed.{word_of_byte}
-use Rattle.answers.specs.Speaking.{one_scene_answer}
+use Rattle.answers.specs.Speaking.{one_scene_answer, one_alone}
 use Rattle.turning.specs.OneTurning.{one_turning}
 use Rattle.three_words.specs.OneResult.{one_pair, one_piece}
 use Rattle.four_words.specs.OneResult.{one_settled_pair, one_settled_piece}
@@ -26,10 +23,9 @@ use Rattle.list_words.specs.OneResult.{one_judging}
 use Rattle.text_scene.specs.OneReading.{one_reading}
 use Rattle.demands.specs.TextTable.{TextRows, demand1_text}
 use Rattle.demands.specs.Unchanged.{reading_unchanged, SceneInFront, reading_holds}
-use Rattle.meaning.specs.WholeContacts.{WholeContactIs, contact_checks, whole_contact_says, contact_list_checks, contact_room, rows_left, rows_after, ContactsListed}
+use Rattle.meaning.specs.WholeContacts.{WholeContactIs, contact_checks, contact_list_checks, contact_room, rows_left, rows_after, ContactsListed}
 use Rattle.meaning.specs.declared.WholeContact.TheVariants.{Miss}
-use Rattle.meaning.specs.declared.WholeContactAnswer.{WholeContactAnswer}
-use Rattle.contact_scene.specs.OneResult.{whole_contact_says_one, one_whole_contact_answer, one_met_scene}
+use Rattle.contact_scene.specs.OneResult.{one_whole_contact_answer, one_met_scene}
 use Rattle.meaning.specs.Numbers.{word_number, contact_number, row_after, ContactInto}
 use Rattle.meaning.specs.Numbers.{scene_number, pair_number, settled_number, list_number, text_number, counts_left, ReadInto, Numbered}
 use Rattle.c_numbers.specs.Small.{counted_small, listing_small, judging_small, met_small, line_small}
@@ -38,6 +34,9 @@ use Rattle.c_numbers.specs.RowsBack.{whole_contact_at, rows_heard, contacts_many
 use Rattle.meaning.specs.Saved.{saved_text, saved_checks, save_checks, Measured, Saved}
 use Rattle.meaning.specs.Numbers.{saved_number}
 use Rattle.c_numbers.specs.Saved.{saved_heard, measured_small, saved_small, one_measured_told, one_saved_told}
+use Rattle.meaning.specs.declared.WholeContact.{WholeContact}
+use Rattle.meaning.specs.declared.Refusal.{Refusal}
+use Rattle.meaning.specs.declared.Refused.{Refused}
 
 -- one right answer, one number
 one_number : {A : Type 0} {number : A → ℕ} {R S : A → Type 0} {r r' : ℕ} (p : Numbered number R r) (q : Numbered number S r') → p.answer ≡ q.answer → r ≡ r'
@@ -85,7 +84,7 @@ pub one_contact_told : (s : Scene) (kind : Kind) (i j : ℕ) (o o' o'' : List �
     → Numbered contact_number (ContactInto s kind i j o o'') r' → (r ≡ r') × (o' ≡ o'')
 one_contact_told s kind i j o o' o'' r r' p q =
     let same = one_whole_contact_answer s kind i j p.answer q.answer p.right.found q.right.found in
-    (one_number p q same, p.right.row ∙ ap (λ (a : WholeContactAnswer). row_after (whole_contact_says a) o) same ∙ sym q.right.row)
+    (one_number p q same, p.right.row ∙ ap (λ (a : Result WholeContact Refusal). row_after (outcome_alone a) o) same ∙ sym q.right.row)
 
 pub one_met_told : (s : Scene) (o o' o'' b b' b'' c c' c'' : List ℕ) (r r' : ℕ) → Numbered list_number (ContactsListed s o o' b b' c c') r
     → Numbered list_number (ContactsListed s o o'' b b'' c c'') r' → (r ≡ r') × (o' ≡ o'') × (b' ≡ b'') × (c' ≡ c'')
@@ -97,7 +96,7 @@ pub one_reading_told : (text : List ℕ) (lent left left' : Scene) (l l' l'' : L
     → Numbered text_number (ReadInto text lent left' l l'') r' → (r ≡ r') × (left ≡ left') × (l' ≡ l'')
 one_reading_told text lent left left' l l' l'' r r' p q =
     let (same, scene) = one_reading text lent left left' p.answer q.answer p.right.scene q.right.scene in
-    (one_number p q same, scene, p.right.counts ∙ ap (λ (a : TextAnswer). counts_left a l) same ∙ sym q.right.counts)
+    (one_number p q same, scene, p.right.counts ∙ ap (λ (a : Result SceneCounts Refused). counts_left a l) same ∙ sym q.right.counts)
 
 -- ---- what is heard in the number is right
 
@@ -148,13 +147,13 @@ pub contact_told_heard : (s : Scene) (kind : Kind) (i j : ℕ) (o o' : List ℕ)
     → Answers (contact_checks s kind i j) (WholeContactIs s kind i j) (heard (whole_contact_in o') r)
     × (o' ≡ row_after (heard (whole_contact_in o') r) o)
 contact_told_heard s kind i j o o' r p =
-    let says : heard (whole_contact_in o') r ≡ whole_contact_says p.answer = rw (p.is, p.right.row) (contact_heard p.answer o) in
+    let says : heard (whole_contact_in o') r ≡ outcome_alone p.answer = rw (p.is, p.right.row) (contact_heard p.answer o) in
     (rw says p.right.found, rw says p.right.row)
 
 -- so they determine the answer
-pub one_contact_number : (a b : WholeContactAnswer) (o : List ℕ) → contact_number a ≡ contact_number b → row_after (whole_contact_says a) o ≡ row_after (whole_contact_says b) o → a ≡ b
+pub one_contact_number : (a b : Result WholeContact Refusal) (o : List ℕ) → contact_number a ≡ contact_number b → row_after (outcome_alone a) o ≡ row_after (outcome_alone b) o → a ≡ b
 one_contact_number a b o e f =
-    whole_contact_says_one a b (sym (contact_heard a o) ∙ (λ i. heard (whole_contact_in (f i)) (e i)) ∙ contact_heard b o)
+    one_alone a b (sym (contact_heard a o) ∙ (λ i. heard (whole_contact_in (f i)) (e i)) ∙ contact_heard b o)
 
 -- of a whole scene the number, and the three lent buffers
 pub met_told_heard : (s : Scene) (o o' b b' c c' : List ℕ) (r : ℕ) → (p : Numbered list_number (ContactsListed s o o' b b' c c') r)
@@ -171,7 +170,7 @@ pub met_rows_heard : (s : Scene) (o o' b b' c c' : List ℕ) (r n : ℕ) → (p 
 unfolding leaves rows_after
 met_rows_heard s o o' b b' c c' r n p e k below =
     let ms = p.right.contacts in
-    let says : list_says p.answer ≡ given n = sym (list_heard p.answer (met_small p.right)) ∙ ap (heard count) (sym p.is) ∙ e in
+    let says : outcome_of p.answer ≡ given n = sym (list_heard p.answer (met_small p.right)) ∙ ap (heard count) (sym p.is) ∙ e in
     let bytes : b' ≡ written (map word_number ms) b = rw says at p.right.bytes in
     let rows : c' ≡ rows_left ms c = rw says at p.right.rows in
     (λ t. whole_contact_at (bytes t) (rows t) k) ∙ rows_heard ms b c (rows_fit p.right says) k (rw (contacts_many p.right) below)
@@ -179,16 +178,16 @@ met_rows_heard s o o' b b' c c' r n p e k below =
 -- ---- and of a text too what the lent buffers then hold
 
 -- a refusal leaves the array of counts
-pub counts_refused : (a : TextAnswer) (l : List ℕ) (n line : ℕ) → text_says a ≡ refused n line → counts_left a l ≡ l
-unfolding text_says counts_left
-counts_refused (Read c) l n line e = let z : ◌≡◌ {A = ℕ} 0 1 = cc in absurd (omega arith)
-counts_refused (Refused x k) l n line e = refl
+pub counts_refused : (a : Result SceneCounts Refused) (l : List ℕ) (n line : ℕ) → outcome_of a ≡ refused n line → counts_left a l ≡ l
+unfolding outcome_of counts_left
+counts_refused (Ok c) l n line e = let z : ◌≡◌ {A = ℕ} 0 1 = cc in absurd (omega arith)
+counts_refused (Err x) l n line e = refl
 
 -- after success it holds them
-pub counts_given : (a : TextAnswer) (l : List ℕ) (c : SceneCounts) → text_says a ≡ given c → counts_left a l ≡ c.vertices ∷ c.edges ∷ c.triangles ∷ c.seams ∷ []
-unfolding text_says counts_left
-counts_given (Read d) l c e = let same : d ≡ c = cc in ap (λ (k : SceneCounts). k.vertices ∷ k.edges ∷ k.triangles ∷ k.seams ∷ []) same
-counts_given (Refused x k) l c e = let z : ◌≡◌ {A = ℕ} 0 1 = cc in absurd (omega arith)
+pub counts_given : (a : Result SceneCounts Refused) (l : List ℕ) (c : SceneCounts) → outcome_of a ≡ given c → counts_left a l ≡ c.vertices ∷ c.edges ∷ c.triangles ∷ c.seams ∷ []
+unfolding outcome_of counts_left
+counts_given (Ok d) l c e = let same : d ≡ c = cc in ap (λ (k : SceneCounts). k.vertices ∷ k.edges ∷ k.triangles ∷ k.seams ∷ []) same
+counts_given (Err x) l c e = let z : ◌≡◌ {A = ℕ} 0 1 = cc in absurd (omega arith)
 
 -- a refusal leaves all five buffers as they were; after success the scene stands in front in four of them, the counts in the fifth
 pub reading_told_heard : (text : List ℕ) (lent left : Scene) (l l' : List ℕ) (r : ℕ) → Numbered text_number (ReadInto text lent left l l') r
@@ -196,7 +195,7 @@ pub reading_told_heard : (text : List ℕ) (lent left : Scene) (l l' : List ℕ)
     × ((n line : ℕ) → heard (counts_in l') r ≡ refused n line → (left ≡ lent) × (l' ≡ l))
     × ((c : SceneCounts) → heard (counts_in l') r ≡ given c → SceneInFront text lent left c × (l' ≡ c.vertices ∷ c.edges ∷ c.triangles ∷ c.seams ∷ []))
 reading_told_heard text lent left l l' r p =
-    let says : heard (counts_in l') r ≡ text_says p.answer = rw (p.is, p.right.counts) (text_heard p.answer l (line_small p.right.scene)) in (
+    let says : heard (counts_in l') r ≡ outcome_of p.answer = rw (p.is, p.right.counts) (text_heard p.answer l (line_small p.right.scene)) in (
       rw says (demand1_text text lent left p.answer p.right.scene),
       λ n line e. (
         reading_unchanged text lent left p.answer p.right.scene n line (sym says ∙ e),

@@ -1,17 +1,15 @@
 -- The calls of a scene that keeps its boxes: the promise determines the number and every lent buffer, and what a caller hears in the number is
 -- right.
-use Rattle.std.specs.Prelude.{ℕ, min, List, [], ◌∷◌, ◌++◌, map, ◌≡◌, ℤ, length}
+use Rattle.std.specs.Prelude.{ℕ, min, List, [], ◌∷◌, ◌++◌, map, ◌≡◌, ℤ, length, Result}
 use Rattle.std.proofs.Common.{sym, ap, ◌∙◌}
 use Rattle.meaning.specs.Scene.{Scene}
-use Rattle.meaning.specs.Refusals.{given, refused, Answers}
+use Rattle.meaning.specs.Refusals.{given, refused, Answers, outcome_of}
 use Rattle.meaning.specs.List.{pairs, entries, room_of, leaves}
 use Rattle.meaning.specs.Runs.{tests_left, Tested}
 use Rattle.meaning.specs.SceneWords.{byte_of}
 use Rattle.meaning.specs.StoredBoxes.{box_checks, stale_checks, stored_checks, Filled, FillsAfter, BoxesFilled, CountedStored, ListedStored, SettledStored}
 use Rattle.meaning.specs.Dragging.{move_checks, MovesAfter, VertexMoved}
-use Rattle.meaning.specs.Text.{text_says}
 use Rattle.meaning.specs.declared.SceneCounts.{SceneCounts}
-use Rattle.meaning.specs.declared.TextAnswer.{TextAnswer}
 use Rattle.text_scene.specs.Using.{front_of}
 use Rattle.stored_reading.specs.Using.{one_boxed_reading}
 use Rattle.demands.specs.Unchanged.{SceneInFront}
@@ -24,6 +22,7 @@ use Rattle.c_numbers.specs.Stored.{stored_count_small, stored_list_small, stored
 use Rattle.meaning.specs.Numbers.{BoxedInto}
 use Rattle.c_numbers.specs.Back.{heard, no_more, count, counts_in, scene_heard, list_heard, text_heard}
 use Rattle.c_demands.specs.OneResult.{counts_refused, counts_given}
+use Rattle.meaning.specs.declared.Refused.{Refused}
 
 pub one_filled_told : (s : Scene) (b b₁ b₂ : List ℤ) (r r' : ℕ) → Numbered scene_number (BoxesFilled s b b₁) r → Numbered scene_number (BoxesFilled s b b₂) r'
     → (r ≡ r') × (b₁ ≡ b₂)
@@ -63,7 +62,7 @@ one_boxed_told text lent left left' b b₁ b₂ l l' l'' r r' p q =
       p.is ∙ ap text_number same ∙ sym q.is,
       scene,
       boxes,
-      p.right.counts ∙ ap (λ (a : TextAnswer). counts_left a l) same ∙ sym q.right.counts,
+      p.right.counts ∙ ap (λ (a : Result SceneCounts Refused). counts_left a l) same ∙ sym q.right.counts,
     )
 
 -- ---- what is heard in the number is right
@@ -105,7 +104,7 @@ pub boxed_told_heard : (text : List ℕ) (lent left : Scene) (b b' : List ℤ) (
     → SceneInFront text lent left c × Filled (front_of c left) b b' × (l' ≡ c.vertices ∷ c.edges ∷ c.triangles ∷ c.seams ∷ []))
 boxed_told_heard text lent left b b' l l' r p =
     let so = p.right.read in
-    let says : heard (counts_in l') r ≡ text_says p.answer = rw (p.is, p.right.counts) (text_heard p.answer l (boxed_line_small so)) in (
+    let says : heard (counts_in l') r ≡ outcome_of p.answer = rw (p.is, p.right.counts) (text_heard p.answer l (boxed_line_small so)) in (
       rw says (demand1_boxed_text text lent left b b' p.answer so),
       λ n line e.
           let (scene, boxes) = boxed_unchanged so n line (sym says ∙ e) in

@@ -1,30 +1,17 @@
 -- The steps from an answer to its number and to what a lent array holds, as code takes them.
-use Rattle.std.specs.Prelude.{ℕ, ◌+◌, ◌*◌, ◌≤◌, ◌<◌, List, [], ◌∷◌, ◌++◌, ◌≡◌, refl, eqb, length, set}
-use Rattle.std.proofs.Common.{sym, ap, ◌∙◌, arith, length-set, ne_eqb}
-use Rattle.std.proofs.Math.Dec.{eqb_refl}
-use Rattle.sequences.specs.Pick.{pick}
-use Rattle.sequences.specs.Wrote.{written, Wrote, wrote_one, wrote_two, wrote_three, wrote_then, wrote_front}
-use Rattle.meaning.specs.Refusals.{number_of, scene_says}
-use Rattle.meaning.specs.List.{list_says}
-use Rattle.meaning.specs.MeshRows.{kept_says}
+use Rattle.std.specs.Prelude.{ℕ, ◌+◌, ◌*◌, ◌≤◌, List, [], ◌∷◌, ◌≡◌, refl, length, set, Bool, Err, Ok, Result}
+use Rattle.std.proofs.Common.{arith, length-set, ne_eqb}
+use Rattle.sequences.specs.Wrote.{written, wrote_one, wrote_two, wrote_three, wrote_then, wrote_front}
+use Rattle.meaning.specs.Refusals.{number_of, outcome_alone, outcome_of}
 use Rattle.meaning.specs.MeshEdges.{edges_say}
 use Rattle.meaning.specs.Claims.{answer_byte}
 use Rattle.meaning.specs.Numbers.{upper, number_for}
-use Rattle.meaning.specs.Pierced.{pierced_says}
 use Rattle.meaning.specs.MeshNumbers.{refusal_of, needed_left, count_left, kept_left, edges_left}
 use Rattle.meaning.specs.declared.Refusal.{Refusal}
-use Rattle.meaning.specs.declared.Made.{Made}
 use Rattle.meaning.specs.declared.KeptRows.{KeptRows}
-use Rattle.meaning.specs.declared.SceneAnswer as SceneAnswers
-use Rattle.meaning.specs.declared.SceneAnswer.{SceneAnswer}
-use Rattle.meaning.specs.declared.ListAnswer as ListAnswers
-use Rattle.meaning.specs.declared.ListAnswer.{ListAnswer}
-use Rattle.meaning.specs.declared.KeptAnswer as KeptAnswers
-use Rattle.meaning.specs.declared.KeptAnswer.{KeptAnswer}
-use Rattle.meaning.specs.declared.PiercedAnswer as PiercedAnswers
-use Rattle.meaning.specs.declared.PiercedAnswer.{PiercedAnswer}
-use Rattle.meaning.specs.declared.EdgesAnswer as EdgesAnswers
-use Rattle.meaning.specs.declared.EdgesAnswer.{EdgesAnswer}
+use Rattle.meaning.specs.declared.EdgesFound as Findings
+use Rattle.meaning.specs.declared.Refused.{Refused}
+use Rattle.meaning.specs.declared.EdgesFound.{EdgesFound}
 
 -- ---- stores side by side
 
@@ -51,71 +38,67 @@ other_left o c {r} e s = rw (← e, ne_eqb r 7 s) refl
 
 -- ---- each answer
 
-pub scene_accepted : {a : SceneAnswer} → a ≡ SceneAnswers.TheVariants.Accepted → 0 ≡ refusal_of (scene_says a)
-unfolding scene_says refusal_of
+pub scene_accepted : {a : Result (Unit {0}) Refusal} → a ≡ Ok tt → 0 ≡ refusal_of (outcome_alone a)
+unfolding outcome_alone refusal_of
 scene_accepted e = rw e refl
 
-pub scene_refused : {a : SceneAnswer} {x : Refusal} {r : ℕ} → a ≡ SceneAnswers.TheVariants.Refused x → r ≡ number_of x
-    → r ≡ refusal_of (scene_says a)
-unfolding scene_says refusal_of
+pub scene_refused : {a : Result (Unit {0}) Refusal} {x : Refusal} {r : ℕ} → a ≡ Err x → r ≡ number_of x
+    → r ≡ refusal_of (outcome_alone a)
+unfolding outcome_alone refusal_of
 scene_refused e h = rw e h
 
-pub count_made : (o : List ℕ) {a : ListAnswer} {m : Made} {o' : List ℕ} → a ≡ ListAnswers.TheVariants.Listed m → o' ≡ written (m.count ∷ []) o
-    → (0 ≡ refusal_of (list_says a)) × (o' ≡ count_left (list_says a) o)
-unfolding list_says refusal_of count_left
+pub count_made : (o : List ℕ) {a : Result ℕ Refused} {m : ℕ} {o' : List ℕ} → a ≡ Ok m → o' ≡ written (m ∷ []) o
+    → (0 ≡ refusal_of (outcome_of a)) × (o' ≡ count_left (outcome_of a) o)
+unfolding outcome_of refusal_of count_left
 count_made o e h = rw e (refl, h)
 
-pub count_refused : (o : List ℕ) {a : ListAnswer} {x : Refusal} {c r : ℕ} {o' : List ℕ} → a ≡ ListAnswers.TheVariants.Refused x c
-    → r ≡ number_of x
-    → o' ≡ needed_left (number_of x) c o
-    → (r ≡ refusal_of (list_says a)) × (o' ≡ count_left (list_says a) o)
-unfolding list_says refusal_of count_left
+pub count_refused : (o : List ℕ) {a : Result ℕ Refused} {x : Refused} {r : ℕ} {o' : List ℕ} → a ≡ Err x
+    → r ≡ number_of x.why
+    → o' ≡ needed_left (number_of x.why) x.carries o
+    → (r ≡ refusal_of (outcome_of a)) × (o' ≡ count_left (outcome_of a) o)
+unfolding outcome_of refusal_of count_left
 count_refused o e h l = rw e (h, l)
 
-pub kept_made : (o : List ℕ) {a : KeptAnswer} {t : KeptRows} {o' : List ℕ} → a ≡ KeptAnswers.TheVariants.Kept t
+pub kept_made : (o : List ℕ) {a : Result KeptRows Refused} {t : KeptRows} {o' : List ℕ} → a ≡ Ok t
     → o' ≡ written (t.count ∷ t.listed ∷ t.hits ∷ t.misses ∷ t.touches ∷ t.aparts ∷ []) o
-    → (0 ≡ refusal_of (kept_says a)) × (o' ≡ kept_left (kept_says a) o)
-unfolding kept_says refusal_of kept_left
+    → (0 ≡ refusal_of (outcome_of a)) × (o' ≡ kept_left (outcome_of a) o)
+unfolding outcome_of refusal_of kept_left
 kept_made o e h = rw e (refl, h)
 
-pub kept_refused : (o : List ℕ) {a : KeptAnswer} {x : Refusal} {c r : ℕ} {o' : List ℕ} → a ≡ KeptAnswers.TheVariants.Refused x c
-    → r ≡ number_of x
-    → o' ≡ needed_left (number_of x) c o
-    → (r ≡ refusal_of (kept_says a)) × (o' ≡ kept_left (kept_says a) o)
-unfolding kept_says refusal_of kept_left
+pub kept_refused : (o : List ℕ) {a : Result KeptRows Refused} {x : Refused} {r : ℕ} {o' : List ℕ} → a ≡ Err x
+    → r ≡ number_of x.why
+    → o' ≡ needed_left (number_of x.why) x.carries o
+    → (r ≡ refusal_of (outcome_of a)) × (o' ≡ kept_left (outcome_of a) o)
+unfolding outcome_of refusal_of kept_left
 kept_refused o e h l = rw e (h, l)
 
-pub edges_whole : (o : List ℕ) {a : EdgesAnswer} {o' : List ℕ} → a ≡ EdgesAnswers.TheVariants.Whole → o' ≡ written (0 ∷ 0 ∷ []) o
+pub edges_whole : (o : List ℕ) {a : Result EdgesFound Refusal} {o' : List ℕ} → a ≡ Ok Findings.TheVariants.Whole → o' ≡ written (0 ∷ 0 ∷ []) o
     → (0 ≡ refusal_of (edges_say a)) × (o' ≡ edges_left (edges_say a) o)
 unfolding edges_say refusal_of edges_left
 edges_whole o e h = rw e (refl, h)
 
-pub edges_bare : (o : List ℕ) {a : EdgesAnswer} {k : ℕ} {o' : List ℕ} → a ≡ EdgesAnswers.TheVariants.Bare k → o' ≡ written (1 ∷ k ∷ []) o
+pub edges_bare : (o : List ℕ) {a : Result EdgesFound Refusal} {k : ℕ} {o' : List ℕ} → a ≡ Ok (Findings.TheVariants.Bare k) → o' ≡ written (1 ∷ k ∷ []) o
     → (0 ≡ refusal_of (edges_say a)) × (o' ≡ edges_left (edges_say a) o)
 unfolding edges_say refusal_of edges_left
 edges_bare o e h = rw e (refl, h)
 
-pub edges_twice : (o : List ℕ) {a : EdgesAnswer} {k : ℕ} {o' : List ℕ} → a ≡ EdgesAnswers.TheVariants.Twice k → o' ≡ written (2 ∷ k ∷ []) o
+pub edges_twice : (o : List ℕ) {a : Result EdgesFound Refusal} {k : ℕ} {o' : List ℕ} → a ≡ Ok (Findings.TheVariants.Twice k) → o' ≡ written (2 ∷ k ∷ []) o
     → (0 ≡ refusal_of (edges_say a)) × (o' ≡ edges_left (edges_say a) o)
 unfolding edges_say refusal_of edges_left
 edges_twice o e h = rw e (refl, h)
 
-pub edges_refused : (o : List ℕ) {a : EdgesAnswer} {x : Refusal} {r : ℕ} → a ≡ EdgesAnswers.TheVariants.Refused x → r ≡ number_of x
+pub edges_refused : (o : List ℕ) {a : Result EdgesFound Refusal} {x : Refusal} {r : ℕ} → a ≡ Err x → r ≡ number_of x
     → (r ≡ refusal_of (edges_say a)) × (o ≡ edges_left (edges_say a) o)
 unfolding edges_say refusal_of edges_left
 edges_refused o e h = rw e (h, refl)
 
 -- ---- an edge and a triangle of a scene
 
-pub pierced_yes : {a : PiercedAnswer} → a ≡ PiercedAnswers.TheVariants.Pierced → 1 ≡ number_for answer_byte (pierced_says a)
-unfolding pierced_says number_for answer_byte
-pierced_yes e = rw e refl
+pub pierced_told : {a : Result Bool Refusal} {through : Bool} → a ≡ Ok through → answer_byte through ≡ number_for answer_byte (outcome_alone a)
+unfolding outcome_alone number_for
+pierced_told e = rw e refl
 
-pub pierced_no : {a : PiercedAnswer} → a ≡ PiercedAnswers.TheVariants.Clear → 0 ≡ number_for answer_byte (pierced_says a)
-unfolding pierced_says number_for answer_byte
-pierced_no e = rw e refl
-
-pub pierced_refused : {a : PiercedAnswer} {x : Refusal} {r : ℕ} → a ≡ PiercedAnswers.TheVariants.Refused x → r ≡ number_of x * upper + 0
-    → r ≡ number_for answer_byte (pierced_says a)
-unfolding pierced_says number_for answer_byte
+pub pierced_refused : {a : Result Bool Refusal} {x : Refusal} {r : ℕ} → a ≡ Err x → r ≡ number_of x * upper + 0
+    → r ≡ number_for answer_byte (outcome_alone a)
+unfolding outcome_alone number_for answer_byte
 pierced_refused e h = rw e h

@@ -4,18 +4,13 @@
 
 ghost use Rattle.std.specs.Prelude.{◌≤◌, [], ◌∷◌, ◌≡◌, length};
 ghost use Rattle.sequences.specs.Wrote.{written};
-ghost use Rattle.meaning.specs.Refusals.{number_of, scene_says};
-ghost use Rattle.meaning.specs.List.{list_says};
-ghost use Rattle.meaning.specs.MeshRows.{kept_says};
+ghost use Rattle.meaning.specs.Refusals.{number_of, outcome_alone, outcome_of};
 ghost use Rattle.meaning.specs.MeshEdges.{edges_say};
 ghost use Rattle.meaning.specs.Claims.{answer_byte};
 ghost use Rattle.meaning.specs.Numbers.{number_for};
-ghost use Rattle.meaning.specs.Pierced.{pierced_says};
 ghost use Rattle.meaning.specs.MeshNumbers.{refusal_of, needed_left, count_left, kept_left, edges_left, wanted_by};
 
-use meaning::{
-    EdgesAnswer, KeptAnswer, KeptRows, ListAnswer, PiercedAnswer, Refusal, SceneAnswer, Wanted,
-};
+use meaning::{EdgesFound, KeptRows, Refusal, Refused, Wanted};
 
 // The number of a refusal, in 32 bits.
 fn small_number(why: Refusal) -> u32
@@ -25,22 +20,22 @@ fn small_number(why: Refusal) -> u32
 }
 
 // Of a mesh that was checked.
-pub fn tell_scene(answer: SceneAnswer) -> u32
-    ensures { result ≡ refusal_of (scene_says answer) }
+pub fn tell_scene(answer: Result<(), Refusal>) -> u32
+    ensures { result ≡ refusal_of (outcome_alone answer) }
 {
     match answer {
-        SceneAnswer::Accepted => 0,
-        SceneAnswer::Refused(why) => small_number(why),
+        Ok(()) => 0,
+        Err(why) => small_number(why),
     }
 }
 
 // 7 leaves the count needed, any other refusal what stood there.
-fn put_needed(told: &mut [u64], why: Refusal, needed: usize)
+fn put_needed(told: &mut [u64], refused: Refused)
     requires { 1 ≤ length told.old }
-    ensures { told.new ≡ needed_left (number_of why) needed told.old }
+    ensures { told.new ≡ needed_left (number_of refused.why) refused.carries told.old }
 {
-    if answers::number_of(why) == 7 {
-        told[0] = needed as u64;
+    if answers::number_of(refused.why) == 7 {
+        told[0] = refused.carries as u64;
     }
 }
 
@@ -52,18 +47,18 @@ fn put_count(told: &mut [u64], count: usize)
 }
 
 // Of a stretch that was counted or listed: its count into the lent array.
-pub fn tell_count(told: &mut [u64], answer: ListAnswer) -> u32
+pub fn tell_count(told: &mut [u64], answer: Result<usize, Refused>) -> u32
     requires { 1 ≤ length told.old }
-    ensures { (result ≡ refusal_of (list_says answer)) × (told.new ≡ count_left (list_says answer) told.old) }
+    ensures { (result ≡ refusal_of (outcome_of answer)) × (told.new ≡ count_left (outcome_of answer) told.old) }
 {
     match answer {
-        ListAnswer::Listed(made) => {
-            put_count(told, made.count);
+        Ok(count) => {
+            put_count(told, count);
             0
         }
-        ListAnswer::Refused(why, needed) => {
-            put_needed(told, why, needed);
-            small_number(why)
+        Err(refused) => {
+            put_needed(told, refused);
+            small_number(refused.why)
         }
     }
 }
@@ -82,18 +77,18 @@ fn put_kept(told: &mut [u64], kept: KeptRows)
 }
 
 // Of the pairs that were kept: how many, how many there are, and the four totals.
-pub fn tell_kept(told: &mut [u64], answer: KeptAnswer) -> u32
+pub fn tell_kept(told: &mut [u64], answer: Result<KeptRows, Refused>) -> u32
     requires { 6 ≤ length told.old }
-    ensures { (result ≡ refusal_of (kept_says answer)) × (told.new ≡ kept_left (kept_says answer) told.old) }
+    ensures { (result ≡ refusal_of (outcome_of answer)) × (told.new ≡ kept_left (outcome_of answer) told.old) }
 {
     match answer {
-        KeptAnswer::Kept(kept) => {
+        Ok(kept) => {
             put_kept(told, kept);
             0
         }
-        KeptAnswer::Refused(why, needed) => {
-            put_needed(told, why, needed);
-            small_number(why)
+        Err(refused) => {
+            put_needed(told, refused);
+            small_number(refused.why)
         }
     }
 }
@@ -108,24 +103,24 @@ fn put_two(told: &mut [u64], first: u64, second: usize)
 
 // Of edges that were looked at: 0 where all is well, 1 with the first side that has not its edge, 2 with the number of the order behind which the
 // ends do not rise.
-pub fn tell_edges(told: &mut [u64], answer: EdgesAnswer) -> u32
+pub fn tell_edges(told: &mut [u64], answer: Result<EdgesFound, Refusal>) -> u32
     requires { 2 ≤ length told.old }
     ensures { (result ≡ refusal_of (edges_say answer)) × (told.new ≡ edges_left (edges_say answer) told.old) }
 {
     match answer {
-        EdgesAnswer::Whole => {
+        Ok(EdgesFound::Whole) => {
             put_two(told, 0, 0);
             0
         }
-        EdgesAnswer::Bare(side) => {
+        Ok(EdgesFound::Bare(side)) => {
             put_two(told, 1, side);
             0
         }
-        EdgesAnswer::Twice(place) => {
+        Ok(EdgesFound::Twice(place)) => {
             put_two(told, 2, place);
             0
         }
-        EdgesAnswer::Refused(why) => small_number(why),
+        Err(why) => small_number(why),
     }
 }
 
@@ -142,12 +137,11 @@ pub fn wanted_by(mask: u32) -> Wanted
 }
 
 // Of an edge and a triangle of a scene, as the other calls over a scene tell it: 1 for yes, 0 for no, or the refusal's number times 2^32.
-pub fn pierced_number(answer: PiercedAnswer) -> u64
-    ensures { result ≡ number_for answer_byte (pierced_says answer) }
+pub fn pierced_number(answer: Result<bool, Refusal>) -> u64
+    ensures { result ≡ number_for answer_byte (outcome_alone answer) }
 {
     match answer {
-        PiercedAnswer::Pierced => 1,
-        PiercedAnswer::Clear => 0,
-        PiercedAnswer::Refused(why) => c_numbers::refused(why, 0),
+        Ok(through) => through as u64,
+        Err(why) => c_numbers::refused(why, 0),
     }
 }

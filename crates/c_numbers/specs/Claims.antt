@@ -1,5 +1,5 @@
 -- The answer to claims as a number: what it tells or carries stays below 2^32, for a text has few lines.
-use Rattle.std.specs.Prelude.{ℕ, ◌+◌, ◌*◌, ◌≤◌, ◌<◌, Bool, ◌≡◌, refl}
+use Rattle.std.specs.Prelude.{ℕ, ◌≤◌, ◌<◌, Bool, ◌≡◌, refl, Result}
 use mathlib.Core.List.{List, [], ◌∷◌}
 use Rattle.std.proofs.Common.{sym, ◌∙◌, arith, ltb-false}
 use Rattle.std.proofs.Math.Path.{ap}
@@ -7,35 +7,18 @@ use Rattle.std.proofs.Math.Dec.{ltb}
 use Rattle.std.proofs.Math.ListN.{length, length-append}
 use Rattle.meaning.specs.Limits.{text_limit}
 use Rattle.meaning.specs.Scene.{Scene}
-use Rattle.meaning.specs.Refusals.{Outcome, given, refused, Check, Answers, number_of}
+use Rattle.meaning.specs.Refusals.{Outcome, given, refused, Check, Answers, outcome_of}
 use Rattle.meaning.specs.Lines.{lines_of}
-use Rattle.meaning.specs.Claims.{Claim, claim_lines, AllAnswered, claims_first, FirstIs, claims_last, ClaimsOutcome, before, faulty, read, claims_says, how_many_told, ClaimsChecked}
-use Rattle.meaning.specs.declared.Refusal.{Refusal}
-use Rattle.meaning.specs.declared.ClaimsAnswer.{ClaimsAnswer}
-use Rattle.meaning.specs.declared.ClaimsAnswer.TheVariants.{Answered, Refused}
+use Rattle.meaning.specs.Claims.{Claim, claim_lines, AllAnswered, claims_first, FirstIs, claims_last, ClaimsOutcome, before, faulty, read, how_many_told, ClaimsChecked}
 use Rattle.answers.specs.Answering.{is_refused, is_past, is_given}
 use Rattle.text_laws.specs.Unique.{records_few}
 use Rattle.claim_line.specs.Rendered.{claims_readable}
 use Rattle.claim_answers.specs.Answering.{all_many}
 use Rattle.claim_answers.specs.Checking.{one_claims_answer}
 use Rattle.answers.specs.Deciding.{holds_or_not}
-use Rattle.meaning.specs.Numbers.{upper, number_for, Numbered}
+use Rattle.meaning.specs.Numbers.{upper, claims_number, Numbered}
 use Rattle.c_numbers.specs.Small.{told_in}
-use Rattle.meaning.specs.Numbers.{claims_number}
-
-pub claims_told : {a : ClaimsAnswer} {n r : ℕ} → a ≡ Answered n → r ≡ n → r ≡ claims_number a
-unfolding claims_number claims_says number_for
-claims_told e h = rw e h
-
-pub claims_carried : {a : ClaimsAnswer} {x : Refusal} {c : ℕ} → a ≡ Refused x c → told_in (claims_says a) < upper → c < upper
-unfolding claims_says told_in
-claims_carried e h = rw e at h
-
-pub claims_refused : {a : ClaimsAnswer} {x : Refusal} {c r : ℕ} → a ≡ Refused x c → r ≡ number_of x * upper + c → r ≡ claims_number a
-unfolding claims_number claims_says number_for
-claims_refused e h = rw e h
-
--- ---- what is told is small
+use Rattle.meaning.specs.declared.Refused.{Refused}
 
 unfoldable Bare : List Check → Type 0
 Bare [] = Unit {0}
@@ -89,7 +72,7 @@ module _ (s : Scene) (text : List ℕ) (room : ℕ) where
   outcome_small o (read cs p h a) =
       last_small cs (omega (arith, records_few (claims_readable s) cs, ap length h.lines, brief s text p)) o a
 
-pub claims_small : {s : Scene} {text o o' : List ℕ} {r : ClaimsAnswer} → ClaimsChecked s text o o' r → told_in (claims_says r) < upper
+pub claims_small : {s : Scene} {text o o' : List ℕ} {r : Result ℕ Refused} → ClaimsChecked s text o o' r → told_in (outcome_of r) < upper
 claims_small {s} {text} {o} {o'} {r} h = rw h.says (outcome_small s text (length o) h.outcome h.right)
 
 -- two numbers that are told of the claims are one, and so are the buffers

@@ -1,5 +1,5 @@
 -- A line of a file stays below 2^30: a file that is not over its limit has few lines.
-use Rattle.std.specs.Prelude.{ℕ, ◌+◌, ◌<◌, ◌≤◌, Bool, true, false, cond, ◌||◌, List, ◌++◌, ◌≡◌, refl, ℤ, length}
+use Rattle.std.specs.Prelude.{ℕ, ◌+◌, ◌<◌, ◌≤◌, Bool, true, false, cond, ◌||◌, List, ◌++◌, ◌≡◌, refl, ℤ, length, Err, Ok, Result}
 use Rattle.std.proofs.Common.{sym, ap, ◌∙◌, arith, length-append, ltb-false}
 use Rattle.answers.specs.Deciding.{holds_or_not}
 use Rattle.meaning.specs.Limits.{text_limit}
@@ -11,11 +11,12 @@ use Rattle.meaning.specs.ObjFile.{obj_lines}
 use Rattle.meaning.specs.ObjPair.{ImportOutcome, read, refused, refused_in, FilesAre, PairOutcome, ImportSaid, counts, number, number_in, import_says, import_told}
 use Rattle.meaning.specs.ObjBoxes.{BoxedImport}
 use Rattle.meaning.specs.declared.WhichFile.TheVariants.{Start, End}
-use Rattle.meaning.specs.declared.ImportAnswer.{ImportAnswer}
-use Rattle.meaning.specs.declared.ImportAnswer.TheVariants.{Read, Refused, RefusedIn}
 use Rattle.text_laws.specs.Unique.{records_few}
 use Rattle.obj_laws.specs.Ended.{obj_readable}
 use Rattle.c_numbers.specs.ImportNumbers.{line_limit, import_line}
+use Rattle.meaning.specs.declared.ImportRefusal.TheVariants.{In, Of}
+use Rattle.meaning.specs.declared.ImportRefusal.{ImportRefusal}
+use Rattle.meaning.specs.declared.SceneCounts.{SceneCounts}
 
 fault_near : {text : List ℕ} {n line : ℕ} → length text ≤ text_limit → FaultyAt obj_lines none text n line → line < line_limit
 fault_near h p =
@@ -51,18 +52,18 @@ unfolding line_told
 behind_near start end o true p = rw p (omega arith)
 behind_near start end o false p = pair_near start end o p
 
-line_same : (a : ImportAnswer) (o : ImportOutcome) → import_says a ≡ import_told o → import_line a ≡ line_told o
+line_same : (a : Result SceneCounts ImportRefusal) (o : ImportOutcome) → import_says a ≡ import_told o → import_line a ≡ line_told o
 unfolding import_says import_told import_line line_told
-line_same (Read c) (read s) e = refl
-line_same (Read c) (refused n) e = refl
-line_same (Read c) (refused_in f n line) e = let z : ◌≡◌ {A = ℕ} 0 1 = cc in absurd (omega arith)
-line_same (Refused x) (read s) e = refl
-line_same (Refused x) (refused n) e = refl
-line_same (Refused x) (refused_in f n line) e = let z : ◌≡◌ {A = ℕ} 0 1 = cc in absurd (omega arith)
-line_same (RefusedIn g x k) (read s) e = let z : ◌≡◌ {A = ℕ} 0 1 = cc in absurd (omega arith)
-line_same (RefusedIn g x k) (refused n) e = let z : ◌≡◌ {A = ℕ} 0 1 = cc in absurd (omega arith)
-line_same (RefusedIn g x k) (refused_in f n line) e = cc
+line_same (Ok c) (read s) e = refl
+line_same (Ok c) (refused n) e = refl
+line_same (Ok c) (refused_in f n line) e = let z : ◌≡◌ {A = ℕ} 0 1 = cc in absurd (omega arith)
+line_same (Err (Of x)) (read s) e = refl
+line_same (Err (Of x)) (refused n) e = refl
+line_same (Err (Of x)) (refused_in f n line) e = let z : ◌≡◌ {A = ℕ} 0 1 = cc in absurd (omega arith)
+line_same (Err (In g x)) (read s) e = let z : ◌≡◌ {A = ℕ} 0 1 = cc in absurd (omega arith)
+line_same (Err (In g x)) (refused n) e = let z : ◌≡◌ {A = ℕ} 0 1 = cc in absurd (omega arith)
+line_same (Err (In g x)) (refused_in f n line) e = cc
 
-pub import_near : {start end : List ℕ} {lent left : Scene} {b b' : List ℤ} {a : ImportAnswer} → BoxedImport start end lent left b b' a → import_line a < line_limit
+pub import_near : {start end : List ℕ} {lent left : Scene} {b b' : List ℤ} {a : Result SceneCounts ImportRefusal} → BoxedImport start end lent left b b' a → import_line a < line_limit
 import_near {start} {end} {lent} {left} {b} {b'} {a} p =
     rw (line_same a p.outcome p.says) (behind_near start end p.outcome (short_boxes b || short_buffer lent) p.right)

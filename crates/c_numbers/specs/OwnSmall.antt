@@ -1,16 +1,15 @@
 -- What an answer about a list of one's own tells or carries stays below 2^32, so that it crosses to C as one number.
-use Rattle.std.specs.Prelude.{ℕ, ◌+◌, ◌/◌, ◌≤◌, ◌<◌, min, true, false, List, [], ◌∷◌, ◌++◌, ◌≡◌, refl, length}
+use Rattle.std.specs.Prelude.{ℕ, ◌+◌, ◌/◌, ◌≤◌, ◌<◌, min, true, false, List, [], ◌∷◌, ◌++◌, ◌≡◌, refl, length, Result}
 use Rattle.std.proofs.Common.{arith, ltb-false}
 use Rattle.meaning.specs.Scene.{Scene}
-use Rattle.meaning.specs.Refusals.{Outcome, given, refused, Check, Answers, scene_checks}
-use Rattle.meaning.specs.List.{list_says}
+use Rattle.meaning.specs.Refusals.{Outcome, given, refused, Check, Answers, scene_checks, outcome_of}
 use Rattle.meaning.specs.WholeContacts.{range_check, row_length}
-use Rattle.meaning.specs.declared.ListAnswer.{ListAnswer}
 use Rattle.answers.specs.Answering.{is_refused, is_past}
 use Rattle.answers.specs.Deciding.{holds_or_not}
 use Rattle.meaning.specs.Numbers.{upper}
 use Rattle.c_numbers.specs.Small.{told_in}
 use Rattle.meaning.specs.OwnList.{missing_check, shared_check, faulty_from, entry_faults, word_room, size_check, own_limit, OwnSettled, OwnContacts}
+use Rattle.meaning.specs.declared.Refused.{Refused}
 
 -- no check of the list carries more
 unfoldable CarrySmall : List Check → Type 0
@@ -55,15 +54,15 @@ all_carry : (s : Scene) (es : List ℕ) (last : List Check) → length es ≤ ow
 all_carry s es last few h =
     both_carry (scene_checks s) (entry_faults s es ++ last) (scene_carry s) (both_carry (entry_faults s es) last (entries_carry s 1 es (omega arith)) h)
 
-pub own_small : {s : Scene} {es b b' : List ℕ} {r : ListAnswer} → OwnSettled s es b b' r → told_in (list_says r) < upper
+pub own_small : {s : Scene} {es b b' : List ℕ} {r : Result ℕ Refused} → OwnSettled s es b b' r → told_in (outcome_of r) < upper
 unfolding CarrySmall
 own_small {s} {es} {b} {b'} {r} p =
     sized_small es (scene_checks s ++ (entry_faults s es ++ (word_room es (length b) ∷ [])))
-    (λ few. all_carry s es (word_room es (length b) ∷ []) few (omega arith, tt)) (list_says r) p.answer
+    (λ few. all_carry s es (word_room es (length b) ∷ []) few (omega arith, tt)) (outcome_of r) p.answer
 
-pub own_met_small : {s : Scene} {es b b' c c' : List ℕ} {r : ListAnswer} → OwnContacts s es b b' c c' r → told_in (list_says r) < upper
+pub own_met_small : {s : Scene} {es b b' c c' : List ℕ} {r : Result ℕ Refused} → OwnContacts s es b b' c c' r → told_in (outcome_of r) < upper
 unfolding CarrySmall
 own_met_small {s} {es} {b} {b'} {c} {c'} {r} p =
     let room = word_room es (min (length b) (length c / row_length)) in
     sized_small es (scene_checks s ++ (entry_faults s es ++ (range_check s ∷ room ∷ [])))
-    (λ few. all_carry s es (range_check s ∷ room ∷ []) few (omega arith, (omega arith, tt))) (list_says r) p.answer
+    (λ few. all_carry s es (range_check s ∷ room ∷ []) few (omega arith, (omega arith, tt))) (outcome_of r) p.answer

@@ -1,20 +1,20 @@
 -- From the lent buffers of a whole scene back to its contacts: the byte of a pair and its row of five numbers are what it met.
-use Rattle.std.specs.Prelude.{ℕ, zero, suc, ◌+◌, ◌*◌, ◌≤◌, ◌<◌, List, [], ◌∷◌, ◌++◌, map, ◌≡◌, refl, length, get_or, take, drop}
+use Rattle.std.specs.Prelude.{ℕ, zero, suc, ◌+◌, ◌*◌, ◌≤◌, ◌<◌, List, [], ◌∷◌, ◌++◌, map, ◌≡◌, refl, length, get_or, take, drop, Result}
 use Rattle.std.proofs.Common.{arith, not-suc-le-zero, le_of_suc-le-suc, sym, ap, ◌∙◌, subst, ltb-false, length-drop, drop-drop, length-take-le}
 use Rattle.std.proofs.lemmas.List.{length-map}
 use Rattle.std.proofs.Math.Seq.{take-append_seam, drop-append_seam}
 use Rattle.sequences.specs.Wrote.{written, written_in_front}
 use Rattle.meaning.specs.Scene.{Scene}
-use Rattle.meaning.specs.Refusals.{given, Check, Answers, scene_checks, room_check}
-use Rattle.meaning.specs.List.{pairs, list_says}
+use Rattle.meaning.specs.Refusals.{given, Check, Answers, scene_checks, room_check, outcome_of}
+use Rattle.meaning.specs.List.{pairs}
 use Rattle.meaning.specs.WholeContacts.{row_left, rows_left, range_check, contact_room, contact_list_checks, ContactsListed}
-use Rattle.meaning.specs.declared.ListAnswer.{ListAnswer}
 use Rattle.meaning.specs.declared.WholeContact.{WholeContact}
 use Rattle.meaning.specs.declared.WholeContact.TheVariants.{Hit, Miss, Touch, Apart}
 use Rattle.answers.specs.Answering.{is_given}
 use Rattle.contact_entries.specs.Listed.{all_met_one, contacts_length}
 use Rattle.meaning.specs.Numbers.{word_number}
 use Rattle.c_numbers.specs.Back.{whole_contact_in, whole_contact_back}
+use Rattle.meaning.specs.declared.Refused.{Refused}
 
 -- the k-th row of a buffer
 abbrev pub row_at : List ℕ → ℕ → List ℕ
@@ -77,11 +77,11 @@ unfolding Answers
 passes R [] more a p = p
 passes R (k ∷ ks) more a p = passes R ks more a (is_given R k (ks ++ more) a p).1
 
-module _ {s : Scene} {o o' b b' c c' : List ℕ} {r : ListAnswer} (p : ContactsListed s o o' b b' c c' r) where
+module _ {s : Scene} {o o' b b' c c' : List ℕ} {r : Result ℕ Refused} (p : ContactsListed s o o' b b' c c' r) where
   pub contacts_many : length p.contacts ≡ length (pairs s)
   contacts_many = ap length (all_met_one s (pairs s) p.contacts p.right) ∙ contacts_length s (pairs s)
 
-  pub rows_fit : {n : ℕ} → list_says r ≡ given n → 5 * length p.contacts ≤ length c
+  pub rows_fit : {n : ℕ} → outcome_of r ≡ given n → 5 * length p.contacts ≤ length c
   rows_fit {n} e =
       let R : ℕ → Type 0 = λ m. m ≡ length (pairs s) in
       let a : Answers (contact_list_checks s (contact_room o b c)) R (given n) = subst (Answers (contact_list_checks s (contact_room o b c)) R) e p.answer in

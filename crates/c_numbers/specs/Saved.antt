@@ -1,38 +1,20 @@
 -- The answer to saving as a number: a length that is told is that of a text of at most 32,768 bytes, and so is one that is needed.
-use Rattle.std.specs.Prelude.{ℕ, ◌+◌, ◌*◌, ◌≤◌, ◌<◌, false, ◌≡◌, refl}
+use Rattle.std.specs.Prelude.{ℕ, ◌≤◌, ◌<◌, false, ◌≡◌, refl, Result}
 use mathlib.Core.List.{List, [], ◌∷◌, ◌++◌}
 use Rattle.std.proofs.Common.{sym, ap, ◌∙◌, arith, ltb-false}
 use Rattle.std.proofs.Math.Dec.{ltb}
 use Rattle.std.proofs.Math.ListN.{length}
 use Rattle.meaning.specs.Limits.{text_limit}
 use Rattle.meaning.specs.Scene.{Scene}
-use Rattle.meaning.specs.Refusals.{Outcome, given, refused, Check, Answers, number_of}
-use Rattle.meaning.specs.declared.Refusal.{Refusal}
+use Rattle.meaning.specs.Refusals.{Outcome, given, refused, Check, Answers, outcome_of}
 use Rattle.answers.specs.Answering.{is_refused, is_past}
-use Rattle.meaning.specs.Saved.{saved_text, save_says, saved_checks, Measured, Saved}
-use Rattle.meaning.specs.declared.SaveAnswer.{SaveAnswer}
-use Rattle.meaning.specs.declared.SaveAnswer.TheVariants.{Bytes, Refused}
+use Rattle.meaning.specs.Saved.{saved_text, saved_checks, Measured, Saved}
 use Rattle.saved_scene.specs.OneSave.{one_measured, one_saved}
 use Rattle.answers.specs.Deciding.{holds_or_not}
-use Rattle.meaning.specs.Numbers.{upper, number_for, Numbered}
-use Rattle.answers.specs.Speaking.{number_in_table}
+use Rattle.meaning.specs.Numbers.{upper, saved_number, Numbered}
 use Rattle.c_numbers.specs.Small.{told_in}
-use Rattle.c_numbers.specs.Back.{heard, count, Clear, heard_number}
-use Rattle.meaning.specs.Numbers.{saved_number}
-
-pub saved_told : {a : SaveAnswer} {n r : ℕ} → a ≡ Bytes n → r ≡ n → r ≡ saved_number a
-unfolding saved_number save_says number_for
-saved_told e h = rw e h
-
-pub saved_carried : {a : SaveAnswer} {x : Refusal} {c : ℕ} → a ≡ Refused x c → told_in (save_says a) < upper → c < upper
-unfolding save_says told_in
-saved_carried e h = rw e at h
-
-pub saved_as_refused : {a : SaveAnswer} {x : Refusal} {c r : ℕ} → a ≡ Refused x c → r ≡ number_of x * upper + c → r ≡ saved_number a
-unfolding saved_number save_says number_for
-saved_as_refused e h = rw e h
-
--- ---- what is told is small
+use Rattle.c_numbers.specs.Back.{heard, count, list_heard}
+use Rattle.meaning.specs.declared.Refused.{Refused}
 
 module _ (s : Scene) where
   IsLength : ℕ → Type 0
@@ -76,13 +58,13 @@ module _ (s : Scene) where
       full : Check
       full = record { number = 7; holds = ltb room (length (saved_text s)); carries = length (saved_text s) }
 
-pub measured_small : (s : Scene) (r : SaveAnswer) → Measured s r → told_in (save_says r) < upper
+pub measured_small : (s : Scene) (r : Result ℕ Refused) → Measured s r → told_in (outcome_of r) < upper
 unfolding IsLength
-measured_small s r m = small_after s [] (save_says r) (λ h p. right s (save_says r) h p) m
+measured_small s r m = small_after s [] (outcome_of r) (λ h p. right s (outcome_of r) h p) m
 
-pub saved_small : {s : Scene} {o o' : List ℕ} {r : SaveAnswer} → Saved s o o' r → told_in (save_says r) < upper
+pub saved_small : {s : Scene} {o o' : List ℕ} {r : Result ℕ Refused} → Saved s o o' r → told_in (outcome_of r) < upper
 unfolding IsLength
-saved_small {s} {o} {o'} {r} m = small_after s _ (save_says r) (λ h p. after_room s (save_says r) (length o) h p) m.answer
+saved_small {s} {o} {o'} {r} m = small_after s _ (outcome_of r) (λ h p. after_room s (outcome_of r) (length o) h p) m.answer
 
 -- two numbers that are told are one, and so are the buffers
 pub one_measured_told : (s : Scene) (m n : ℕ) → Numbered saved_number (Measured s) m → Numbered saved_number (Measured s) n → m ≡ n
@@ -94,10 +76,5 @@ one_saved_told p q =
     (p.is ∙ ap saved_number same ∙ sym q.is, buffers)
 
 -- what is heard in the number is what the answer says
-pub saved_heard : (a : SaveAnswer) → told_in (save_says a) < upper → heard count (saved_number a) ≡ save_says a
-unfolding saved_number Clear save_says told_in
-saved_heard a h = heard_number (λ n. n) count (save_says a) (clear a h)
-  where
-    clear : (a : SaveAnswer) → told_in (save_says a) < upper → Clear (λ n. n) count (save_says a)
-    clear (Bytes n) h = (h, refl)
-    clear (Refused x c) h = ((number_in_table x).some, h)
+pub saved_heard : (a : Result ℕ Refused) → told_in (outcome_of a) < upper → heard count (saved_number a) ≡ outcome_of a
+saved_heard a h = list_heard a h

@@ -1,16 +1,14 @@
 -- What an answer tells or carries stays below 2^32: a list has few pairs, and a text few lines.
-use Rattle.std.specs.Prelude.{ℕ, ◌+◌, ◌*◌, ◌≤◌, ◌<◌, min, Bool, true, false, ◌≡◌, refl, length}
+use Rattle.std.specs.Prelude.{ℕ, ◌+◌, ◌*◌, ◌≤◌, ◌<◌, min, Bool, true, false, ◌≡◌, refl, length, Result}
 use mathlib.Core.List.{List, [], ◌∷◌, ◌++◌, flat_map}
 use Rattle.std.proofs.Common.{sym, ap, ◌∙◌, subst, arith, length-append, ltb-false}
 use Rattle.meaning.specs.Limits.{text_limit}
 use Rattle.meaning.specs.Scene.{Scene, Accepted}
-use Rattle.meaning.specs.Refusals.{Outcome, given, refused, Check, Answers, scene_checks, room_check}
-use Rattle.meaning.specs.List.{pairs, room_of, list_says, list_checks, Counted, Listing}
+use Rattle.meaning.specs.Refusals.{Outcome, given, refused, Check, Answers, scene_checks, room_check, outcome_of}
+use Rattle.meaning.specs.List.{pairs, room_of, list_checks, Counted, Listing}
 use Rattle.meaning.specs.SceneWords.{SettledScene}
-use Rattle.meaning.specs.Text.{text_of, SceneFaultyAt, TextIs, short_buffer, long_text, TextOutcome, counts_told, text_says, TextRead}
+use Rattle.meaning.specs.Text.{text_of, SceneFaultyAt, TextIs, short_buffer, long_text, TextOutcome, counts_told, TextRead}
 use Rattle.meaning.specs.WholeContacts.{range_check, contact_room, contact_list_checks, ContactsListed}
-use Rattle.meaning.specs.declared.ListAnswer.{ListAnswer}
-use Rattle.meaning.specs.declared.TextAnswer.{TextAnswer}
 use Rattle.answers.specs.Answering.{is_refused, is_past}
 use Rattle.list_pairs.specs.Answering.{IsCount}
 use Rattle.list_pairs.specs.Sizes.{few_pairs}
@@ -18,6 +16,8 @@ use Rattle.text_laws.specs.Unique.{records_few}
 use Rattle.text_line.specs.Rendered.{scene_readable}
 use Rattle.answers.specs.Deciding.{holds_or_not}
 use Rattle.meaning.specs.Numbers.{upper}
+use Rattle.meaning.specs.declared.Refused.{Refused}
+use Rattle.meaning.specs.declared.SceneCounts.{SceneCounts}
 
 -- the value that is given, or what the refusal carries
 unfoldable pub told_in : Outcome ℕ → ℕ
@@ -55,8 +55,8 @@ module _ (s : Scene) where
   counted_right (given n) a p = omega (arith, pairs_few a)
   counted_right (refused n c) a p = absurd p
 
-  pub counted_small : (r : ListAnswer) → Counted s r → told_in (list_says r) < upper
-  counted_small r p = small_after [] (list_says r) (counted_right (list_says r)) p
+  pub counted_small : (r : Result ℕ Refused) → Counted s r → told_in (outcome_of r) < upper
+  counted_small r p = small_after [] (outcome_of r) (counted_right (outcome_of r)) p
 
   listed_small : (room : ℕ) (o : Outcome ℕ) → Answers (list_checks s room) (IsCount s) o → told_in o < upper
   unfolding told_in
@@ -80,14 +80,14 @@ module _ (s : Scene) where
           (λ h. let e = is_refused (IsCount s) (room_check room (length (pairs s))) [] o h q in rw e (pairs_few a))
           (λ h. counted_right o a (is_past (IsCount s) (room_check room (length (pairs s))) [] o h q))
 
-pub met_small : {s : Scene} {o o' b b' c c' : List ℕ} {r : ListAnswer} → ContactsListed s o o' b b' c c' r → told_in (list_says r) < upper
-met_small {s} {o} {o'} {b} {b'} {c} {c'} {r} p = met_listed_small s (contact_room o b c) (list_says r) p.answer
+pub met_small : {s : Scene} {o o' b b' c c' : List ℕ} {r : Result ℕ Refused} → ContactsListed s o o' b b' c c' r → told_in (outcome_of r) < upper
+met_small {s} {o} {o'} {b} {b'} {c} {c'} {r} p = met_listed_small s (contact_room o b c) (outcome_of r) p.answer
 
-pub listing_small : {s : Scene} {o o' : List ℕ} {r : ListAnswer} → Listing s o o' r → told_in (list_says r) < upper
-listing_small {s} {o} {o'} {r} p = listed_small s (room_of o) (list_says r) p.answer
+pub listing_small : {s : Scene} {o o' : List ℕ} {r : Result ℕ Refused} → Listing s o o' r → told_in (outcome_of r) < upper
+listing_small {s} {o} {o'} {r} p = listed_small s (room_of o) (outcome_of r) p.answer
 
-pub judging_small : {s : Scene} {o o' b b' : List ℕ} {r : ListAnswer} → SettledScene s o o' b b' r → told_in (list_says r) < upper
-judging_small {s} {o} {o'} {b} {b'} {r} p = listed_small s (min (room_of o) (length b)) (list_says r) p.answer
+pub judging_small : {s : Scene} {o o' b b' : List ℕ} {r : Result ℕ Refused} → SettledScene s o o' b b' r → told_in (outcome_of r) < upper
+judging_small {s} {o} {o'} {b} {b'} {r} p = listed_small s (min (room_of o) (length b)) (outcome_of r) p.answer
 
 -- ---- a text
 
@@ -106,7 +106,7 @@ text_line_small text (given s) h p = omega arith
 text_line_small text (refused n line) h p =
     omega (arith, p.place, records_few scene_readable p.above, ap length p.lines ∙ length-append (text_of p.above) p.below)
 
-pub line_small : {text : List ℕ} {lent left : Scene} {r : TextAnswer} → TextRead text lent left r → line_in (text_says r) < upper
+pub line_small : {text : List ℕ} {lent left : Scene} {r : Result SceneCounts Refused} → TextRead text lent left r → line_in (outcome_of r) < upper
 unfolding line_in
 line_small {text} {lent} {left} {r} p =
     let x = p.outcome in

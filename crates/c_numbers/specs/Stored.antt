@@ -1,19 +1,14 @@
 -- What an answer about a list made from stored boxes, or about a text read with its boxes, tells or carries stays below 2^32 too; and the
 -- steps of such a text's answer to its number.
-use Rattle.std.specs.Prelude.{ℕ, ◌+◌, ◌*◌, ◌<◌, min, ◌≡◌, ℤ, length}
+use Rattle.std.specs.Prelude.{ℕ, ◌+◌, ◌*◌, ◌<◌, min, ◌≡◌, ℤ, length, Err, Ok, Result}
 use mathlib.Core.List.{List, [], ◌∷◌, ◌++◌}
 use Rattle.std.proofs.Math.Path.{refl, subst}
 use Rattle.std.proofs.Common.{arith}
 use Rattle.meaning.specs.Scene.{Scene, Accepted}
-use Rattle.meaning.specs.Refusals.{Outcome, Check, Answers, number_of, scene_checks}
-use Rattle.meaning.specs.List.{room_of, list_says}
+use Rattle.meaning.specs.Refusals.{Outcome, Check, Answers, number_of, scene_checks, outcome_of}
+use Rattle.meaning.specs.List.{room_of}
 use Rattle.meaning.specs.StoredBoxes.{box_checks, stale_checks, stored_checks, short_boxes, CountedStored, ListedStored, SettledStored, BoxedRead}
-use Rattle.meaning.specs.Text.{text_says}
-use Rattle.meaning.specs.declared.Refusal.{Refusal}
 use Rattle.meaning.specs.declared.SceneCounts.{SceneCounts}
-use Rattle.meaning.specs.declared.TextAnswer.{TextAnswer}
-use Rattle.meaning.specs.declared.TextAnswer.TheVariants.{Read, Refused}
-use Rattle.meaning.specs.declared.ListAnswer.{ListAnswer}
 use Rattle.answers.specs.Answering.{is_refused, is_past}
 use Rattle.list_pairs.specs.Answering.{IsCount, room_checks}
 use Rattle.stored_reading.specs.Using.{boxes_short, as_read}
@@ -21,6 +16,7 @@ use Rattle.answers.specs.Deciding.{holds_or_not}
 use Rattle.meaning.specs.Numbers.{upper, number_for, text_number, counts_left, Numbered}
 use Rattle.c_numbers.specs.Small.{told_in, pairs_few, nothing_carried, small_after, counted_right, line_in, line_small}
 use Rattle.meaning.specs.Numbers.{BoxedInto}
+use Rattle.meaning.specs.declared.Refused.{Refused}
 
 module _ (s : Scene) (b : List ℤ) (o : Outcome ℕ) where
   -- 12 carries nothing, nor does 17; the scene's own checks and those behind 17 are known
@@ -51,35 +47,35 @@ module _ (s : Scene) (b : List ℤ) (o : Outcome ℕ) where
       (λ h. counted_right s o a (is_past (IsCount s) _ [] o h q)))
       p
 
-pub stored_count_small : (s : Scene) (b : List ℤ) (r : ListAnswer) → CountedStored s b r → told_in (list_says r) < upper
-stored_count_small s b r p = counted_in s b (list_says r) p
+pub stored_count_small : (s : Scene) (b : List ℤ) (r : Result ℕ Refused) → CountedStored s b r → told_in (outcome_of r) < upper
+stored_count_small s b r p = counted_in s b (outcome_of r) p
 
-pub stored_list_small : {s : Scene} {b : List ℤ} {o o' : List ℕ} {r : ListAnswer} → ListedStored s b o o' r → told_in (list_says r) < upper
-stored_list_small {s} {b} {o} {o'} {r} p = listed_in s b (list_says r) (room_of o) p.answer
+pub stored_list_small : {s : Scene} {b : List ℤ} {o o' : List ℕ} {r : Result ℕ Refused} → ListedStored s b o o' r → told_in (outcome_of r) < upper
+stored_list_small {s} {b} {o} {o'} {r} p = listed_in s b (outcome_of r) (room_of o) p.answer
 
-pub stored_words_small : {s : Scene} {b : List ℤ} {o o' w w' : List ℕ} {r : ListAnswer} → SettledStored s b o o' w w' r → told_in (list_says r) < upper
-stored_words_small {s} {b} {o} {o'} {w} {w'} {r} p = listed_in s b (list_says r) (min (room_of o) (length w)) p.answer
+pub stored_words_small : {s : Scene} {b : List ℤ} {o o' w w' : List ℕ} {r : Result ℕ Refused} → SettledStored s b o o' w w' r → told_in (outcome_of r) < upper
+stored_words_small {s} {b} {o} {o'} {w} {w'} {r} p = listed_in s b (outcome_of r) (min (room_of o) (length w)) p.answer
 
 -- ---- a text read with its boxes
 
-module _ {text : List ℕ} {lent left : Scene} {b b' : List ℤ} {a : TextAnswer} (p : BoxedRead text lent left b b' a) where
-  pub boxed_line_small : line_in (text_says a) < upper
+module _ {text : List ℕ} {lent left : Scene} {b b' : List ℤ} {a : Result SceneCounts Refused} (p : BoxedRead text lent left b b' a) where
+  pub boxed_line_small : line_in (outcome_of a) < upper
   unfolding line_in
   boxed_line_small =
       holds_or_not (short_boxes b) (λ h. let e = boxes_short p h in rw e (omega arith)) (λ h. line_small (as_read p h))
 
-  pub boxed_line : {x : Refusal} {line : ℕ} → a ≡ Refused x line → line < upper
-  unfolding text_says line_in
+  pub boxed_line : {x : Refused} → a ≡ Err x → x.carries < upper
+  unfolding outcome_of line_in
   boxed_line e = rw e at boxed_line_small
 
-  pub boxed_read : {c : SceneCounts} {l l' : List ℕ} → a ≡ Read c → l' ≡ c.vertices ∷ c.edges ∷ c.triangles ∷ c.seams ∷ []
+  pub boxed_read : {c : SceneCounts} {l l' : List ℕ} → a ≡ Ok c → l' ≡ c.vertices ∷ c.edges ∷ c.triangles ∷ c.seams ∷ []
       → Numbered text_number (BoxedInto text lent left b b' l l') 0
-  unfolding text_number text_says number_for counts_left
+  unfolding text_number outcome_of number_for counts_left
   boxed_read {c} e h =
-      record { answer = Read c; right = record { read = subst (BoxedRead text lent left b b') e p; counts = h }; is = refl }
+      record { answer = Ok c; right = record { read = subst (BoxedRead text lent left b b') e p; counts = h }; is = refl }
 
-  pub boxed_refused : {x : Refusal} {line r : ℕ} {l : List ℕ} → a ≡ Refused x line → r ≡ number_of x * upper + line
+  pub boxed_refused : {x : Refused} {r : ℕ} {l : List ℕ} → a ≡ Err x → r ≡ number_of x.why * upper + x.carries
       → Numbered text_number (BoxedInto text lent left b b' l l) r
-  unfolding text_number text_says number_for counts_left
-  boxed_refused {x} {line} e h =
-      record { answer = Refused x line; right = record { read = subst (BoxedRead text lent left b b') e p; counts = refl }; is = h }
+  unfolding text_number outcome_of number_for counts_left
+  boxed_refused {x} e h =
+      record { answer = Err x; right = record { read = subst (BoxedRead text lent left b b') e p; counts = refl }; is = h }

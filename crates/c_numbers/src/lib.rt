@@ -3,21 +3,14 @@
 #![tactic(auto)]
 
 ghost use Rattle.std.specs.Prelude.{◌+◌, ◌*◌, ◌<◌, ◌≡◌};
-ghost use Rattle.meaning.specs.Refusals.{number_of};
-ghost use Rattle.meaning.specs.List.{list_says};
-ghost use Rattle.meaning.specs.Claims.{claims_says};
-ghost use Rattle.meaning.specs.Numbers.{upper, verdict_number, scene_number, pair_number, settled_number, list_number};
+ghost use Rattle.meaning.specs.Refusals.{number_of, outcome_of};
+ghost use Rattle.meaning.specs.Numbers.{upper, verdict_number, scene_number, pair_number, settled_number, word_number, count_number};
 ghost use Rattle.c_numbers.specs.Small.{told_in};
-ghost use Rattle.meaning.specs.Numbers.{claims_number};
-ghost use Rattle.meaning.specs.Numbers.{word_number};
-ghost use Rattle.meaning.specs.Numbers.{saved_number};
-ghost use Rattle.meaning.specs.Saved.{save_says};
 ghost use Rattle.c_numbers.specs.ImportNumbers.{line_limit, import_line};
 ghost use Rattle.meaning.specs.ImportNumbers.{file_bit, import_number, import_counts};
 
 use meaning::{
-    ClaimsAnswer, ImportAnswer, ListAnswer, PairAnswer, Refusal, SaveAnswer, SceneAnswer,
-    SettledAnswer, Verdict, WhichFile, WholeContact,
+    ImportRefusal, Refusal, Refused, SceneCounts, Settled, Verdict, WhichFile, WholeContact,
 };
 
 // A refusal with the line or the count that it carries.
@@ -29,43 +22,40 @@ pub fn refused(why: Refusal, carries: usize) -> u64
 }
 
 // What C hears of a scene that was checked: 0, or the refusal with nothing carried, since no line or count belongs to it.
-pub fn scene_number(answer: SceneAnswer) -> u64
+pub fn scene_number(answer: Result<(), Refusal>) -> u64
     ensures { result ≡ scene_number answer }
 {
     match answer {
-        SceneAnswer::Accepted => 0,
-        SceneAnswer::Refused(why) => refused(why, 0),
+        Ok(()) => 0,
+        Err(why) => refused(why, 0),
     }
 }
 
 // The three-case verdict has numbers of its own; list_words::byte_of numbers the four words.
+#[tactic(auto, unfolding(meaning::specs::Numbers::verdict_number))]
 fn verdict_number(verdict: Verdict) -> u64
     ensures { result ≡ verdict_number verdict }
 {
-    match verdict {
-        Verdict::Hit => 0,
-        Verdict::Miss => 1,
-        Verdict::Degenerate => 2,
-    }
+    verdict as u64
 }
 
 // What C hears of a pair or a piece that was judged: the verdict's number, or the refusal.
-pub fn pair_number(answer: PairAnswer) -> u64
+pub fn pair_number(answer: Result<Verdict, Refusal>) -> u64
     ensures { result ≡ pair_number answer }
 {
     match answer {
-        PairAnswer::Judged(verdict) => verdict_number(verdict),
-        PairAnswer::Refused(why) => refused(why, 0),
+        Ok(verdict) => verdict_number(verdict),
+        Err(why) => refused(why, 0),
     }
 }
 
 // The same in the four words: the byte that stands for the word in a lent buffer, so that C has one number for it everywhere.
-pub fn settled_number(answer: SettledAnswer) -> u64
+pub fn settled_number(answer: Result<Settled, Refusal>) -> u64
     ensures { result ≡ settled_number answer }
 {
     match answer {
-        SettledAnswer::Decided(word) => list_words::byte_of(word) as u64,
-        SettledAnswer::Refused(why) => refused(why, 0),
+        Ok(word) => list_words::byte_of(word) as u64,
+        Err(why) => refused(why, 0),
     }
 }
 
@@ -76,36 +66,15 @@ pub fn word_number(contact: WholeContact) -> u64
     list_words::byte_of(contact_entries::rows::settled_of(contact)) as u64
 }
 
-// What C hears of a list: how many pairs it has, or the refusal with what it carries, which for 7 is the room that was needed.
-pub fn list_number(answer: ListAnswer) -> u64
-    requires { told_in (list_says answer) < upper }
-    ensures { result ≡ list_number answer }
+// What C hears of a count, of listed pairs, of answered claims or of the bytes of a text: the count, or the refusal with the line or the count
+// needed that it carries.
+pub fn count_number(answer: Result<usize, Refused>) -> u64
+    requires { told_in (outcome_of answer) < upper }
+    ensures { result ≡ count_number answer }
 {
     match answer {
-        ListAnswer::Listed(made) => made.count as u64,
-        ListAnswer::Refused(why, needed) => refused(why, needed),
-    }
-}
-
-// What C hears of claims: how many were answered, or the refusal with the line or the room that was needed.
-pub fn claims_number(answer: ClaimsAnswer) -> u64
-    requires { told_in (claims_says answer) < upper }
-    ensures { result ≡ claims_number answer }
-{
-    match answer {
-        ClaimsAnswer::Answered(count) => count as u64,
-        ClaimsAnswer::Refused(why, carries) => refused(why, carries),
-    }
-}
-
-// What C hears of a scene that was saved or measured: how many bytes its text has, or the refusal with what it carries.
-pub fn saved_number(answer: SaveAnswer) -> u64
-    requires { told_in (save_says answer) < upper }
-    ensures { result ≡ saved_number answer }
-{
-    match answer {
-        SaveAnswer::Bytes(count) => count as u64,
-        SaveAnswer::Refused(why, carries) => refused(why, carries),
+        Ok(count) => count as u64,
+        Err(Refused { why, carries }) => refused(why, carries),
     }
 }
 
@@ -121,22 +90,22 @@ fn file_bit(file: WhichFile) -> usize
 }
 
 // What C hears of two OBJ files: 0, since counts go into a lent buffer, or the refusal; one that a file has carries the line and, in a bit above, which file.
-pub fn import_number(answer: ImportAnswer) -> u64
+pub fn import_number(answer: Result<SceneCounts, ImportRefusal>) -> u64
     requires { import_line answer < line_limit }
     ensures { result ≡ import_number answer }
 {
     match answer {
-        ImportAnswer::Read(_) => 0,
-        ImportAnswer::Refused(why) => refused(why, 0),
-        ImportAnswer::RefusedIn(file, why, line) => refused(why, file_bit(file) + line),
+        Ok(_) => 0,
+        Err(ImportRefusal::Of(why)) => refused(why, 0),
+        Err(ImportRefusal::In(file, fault)) => refused(fault.why, file_bit(file) + fault.carries),
     }
 }
 
 // The counts of a scene that was brought in, into the lent array; a refusal leaves it.
-pub fn put_counts(counts: &mut [usize; 4], answer: ImportAnswer)
+pub fn put_counts(counts: &mut [usize; 4], answer: Result<SceneCounts, ImportRefusal>)
     ensures { counts.new ≡ import_counts answer counts.old }
 {
-    if let ImportAnswer::Read(c) = answer {
+    if let Ok(c) = answer {
         *counts = [c.vertices, c.edges, c.triangles, c.seams];
     }
 }

@@ -10,7 +10,7 @@ ghost use Rattle.meaning.specs.SeriesNumbers.{row_step, row_entry, rows_of, told
 ghost use Rattle.meaning.specs.SeriesNumbers.{SeriesInto};
 
 use answers::number_of;
-use meaning::{LOG_ROOM, Log, PLACE_STEP, Refusal, SceneCounts, SeriesEnding, SeriesTold, StepHit};
+use meaning::{LOG_ROOM, Log, PLACE_STEP, Refusal, Refused, SceneCounts, SeriesTold, StepHit};
 
 // A place in an entry is below this.
 const PLACES: usize = PLACE_STEP as usize;
@@ -34,11 +34,9 @@ fn put_log(log: Log, rows: &mut [u32])
     ensures { rows.new ≡ written (rows_of (take log.held log.hits)) rows.old }
 {
     let held = log.held;
-    let mut k = 0;
-    while k < held {
+    for k in 0..held {
         let hit = log.hits[k];
         put_row(hit, rows, 2 * k);
-        k += 1;
     }
 }
 
@@ -95,8 +93,8 @@ pub fn tell_series(
     let outcome = answer.outcome;
     let all_told = answer.told;
     match outcome {
-        SeriesEnding::Refused(why, carries) => refused(why, carries),
-        SeriesEnding::Told(c) => {
+        Err(Refused { why, carries }) => refused(why, carries),
+        Ok(c) => {
             put_counts(c, counts);
             put_log(all_told.log, log);
             put_told(all_told, told);

@@ -1,5 +1,5 @@
 -- What the second pass promises, and how it goes on from claim to claim.
-use Rattle.std.specs.Prelude.{Bool, ◌≡◌, refl, ℕ, ◌+◌, ◌≤◌, ◌<◌, drop, set}
+use Rattle.std.specs.Prelude.{Result, Ok, Err, Bool, ◌≡◌, refl, ℕ, ◌+◌, ◌≤◌, ◌<◌, drop, set}
 use mathlib.Core.List.{List, [], ◌∷◌, ◌++◌, map, map-append, append_assoc, append-nil}
 use Rattle.std.proofs.Math.Path.{sym, ap, subst}
 use Rattle.std.proofs.Common.{◌∙◌, arith, length-append}
@@ -12,13 +12,11 @@ use Rattle.meaning.specs.Refusals.{number_of}
 use Rattle.meaning.specs.Lines as Lines
 use Rattle.meaning.specs.Lines.{AllSound}
 use Rattle.meaning.specs.Claims.{Claim, piece_meant, AnswerIs, claim_lines, AllAnswered, answer_byte}
-use Rattle.meaning.specs.declared.Kind.{Kind}
 use Rattle.meaning.specs.declared.Refusal.{Refusal}
 use Rattle.text_laws.specs.Ahead.{Ahead, ahead_first, ahead_none, ahead_never, ahead_next}
 use Rattle.claim_line.specs.Rendered.{claims_readable}
 use Rattle.claim_line.specs.Stepping.{Stepped, Took}
-use Rattle.claim_line.specs.declared.Step.{Step}
-use Rattle.claim_line.specs.declared.Step.TheVariants.{Fault, Taken}
+use Rattle.claim_line.specs.declared.Line.{Line}
 
 -- the text is the lines of claims, none at fault, and there is room for their answers
 pub record Roomy (s : Scene) (text o : List ℕ) : Type 0 where
@@ -94,16 +92,16 @@ module _ {s : Scene} {text o₀ o : List ℕ} {count at : ℕ} (f : Answering s 
   answered_so_many : count ≡ length f.done
   answered_so_many = omega (arith, f.wrote.place, length-map f.told answer_byte, all_many s f.done f.told f.right)
 
-  module _ (inside : at < length text) {r : Step} (sizes : List ℕ) (minus : List Bool) (w : Stepped s text at sizes minus r) where
+  module _ (inside : at < length text) {r : Result Line Refusal} (sizes : List ℕ) (minus : List Bool) (w : Stepped s text at sizes minus r) where
     -- no line is at fault
-    pub answer_never : {x : Refusal} → r ≡ Fault x → ⊥
+    pub answer_never : {x : Refusal} → r ≡ Err x → ⊥
     unfolding Stepped
     answer_never {x} e =
         let fault : Lines.Fault (claim_lines s) tt (drop at text) (number_of x) = rw e at w in
         ahead_never (claims_readable s) f.ahead inside fault
 
-    module _ {kind : Kind} {next : ℕ} (e : r ≡ Taken kind next) where
-      pub taken : Took s text at sizes minus kind next
+    module _ {line : Line} (e : r ≡ Ok line) where
+      pub taken : Took s text at sizes minus line.kind line.next
       unfolding Stepped
       taken = rw e at w
 
@@ -114,14 +112,14 @@ module _ {s : Scene} {text o₀ o : List ℕ} {count at : ℕ} (f : Answering s 
           omega (arith, answered_so_many, f.room, length-append f.done f.below, ap length is, f.wrote.same)
 
       pub answer_goes : (b : Bool) → AnswerIs (piece_meant s taken.line.claim) taken.line.claim.weights b
-          → Answering s text o₀ (set o count (answer_byte b)) (count + 1) next × (at < next)
+          → Answering s text o₀ (set o count (answer_byte b)) (count + 1) line.next × (at < line.next)
       unfolding AllAnswered
       answer_goes b h =
           let c : Claim = taken.line.claim in
           let (more, is, on) = ahead_next (claims_readable s) f.ahead inside c taken.line.formed taken.line.stands in
           let parts : f.done ++ f.below ≡ (f.done ++ (c ∷ [])) ++ more =
           ap (λ (l : List Claim). f.done ++ l) is ∙ sym (append_assoc f.done (c ∷ []) more) in
-          let further : at < next = omega (arith, taken.line.stands.place, (claims_readable s).some c) in (
+          let further : at < line.next = omega (arith, taken.line.stands.place, (claims_readable s).some c) in (
             record {
               done = f.done ++ (c ∷ []);
               below = more;

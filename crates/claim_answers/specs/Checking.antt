@@ -1,5 +1,5 @@
 -- How the answer of the call is shown right, whichever way it comes about, and that only one is.
-use Rattle.std.specs.Prelude.{Bool, true, false, ◌≡◌, ℕ, ◌≤◌, ◌<◌, ltb}
+use Rattle.std.specs.Prelude.{Bool, true, false, ◌≡◌, ℕ, ◌≤◌, ◌<◌, ltb, Err, Ok, Result}
 use mathlib.Core.List.{List, [], ◌∷◌}
 use Rattle.std.proofs.Math.Path.{refl, sym, ap}
 use Rattle.std.proofs.Common.{◌∙◌, subst, arith}
@@ -10,25 +10,22 @@ use Rattle.scene_seams.specs.Alone.{tabled}
 use Rattle.scene_checks.specs.Checking.{Stitched, from_table}
 use Rattle.scene_checks.specs.Accepting.{after_accepted}
 use Rattle.answers_order.specs.InOrder.{Checked, first_of, refused_if, in_order, one_check_lem}
-use Rattle.answers.specs.Speaking.{one_number}
 use Rattle.meaning.specs.Limits.{text_limit}
 use Rattle.meaning.specs.Scene.{Scene, Accepted}
 use Rattle.meaning.specs.Pieces.{Piece}
-use Rattle.meaning.specs.Refusals.{Outcome, given, refused, number_of, scene_says, scene_checks, SceneChecked, Check, Answers}
+use Rattle.meaning.specs.Refusals.{Outcome, given, refused, number_of, scene_checks, SceneChecked, Check, Answers, carrying, outcome_alone, outcome_of}
 use Rattle.meaning.specs.Lines as Lines
 use Rattle.meaning.specs.Lines.{AllSound, LinesAre}
 use Rattle.meaning.specs.Text.{long_text}
-use Rattle.meaning.specs.Claims.{Claim, piece_meant, AnswerIs, claim_lines, AllAnswered, claims_first, FirstIs, claims_last, ClaimsOutcome, before, faulty, read, claims_says, how_many_told, answers_left, ClaimsChecked}
+use Rattle.meaning.specs.Claims.{Claim, piece_meant, AnswerIs, claim_lines, AllAnswered, claims_first, FirstIs, claims_last, ClaimsOutcome, before, faulty, read, how_many_told, answers_left, ClaimsChecked}
 use Rattle.meaning.specs.declared.Refusal.{Refusal}
 use Rattle.meaning.specs.declared.Refusal.TheVariants.{LongText, NoRoom}
-use Rattle.meaning.specs.declared.SceneAnswer as SceneAnswers
-use Rattle.meaning.specs.declared.SceneAnswer.{SceneAnswer}
-use Rattle.meaning.specs.declared.ClaimsAnswer as ClaimsAnswers
-use Rattle.meaning.specs.declared.ClaimsAnswer.{ClaimsAnswer}
 use Rattle.text_laws.specs.Unique.{records_unique, sound_or_faulty, faulty_unique}
 use Rattle.claim_line.specs.Rendered.{claims_readable}
 use Rattle.claim_answers.specs.Inspecting.{Inspected, count_told}
 use Rattle.claim_answers.specs.Answering.{Roomy, Answered, all_many}
+use Rattle.meaning.specs.declared.Refused.{Refused}
+use Rattle.answers.specs.Speaking.{one_carrying}
 
 abbrev long_check : List ℕ → List Check
 long_check text = record { number = 8; holds = long_text text; carries = 0 } ∷ []
@@ -56,14 +53,14 @@ found_claims s text count (refused n line) h e = let z : ◌≡◌ {A = ℕ} 0 1
 
 module _ (s : Scene) (text o : List ℕ) where
   -- 8 is the second of the two
-  pub scene_first : (scene : SceneAnswer) → SceneChecked s scene → Checked (claims_first s text) (first_of scene (refused_if (long_text text) LongText))
+  pub scene_first : (scene : Result (Unit {0}) Refusal) → SceneChecked s scene → Checked (claims_first s text) (first_of scene (refused_if (long_text text) LongText))
   unfolding number_of
   scene_first scene p =
       in_order (scene_checks s) (long_check text) scene (refused_if (long_text text) LongText) p (one_check_lem (long_text text) LongText)
 
   -- where neither refuses, the scene is accepted and the text is short enough
-  pub both_passed : {r : SceneAnswer} → r ≡ SceneAnswers.TheVariants.Accepted → Checked (claims_first s text) r → Accepted s × (length text ≤ text_limit)
-  unfolding scene_says
+  pub both_passed : {r : Result (Unit {0}) Refusal} → r ≡ Ok tt → Checked (claims_first s text) r → Accepted s × (length text ≤ text_limit)
+  unfolding outcome_alone
   both_passed e p =
       let (h1, q1) = is_given (λ t. Unit {0}) _ _ tt (subst (Checked (claims_first s text)) e p) in
       let (h2, q2) = is_given (λ t. Unit {0}) _ _ tt q1 in
@@ -73,9 +70,9 @@ module _ (s : Scene) (text o : List ℕ) where
       let (brief, q6) = is_given (λ t. Unit {0}) _ _ tt q5 in
       (record { shapely = h1; in_range = h2; known = h3; sewn_well = h4; distinct = h5 }, ltb-false text_limit (length text) brief)
 
-  pub checked_first : {r : SceneAnswer} {x : Refusal} → Checked (claims_first s text) r → r ≡ SceneAnswers.TheVariants.Refused x
-      → ClaimsChecked s text o o (ClaimsAnswers.TheVariants.Refused x 0)
-  unfolding claims_says how_many_told answers_left scene_says
+  pub checked_first : {r : Result (Unit {0}) Refusal} {x : Refusal} → Checked (claims_first s text) r → r ≡ Err x
+      → ClaimsChecked s text o o (Err (carrying x 0))
+  unfolding outcome_of how_many_told answers_left outcome_alone
   checked_first {r} {x} p e =
       record {
         outcome = refused (number_of x) 0;
@@ -85,30 +82,29 @@ module _ (s : Scene) (text o : List ℕ) where
       }
 
   module _ (a : Accepted s) where
-    module _ (brief : length text ≤ text_limit) {r : ClaimsAnswer} (i : Inspected s text r) where
+    module _ (brief : length text ≤ text_limit) {r : Result ℕ Refused} (i : Inspected s text r) where
       first : FirstIs s text (given tt)
       first =
           after_accepted s (long_check text) (λ t. Unit {0}) (given tt) a
           (lets_pass _ _ _ _ (le-ltb text_limit (length text) brief) (gives (λ t. Unit {0}) tt tt))
 
-      pub checked_faulty : {x : Refusal} {line : ℕ} → r ≡ ClaimsAnswers.TheVariants.Refused x line
-          → ClaimsChecked s text o o (ClaimsAnswers.TheVariants.Refused x line)
-      unfolding claims_says how_many_told answers_left
-      checked_faulty {x} {line} e =
+      pub checked_faulty : {x : Refused} → r ≡ Err x → ClaimsChecked s text o o (Err x)
+      unfolding outcome_of how_many_told answers_left
+      checked_faulty {x} e =
           record {
-            outcome = refused (number_of x) line;
-            right = faulty (number_of x) line refl first (found_faulty s text (number_of x) line i.outcome i.right (ap claims_says (sym e) ∙ i.says));
+            outcome = refused (number_of x.why) x.carries;
+            right = faulty (number_of x.why) x.carries refl first (found_faulty s text (number_of x.why) x.carries i.outcome i.right (ap outcome_of (sym e) ∙ i.says));
             says = refl;
             leaves = refl;
           }
 
-      module _ {count : ℕ} (e : r ≡ ClaimsAnswers.TheVariants.Answered count) where
+      module _ {count : ℕ} (e : r ≡ Ok count) where
         found : Found s text count
-        unfolding claims_says
-        found = found_claims s text count i.outcome i.right (ap claims_says (sym e) ∙ i.says)
+        unfolding outcome_of
+        found = found_claims s text count i.outcome i.right (ap outcome_of (sym e) ∙ i.says)
 
-        pub checked_short : length o < count → ClaimsChecked s text o o (ClaimsAnswers.TheVariants.Refused NoRoom count)
-        unfolding claims_says how_many_told answers_left number_of
+        pub checked_short : length o < count → ClaimsChecked s text o o (Err (carrying NoRoom count))
+        unfolding outcome_of how_many_told answers_left number_of
         checked_short h =
             let cs : List Claim = found.claims in
             let many : length cs ≡ count = sym found.many in
@@ -123,8 +119,8 @@ module _ (s : Scene) (text o : List ℕ) where
         pub claims_roomy : count ≤ length o → Roomy s text o
         claims_roomy h = record { claims = found.claims; sound = found.sound; room = omega (arith, found.many) }
 
-        pub checked_given : {o' : List ℕ} → count ≤ length o → Answered s text o o' → ClaimsChecked s text o o' (ClaimsAnswers.TheVariants.Answered count)
-        unfolding claims_says how_many_told answers_left
+        pub checked_given : {o' : List ℕ} → count ≤ length o → Answered s text o o' → ClaimsChecked s text o o' (Ok count)
+        unfolding outcome_of how_many_told answers_left
         checked_given h w =
             let same : found.claims ≡ w.claims = records_unique (claims_readable s) found.sound w.sound in
             let many : count ≡ length w.claims = found.many ∙ ap length same in
@@ -139,7 +135,7 @@ module _ (s : Scene) (text o : List ℕ) where
 -- ---- one answer
 
 -- what holds beside the scene that the table tells holds beside the scene
-pub checked_in_table : {s : Scene} {t t' : List ℕ} → Stitched s t t' → Accepted s → {text o o' : List ℕ} {r : ClaimsAnswer}
+pub checked_in_table : {s : Scene} {t t' : List ℕ} → Stitched s t t' → Accepted s → {text o o' : List ℕ} {r : Result ℕ Refused}
     → ClaimsChecked (tabled s.positions s.edges s.triangles t') text o o' r → ClaimsChecked s text o o' r
 checked_in_table h a {text} {o} {o'} {r} p = from_table (λ (u : Scene). ClaimsChecked u text o o' r) h a p
 
@@ -202,21 +198,11 @@ few_told s text room o bs (read cs p h a) q =
     let (test, right) = is_given (AllAnswered s cs) (record { number = 7; holds = ltb room (length cs); carries = length cs }) [] bs given_so in
     omega (arith, ltb-false room (length cs) test, all_many s cs bs right)
 
-pub claims_say_one : (r r' : ClaimsAnswer) → claims_says r ≡ claims_says r' → r ≡ r'
-unfolding claims_says
-claims_say_one (ClaimsAnswers.TheVariants.Answered n) (ClaimsAnswers.TheVariants.Answered m) e = ap ClaimsAnswers.TheVariants.Answered (cc)
-claims_say_one (ClaimsAnswers.TheVariants.Answered n) (ClaimsAnswers.TheVariants.Refused y d) e = cc
-claims_say_one (ClaimsAnswers.TheVariants.Refused x c) (ClaimsAnswers.TheVariants.Answered m) e = cc
-claims_say_one (ClaimsAnswers.TheVariants.Refused x c) (ClaimsAnswers.TheVariants.Refused y d) e =
-    let same : x ≡ y = one_number x y (cc) in
-    let carried : c ≡ d = cc in
-    cc
-
 -- two results that meet the promise are equal, and so are the buffers
-pub one_claims_answer : {s : Scene} {text o a b : List ℕ} {r r' : ClaimsAnswer} → ClaimsChecked s text o a r → ClaimsChecked s text o b r'
+pub one_claims_answer : {s : Scene} {text o a b : List ℕ} {r r' : Result ℕ Refused} → ClaimsChecked s text o a r → ClaimsChecked s text o b r'
     → (r ≡ r') × (a ≡ b)
 one_claims_answer {s} {text} {o} {a} {b} {r} {r'} h k =
     let same : h.outcome ≡ k.outcome = one_outcome s text (length o) h.outcome k.outcome h.right k.right in (
-      claims_say_one r r' (h.says ∙ ap how_many_told same ∙ sym k.says),
+      one_carrying r r' (h.says ∙ ap how_many_told same ∙ sym k.says),
       h.leaves ∙ ap (λ x. answers_left x o) same ∙ sym k.leaves,
     )

@@ -16,10 +16,10 @@ ghost use Rattle.claim_answers.specs.Weighing.{weights_from};
 ghost use Rattle.claim_answers.specs.Answering.{Roomy, Answered};
 
 use answers_order::{first_of, refused_if};
-use claim_line::{Step, next_claim};
+use claim_line::next_claim;
 use claim_sums::borne_out;
 use four_words::six::six_of;
-use meaning::{ClaimsAnswer, Kind, Refusal, SceneAnswer, TEXT_LIMIT, VERTEX_LIMIT};
+use meaning::{Kind, Refusal, Refused, TEXT_LIMIT, VERTEX_LIMIT};
 
 // The first pass: how many claims there are, or the first faulty line with its fault.
 fn inspect(
@@ -28,27 +28,31 @@ fn inspect(
     triangles: &[u16],
     stands: &[u16],
     text: &[u8],
-) -> ClaimsAnswer
+) -> Result<usize, Refused>
     ensures { Inspected (tabled positions.now edges.now triangles.now stands.now) text.now result }
 {
     let mut sizes = [0u64; 9];
     let mut minus = [false; 9];
     let mut count: usize = 0;
     let mut at = 0;
+    // `while`, because each line says where the next one begins: there is no range to go over.
     while at < text.len() {
         match next_claim(
             positions, edges, triangles, stands, text, at, &mut sizes, &mut minus,
         ) {
-            Step::Fault(fault) => {
-                return ClaimsAnswer::Refused(fault, count + 1);
+            Err(why) => {
+                return Err(Refused {
+                    why,
+                    carries: count + 1,
+                });
             }
-            Step::Taken(_, behind) => {
+            Ok(claim) => {
                 count += 1;
-                at = behind;
+                at = claim.next;
             }
         }
     }
-    ClaimsAnswer::Answered(count)
+    Ok(count)
 }
 
 // Is the claim of this kind with these numbers borne out? They are two places, the piece, six weights.
@@ -102,17 +106,20 @@ fn answer_all(
     let mut minus = [false; 9];
     let mut count: usize = 0;
     let mut at = 0;
+    // `while`, because each line says where the next one begins: there is no range to go over.
     while at < text.len() {
         match next_claim(
             positions, edges, triangles, stands, text, at, &mut sizes, &mut minus,
         ) {
-            Step::Fault(_) => {
+            Err(_) => {
                 return;
             }
-            Step::Taken(kind, next) => {
-                answers[count] = byte_of(answer(positions, edges, triangles, stands, kind, &sizes));
+            Ok(claim) => {
+                answers[count] = byte_of(answer(
+                    positions, edges, triangles, stands, claim.kind, &sizes,
+                ));
                 count += 1;
-                at = next;
+                at = claim.next;
             }
         }
     }
@@ -127,26 +134,23 @@ fn check_into(
     stands: &mut [u16],
     text: &[u8],
     answers: &mut [u8],
-) -> ClaimsAnswer
+) -> Result<usize, Refused>
     requires { Blank seams.now stands.old }
     ensures { ClaimsChecked (scene_of positions.now edges.now triangles.now seams.now) text.now answers.old
         answers.new result × Stitched (scene_of positions.now edges.now triangles.now seams.now) stands.old stands.new }
 {
     let scene = scene_checks::check_into(positions, edges, triangles, seams, stands);
     let brief = refused_if(TEXT_LIMIT < text.len(), Refusal::LongText);
-    if let SceneAnswer::Refused(refusal) = first_of(scene, brief) {
-        return ClaimsAnswer::Refused(refusal, 0);
+    first_of(scene, brief)?;
+    let count = inspect(positions, edges, triangles, stands, text)?;
+    if answers.len() < count {
+        return Err(Refused {
+            why: Refusal::NoRoom,
+            carries: count,
+        });
     }
-    match inspect(positions, edges, triangles, stands, text) {
-        ClaimsAnswer::Refused(fault, line) => ClaimsAnswer::Refused(fault, line),
-        ClaimsAnswer::Answered(count) => {
-            if answers.len() < count {
-                return ClaimsAnswer::Refused(Refusal::NoRoom, count);
-            }
-            answer_all(positions, edges, triangles, stands, text, answers);
-            ClaimsAnswer::Answered(count)
-        }
-    }
+    answer_all(positions, edges, triangles, stands, text, answers);
+    Ok(count)
 }
 
 // Checks a text of claims beside a scene. The answer is how many there are, and the lent buffer then holds a byte for each in front, 1
@@ -158,7 +162,7 @@ pub fn check_claims(
     seams: &[u16],
     text: &[u8],
     answers: &mut [u8],
-) -> ClaimsAnswer
+) -> Result<usize, Refused>
     ensures { ClaimsChecked (scene_of positions.now edges.now triangles.now seams.now) text.now answers.old
         answers.new result }
 {

@@ -1,5 +1,5 @@
 -- What the reader of a line promises: the claim that stands there, with its numbers in front of two buffers, or that none does.
-use Rattle.std.specs.Prelude.{Bool, true, false, ◌||◌, ◌&&◌, ◌≡◌, leb, eqb, ℤ, pos, negsuc, nat_abs, get_or, drop}
+use Rattle.std.specs.Prelude.{Option, Some, None, Bool, true, false, ◌||◌, ◌&&◌, ◌≡◌, leb, eqb, ℤ, pos, negsuc, nat_abs, get_or, drop}
 use Rattle.std.proofs.Math.Bool.{true≢false}
 use mathlib.Core.List.{List, [], ◌∷◌, ◌++◌, map}
 use Rattle.std.proofs.Math.Path.{refl, sym, ap}
@@ -15,20 +15,17 @@ use Rattle.decimals.specs.Digits.{digits}
 use Rattle.decimals.specs.Value.{digits_length, digits_below}
 use Rattle.answers.specs.Below.{or_left, or_rest}
 use Rattle.text_fields.specs.Field.{Allowed, front_byte}
-use Rattle.text_fields.specs.Rows.{EachAllowed, row_of, RowStands, row_cancel}
+use Rattle.text_fields.specs.Rows.{EachAllowed, row_of, row_cancel}
 use Rattle.text_fields.specs.Ended.{RowEnded, LineStands, InFront, row_ended, row_unended}
-use Rattle.text_fields.specs.declared.Ending.{Ending}
-use Rattle.text_fields.specs.declared.Ending.TheVariants.{At, Nowhere}
 use Rattle.text_fields.specs.Tabbed.{tab_parts, line_ends, SizedAs, sized_at, first_of}
 use Rattle.meaning.specs.Limits.{digit_limit, weight_digits}
-use Rattle.meaning.specs.Text.{Short, tab, line_feed}
+use Rattle.meaning.specs.Text.{Short, line_feed}
 use Rattle.meaning.specs.Report.{kind_word}
-use Rattle.meaning.specs.Claims.{Claim, places_in, weights_in, claim_line, ClaimFormed}
+use Rattle.meaning.specs.Claims.{Claim, claim_line, ClaimFormed}
 use Rattle.meaning.specs.declared.Kind.{Kind}
 use Rattle.meaning.specs.declared.Kind.TheVariants.{PointTriangle, EdgeEdge}
 use Rattle.claim_line.specs.Rendered.{weight_form, numbers_in, nine_numbers}
 use Rattle.claim_line.specs.declared.Line.{Line}
-use Rattle.claim_line.specs.declared.Line.TheVariants.{Of, Bad}
 
 -- one of the first three numbers has more than nine digits
 abbrev pub wide_in : List ℕ → Bool
@@ -53,9 +50,9 @@ pub record NumbersGot (text : List ℕ) (at : ℕ) (sizes : List ℕ) (minus : L
 abbrev pub NoNumbers : List ℕ → ℕ → Type 0
 NoNumbers text at = (zs : List ℤ) (next : ℕ) → Nine text at zs next → ⊥
 
-unfoldable pub NumbersRead : List ℕ → ℕ → List ℕ → List Bool → Ending → Type 0
-NumbersRead text at sizes minus (At next) = NumbersGot text at sizes minus next
-NumbersRead text at sizes minus Nowhere = NoNumbers text at
+unfoldable pub NumbersRead : List ℕ → ℕ → List ℕ → List Bool → Option ℕ → Type 0
+NumbersRead text at sizes minus (Some next) = NumbersGot text at sizes minus next
+NumbersRead text at sizes minus None = NoNumbers text at
 
 -- numbers that stand in one place are the same
 numbers_one : {text : List ℕ} {at n m : ℕ} {zs ws : List ℤ} → LineStands text at weight_form zs n → LineStands text at weight_form ws m
@@ -88,7 +85,7 @@ near_not_wide zs l e n h = rw (
 ) refl
 
 module _ {text : List ℕ} {at : ℕ} {sizes sizes' : List ℕ} {minus minus' : List Bool} where
-  got : {r : Ending} {next : ℕ} → RowEnded text at weight_form 9 sizes sizes' minus minus' r → r ≡ At next → wide_in sizes' ≡ false
+  got : {r : Option ℕ} {next : ℕ} → RowEnded text at weight_form 9 sizes sizes' minus minus' r → r ≡ Some next → wide_in sizes' ≡ false
       → NumbersGot text at sizes' minus' next
   got row e w =
       let (counted, line, front) = row_ended row e in
@@ -99,30 +96,30 @@ module _ {text : List ℕ} {at : ℕ} {sizes sizes' : List ℕ} {minus minus' : 
         front = front;
       }
 
-  none : {r : Ending} → RowEnded text at weight_form 9 sizes sizes' minus minus' r → r ≡ Nowhere → NoNumbers text at
+  none : {r : Option ℕ} → RowEnded text at weight_form 9 sizes sizes' minus minus' r → r ≡ None → NoNumbers text at
   none row e zs next n = row_unended tab_parts row e zs next n.many n.line
 
-  pub numbers_wide : {r : Ending} → RowEnded text at weight_form 9 sizes sizes' minus minus' r → wide_in sizes' ≡ true
-      → NumbersRead text at sizes' minus' Nowhere
+  pub numbers_wide : {r : Option ℕ} → RowEnded text at weight_form 9 sizes sizes' minus minus' r → wide_in sizes' ≡ true
+      → NumbersRead text at sizes' minus' None
   unfolding NumbersRead
   numbers_wide {r} row w = by r refl
     where
-      by : (x : Ending) → r ≡ x → NoNumbers text at
-      by Nowhere e = none row e
-      by (At next) e = λ zs m n.
+      by : (x : Option ℕ) → r ≡ x → NoNumbers text at
+      by None e = none row e
+      by (Some next) e = λ zs m n.
           let (counted, line, front) = row_ended row e in
           let same : row.read.zs ≡ zs = numbers_one line n.line (counted ∙ sym n.many) in
           let near : Near row.read.zs = rw same n.near in
           true≢false (sym w ∙ near_not_wide row.read.zs sizes' front.sized counted near)
 
-  pub numbers_read : {r : Ending} → RowEnded text at weight_form 9 sizes sizes' minus minus' r → wide_in sizes' ≡ false
+  pub numbers_read : {r : Option ℕ} → RowEnded text at weight_form 9 sizes sizes' minus minus' r → wide_in sizes' ≡ false
       → NumbersRead text at sizes' minus' r
   unfolding NumbersRead
   numbers_read {r} row w = by r refl
     where
-      by : (x : Ending) → r ≡ x → NumbersRead text at sizes' minus' x
-      by Nowhere e = none row e
-      by (At next) e = got row e w
+      by : (x : Option ℕ) → r ≡ x → NumbersRead text at sizes' minus' x
+      by None e = none row e
+      by (Some next) e = got row e w
 
 -- ---- numbers of the form make a claim, and a claim's are of the form
 
@@ -212,13 +209,13 @@ pub record ClaimGot (text : List ℕ) (at : ℕ) (sizes : List ℕ) (minus : Lis
 abbrev pub NoLine : List ℕ → ℕ → Type 0
 NoLine text at = (c : Claim) (next : ℕ) → ClaimFormed c → Stands text at (claim_line c) next → ⊥
 
-unfoldable pub LineRead : List ℕ → ℕ → List ℕ → List Bool → Line → Type 0
-LineRead text at sizes minus (Of kind next) = ClaimGot text at sizes minus kind next
-LineRead text at sizes minus Bad = NoLine text at
+unfoldable pub LineRead : List ℕ → ℕ → List ℕ → List Bool → Option Line → Type 0
+LineRead text at sizes minus (Some line) = ClaimGot text at sizes minus line.kind line.next
+LineRead text at sizes minus None = NoLine text at
 
-unfoldable pub line_ended : Kind → Ending → Line
-line_ended kind (At next) = Of kind next
-line_ended kind Nowhere = Bad
+unfoldable pub line_ended : Kind → Option ℕ → Option Line
+line_ended kind (Some next) = Some (record { kind = kind; next = next })
+line_ended kind None = None
 
 -- ---- the line of a claim is its word, its row and LF
 
@@ -258,13 +255,13 @@ module _ (text : List ℕ) (at : ℕ) where
       )
 
   -- the word of a kind stands here: what is read behind it decides
-  pub line_got : (kind : Kind) (sizes : List ℕ) (minus : List Bool) (e : Ending) {l : Line} → Stands text at (kind_word kind) (at + 2)
+  pub line_got : (kind : Kind) (sizes : List ℕ) (minus : List Bool) (e : Option ℕ) {l : Option Line} → Stands text at (kind_word kind) (at + 2)
       → NumbersRead text (at + 2) sizes minus e → l ≡ line_ended kind e → LineRead text at sizes minus l
   unfolding LineRead NumbersRead line_ended
   line_got kind sizes minus e {l} word read is = rw is (by e read)
     where
-      by : (x : Ending) → NumbersRead text (at + 2) sizes minus x → LineRead text at sizes minus (line_ended kind x)
-      by (At next) g =
+      by : (x : Option ℕ) → NumbersRead text (at + 2) sizes minus x → LineRead text at sizes minus (line_ended kind x)
+      by (Some next) g =
           let m : Made kind g.zs = made kind g.zs g.nine.many g.nine.line.row.allowed g.nine.near in
           record {
             claim = m.claim;
@@ -273,7 +270,7 @@ module _ (text : List ℕ) (at : ℕ) where
             stands = line_put m.claim (rw m.kinded word) (rw m.numbers g.nine.line);
             front = rw m.numbers g.front;
           }
-      by Nowhere n = λ c next formed w. n (numbers_in c) next (line_taken c formed w).1
+      by None n = λ c next formed w. n (numbers_in c) next (line_taken c formed w).1
 
 -- ---- the word, byte by byte
 

@@ -8,7 +8,7 @@ use Rattle.text_fields.specs.Rows.{row_of, row_cancel}
 use Rattle.text_fields.specs.declared.Form.{Form}
 use Rattle.meaning.specs.Limits.{weight_digits}
 use Rattle.meaning.specs.Scene.{Scene}
-use Rattle.meaning.specs.Text.{tab, line_feed, numeral}
+use Rattle.meaning.specs.Text.{tab, line_feed}
 use Rattle.meaning.specs.Report.{kind_word}
 use Rattle.meaning.specs.Claims.{Claim, places_in, weights_in, claim_line, ClaimFormed, claim_lines}
 use Rattle.meaning.specs.declared.Kind.{Kind}

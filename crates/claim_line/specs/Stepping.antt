@@ -1,14 +1,14 @@
 -- What one step over a line promises: the line's fault, or the claim that it holds.
-use Rattle.std.specs.Prelude.{Bool, true, false, ◌||◌, List, ◌∷◌, ◌++◌, ◌≡◌, ℕ, ◌+◌, ◌≤◌, ◌<◌, leb, length, get_or, drop}
+use Rattle.std.specs.Prelude.{Option, Some, None, Result, Ok, Err, Bool, true, false, List, ◌≡◌, ℕ, ◌<◌, leb, length, get_or, drop}
 use Rattle.std.proofs.Math.Path.{refl}
-use Rattle.std.proofs.Common.{sym, ◌∙◌, subst, arith}
+use Rattle.std.proofs.Common.{arith}
 use Rattle.sequences.specs.Stands.{stands_from}
 use Rattle.sequences.specs.Parts.{some_left}
 use Rattle.answers.specs.Answering.{refuses, lets_pass, gives}
 use Rattle.text_fields.specs.Tabbed.{sized_at}
 use Rattle.meaning.specs.Scene.{Scene}
 use Rattle.meaning.specs.Pieces.{piece_count}
-use Rattle.meaning.specs.Refusals.{Outcome, given, refused, number_of, Answers, not_there, shares, piece_asked}
+use Rattle.meaning.specs.Refusals.{Outcome, given, refused, number_of, Answers, not_there, shares, piece_asked, outcome_alone}
 use Rattle.meaning.specs.Lines as Lines
 use Rattle.meaning.specs.Lines.{unformed, misplaced}
 use Rattle.meaning.specs.Claims.{Claim, claim_line, claim_checks, claim_lines}
@@ -17,18 +17,9 @@ use Rattle.meaning.specs.declared.Refusal.{Refusal}
 use Rattle.meaning.specs.declared.Refusal.TheVariants.{NotThere, SharedVertex, BadLine}
 use Rattle.claim_line.specs.Rendered.{numbers_in, nine_numbers}
 use Rattle.claim_line.specs.Reading.{ClaimGot, LineRead}
-use Rattle.claim_line.specs.declared.Line as Found
 use Rattle.claim_line.specs.declared.Line.{Line}
-use Rattle.claim_line.specs.declared.Judged as Judgements
-use Rattle.claim_line.specs.declared.Judged.{Judged}
-use Rattle.claim_line.specs.declared.Step.{Step}
-use Rattle.claim_line.specs.declared.Step.TheVariants.{Fault, Taken}
 
 -- ---- the judgement of a claim
-
-unfoldable pub judged_says : Judged → Outcome (Unit {0})
-judged_says Judgements.TheVariants.Good = given tt
-judged_says (Judgements.TheVariants.Fault r) = refused (number_of r) 0
 
 abbrev pub ClaimJudged : Scene → Claim → Outcome (Unit {0}) → Type 0
 ClaimJudged s c = Answers (claim_checks s c) (λ t. Unit {0})
@@ -37,21 +28,21 @@ abbrev pub AskedIs : Scene → Kind → ℕ → ℕ → ℕ → Outcome (Unit {0
 AskedIs s kind i j k = Answers (piece_asked s kind i j k) (λ t. Unit {0})
 
 module _ (s : Scene) (kind : Kind) (i j k : ℕ) where
-  pub no_place : not_there s kind i j ≡ true → AskedIs s kind i j k (judged_says (Judgements.TheVariants.Fault NotThere))
-  unfolding judged_says number_of
+  pub no_place : not_there s kind i j ≡ true → AskedIs s kind i j k (outcome_alone (Err NotThere))
+  unfolding outcome_alone number_of
   no_place h = refuses _ _ _ _ (rw h refl) refl
 
-  pub no_piece : not_there s kind i j ≡ false → leb (piece_count kind) k ≡ true → AskedIs s kind i j k (judged_says (Judgements.TheVariants.Fault NotThere))
-  unfolding judged_says number_of
+  pub no_piece : not_there s kind i j ≡ false → leb (piece_count kind) k ≡ true → AskedIs s kind i j k (outcome_alone (Err NotThere))
+  unfolding outcome_alone number_of
   no_piece h p = refuses _ _ _ _ (rw (h, p) refl) refl
 
   module _ (there : not_there s kind i j ≡ false) (piece : leb (piece_count kind) k ≡ false) where
-    pub shared : shares s kind i j ≡ true → AskedIs s kind i j k (judged_says (Judgements.TheVariants.Fault SharedVertex))
-    unfolding judged_says number_of
+    pub shared : shares s kind i j ≡ true → AskedIs s kind i j k (outcome_alone (Err SharedVertex))
+    unfolding outcome_alone number_of
     shared h = lets_pass _ _ _ _ (rw (there, piece) refl) (refuses _ _ _ _ h refl)
 
-    pub asked_well : shares s kind i j ≡ false → AskedIs s kind i j k (judged_says Judgements.TheVariants.Good)
-    unfolding judged_says
+    pub asked_well : shares s kind i j ≡ false → AskedIs s kind i j k (outcome_alone (Ok tt))
+    unfolding outcome_alone
     asked_well h = lets_pass _ _ _ _ (rw (there, piece) refl) (lets_pass _ _ _ _ h (gives (λ t. Unit {0}) tt tt))
 
 -- ---- the promise
@@ -60,9 +51,9 @@ pub record Took (s : Scene) (text : List ℕ) (at : ℕ) (sizes : List ℕ) (min
   pub line : ClaimGot text at sizes minus kind next
   pub good : ClaimJudged s line.claim (given tt)
 
-unfoldable pub Stepped : Scene → List ℕ → ℕ → List ℕ → List Bool → Step → Type 0
-Stepped s text at sizes minus (Fault r) = Lines.Fault (claim_lines s) tt (drop at text) (number_of r)
-Stepped s text at sizes minus (Taken kind next) = Took s text at sizes minus kind next
+unfoldable pub Stepped : Scene → List ℕ → ℕ → List ℕ → List Bool → Result Line Refusal → Type 0
+Stepped s text at sizes minus (Err r) = Lines.Fault (claim_lines s) tt (drop at text) (number_of r)
+Stepped s text at sizes minus (Ok line) = Took s text at sizes minus line.kind line.next
 
 -- the places and the piece, as they stand in the buffer
 pub record Named (sizes : List ℕ) (c : Claim) : Type 0 where
@@ -84,25 +75,25 @@ module _ (s : Scene) (text : List ℕ) (at : ℕ) (sizes : List ℕ) (minus : Li
       → AskedIs s kind (get_or sizes 0 0) (get_or sizes 1 0) (get_or sizes 2 0) o → ClaimJudged s g.claim o
   judged_claim g o a = let n = named g in rw (g.kinded, ← n.first, ← n.second, ← n.piece) a
 
-  pub step_bad : {l : Line} → at < length text → LineRead text at sizes minus l → l ≡ Found.TheVariants.Bad
-      → Stepped s text at sizes minus (Fault BadLine)
+  pub step_bad : {l : Option Line} → at < length text → LineRead text at sizes minus l → l ≡ None
+      → Stepped s text at sizes minus (Err BadLine)
   unfolding Stepped LineRead number_of
   step_bad {l} h a e =
-      let none : LineRead text at sizes minus Found.TheVariants.Bad = rw e at a in
+      let none : LineRead text at sizes minus None = rw e at a in
       unformed refl (some_left text at h) (λ c rest formed q. none c _ formed (stands_from text at (claim_line c) rest q))
 
-  module _ {l : Line} {j : Judged} {kind : Kind} {next : ℕ} (a : LineRead text at sizes minus l) (e : l ≡ Found.TheVariants.Of kind next)
-      (b : AskedIs s kind (get_or sizes 0 0) (get_or sizes 1 0) (get_or sizes 2 0) (judged_says j)) where
-    pub step_fault : {f : Refusal} → j ≡ Judgements.TheVariants.Fault f → Stepped s text at sizes minus (Fault f)
-    unfolding Stepped LineRead judged_says
+  module _ {l : Option Line} {j : Result (Unit {0}) Refusal} {line : Line} (a : LineRead text at sizes minus l) (e : l ≡ Some line)
+      (b : AskedIs s line.kind (get_or sizes 0 0) (get_or sizes 1 0) (get_or sizes 2 0) (outcome_alone j)) where
+    pub step_fault : {f : Refusal} → j ≡ Err f → Stepped s text at sizes minus (Err f)
+    unfolding Stepped LineRead outcome_alone
     step_fault {f} d =
-        let got : ClaimGot text at sizes minus kind next = rw e at a in
-        let judged : AskedIs s kind (get_or sizes 0 0) (get_or sizes 1 0) (get_or sizes 2 0) (judged_says (Judgements.TheVariants.Fault f)) = rw d at b in
-        misplaced got.claim (drop next text) got.formed got.stands.here (judged_claim got (refused (number_of f) 0) judged)
+        let got : ClaimGot text at sizes minus line.kind line.next = rw e at a in
+        let judged : AskedIs s line.kind (get_or sizes 0 0) (get_or sizes 1 0) (get_or sizes 2 0) (outcome_alone (Err f)) = rw d at b in
+        misplaced got.claim (drop line.next text) got.formed got.stands.here (judged_claim got (refused (number_of f) 0) judged)
 
-    pub step_good : j ≡ Judgements.TheVariants.Good → Stepped s text at sizes minus (Taken kind next)
-    unfolding Stepped LineRead judged_says
-    step_good d =
-        let got : ClaimGot text at sizes minus kind next = rw e at a in
-        let judged : AskedIs s kind (get_or sizes 0 0) (get_or sizes 1 0) (get_or sizes 2 0) (judged_says Judgements.TheVariants.Good) = rw d at b in
+    pub step_good : {t : Unit {0}} → j ≡ Ok t → Stepped s text at sizes minus (Ok line)
+    unfolding Stepped LineRead outcome_alone
+    step_good {t} d =
+        let got : ClaimGot text at sizes minus line.kind line.next = rw e at a in
+        let judged : AskedIs s line.kind (get_or sizes 0 0) (get_or sizes 1 0) (get_or sizes 2 0) (outcome_alone (Ok t)) = rw d at b in
         record { line = got; good = judged_claim got (given tt) judged }

@@ -4,30 +4,22 @@
 
 ghost use Rattle.scene_seams.specs.Alone.{tabled};
 ghost use Rattle.std.specs.Prelude.{◌≤◌, ◌<◌, length, ◌≡◌};
-ghost use Rattle.claim_line.specs.Reading.{wide_in, NumbersRead, line_ended, LineRead};
-ghost use Rattle.claim_line.specs.Stepping.{judged_says, AskedIs, Stepped};
+ghost use Rattle.claim_line.specs.Reading.{wide_in, NumbersRead, LineRead};
+ghost use Rattle.claim_line.specs.Stepping.{AskedIs, Stepped};
+ghost use Rattle.meaning.specs.Refusals.{outcome_alone};
 
 use meaning::{Kind, Refusal, WEIGHT_DIGITS};
 use scene_parts::asked;
-use text_fields::{Ending, Form};
+use text_fields::Form;
 
 // A place or a piece has at most nine digits.
 const PLACE_LIMIT: u64 = 1000000000;
 
-// What stands at a line's place: a claim of this kind, and the place of the next line; or no claim.
-#[derive(Clone, Copy)]
-enum Line {
-    Of(Kind, usize),
-    Bad,
-}
-
-fn line_ended(kind: Kind, ending: Ending) -> Line
-    ensures { result ≡ line_ended kind ending }
-{
-    match ending {
-        Ending::At(next) => Line::Of(kind, next),
-        Ending::Nowhere => Line::Bad,
-    }
+// A claim that stands in a line: its kind, and the place of the next line.
+#[derive(Clone, Copy, Debug, PartialEq, Eq)]
+pub struct Line {
+    pub kind: Kind,
+    pub next: usize,
 }
 
 // Has one of the first three numbers more than nine digits?
@@ -38,8 +30,9 @@ fn wide(sizes: &[u64]) -> bool
     (PLACE_LIMIT <= sizes[0]) | (PLACE_LIMIT <= sizes[1]) | (PLACE_LIMIT <= sizes[2])
 }
 
-// The nine numbers of a claim, behind its word: all are read as weights are, and the first three are then held to nine digits.
-fn read_numbers(text: &[u8], at: usize, sizes: &mut [u64], minus: &mut [bool]) -> Ending
+// The nine numbers of a claim, behind its word: all are read as weights are, and the first three are then held to nine digits. Where the next
+// line begins, if they stand there.
+fn read_numbers(text: &[u8], at: usize, sizes: &mut [u64], minus: &mut [bool]) -> Option<usize>
     requires in_bounds { 9 ≤ length sizes.old }
     requires in_bounds_2 { 9 ≤ length minus.old }
     ensures { NumbersRead text.now at sizes.new minus.new result }
@@ -51,13 +44,13 @@ fn read_numbers(text: &[u8], at: usize, sizes: &mut [u64], minus: &mut [bool]) -
     };
     let ending = text_fields::read_row(text, at, form, 9, sizes, minus);
     if wide(sizes) {
-        return Ending::Nowhere;
+        return None;
     }
     ending
 }
 
-// The claim at a place of the text. Its numbers are then in front of the buffers: two places, the piece, six weights.
-fn read_line(text: &[u8], at: usize, sizes: &mut [u64], minus: &mut [bool]) -> Line
+// The claim at a place of the text, if one stands there. Its numbers are then in front of the buffers: two places, the piece, six weights.
+fn read_line(text: &[u8], at: usize, sizes: &mut [u64], minus: &mut [bool]) -> Option<Line>
     requires at_in_bounds { at < length text.now }
     requires in_bounds { 9 ≤ length sizes.old }
     requires in_bounds_2 { 9 ≤ length minus.old }
@@ -66,22 +59,20 @@ fn read_line(text: &[u8], at: usize, sizes: &mut [u64], minus: &mut [bool]) -> L
     let first = decimals::byte_at(text, at);
     let second = decimals::byte_at(text, at + 1);
     if (first == b'p') & (second == b't') {
-        return line_ended(
-            Kind::PointTriangle,
-            read_numbers(text, at + 2, sizes, minus),
-        );
+        let next = read_numbers(text, at + 2, sizes, minus)?;
+        return Some(Line {
+            kind: Kind::PointTriangle,
+            next,
+        });
     }
     if (first == b'e') & (second == b'e') {
-        return line_ended(Kind::EdgeEdge, read_numbers(text, at + 2, sizes, minus));
+        let next = read_numbers(text, at + 2, sizes, minus)?;
+        return Some(Line {
+            kind: Kind::EdgeEdge,
+            next,
+        });
     }
-    Line::Bad
-}
-
-// What a claim is, beside the scene.
-#[derive(Clone, Copy)]
-enum Judged {
-    Good,
-    Fault(Refusal),
+    None
 }
 
 // 5, then 6, of the piece that a claim names.
@@ -94,28 +85,21 @@ fn judge(
     i: usize,
     j: usize,
     k: usize,
-) -> Judged
-    ensures { AskedIs (tabled positions.now edges.now triangles.now stands.now) kind i j k (judged_says result) }
+) -> Result<(), Refusal>
+    ensures { AskedIs (tabled positions.now edges.now triangles.now stands.now) kind i j k (outcome_alone result) }
 {
     if asked::not_there(positions, edges, triangles, kind, i, j) {
-        return Judged::Fault(Refusal::NotThere);
+        return Err(Refusal::NotThere);
     }
     let past = asked::piece_count(kind) <= k;
     let shared = asked::shares_vertex(positions, edges, triangles, stands, kind, i, j);
     if past {
-        return Judged::Fault(Refusal::NotThere);
+        return Err(Refusal::NotThere);
     }
     if shared {
-        return Judged::Fault(Refusal::SharedVertex);
+        return Err(Refusal::SharedVertex);
     }
-    Judged::Good
-}
-
-// What looking at a line gives: its fault; or the kind of its claim, and the place of the next line.
-#[derive(Clone, Copy)]
-pub enum Step {
-    Fault(Refusal),
-    Taken(Kind, usize),
+    Ok(())
 }
 
 // One line of claims beside a scene. Both passes go by it.
@@ -128,23 +112,17 @@ pub fn next_claim(
     at: usize,
     sizes: &mut [u64],
     minus: &mut [bool],
-) -> Step
+) -> Result<Line, Refusal>
     requires at_in_bounds { at < length text.now }
     requires in_bounds { 9 ≤ length sizes.old }
     requires in_bounds_2 { 9 ≤ length minus.old }
     ensures { Stepped (tabled positions.now edges.now triangles.now stands.now) text.now at sizes.new
         minus.new result }
 {
-    match read_line(text, at, sizes, minus) {
-        Line::Bad => Step::Fault(Refusal::BadLine),
-        Line::Of(kind, next) => {
-            let i = sizes[0] as usize;
-            let j = sizes[1] as usize;
-            let k = sizes[2] as usize;
-            match judge(positions, edges, triangles, stands, kind, i, j, k) {
-                Judged::Fault(fault) => Step::Fault(fault),
-                Judged::Good => Step::Taken(kind, next),
-            }
-        }
-    }
+    let line = read_line(text, at, sizes, minus).ok_or(Refusal::BadLine)?;
+    let i = sizes[0] as usize;
+    let j = sizes[1] as usize;
+    let k = sizes[2] as usize;
+    judge(positions, edges, triangles, stands, line.kind, i, j, k)?;
+    Ok(line)
 }

@@ -1,8 +1,8 @@
 -- What is printed for an outcome, and how the lines come from the bytes of the answers.
-use Rattle.std.specs.Prelude.{ℕ, ◌+◌, ◌*◌, ◌≤◌, ◌<◌, Bool, true, refl, eqb, length, drop}
+use Rattle.std.specs.Prelude.{ℕ, ◌+◌, ◌*◌, ◌≤◌, ◌<◌, Bool, true, refl, eqb, length, drop, Err, Ok, Result}
 use Rattle.std.proofs.Math.Bool.{false}
 use Rattle.std.proofs.Common.{true≢false, sym, ◌∙◌, zero-add, arith, ltb-true, ltb-false, drop_of_length-le}
-use mathlib.Core.List.{List, [], ◌∷◌, ◌++◌, map, flat_map}
+use mathlib.Core.List.{List, ◌++◌, map}
 use Rattle.std.proofs.Math.Path.{◌≡◌, ap, subst}
 use Rattle.std.proofs.Math.Nat.{sub-zero}
 use Rattle.std.proofs.Math.ListN.{get_or, length-map, get_or-map}
@@ -13,18 +13,16 @@ use Rattle.sequences.specs.Parts.{drop_next}
 use Rattle.sequences.specs.Wrote.{Wrote, written, wrote_front, written_in_front, written_length}
 use Rattle.meaning.specs.Limits.{claim_room, text_limit}
 use Rattle.meaning.specs.Scene.{Scene}
-use Rattle.meaning.specs.Refusals.{Outcome, given, refused, number_of}
+use Rattle.meaning.specs.Refusals.{Outcome, given, refused, number_of, carrying, outcome_of}
 use Rattle.meaning.specs.Text.{Holds, TextIs, TextRead, short_buffer}
 use Rattle.meaning.specs.Report.{refused_line}
-use Rattle.meaning.specs.Claims.{ClaimsOutcome, claims_says, how_many_told, answer_byte, answers_left, ClaimsChecked, answer_line, answer_lines, AnswersOf, no_scene, refused_claims, answered, AnswersReported}
+use Rattle.meaning.specs.Claims.{ClaimsOutcome, how_many_told, answer_byte, answers_left, ClaimsChecked, answer_line, answer_lines, AnswersOf, no_scene, refused_claims, answered, AnswersReported}
 use Rattle.meaning.specs.declared.Refusal.{Refusal}
-use Rattle.meaning.specs.declared.ClaimsAnswer.{ClaimsAnswer}
-use Rattle.meaning.specs.declared.ClaimsAnswer.TheVariants.{Answered, Refused}
-use Rattle.meaning.specs.declared.TextAnswer as TextAnswers
-use Rattle.meaning.specs.declared.TextAnswer.{TextAnswer}
 use Rattle.text_scene.specs.Using.{Came, by_buffers, by_length, by_lines, read_refusal_of}
 use Rattle.report_words.specs.Lines.{wrote_as}
 use Rattle.claim_answers.specs.Checking.{few_told}
+use Rattle.meaning.specs.declared.Refused.{Refused}
+use Rattle.meaning.specs.declared.SceneCounts.{SceneCounts}
 
 abbrev pub answers_length : ℕ
 answers_length = 4 * claim_room
@@ -93,16 +91,16 @@ record Gave (s : Scene) (text a a' : List ℕ) (count : ℕ) : Type 0 where
   many : count ≡ length told
   bytes : a' ≡ written (map answer_byte told) a
 
-module _ {s : Scene} {text a a' : List ℕ} {r : ClaimsAnswer} (h : ClaimsChecked s text a a' r) where
-  gave : {count : ℕ} → r ≡ Answered count → Gave s text a a' count
-  unfolding claims_says how_many_told answers_left
-  gave {count} e = by h.outcome h.right (ap claims_says (sym e) ∙ h.says) h.leaves
+module _ {s : Scene} {text a a' : List ℕ} {r : Result ℕ Refused} (h : ClaimsChecked s text a a' r) where
+  gave : {count : ℕ} → r ≡ Ok count → Gave s text a a' count
+  unfolding outcome_of how_many_told answers_left
+  gave {count} e = by h.outcome h.right (ap outcome_of (sym e) ∙ h.says) h.leaves
     where
       by : (o : Outcome (List Bool)) → ClaimsOutcome s text (length a) o → given count ≡ how_many_told o → a' ≡ answers_left o a → Gave s text a a' count
       by (given bs) right says leaves = record { told = bs; right = right; many = cc; bytes = leaves }
       by (refused n c) right says leaves = let z : ◌≡◌ {A = ℕ} 0 1 = cc in absurd (omega arith)
 
-  pub few_given : {count : ℕ} → r ≡ Answered count → (count ≤ length a) × (count ≤ length a')
+  pub few_given : {count : ℕ} → r ≡ Ok count → (count ≤ length a) × (count ≤ length a')
   few_given {count} e =
       let g : Gave s text a a' count = gave e in
       let few : length g.told ≤ length a = few_told s text (length a) (given g.told) g.told g.right refl in (
@@ -110,7 +108,7 @@ module _ {s : Scene} {text a a' : List ℕ} {r : ClaimsAnswer} (h : ClaimsChecke
         omega (arith, g.many, ap length g.bytes, written_length (map answer_byte g.told) a (omega (arith, length-map g.told answer_byte))),
       )
 
-  pub answers_written : length a ≡ claim_room → {count : ℕ} → r ≡ Answered count → {o o' : List ℕ} {n : ℕ}
+  pub answers_written : length a ≡ claim_room → {count : ℕ} → r ≡ Ok count → {o o' : List ℕ} {n : ℕ}
       → Wrote o 0 (gather (line_at a') 0 count) o' n → SceneAnswered s text o o' n
   unfolding printed_for
   answers_written room {count} e w =
@@ -121,10 +119,10 @@ module _ {s : Scene} {text a a' : List ℕ} {r : ClaimsAnswer} (h : ClaimsChecke
         wrote = wrote_as (ap (λ (k : ℕ). gather (line_at a') 0 k) g.many ∙ lines_stand g.told a g.bytes) w;
       }
 
-  pub refusal_written : length a ≡ claim_room → {x : Refusal} {c : ℕ} → r ≡ Refused x c → {o o' : List ℕ} {n : ℕ}
+  pub refusal_written : length a ≡ claim_room → {x : Refusal} {c : ℕ} → r ≡ Err (carrying x c) → {o o' : List ℕ} {n : ℕ}
       → Wrote o 0 (refused_line (number_of x) c) o' n → SceneAnswered s text o o' n
-  unfolding printed_for claims_says how_many_told
-  refusal_written room {x} {c} e {o} {o'} {n} w = by h.outcome h.right (ap claims_says (sym e) ∙ h.says)
+  unfolding printed_for outcome_of how_many_told
+  refusal_written room {x} {c} e {o} {o'} {n} w = by h.outcome h.right (ap outcome_of (sym e) ∙ h.says)
     where
       by : (q : Outcome (List Bool)) → ClaimsOutcome s text (length a) q → refused (number_of x) c ≡ how_many_told q → SceneAnswered s text o o' n
       by (given bs) right says = let z : ◌≡◌ {A = ℕ} 0 1 = cc in absurd (omega arith)
@@ -155,8 +153,8 @@ scene_to_text {scene_text} {text} {o} {o'} {n} s short holds w =
     as_text (refused m c) h = refused_claims s m c short holds h
 
 -- a scene's text that is refused
-pub refused_scene : {scene_text : List ℕ} (text : List ℕ) {lent left : Scene} {r : TextAnswer} {x : Refusal} {line : ℕ} {o o' : List ℕ} {n : ℕ}
-    → short_buffer lent ≡ false → TextRead scene_text lent left r → r ≡ TextAnswers.TheVariants.Refused x line
+pub refused_scene : {scene_text : List ℕ} (text : List ℕ) {lent left : Scene} {r : Result SceneCounts Refused} {x : Refusal} {line : ℕ} {o o' : List ℕ} {n : ℕ}
+    → short_buffer lent ≡ false → TextRead scene_text lent left r → r ≡ Err (carrying x line)
     → Wrote o 0 (refused_line (number_of x) line) o' n → AnswersReported scene_text text o o' n
 unfolding TextIs
 refused_scene {scene_text} text {lent} {left} {r} {x} {line} {o} {o'} {n} fits a e w =

@@ -1,12 +1,12 @@
 -- The answers of what was read of two texts: of the texts themselves, or of every text that begins so.
-use Rattle.std.specs.Prelude.{ℕ, ◌≤◌, ◌<◌, min, Bool, true, List, [], ◌∷◌, ◌++◌, ◌≡◌, refl, length, take}
+use Rattle.std.specs.Prelude.{ℕ, ◌<◌, min, Bool, true, List, [], ◌∷◌, ◌++◌, ◌≡◌, length, take}
 use Rattle.std.proofs.Common.{sym, ◌∙◌, subst, arith, lt-ltb}
 use Rattle.meaning.specs.Limits.{text_limit, claim_room}
 use Rattle.meaning.specs.Scene.{Scene}
 use Rattle.meaning.specs.Refusals.{Outcome, given, refused, Check, Answers, scene_checks}
 use Rattle.meaning.specs.Text.{long_text}
-use Rattle.meaning.specs.Report.{ReadOf, OfAllRead}
-use Rattle.meaning.specs.Claims.{claims_first, FirstIs, ClaimsOutcome, before, faulty, read, AnswersOf, too_long, no_scene, refused_claims, answered, AnswersReported}
+use Rattle.meaning.specs.Report.{OfAllRead}
+use Rattle.meaning.specs.Claims.{FirstIs, ClaimsOutcome, before, faulty, read, AnswersOf, too_long, no_scene, refused_claims, answered, AnswersReported}
 use Rattle.answers.specs.Answering.{is_refused, is_given}
 use Rattle.text_scene.specs.ReadSoFar.{StandsFor, whole, long, stands_for}
 

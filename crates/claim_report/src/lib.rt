@@ -13,11 +13,9 @@ ghost use Rattle.claim_report.specs.Printed.{answers_length, line_at, SceneAnswe
 
 use answers::number_of;
 use meaning::{
-    CLAIM_ROOM, ClaimsAnswer, EDGE_NUMBERS, POSITION_NUMBERS, READ_BYTES, SEAM_NUMBERS,
-    TRIANGLE_NUMBERS, TextAnswer,
+    CLAIM_ROOM, EDGE_NUMBERS, POSITION_NUMBERS, READ_BYTES, SEAM_NUMBERS, TRIANGLE_NUMBERS,
 };
 use report_words::lines::{answer_line, refused_line};
-use scene_parts::asked::smaller;
 
 // The bytes that hold the answers to any claims: `yes` and LF for each.
 pub const ANSWERS_BYTES: usize = 4 * CLAIM_ROOM;
@@ -28,10 +26,8 @@ fn answer_lines(answers: &[u8], count: usize, out: &mut [u8]) -> usize
     ensures { Wrote out.old 0 (gather (line_at answers.now) 0 count) out.new result }
 {
     let mut next = 0;
-    let mut k = 0;
-    while k < count {
+    for k in 0..count {
         next = answer_line(out, next, answers[k] == 1);
-        k += 1;
     }
     next
 }
@@ -51,10 +47,8 @@ fn scene_answers(
 {
     let mut answers = [0u8; CLAIM_ROOM];
     match claim_answers::check_claims(positions, edges, triangles, seams, claims, &mut answers) {
-        ClaimsAnswer::Answered(count) => answer_lines(&answers, count, out),
-        ClaimsAnswer::Refused(refusal, third) => {
-            refused_line(out, 0, number_of(refusal), third as u64)
-        }
+        Ok(count) => answer_lines(&answers, count, out),
+        Err(refused) => refused_line(out, 0, number_of(refused.why), refused.carries as u64),
     }
 }
 
@@ -73,7 +67,7 @@ pub fn write_answers(scene: &[u8], claims: &[u8], out: &mut [u8; ANSWERS_BYTES])
         &mut triangles,
         &mut seams,
     ) {
-        TextAnswer::Read(counts) => {
+        Ok(counts) => {
             let p = 6 * counts.vertices;
             let e = 2 * counts.edges;
             let t = 3 * counts.triangles;
@@ -87,7 +81,7 @@ pub fn write_answers(scene: &[u8], claims: &[u8], out: &mut [u8; ANSWERS_BYTES])
                 out,
             )
         }
-        TextAnswer::Refused(refusal, line) => refused_line(out, 0, number_of(refusal), line as u64),
+        Err(refused) => refused_line(out, 0, number_of(refused.why), refused.carries as u64),
     }
 }
 
@@ -104,8 +98,8 @@ fn front_answers(
     ensures { OfAllRead (λ (s : List ℕ). OfAllRead (λ (t : List ℕ). AnswersReported s t out.old out.new result)
         claims.now claimed) scene.now count }
 {
-    let first = smaller(count, scene.len());
-    let second = smaller(claimed, claims.len());
+    let first = count.min(scene.len());
+    let second = claimed.min(claims.len());
     write_answers(&scene[..first], &claims[..second], out)
 }
 

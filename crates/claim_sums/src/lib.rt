@@ -63,10 +63,8 @@ fn side(
     ensures { Is side_limit result (side positions.now six weights.now from to row) }
 {
     let mut sum: i64 = 0;
-    let mut i = from;
-    while i < to {
+    for i in from..to {
         sum += share(positions, six, weights, i, row);
-        i += 1;
     }
     sum
 }

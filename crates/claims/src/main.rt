@@ -2,10 +2,8 @@
 #![tactic(auto)]
 
 use claim_report::ANSWERS_BYTES;
-use meaning::{
-    EDGE_NUMBERS, POSITION_NUMBERS, READ_BYTES, SEAM_NUMBERS, TRIANGLE_NUMBERS, TextAnswer,
-};
-use named_files::{PairRead, read_pair, write_out};
+use meaning::{EDGE_NUMBERS, POSITION_NUMBERS, READ_BYTES, SEAM_NUMBERS, TRIANGLE_NUMBERS};
+use named_files::{read_pair, write_out};
 
 // Whether the text of the scene is refused by itself.
 fn scene_refused(text: &[u8]) -> bool {
@@ -21,8 +19,8 @@ fn scene_refused(text: &[u8]) -> bool {
         &mut seams,
     );
     match answer {
-        TextAnswer::Read(_) => false,
-        TextAnswer::Refused(_, _) => true,
+        Ok(_) => false,
+        Err(_) => true,
     }
 }
 
@@ -40,7 +38,7 @@ fn main(rt: HostRuntime) {
     // one byte more than a text may have: a full buffer decides refusal 8
     let mut scene = [0u8; READ_BYTES];
     let mut claims = [0u8; READ_BYTES];
-    let PairRead::Lengths(scene_length, claims_length) = read_pair(
+    let Some(lengths) = read_pair(
         &rt,
         &rt.stderr(),
         b"usage: claims SCENE CLAIMS\n",
@@ -52,7 +50,13 @@ fn main(rt: HostRuntime) {
         return;
     };
     let mut out = [0u8; ANSWERS_BYTES];
-    let length = claim_report::answers_read(&scene, scene_length, &claims, claims_length, &mut out);
+    let length = claim_report::answers_read(
+        &scene,
+        lengths.first,
+        &claims,
+        lengths.second,
+        &mut out,
+    );
     write_out(
         &rt.stdout(),
         &rt.stderr(),
@@ -60,6 +64,6 @@ fn main(rt: HostRuntime) {
         b"claims: the answers could not be written\n",
     );
     if out[0] == b'r' {
-        tell_whose(&rt.stderr(), &scene[..scene_length]);
+        tell_whose(&rt.stderr(), &scene[..lengths.first]);
     }
 }

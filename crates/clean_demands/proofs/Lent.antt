@@ -1,17 +1,17 @@
 -- That every side is an edge is told by a certificate: for each side the number of its edge, each of which has the side's two ends. The look at it
 -- is `JoinedTo` of `meaning/MeshEdges`.
-use Rattle.std.specs.Prelude.{ℕ, ◌+◌, ◌-◌, ◌*◌, ◌%◌, ◌≡◌, refl, true, false, not, ◌&&◌, List, ◌≢◌, eqb, leb, length, get_or}
+use Rattle.std.specs.Prelude.{ℕ, ◌+◌, ◌-◌, ◌*◌, ◌%◌, ◌≡◌, refl, true, false, not, ◌&&◌, List, ◌≢◌, eqb, leb, length, get_or, Ok}
 use Rattle.std.proofs.Common.{arith, ap, ◌∙◌, ⊎_elim, eqb-true, eq-eqb, ne_eqb, leb-false}
 use Rattle.std.proofs.lemmas.Bool.{not-false}
 use Rattle.sequences.specs.Pick.{pick_true, pick_false, both, one_of}
 use Rattle.meaning.specs.Scene.{Scene, edge_count, edge_end, counts_as}
 use Rattle.meaning.specs.MeshEdges.{next_corner, joins, bare_side, JoinedTo, whole, edges_say, EdgesAre, edges_checks, EdgesChecked}
 use Rattle.meaning.specs.Refusals.{given}
-use Rattle.meaning.specs.declared.EdgesAnswer.TheVariants.{Whole}
 use Rattle.answers.specs.Below.{or_left, or_rest}
 use Rattle.answers.specs.Deciding.{NoneHolds, given_exactly, given_right}
 use Rattle.clean_demands.specs.Sides.{Between, along, against}
 use Rattle.clean_demands.specs.Mesh.{WellMade, known_and_sewn, EdgeBetween, SidesAreEdges}
+use Rattle.meaning.specs.declared.EdgesFound.TheVariants.{Whole}
 
 -- ---- the next corner around a triangle
 
@@ -51,7 +51,7 @@ module _ (s : Scene) (sides order : List ℕ) where
   }
 
   -- as the look at them is answered: all is well with the edges, so no check of the mesh refused it, and every side is an edge
-  pub whole_edges : (table places : ℕ) → EdgesChecked s sides order table places Whole → WellMade s × SidesAreEdges s
+  pub whole_edges : (table places : ℕ) → EdgesChecked s sides order table places (Ok Whole) → WellMade s × SidesAreEdges s
   unfolding edges_say EdgesAre NoneHolds
   whole_edges table places told =
       let passed = (given_exactly (EdgesAre s sides order) (edges_checks s sides order table places) (given whole) told).0 (whole, refl) in

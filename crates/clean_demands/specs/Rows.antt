@@ -1,6 +1,6 @@
 -- The rows of a mesh, all that are listed or the near ones: no hit and no touch in any row, so nothing is touched. A far pair touches nowhere. Rows may
 -- be asked in stretches, as threads take them, and it does to read the counts of what is told of each.
-use Rattle.std.specs.Prelude.{ℕ, ◌+◌, ◌-◌, ◌≤◌, ◌<◌, ◌≡◌, refl, Bool, true, false}
+use Rattle.std.specs.Prelude.{ℕ, ◌+◌, ◌-◌, ◌≤◌, ◌<◌, ◌≡◌, refl, Bool, true, false, Ok}
 use native.Mathlib.Omega.{arith}
 use Rattle.std.proofs.Common.{sym, ◌∙◌, lt-ltb, le-ltb}
 use Rattle.std.proofs.Math.Path.{ap, subst}
@@ -9,12 +9,12 @@ use Rattle.sequences.specs.Gather.{gather_has}
 use Rattle.sequences.specs.Chosen.{chosen_members}
 use Rattle.sequences.specs.Pick.{pick_true, pick_false}
 use Rattle.meaning.specs.Scene.{Scene, vertex_count, edge_count, triangle_count}
-use Rattle.meaning.specs.Refusals.{not_there}
+use Rattle.meaning.specs.Refusals.{not_there, outcome_of}
 use Rattle.meaning.specs.Near.{far}
 use Rattle.meaning.specs.List.{Pair, pair}
 use Rattle.meaning.specs.Report.{how_many}
 use Rattle.meaning.specs.SceneWords.{AllSettled}
-use Rattle.meaning.specs.MeshRows.{row_test, row_count, vertex_row, edge_row, mesh_row, rows_in, Lent, kept_says, RowsKept}
+use Rattle.meaning.specs.MeshRows.{row_test, row_count, vertex_row, edge_row, mesh_row, rows_in, Lent, RowsKept}
 use Rattle.meaning.specs.declared.Kind.{Kind}
 use Rattle.meaning.specs.declared.Kind.TheVariants.{PointTriangle, EdgeEdge}
 use Rattle.meaning.specs.declared.RowPairs.{RowPairs}
@@ -23,7 +23,6 @@ use Rattle.meaning.specs.declared.Settled.{Settled}
 use Rattle.meaning.specs.declared.Settled.TheVariants.{Hit, Touch}
 use Rattle.meaning.specs.declared.Wanted.{Wanted}
 use Rattle.meaning.specs.declared.KeptRows.{KeptRows}
-use Rattle.meaning.specs.declared.KeptAnswer.TheVariants.{Kept}
 use Rattle.answers.specs.Deciding.{given_right}
 use Rattle.list_pairs.specs.InOrder.{FirstBelow, ToList, are_there}
 use Rattle.near_laws.specs.Far.{far_apart}
@@ -97,9 +96,9 @@ stretch_untroubled w s a b ws all hits touches i above below = record {
 }
 
 -- as a call for a stretch tells it: of its pairs no hits and no touches, whatever words were asked for
-pub kept_untroubled : (w : RowPairs) (m : Wanted) (s : Scene) (l : Lent) (a b : ℕ) (o o' u u' : List ℕ) (t : KeptRows) → RowsKept w m s l a b o o' u u' (Kept t)
+pub kept_untroubled : (w : RowPairs) (m : Wanted) (s : Scene) (l : Lent) (a b : ℕ) (o o' u u' : List ℕ) (t : KeptRows) → RowsKept w m s l a b o o' u u' (Ok t)
     → t.hits ≡ 0 → t.touches ≡ 0 → (i : ℕ) → a ≤ i → i < b → RowUntroubled w s i
-unfolding kept_says
+unfolding outcome_of
 kept_untroubled w m s l a b o o' u u' t told hits touches =
     let is = given_right _ _ t told.answer in
     stretch_untroubled w s a b told.words told.right (sym (ap (λ (k : KeptRows). k.hits) is) ∙ hits) (sym (ap (λ (k : KeptRows). k.touches) is) ∙ touches)

@@ -1,20 +1,19 @@
 -- A frame is clean where its rows list no pierced edge: of edges and triangles without a shared vertex the rows list exactly the pierced ones. Rows may
 -- be asked in stretches.
-use Rattle.std.specs.Prelude.{ℕ, ◌≤◌, ◌<◌, ◌≡◌, refl, Bool, true, false, List, [], ◌∷◌, length, leb}
+use Rattle.std.specs.Prelude.{ℕ, ◌≤◌, ◌<◌, ◌≡◌, refl, Bool, true, false, List, [], ◌∷◌, length, leb, Result}
 use Rattle.std.proofs.Common.{arith, sym, leb-false}
 use mathlib.Core.List.Memᴰ
 use Rattle.meaning.specs.Scene.{Scene, edge_count, triangle_count}
-use Rattle.meaning.specs.List.{list_says}
 use Rattle.meaning.specs.MeshRows.{Lent}
 use Rattle.meaning.specs.Pierced.{Pierced, end_is_corner}
 use Rattle.meaning.specs.PiercedRows.{through_rows, AllPierced, yes_of, PiercedListed}
-use Rattle.meaning.specs.Refusals.{given}
+use Rattle.meaning.specs.Refusals.{given, outcome_of}
 use Rattle.meaning.specs.declared.Frame.{Frame}
-use Rattle.meaning.specs.declared.ListAnswer.{ListAnswer}
 use Rattle.answers.specs.Below.{or_left, or_rest}
 use Rattle.answers.specs.Deciding.{given_right}
 use Rattle.through_laws.specs.Members.{listed_exactly}
 use Rattle.clean_demands.specs.Mesh.{CleanAt}
+use Rattle.meaning.specs.declared.Refused.{Refused}
 
 -- edge i pierces no triangle at that time
 pub record RowClean (f : Frame) (s : Scene) (i : ℕ) : Type 0 where
@@ -43,7 +42,7 @@ stretch_clean f s a b bs all zero-yes i above below = record {
 }
 
 -- as the call for a stretch tells it: none is listed
-pub none_listed_clean : (f : Frame) (s : Scene) (l : Lent) (a b : ℕ) (o o' : List ℕ) (r : ListAnswer) → PiercedListed f s l a b o o' r → list_says r ≡ given 0
+pub none_listed_clean : (f : Frame) (s : Scene) (l : Lent) (a b : ℕ) (o o' : List ℕ) (r : Result ℕ Refused) → PiercedListed f s l a b o o' r → outcome_of r ≡ given 0
     → (i : ℕ) → a ≤ i → i < b → RowClean f s i
 none_listed_clean f s l a b o o' r told says =
     stretch_clean f s a b told.answers told.right (sym (given_right _ _ 0 (rw says at told.answer)))

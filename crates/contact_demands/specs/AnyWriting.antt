@@ -1,16 +1,14 @@
 -- A whole scene met in one call, its ends and corners in another order: the same answer, and the same in all three lent buffers.
-use Rattle.std.specs.Prelude.{ℕ, false, List, [], map, ◌≡◌, refl, ltb, length}
+use Rattle.std.specs.Prelude.{ℕ, false, List, [], map, ◌≡◌, refl, ltb, length, Result}
 use Rattle.std.proofs.Math.Path.{sym}
 use Rattle.std.proofs.Common.{◌∙◌, ap}
 use Rattle.meaning.specs.Limits.{contact_limit}
 use Rattle.meaning.specs.Scene.{Scene, reaches_beyond, Accepted}
-use Rattle.meaning.specs.Refusals.{Outcome, given, refused, Answers}
-use Rattle.meaning.specs.List.{Pair, pairs, entries, list_says, leaves}
+use Rattle.meaning.specs.Refusals.{Outcome, given, refused, Answers, outcome_of}
+use Rattle.meaning.specs.List.{Pair, pairs, entries, leaves}
 use Rattle.meaning.specs.WholeContacts.{contact_room, contact_list_checks, rows_after, ContactsListed}
-use Rattle.meaning.specs.declared.ListAnswer.{ListAnswer}
 use Rattle.theory.specs.Rewritten.{Rewritten}
 use Rattle.answers.specs.Answering.{is_past, is_given}
-use Rattle.list_pairs.specs.Once.{list_says_one}
 use Rattle.contact_entries.specs.Listed.{contact_byte, all_met_one}
 use Rattle.answers.specs.Deciding.{holds_or_not}
 use Rattle.demands.specs.Demand1.{SceneRows}
@@ -18,6 +16,8 @@ use Rattle.demands.specs.StillAccepted.{rewritten_accepted, refused_alike}
 use Rattle.demands.specs.AnyWriting.{rewritten_list}
 use Rattle.contact_demands.specs.Demand1.{SceneContactTable, demand1_met_scene}
 use Rattle.contact_demands.specs.OnePrinted.{contacts_as_written, range_alike}
+use Rattle.meaning.specs.declared.Refused.{Refused}
+use Rattle.answers.specs.Speaking.{one_carrying}
 
 abbrev Counts : Scene → ℕ → Type 0
 Counts s n = n ≡ length (pairs s)
@@ -52,17 +52,17 @@ given_accepted s room n p =
 rows : {s : Scene} {room : ℕ} {o : Outcome ℕ} → SceneContactTable s room o → SceneRows s o
 rows t = record { no1 = t.no1; no2 = t.no2; no3 = t.no3; no15 = t.no15; no4 = t.no4 }
 
-module _ {s t : Scene} (h : Rewritten s t) (o o' o'' b b' b'' c c' c'' : List ℕ) (r r' : ListAnswer) (p : ContactsListed s o o' b b' c c' r) (q : ContactsListed t o o'' b b'' c c'' r') where
+module _ {s t : Scene} (h : Rewritten s t) (o o' o'' b b' b'' c c' c'' : List ℕ) (r r' : Result ℕ Refused) (p : ContactsListed s o o' b b' c c' r) (q : ContactsListed t o o'' b b'' c c'' r') where
   count : length (pairs t) ≡ length (pairs s)
   count = ap (length {A = Pair}) (rewritten_list h)
 
-  one : SceneContactTable s (contact_room o b c) (list_says r)
+  one : SceneContactTable s (contact_room o b c) (outcome_of r)
   one = demand1_met_scene s o o' b b' c c' r p
 
-  other : SceneContactTable t (contact_room o b c) (list_says r')
+  other : SceneContactTable t (contact_room o b c) (outcome_of r')
   other = demand1_met_scene t o o'' b b'' c c'' r' q
 
-  decided : Accepted s → list_says r ≡ list_says r'
+  decided : Accepted s → outcome_of r ≡ outcome_of r'
   decided a =
       let d = rewritten_accepted h a in
       holds_or_not (reaches_beyond contact_limit s)
@@ -76,39 +76,39 @@ module _ {s t : Scene} (h : Rewritten s t) (o o' o'' b b' b'' c c' c'' : List �
       ∙ ap (refused 7) (sym count)
       ∙ sym (other.no7.1 (d.shapely, (d.in_range, (d.known, (d.sewn_well, (d.distinct, (range_alike h ∙ near, rw count e))))))))
       (λ e.
-      met_given s (contact_room o b c) (list_says r) a near e p.answer
+      met_given s (contact_room o b c) (outcome_of r) a near e p.answer
       ∙ ap given (sym count)
-      ∙ sym (met_given t (contact_room o b c) (list_says r') d (range_alike h ∙ near) (rw count e) q.answer)))
+      ∙ sym (met_given t (contact_room o b c) (outcome_of r') d (range_alike h ∙ near) (rw count e) q.answer)))
 
   same : r ≡ r'
-  same = list_says_one r r' (refused_alike h (rows one) (rows other) decided)
+  same = one_carrying r r' (refused_alike h (rows one) (rows other) decided)
 
-  met_alike : (n : ℕ) → list_says r ≡ given n → p.contacts ≡ q.contacts
+  met_alike : (n : ℕ) → outcome_of r ≡ given n → p.contacts ≡ q.contacts
   met_alike n e =
       let a : Accepted s = given_accepted s (contact_room o b c) n (rw e at p.answer) in
       all_met_one s (pairs s) p.contacts p.right ∙ sym (all_met_one s (pairs s) q.contacts (contacts_as_written h a q.contacts q.right))
 
-  words : (x : Outcome ℕ) → list_says r ≡ x → b' ≡ b''
+  words : (x : Outcome ℕ) → outcome_of r ≡ x → b' ≡ b''
   unfolding leaves
   words (given n) e =
       let ms = met_alike n e in
-      p.bytes ∙ (λ i. leaves (list_says (same i)) (map contact_byte (ms i)) b) ∙ sym q.bytes
+      p.bytes ∙ (λ i. leaves (outcome_of (same i)) (map contact_byte (ms i)) b) ∙ sym q.bytes
   words (refused n d) e =
       let kept : b' ≡ b = rw e at p.bytes in
-      let kept'' : b'' ≡ b = rw (ap list_says (sym same) ∙ e) at q.bytes in
+      let kept'' : b'' ≡ b = rw (ap outcome_of (sym same) ∙ e) at q.bytes in
       kept ∙ sym kept''
 
-  contacts : (x : Outcome ℕ) → list_says r ≡ x → c' ≡ c''
+  contacts : (x : Outcome ℕ) → outcome_of r ≡ x → c' ≡ c''
   unfolding rows_after
   contacts (given n) e =
       let ms = met_alike n e in
-      p.rows ∙ (λ i. rows_after (list_says (same i)) (ms i) c) ∙ sym q.rows
+      p.rows ∙ (λ i. rows_after (outcome_of (same i)) (ms i) c) ∙ sym q.rows
   contacts (refused n d) e =
       let kept : c' ≡ c = rw e at p.rows in
-      let kept'' : c'' ≡ c = rw (ap list_says (sym same) ∙ e) at q.rows in
+      let kept'' : c'' ≡ c = rw (ap outcome_of (sym same) ∙ e) at q.rows in
       kept ∙ sym kept''
 
   pub met_as_written : (r ≡ r') × (o' ≡ o'') × (b' ≡ b'') × (c' ≡ c'')
   met_as_written =
       let list : pairs s ≡ pairs t = sym (rewritten_list h) in
-      (same, p.list ∙ (λ i. leaves (list_says (same i)) (entries (list i)) o) ∙ sym q.list, words (list_says r) refl, contacts (list_says r) refl)
+      (same, p.list ∙ (λ i. leaves (outcome_of (same i)) (entries (list i)) o) ∙ sym q.list, words (outcome_of r) refl, contacts (outcome_of r) refl)

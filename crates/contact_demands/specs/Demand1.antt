@@ -1,18 +1,19 @@
 -- Demand 1 for contacts: the rows of the table, 16 after 6 for a pair asked for, and between 4 and 7 for a whole scene; and when what is given.
-use Rattle.std.specs.Prelude.{ℕ, ◌≤◌, ◌<◌, Bool, true, false, ◌↔◌, ◌≡◌, refl, ltb, length}
+use Rattle.std.specs.Prelude.{ℕ, ◌≤◌, ◌<◌, Bool, true, false, ◌↔◌, ◌≡◌, refl, ltb, length, Result}
 use mathlib.Core.List.{List, [], ◌∷◌, ◌++◌, map, Memᴰ}
 use Rattle.std.proofs.Common.{sym, ◌∙◌}
 use Rattle.meaning.specs.Limits.{contact_limit}
 use Rattle.meaning.specs.Scene.{Scene, reaches_beyond, wrong_shape, out_of_range, unknown_vertex, broken_seam, repeated_vertex}
-use Rattle.meaning.specs.Refusals.{Outcome, given, refused, Check, Answers, scene_checks, not_there, shares}
-use Rattle.meaning.specs.List.{pairs, list_says}
-use Rattle.meaning.specs.WholeContacts.{WholeContactIs, ContactIs, range_check, whole_contact_says, contact_says, WholeContactFound, ContactGiven, contact_room, contact_list_checks, ContactsListed}
+use Rattle.meaning.specs.Refusals.{Outcome, given, refused, Check, Answers, scene_checks, not_there, shares, outcome_alone, outcome_of}
+use Rattle.meaning.specs.List.{pairs}
+use Rattle.meaning.specs.WholeContacts.{WholeContactIs, ContactIs, range_check, WholeContactFound, ContactGiven, contact_room, contact_list_checks, ContactsListed}
 use Rattle.meaning.specs.declared.Kind.{Kind}
-use Rattle.meaning.specs.declared.WholeContactAnswer.{WholeContactAnswer}
-use Rattle.meaning.specs.declared.ContactAnswer.{ContactAnswer}
-use Rattle.meaning.specs.declared.ListAnswer.{ListAnswer}
 use Rattle.answers.specs.Deciding.{Refuses, carried_by, NoneHolds, absent, distinct, refused_exactly, carries_only, number_known, gives_exactly}
 use Rattle.contact_entries.specs.OneContact.{one_whole_contact, one_contact}
+use Rattle.meaning.specs.declared.WholeContact.{WholeContact}
+use Rattle.meaning.specs.declared.Refusal.{Refusal}
+use Rattle.meaning.specs.declared.Refused.{Refused}
+use Rattle.meaning.specs.declared.Contact.{Contact}
 
 -- none of the scene's five, and then
 abbrev pub ThenIs : Scene → Type 0 → Type 0
@@ -67,16 +68,16 @@ contact_table s missing shared Is o one p =
     }
 
 -- in whole numbers
-pub demand1_contact : (s : Scene) (kind : Kind) (i j : ℕ) (r : WholeContactAnswer) → WholeContactFound s kind i j r
-    → ContactTable s (not_there s kind i j) (shares s kind i j) (WholeContactIs s kind i j) (whole_contact_says r)
+pub demand1_contact : (s : Scene) (kind : Kind) (i j : ℕ) (r : Result WholeContact Refusal) → WholeContactFound s kind i j r
+    → ContactTable s (not_there s kind i j) (shares s kind i j) (WholeContactIs s kind i j) (outcome_alone r)
 demand1_contact s kind i j r p =
-    contact_table s (not_there s kind i j) (shares s kind i j) (WholeContactIs s kind i j) (whole_contact_says r) (one_whole_contact s kind i j) p
+    contact_table s (not_there s kind i j) (shares s kind i j) (WholeContactIs s kind i j) (outcome_alone r) (one_whole_contact s kind i j) p
 
 -- and with f64s
-pub demand1_contact_in_f64 : (s : Scene) (kind : Kind) (i j : ℕ) (r : ContactAnswer) → ContactGiven s kind i j r
-    → ContactTable s (not_there s kind i j) (shares s kind i j) (ContactIs s kind i j) (contact_says r)
+pub demand1_contact_in_f64 : (s : Scene) (kind : Kind) (i j : ℕ) (r : Result Contact Refusal) → ContactGiven s kind i j r
+    → ContactTable s (not_there s kind i j) (shares s kind i j) (ContactIs s kind i j) (outcome_alone r)
 demand1_contact_in_f64 s kind i j r p =
-    contact_table s (not_there s kind i j) (shares s kind i j) (ContactIs s kind i j) (contact_says r) (one_contact s kind i j) p
+    contact_table s (not_there s kind i j) (shares s kind i j) (ContactIs s kind i j) (outcome_alone r) (one_contact s kind i j) p
 
 pub record SceneContactTable (s : Scene) (room : ℕ) (o : Outcome ℕ) : Type 0 where
   pub no1 : (o ≡ refused 1 0) ↔ (wrong_shape s ≡ true)
@@ -90,12 +91,12 @@ pub record SceneContactTable (s : Scene) (room : ℕ) (o : Outcome ℕ) : Type 0
   pub only : (n c : ℕ) → o ≡ refused n c → Memᴰ n (1 ∷ 2 ∷ 3 ∷ 15 ∷ 4 ∷ 16 ∷ 7 ∷ [])
   pub listed : (n : ℕ) → (o ≡ given n) ↔ (ThenIs s ((reaches_beyond contact_limit s ≡ false) × (ltb room (length (pairs s)) ≡ false)) × (n ≡ length (pairs s)))
 
-pub demand1_met_scene : (s : Scene) (o o' b b' c c' : List ℕ) (r : ListAnswer) → ContactsListed s o o' b b' c c' r → SceneContactTable s (contact_room o b c) (list_says r)
+pub demand1_met_scene : (s : Scene) (o o' b b' c c' : List ℕ) (r : Result ℕ Refused) → ContactsListed s o o' b b' c c' r → SceneContactTable s (contact_room o b c) (outcome_of r)
 unfolding Refuses carried_by NoneHolds absent distinct
 demand1_met_scene s o o' b b' c c' r p =
     let Right : ℕ → Type 0 = λ n. n ≡ length (pairs s) in
     let checks : List Check = contact_list_checks s (contact_room o b c) in
-    let row = refused_exactly Right checks (list_says r) refl p.answer in
+    let row = refused_exactly Right checks (outcome_of r) refl p.answer in
     record {
       no1 = row 1;
       no2 = row 2;
@@ -104,10 +105,10 @@ demand1_met_scene s o o' b b' c c' r p =
       no4 = row 4;
       no16 = row 16;
       no7 = row 7;
-      needed = λ n e. carries_only Right checks (list_says r) refl p.answer 7 n e;
-      only = number_known Right checks (list_says r) p.answer;
+      needed = λ n e. carries_only Right checks (outcome_of r) refl p.answer 7 n e;
+      only = number_known Right checks (outcome_of r) p.answer;
       listed = λ n.
-          let gives = gives_exactly Right (λ x y h k. h ∙ sym k) checks (list_says r) p.answer n in (
+          let gives = gives_exactly Right (λ x y h k. h ∙ sym k) checks (outcome_of r) p.answer n in (
             λ e. let (h, is) = gives.0 e in (then_so s (λ q. (q.0, q.1.0)) h, is),
             λ h. gives.1 (then_so s (λ q. (q.0, (q.1, tt))) h.0, h.1),
           );

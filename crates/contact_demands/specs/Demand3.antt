@@ -1,19 +1,18 @@
 -- 'Demand 3 extends to contacts: both scenes give the same k and shares', of scenes within the old range; 'an ee pair may be asked for in either
 -- order, with the same answer'; and the order in which a scene writes ends and corners changes nothing.
-use Rattle.std.specs.Prelude.{ℕ, ◌<◌, false, ◌↔◌, ◌≡◌}
+use Rattle.std.specs.Prelude.{ℕ, ◌<◌, false, ◌↔◌, ◌≡◌, Result}
 use Rattle.std.proofs.Common.{sym, subst}
 use Rattle.whole.specs.Vector.{Vector}
 use Rattle.whole.specs.VectorLaws.{Matrix}
 use Rattle.meaning.specs.Limits.{contact_limit}
 use Rattle.meaning.specs.Scene.{Scene, Accepted, AcceptedWithin}
 use Rattle.meaning.specs.Pieces.{Piece, piece_of, piece_count}
-use Rattle.meaning.specs.Refusals.{not_there, shares}
-use Rattle.meaning.specs.WholeContacts.{WholeContactIs, WholeContactFound, contact_checks, whole_contact_says}
+use Rattle.meaning.specs.Refusals.{not_there, shares, outcome_alone}
+use Rattle.meaning.specs.WholeContacts.{WholeContactIs, WholeContactFound, contact_checks}
 use Rattle.meaning.specs.declared.Kind.{Kind}
 use Rattle.meaning.specs.declared.Kind.TheVariants.{EdgeEdge}
 use Rattle.meaning.specs.declared.Verdict.TheVariants.{Hit}
 use Rattle.meaning.specs.declared.WholeContact.{WholeContact}
-use Rattle.meaning.specs.declared.WholeContactAnswer.{WholeContactAnswer}
 use Rattle.theory.specs.SentPieces.{sent_piece}
 use Rattle.theory.specs.Moved.{Moves, Known, piece_moves}
 use Rattle.theory.proofs.Moved.{moved_keeps_pieces, moved_keeps_pair_words}
@@ -24,6 +23,7 @@ use Rattle.contact_laws.specs.Sent.{time_sent, time_back, first_sent, first_back
 use Rattle.demands.specs.Demand3.{vertices_there}
 use Rattle.demands.specs.AnyWriting.{well_made}
 use Rattle.contact_demands.specs.Carried.{Carries, carries_same, whole_contact_carried}
+use Rattle.meaning.specs.declared.Refusal.{Refusal}
 
 -- ---- demand 3
 
@@ -66,10 +66,10 @@ module _ (s : Scene) (i j : ℕ) where
   contact_either_order x h =
       whole_contact_carried s s EdgeEdge i j j i (λ k below. carries_same (piece_either_order s i j k)) (λ w. (word_either_order s i j w).0) x h
 
-  pub contact_answer_either_order : (r : WholeContactAnswer) → WholeContactFound s EdgeEdge i j r → WholeContactFound s EdgeEdge j i r
+  pub contact_answer_either_order : (r : Result WholeContact Refusal) → WholeContactFound s EdgeEdge i j r → WholeContactFound s EdgeEdge j i r
   contact_answer_either_order r h =
       rw (← not_there_either_order s i j, ← shares_either_order s i j)
-      (answers_imp (contact_checks s EdgeEdge i j) (WholeContactIs s EdgeEdge i j) (WholeContactIs s EdgeEdge j i) contact_either_order (whole_contact_says r) h)
+      (answers_imp (contact_checks s EdgeEdge i j) (WholeContactIs s EdgeEdge i j) (WholeContactIs s EdgeEdge j i) contact_either_order (outcome_alone r) h)
 
 -- ---- any order of writing
 

@@ -1,17 +1,15 @@
 -- Demand 3 for contacts as an integrator meets it, in answers: of two scenes within the old range, one sent through a matrix and two shifts,
 -- whatever meets the promises answers alike, in whole numbers and with f64s.
-use Rattle.std.specs.Prelude.{ℕ, Bool, false, ◌≡◌, refl}
+use Rattle.std.specs.Prelude.{ℕ, Bool, false, ◌≡◌, refl, Result}
 use Rattle.std.proofs.Common.{sym, ◌∙◌, subst, lit≤}
 use Rattle.whole.specs.Vector.{Vector}
 use Rattle.whole.specs.VectorLaws.{Matrix}
 use Rattle.meaning.specs.Limits.{contact_limit}
 use Rattle.meaning.specs.Scene.{Scene, Accepted, AcceptedWithin}
-use Rattle.meaning.specs.Refusals.{Outcome, Answers, not_there, shares}
-use Rattle.meaning.specs.WholeContacts.{WholeContactIs, contact_of, ContactIs, contact_checks, whole_contact_says, contact_says, WholeContactFound, ContactGiven}
+use Rattle.meaning.specs.Refusals.{Outcome, Answers, not_there, shares, outcome_alone}
+use Rattle.meaning.specs.WholeContacts.{WholeContactIs, contact_of, ContactIs, contact_checks, WholeContactFound, ContactGiven}
 use Rattle.meaning.specs.declared.Kind.{Kind}
 use Rattle.meaning.specs.declared.WholeContact.{WholeContact}
-use Rattle.meaning.specs.declared.WholeContactAnswer.{WholeContactAnswer}
-use Rattle.meaning.specs.declared.ContactAnswer.{ContactAnswer}
 use Rattle.theory.specs.Moved.{Moves}
 use Rattle.answers.specs.Deciding.{holds_or_not}
 use Rattle.scene_checks.specs.Facts.{accepted_wider}
@@ -20,6 +18,8 @@ use Rattle.contact_scene.specs.OneResult.{one_whole_contact_answer, one_contact_
 use Rattle.demands.specs.SameAnswer.{there_alike, shares_alike}
 use Rattle.contact_demands.specs.Demand1.{ThenIs, ContactTable, demand1_contact, demand1_contact_in_f64}
 use Rattle.contact_demands.specs.Demand3.{demand3_contacts}
+use Rattle.meaning.specs.declared.Refusal.{Refusal}
+use Rattle.meaning.specs.declared.Contact.{Contact}
 
 then_old : (s : Scene) {R : Type 0} → AcceptedWithin contact_limit s → R → ThenIs s R
 then_old s a r =
@@ -50,18 +50,18 @@ module _ {m : Matrix} {d e : Vector} {s t : Scene} (h : Moves m d e s t) (a : Ac
   kept : not_there s kind i j ≡ false → shares s kind i j ≡ false → WholeContactIs t kind i j contact
   kept n f = (demand3_contacts h a b kind i j n f contact).0 (met_pair s kind i j)
 
-  pub contact_kept : (r r' : WholeContactAnswer) → WholeContactFound s kind i j r → WholeContactFound t kind i j r' → r ≡ r'
+  pub contact_kept : (r r' : Result WholeContact Refusal) → WholeContactFound s kind i j r → WholeContactFound t kind i j r' → r ≡ r'
   contact_kept r r' p q =
-      let same : whole_contact_says r ≡ whole_contact_says r' =
+      let same : outcome_alone r ≡ outcome_alone r' =
       found_alike a b (demand1_contact s kind i j r p) (rw (there_alike h kind i j) at (demand1_contact t kind i j r' q))
       (shares_alike h kind i j) contact (met_pair s kind i j) kept in
       one_whole_contact_answer t kind i j r r' (subst (Answers (contact_checks t kind i j) (WholeContactIs t kind i j)) (sym same) q) q
 
-  pub contact_in_f64_kept : (r r' : ContactAnswer) → ContactGiven s kind i j r → ContactGiven t kind i j r' → r ≡ r'
+  pub contact_in_f64_kept : (r r' : Result Contact Refusal) → ContactGiven s kind i j r → ContactGiven t kind i j r' → r ≡ r'
   contact_in_f64_kept r r' p q =
       let handed = contact_of kind contact in
       let is : ContactIs s kind i j handed = record { contact = contact; right = met_pair s kind i j; is = refl } in
-      let same : contact_says r ≡ contact_says r' =
+      let same : outcome_alone r ≡ outcome_alone r' =
       found_alike a b (demand1_contact_in_f64 s kind i j r p) (rw (there_alike h kind i j) at (demand1_contact_in_f64 t kind i j r' q))
       (shares_alike h kind i j) handed is (λ n f. record { contact = contact; right = kept n f; is = refl }) in
       one_contact_answer t kind i j r r' (subst (Answers (contact_checks t kind i j) (ContactIs t kind i j)) (sym same) q) q

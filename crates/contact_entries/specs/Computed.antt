@@ -1,7 +1,7 @@
 -- The contact of a pair, computed: each pair has one, and it is this.
 use Prim.Native.Nat.{ℕ, zero, suc, ◌+◌, ◌*◌, ◌/◌, ◌%◌, ◌≤◌, ◌<◌, min, max}
-use Rattle.std.proofs.Common.{mod-lt, div-add-mod', add-mul, one-mul, arith, sym, ap, ◌∙◌, leb-true, leb-false}
-use Rattle.std.specs.Prelude.{◌≡◌, refl, ◌↔◌, Bool, cond, List, [], ◌∷◌, leb, ℤ, pos, nat_abs, length}
+use Rattle.std.proofs.Common.{mod-lt, div-add-mod', add-mul, arith, sym, ap, ◌∙◌, leb-true, leb-false}
+use Rattle.std.specs.Prelude.{◌≡◌, refl, ◌↔◌, Bool, List, [], ◌∷◌, leb, ℤ, nat_abs, length}
 use Rattle.std.proofs.Math.Path.{subst}
 use Rattle.std.proofs.Math.Bool.{true, false}
 use Rattle.whole.specs.Cramer.{Four}
@@ -10,7 +10,7 @@ use Rattle.cutting.specs.Cut.{unit, CutTo, cut_at_most}
 use Rattle.meaning.specs.Scene.{Scene, corners_of, ends_of}
 use Rattle.meaning.specs.Pieces.{Piece, piece_of, piece_count}
 use Rattle.meaning.specs.Verdicts.{PieceIs}
-use Rattle.meaning.specs.Resting.{PieceSettled, SomeSettled, PairSettled}
+use Rattle.meaning.specs.Resting.{PieceSettled, PairSettled}
 use Rattle.meaning.specs.Contacts.{TimeIs, at_corner, at_higher_end}
 use Rattle.meaning.specs.WholeContacts.{SharesAre, ContactNumbersAre, WholeContactIs}
 use Rattle.meaning.specs.declared.Kind.{Kind}
@@ -30,7 +30,7 @@ use Rattle.contact_laws.specs.Told.{Told}
 use Rattle.contact_laws.specs.Numbers.{all_four, last_three, point_ends, four_points, three_points, edge_ends, first_ends, point_four, edge_four, point_time_lem, point_share, edge_time_lem, edge_first, edge_second}
 use Rattle.contact_times.specs.Earliest.{Earliest, number_at, below_three, below_four}
 use Rattle.contact_times.specs.Sums.{no_time}
-use Rattle.contact_times.specs.Hits.{PieceTime, first_hit, first_time, none_before}
+use Rattle.contact_times.specs.Hits.{PieceTime, first_hit, none_before}
 use Rattle.corner_search.specs.Decided.{pair_word, settled_pair}
 use Rattle.contact_entries.specs.OneContact.{one_contact_numbers, one_whole_contact}
 

@@ -1,19 +1,18 @@
 -- A pair has one contact: two that are right are equal. Its word is the pair's.
 use Rattle.std.specs.Prelude.{ℕ, ◌/◌, ◌%◌, ◌≤◌, ◌<◌, ◌≡◌}
 use Rattle.std.proofs.Math.Decide.{dec_lt}
-use Rattle.std.proofs.Common.{arith, sym, ◌∙◌, subst}
+use Rattle.std.proofs.Common.{arith, sym, ◌∙◌}
 use Rattle.std.proofs.Math.Path.{refl, ap}
 use Rattle.meaning.specs.Scene.{Scene}
-use Rattle.meaning.specs.Pieces.{Piece, piece_of, piece_count}
+use Rattle.meaning.specs.Pieces.{piece_of}
 use Rattle.meaning.specs.Equations.{Touches}
 use Rattle.meaning.specs.Verdicts.{PieceIs}
 use Rattle.meaning.specs.Resting.{PieceSettled, PairSettled}
 use Rattle.meaning.specs.Contacts.{at_corner, at_higher_end}
-use Rattle.meaning.specs.WholeContacts.{NotBefore, SharesAre, ContactNumbersAre, WholeContactIs, ContactIs, contact_of, word_of}
+use Rattle.meaning.specs.WholeContacts.{SharesAre, ContactNumbersAre, WholeContactIs, ContactIs, contact_of, word_of}
 use Rattle.meaning.specs.declared.Kind.{Kind}
 use Rattle.meaning.specs.declared.Kind.TheVariants.{PointTriangle, EdgeEdge}
 use Rattle.meaning.specs.declared.Verdict.{Verdict}
-use Rattle.meaning.specs.declared.Settled.{Settled}
 use Rattle.meaning.specs.declared.ContactNumbers.{ContactNumbers}
 use Rattle.meaning.specs.declared.WholeContact.{WholeContact}
 use Rattle.meaning.specs.declared.WholeContact.TheVariants.{Hit, Miss, Touch, Apart}

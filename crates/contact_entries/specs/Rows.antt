@@ -1,6 +1,6 @@
 -- Rows of five numbers in a lent buffer, one for each pair, and a loop that puts them there.
-use Rattle.std.specs.Prelude.{ℕ, zero, suc, ◌+◌, ◌*◌, ◌≤◌, ◌<◌, ◌≡◌, refl, List, [], ◌∷◌, ◌++◌, length, take, drop, set}
-use Rattle.std.proofs.Common.{arith, add_assoc, sym, ap, ◌∙◌, subst, append_assoc, length-set, length-append, length-take, length-drop, take-append-drop, take-add, drop-drop, length-take-le}
+use Rattle.std.specs.Prelude.{ℕ, ◌+◌, ◌*◌, ◌≤◌, ◌<◌, ◌≡◌, refl, List, [], ◌∷◌, ◌++◌, length, take, drop, set}
+use Rattle.std.proofs.Common.{arith, add_assoc, sym, ap, ◌∙◌, append_assoc, length-set, length-take, length-drop, take-append-drop, take-add, drop-drop}
 use Rattle.sequences.specs.Wrote.{Wrote, wrote_two, wrote_three, wrote_then}
 use Rattle.sequences.specs.Parts.{drop_more}
 use Rattle.meaning.specs.Scene.{Scene}

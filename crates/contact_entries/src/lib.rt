@@ -59,11 +59,9 @@ pub fn contact_entries(
         × (contacts.new ≡ rows_left (contacts_of (tabled positions.now edges.now triangles.now stands.now)
         (pairs_in count list.now)) contacts.old) }
 {
-    let mut k = 0;
-    while k < count {
+    for k in 0..count {
         let contact = entry_contact(positions, edges, triangles, stands, list, k);
         words[k] = byte_of(settled_of(contact));
         put_contact_row(contacts, ROW_NUMBERS * k, contact);
-        k += 1;
     }
 }

@@ -1,13 +1,11 @@
 -- What the numbers of a hit pair ask is there, in a scene within the old range.
-use Rattle.std.specs.Prelude.{ℕ, min, max, ◌≡◌, false, List, ℤ}
-use Rattle.std.proofs.Common.{subst, lit≤}
-use Rattle.meaning.specs.Limits.{coordinate_limit, contact_limit}
+use Rattle.std.specs.Prelude.{ℕ, min, max, ◌≡◌, false}
+use Rattle.std.proofs.Common.{lit≤}
+use Rattle.meaning.specs.Limits.{contact_limit}
 use Rattle.meaning.specs.Scene.{Scene, corners_of, ends_of, reaches_beyond, Accepted, AcceptedWithin}
 use Rattle.meaning.specs.Pieces.{piece_of, piece_count}
 use Rattle.meaning.specs.Refusals.{not_there}
-use Rattle.meaning.specs.Verdicts.{SomePiece}
 use Rattle.meaning.specs.Resting.{PieceSettled, PairSettled}
-use Rattle.meaning.specs.declared.Kind.{Kind}
 use Rattle.meaning.specs.declared.Kind.TheVariants.{PointTriangle, EdgeEdge}
 use Rattle.meaning.specs.declared.Settled.TheVariants.{Hit}
 use Rattle.exact.specs.Places.{Bounded}

@@ -11,7 +11,6 @@ ghost use Rattle.meaning.specs.declared.Settled.TheVariants.{Hit};
 
 use contact_times::{edges_contact_numbers, point_contact_numbers};
 use meaning::{ContactNumbers, Kind, Settled, WholeContact};
-use scene_parts::asked::{larger, smaller};
 
 // The numbers of a pair that is hit.
 fn contact_numbers(
@@ -33,8 +32,8 @@ fn contact_numbers(
             point_contact_numbers(positions, i, scene_parts::corners_of(triangles, stands, j))
         }
         Kind::EdgeEdge => {
-            let first = scene_parts::ends_of(edges, stands, smaller(i, j));
-            let second = scene_parts::ends_of(edges, stands, larger(i, j));
+            let first = scene_parts::ends_of(edges, stands, i.min(j));
+            let second = scene_parts::ends_of(edges, stands, i.max(j));
             edges_contact_numbers(positions, first, second)
         }
     }

@@ -5,7 +5,7 @@
 pub mod accepted; // accepted.rt: the contact of a pair of a scene that was checked already
 mod handed; // handed.rt: a contact as it is handed out, with f64s
 
-ghost use Rattle.std.specs.Prelude.{◌<◌, ◌≡◌, pos, length, get_or};
+ghost use Rattle.std.specs.Prelude.{◌≡◌};
 ghost use Rattle.meaning.specs.Limits.{contact_limit};
 ghost use Rattle.meaning.specs.Scene.{scene_of, beyond, reaches_beyond};
 ghost use Rattle.meaning.specs.WholeContacts.{WholeContactFound, ContactGiven};
@@ -15,16 +15,12 @@ ghost use Rattle.scene_checks.specs.Checking.{Stitched};
 
 use accepted::contact_of_word;
 use handed::contact_of;
-use meaning::{
-    CONTACT_LIMIT, ContactAnswer, Kind, Refusal, SettledAnswer, VERTEX_LIMIT, WholeContactAnswer,
-};
+use meaning::{CONTACT_LIMIT, Contact, Kind, Refusal, VERTEX_LIMIT, WholeContact};
 
-fn beyond(positions: &[i32], i: usize) -> bool
-    requires { i < length positions.now }
-    ensures { result ≡ beyond contact_limit (get_or positions.now i (pos 0)) }
+fn beyond(coordinate: i32) -> bool
+    ensures { result ≡ beyond contact_limit coordinate }
 {
-    let c = positions[i];
-    (c < -CONTACT_LIMIT) | (CONTACT_LIMIT < c)
+    (coordinate < -CONTACT_LIMIT) | (CONTACT_LIMIT < coordinate)
 }
 
 // 16: a coordinate of the scene beyond the old range.
@@ -32,10 +28,8 @@ pub fn beyond_old_range(positions: &[i32]) -> bool
     ensures { result ≡ reaches_beyond contact_limit (only_positions positions.now) }
 {
     let mut found = false;
-    let mut i = 0;
-    while i < positions.len() {
-        found = found | beyond(positions, i);
-        i += 1;
+    for coordinate in positions {
+        found |= beyond(*coordinate);
     }
     found
 }
@@ -50,25 +44,20 @@ fn contact_into(
     kind: Kind,
     first: usize,
     second: usize,
-) -> WholeContactAnswer
+) -> Result<WholeContact, Refusal>
     requires { Blank seams.now stands.old }
     ensures { WholeContactFound (scene_of positions.now edges.now triangles.now seams.now) kind first second result
         × Stitched (scene_of positions.now edges.now triangles.now seams.now) stands.old stands.new }
 {
-    let settled = four_words::settle_into(
+    let word = four_words::settle_into(
         positions, edges, triangles, seams, stands, kind, first, second,
-    );
-    match settled {
-        SettledAnswer::Refused(refusal) => WholeContactAnswer::Refused(refusal),
-        SettledAnswer::Decided(word) => {
-            if beyond_old_range(positions) {
-                return WholeContactAnswer::Refused(Refusal::BeyondOldRange);
-            }
-            WholeContactAnswer::Found(contact_of_word(
-                positions, edges, triangles, stands, kind, first, second, word,
-            ))
-        }
+    )?;
+    if beyond_old_range(positions) {
+        return Err(Refusal::BeyondOldRange);
     }
+    Ok(contact_of_word(
+        positions, edges, triangles, stands, kind, first, second, word,
+    ))
 }
 
 // The four words, the hit with its numbers, for a scene that may be anything. The refusals are those of a verdict, then 16.
@@ -80,7 +69,7 @@ pub fn contact_pair(
     kind: Kind,
     first: usize,
     second: usize,
-) -> WholeContactAnswer
+) -> Result<WholeContact, Refusal>
     ensures { WholeContactFound (scene_of positions.now edges.now triangles.now seams.now) kind first second result }
 {
     if seams.len() == 0 {
@@ -111,11 +100,9 @@ pub fn contact_pair_in_f64(
     kind: Kind,
     first: usize,
     second: usize,
-) -> ContactAnswer
+) -> Result<Contact, Refusal>
     ensures { ContactGiven (scene_of positions.now edges.now triangles.now seams.now) kind first second result }
 {
-    match contact_pair(positions, edges, triangles, seams, kind, first, second) {
-        WholeContactAnswer::Refused(refusal) => ContactAnswer::Refused(refusal),
-        WholeContactAnswer::Found(contact) => ContactAnswer::Given(contact_of(kind, contact)),
-    }
+    let contact = contact_pair(positions, edges, triangles, seams, kind, first, second)?;
+    Ok(contact_of(kind, contact))
 }

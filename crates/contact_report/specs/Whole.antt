@@ -1,5 +1,5 @@
 -- What is printed of a text, from what is printed of its scene.
-use Rattle.std.specs.Prelude.{ℕ, ◌+◌, ◌≤◌, List, length}
+use Rattle.std.specs.Prelude.{ℕ, ◌≤◌, List, length}
 use Rattle.std.proofs.Common.{◌∙◌, zero-add}
 use Rattle.sequences.specs.Wrote.{Wrote, wrote_front}
 use Rattle.meaning.specs.Limits.{text_limit}

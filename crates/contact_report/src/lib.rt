@@ -13,7 +13,7 @@ use answers::number_of;
 use hit_report::near_contacts;
 use meaning::{
     CONTACTS_BYTES, EDGE_NUMBERS, POSITION_NUMBERS, READ_BYTES, SEAM_NUMBERS, TRIANGLE_NUMBERS,
-    TextAnswer, VERTEX_LIMIT,
+    VERTEX_LIMIT,
 };
 use report_words::lines::refused_line;
 use scene_seams::sew_all;
@@ -46,7 +46,7 @@ pub fn write_contacts(text: &[u8], out: &mut [u8; CONTACTS_BYTES]) -> usize
     let mut triangles = [0u16; TRIANGLE_NUMBERS];
     let mut seams = [0u16; SEAM_NUMBERS];
     match text_scene::read_scene(text, &mut positions, &mut edges, &mut triangles, &mut seams) {
-        TextAnswer::Read(counts) => {
+        Ok(counts) => {
             let p = 6 * counts.vertices;
             let e = 2 * counts.edges;
             let t = 3 * counts.triangles;
@@ -59,7 +59,7 @@ pub fn write_contacts(text: &[u8], out: &mut [u8; CONTACTS_BYTES]) -> usize
                 out,
             )
         }
-        TextAnswer::Refused(refusal, line) => refused_line(out, 0, number_of(refusal), line as u64),
+        Err(refused) => refused_line(out, 0, number_of(refused.why), refused.carries as u64),
     }
 }
 

@@ -12,17 +12,15 @@ ghost use Rattle.scene_checks.specs.Checking.{Stitched};
 ghost use Rattle.contact_scene.specs.Answering.{MetNear};
 
 use contact_entries::contact_entries;
-use meaning::{ListAnswer, ROW_NUMBERS, Refusal, SceneAnswer, VERTEX_LIMIT};
-use scene_parts::asked::smaller;
+use meaning::{ROW_NUMBERS, Refusal, Refused, VERTEX_LIMIT};
 
 // How many pairs the three lent buffers have room for.
 fn room_for(list: &[u32], words: &[u8], contacts: &[u32]) -> usize
     ensures { result ≡ contact_room list.now words.now contacts.now }
 {
-    smaller(
-        smaller(list_entries::room(list), words.len()),
-        contacts.len() / ROW_NUMBERS,
-    )
+    list_entries::room(list)
+        .min(words.len())
+        .min(contacts.len() / ROW_NUMBERS)
 }
 
 // For a scene that was checked already and is within the old range.
@@ -34,7 +32,7 @@ pub fn contact_near(
     list: &mut [u32],
     words: &mut [u8],
     contacts: &mut [u32],
-) -> ListAnswer
+) -> Result<usize, Refused>
     requires { AcceptedWithin contact_limit (tabled positions.now edges.now triangles.now stands.now) }
     ensures { MetNear (tabled positions.now edges.now triangles.now stands.now)
         (contact_room list.old words.old contacts.old) list.old list.new words.old
@@ -42,17 +40,13 @@ pub fn contact_near(
 {
     let room = room_for(list, words, contacts);
     let mut tests = [0usize; 1];
-    match list_pairs::accepted::list_accepted(
+    let count = list_pairs::accepted::list_accepted(
         positions, edges, triangles, stands, list, room, &mut tests,
-    ) {
-        ListAnswer::Listed(made) => {
-            contact_entries(
-                positions, edges, triangles, stands, list, words, contacts, made.count,
-            );
-            ListAnswer::Listed(made)
-        }
-        ListAnswer::Refused(refusal, needed) => ListAnswer::Refused(refusal, needed),
-    }
+    )?;
+    contact_entries(
+        positions, edges, triangles, stands, list, words, contacts, count,
+    );
+    Ok(count)
 }
 
 // As `contact_scene`, over a lent table without seams, which is that of the scene's seams afterwards.
@@ -65,19 +59,15 @@ fn contact_into(
     list: &mut [u32],
     words: &mut [u8],
     contacts: &mut [u32],
-) -> ListAnswer
+) -> Result<usize, Refused>
     requires { Blank seams.now stands.old }
     ensures { ContactsListed (scene_of positions.now edges.now triangles.now seams.now) list.old list.new
         words.old words.new contacts.old contacts.new result
         × Stitched (scene_of positions.now edges.now triangles.now seams.now) stands.old stands.new }
 {
-    if let SceneAnswer::Refused(refusal) = scene_checks::check_into(
-        positions, edges, triangles, seams, stands,
-    ) {
-        return ListAnswer::Refused(refusal, 0);
-    }
+    scene_checks::check_into(positions, edges, triangles, seams, stands)?;
     if contact_pair::beyond_old_range(positions) {
-        return ListAnswer::Refused(Refusal::BeyondOldRange, 0);
+        return Err(Refused::from(Refusal::BeyondOldRange));
     }
     contact_near(positions, edges, triangles, stands, list, words, contacts)
 }
@@ -91,7 +81,7 @@ pub fn contact_scene(
     list: &mut [u32],
     words: &mut [u8],
     contacts: &mut [u32],
-) -> ListAnswer
+) -> Result<usize, Refused>
     ensures { ContactsListed (scene_of positions.now edges.now triangles.now seams.now) list.old list.new
         words.old words.new contacts.old contacts.new result }
 {

@@ -1,18 +1,17 @@
 -- A hit pair, and from the numbers of its pieces to its contact.
-use Rattle.std.specs.Prelude.{ℕ, zero, suc, ◌+◌, ◌*◌, ◌/◌, ◌%◌, ◌≤◌, ◌<◌, min, max, ◌≡◌, refl, Bool, not, List, [], ◌∷◌, ℤ, pos, nat_abs, length}
-use Rattle.std.proofs.Common.{sym, ap, subst, ◌∙◌, arith, le_trans}
+use Rattle.std.specs.Prelude.{ℕ, zero, suc, ◌+◌, ◌*◌, ◌/◌, ◌%◌, ◌≤◌, ◌<◌, min, max, ◌≡◌, refl, Bool, List, [], ◌∷◌, ℤ, nat_abs, length}
+use Rattle.std.proofs.Common.{sym, subst, arith, le_trans}
 use Rattle.std.proofs.Math.Bool.{true, false}
-use Rattle.whole.specs.Cramer.{Four, volumes}
+use Rattle.whole.specs.Cramer.{Four}
 use Rattle.whole.specs.Signs.{nat_abs_positive}
 use Rattle.whole.specs.Sizes.{within_neg}
-use Rattle.cutting.specs.Cut.{unit, CutTo, cut_at_most}
+use Rattle.cutting.specs.Cut.{unit, cut_at_most}
 use Rattle.meaning.specs.Limits.{contact_limit}
 use Rattle.meaning.specs.Scene.{Scene, scene_of, corners_of, ends_of}
 use Rattle.meaning.specs.Pieces.{Piece, piece_of, piece_count, moving_point, moving_triangle, moving_edge}
-use Rattle.meaning.specs.Verdicts.{PieceIs, SomePiece, PairIs}
+use Rattle.meaning.specs.Verdicts.{PieceIs}
 use Rattle.meaning.specs.Contacts.{TimeIs, FirstShareIs, SecondShareIs, corner_of_point, end_of_point, at_corner, at_higher_end}
 use Rattle.meaning.specs.WholeContacts.{NotBefore, SharesAre, ContactNumbersAre}
-use Rattle.meaning.specs.declared.Kind.{Kind}
 use Rattle.meaning.specs.declared.Kind.TheVariants.{PointTriangle, EdgeEdge}
 use Rattle.meaning.specs.declared.Corners.{Corners}
 use Rattle.meaning.specs.declared.Ends.{Ends}
@@ -31,7 +30,7 @@ use Rattle.three_words.specs.Right.{flags, point_held, edges_held}
 use Rattle.contact_laws.specs.Told.{Told}
 use Rattle.contact_laws.specs.Numbers.{all_four, last_three, point_ends, is_b, turned_in, point_time_lem, point_share, edge_time_lem, edge_first, edge_second}
 use Rattle.contact_times.specs.Earliest.{Earliest, number_at, below_three, below_four}
-use Rattle.contact_times.specs.Sums.{CutIn, no_time, PartIfHit, TimeOr, point_time, low_share, middle_share, high_share, PointParts, PointNumbers, edge_time, first_share, second_share, EdgeParts, EdgeNumbers}
+use Rattle.contact_times.specs.Sums.{no_time, PartIfHit, TimeOr, point_time, low_share, middle_share, high_share, PointParts, PointNumbers, edge_time, first_share, second_share, EdgeParts, EdgeNumbers}
 
 -- some piece is hit
 pub record PointHits (ps : List ℤ) (p : ℕ) (c : Corners) : Type 0 where

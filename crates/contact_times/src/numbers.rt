@@ -12,7 +12,8 @@ use exact_shares::share;
 use exact_signs::{edge_verdict, point_verdict};
 use meaning::{ContactNumbers, Verdict};
 
-// A number that is no time, and larger than any: 2^20 and one more.
+// A number that is no time, and larger than any: 2^20 and one more. No Option, because so the earliest time is the smallest number, whether each piece
+// is hit or not.
 const NO_TIME: u32 = 1048577;
 
 // The time of a point's piece, if that is hit. The piece is 0 where it is early, and 2 where it is late.
@@ -50,13 +51,7 @@ pub fn turn_first(v: Volumes) -> Volumes
     requires { Small v }
     ensures { Holds result (turned_in 0 (four_of v)) }
 {
-    let e0 = 0 - v.e0;
-    Volumes {
-        e0,
-        e1: v.e1,
-        e2: v.e2,
-        e3: v.e3,
-    }
+    Volumes { e0: 0 - v.e0, ..v }
 }
 
 // The time of two edges' piece, if that is hit: v are its volumes, and w the same as they count. `b` says whether the first edge's piece is B, and

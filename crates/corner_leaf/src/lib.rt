@@ -17,14 +17,14 @@ use exact_signs::ways::{one_way, zero_but};
 
 // The six points of a piece, those of the first simplex first: their places in the positions, which are at the end, and how many
 // are the first simplex's. The functions below take these one by one, and the lists by reference: a struct by value is copied at each call.
-#[derive(Clone, Copy)]
+#[derive(Clone, Copy, Debug, PartialEq, Eq)]
 pub struct SixPoints {
     pub at: [usize; 6],
     pub ends: [bool; 6],
     pub first: usize,
 }
 
-#[derive(Clone, Copy)]
+#[derive(Clone, Copy, Debug, PartialEq, Eq)]
 pub enum Leaf {
     Yes,
     No,
@@ -70,12 +70,10 @@ fn stands(left: bool, at_end: bool, end: bool) -> bool
 fn base(ends: &[bool; 6], left: &[bool; 6], end: bool) -> usize
     ensures { result ≡ base_in ends.now left.now end }
 {
-    let mut i = 0;
-    while i < 6 {
+    for i in 0..6 {
         if stands(left[i], ends[i], end) {
             return i;
         }
-        i += 1;
     }
     if end { 5 } else { 0 }
 }

@@ -10,7 +10,6 @@ ghost use Rattle.three_words.specs.Ready.{PointReady, EdgesReady};
 ghost use Rattle.corner_rest.specs.Rests.{same_at, rests, point_rests, edges_rest, pair_rests};
 
 use meaning::{Corners, Ends, Kind};
-use scene_parts::asked::{larger, smaller};
 
 // A start's coordinate, and the end's three places behind it.
 fn same(positions: &[i32], at: usize) -> bool
@@ -69,8 +68,8 @@ pub fn pair_rests(
             point_rests(positions, i, scene_parts::corners_of(triangles, stands, j))
         }
         Kind::EdgeEdge => {
-            let first = scene_parts::ends_of(edges, stands, smaller(i, j));
-            let second = scene_parts::ends_of(edges, stands, larger(i, j));
+            let first = scene_parts::ends_of(edges, stands, i.min(j));
+            let second = scene_parts::ends_of(edges, stands, i.max(j));
             edges_rest(positions, first, second)
         }
     }

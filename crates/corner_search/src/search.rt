@@ -67,15 +67,13 @@ pub(crate) fn first(
     let Leaf::Open = answer else {
         return is_yes(answer);
     };
-    let mut i = 0;
-    while i < split {
+    for i in 0..split {
         if left[i] {
             let less = without(left, i);
             if second(positions, at, ends, split, &less, false, plane) {
                 return true;
             }
         }
-        i += 1;
     }
     if tried {
         return false;
@@ -102,15 +100,13 @@ pub(crate) fn second(
     let Leaf::Open = answer else {
         return is_yes(answer);
     };
-    let mut i = split;
-    while i < 6 {
+    for i in split..6 {
         if left[i] {
             let less = without(left, i);
             if first(positions, at, ends, split, &less, false, plane) {
                 return true;
             }
         }
-        i += 1;
     }
     if tried {
         return false;

@@ -17,14 +17,14 @@ use corner_leaf::{base_of, other};
 use exact::arrows::{Arrow, arrow_between};
 
 // A vector without its coordinate along an axis.
-#[derive(Clone, Copy)]
+#[derive(Clone, Copy, Debug, PartialEq, Eq)]
 pub struct Shadow {
     pub x: i64,
     pub y: i64,
 }
 
 // Which side of one shadow another lies on, for each two of four: above 0 to the left, below 0 to the right.
-#[derive(Clone, Copy)]
+#[derive(Clone, Copy, Debug, PartialEq, Eq)]
 pub struct Crosses {
     pub ab: i64,
     pub ac: i64,

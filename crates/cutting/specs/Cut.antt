@@ -1,7 +1,6 @@
 -- Document 02: each number over 2^20 is at most the exact value and short of it by less than 1 in 2^20, said by multiplying out.
-use Rattle.std.specs.Prelude.{ℕ, ◌+◌, ◌*◌, ◌≤◌, ◌<◌, ◌≡◌, refl}
-use Rattle.std.proofs.Common.{mul_assoc, mul_comm, mul_right_comm, mul-add, add-mul, mul-le-mul_left, mul-le-mul_right, le_of_mul-le-mul_right, lt_of_mul-lt-mul_right, le_trans, lt_of_le_of_lt, lt_of_lt_of_le, mul-lt-mul_of_pos_right, arith, sym, ap, ◌∙◌}
-use Rattle.std.proofs.Math.Nat.{mul-lt-mul_of_pos_left, le_of_mul-le-mul_left, lt_of_mul-lt-mul_left}
+use Rattle.std.specs.Prelude.{ℕ, ◌+◌, ◌*◌, ◌≤◌, ◌<◌, ◌≡◌}
+use Rattle.std.proofs.Common.{mul_assoc, mul_right_comm, mul-le-mul_left, mul-le-mul_right, le_of_mul-le-mul_right, lt_of_mul-lt-mul_right, le_trans, lt_of_le_of_lt, mul-lt-mul_of_pos_right, arith}
 
 -- 2^20
 abbrev pub unit : ℕ

@@ -1,9 +1,9 @@
 -- The number handed out for n: n turned into an f64 and divided by 2^20. Nothing is lost.
-use Rattle.std.specs.Prelude.{ℕ, ◌*◌, ◌^◌, ◌≤◌, ◌<◌, Bool, false, ◌≡◌, refl, pos, Float}
-use Rattle.std.proofs.Common.{mul_assoc, mul_comm, mul-one, one-mul, mul-pos, mul-le-mul_right, mul_right_comm, lt_of_le_of_lt, le_trans, arith, lit<, lit≤, sym, ap, ◌∙◌, subst}
+use Rattle.std.specs.Prelude.{ℕ, ◌*◌, ◌^◌, ◌≤◌, ◌<◌, Bool, false, ◌≡◌, pos, Float}
+use Rattle.std.proofs.Common.{mul_assoc, mul_comm, one-mul, mul-pos, mul-le-mul_right, mul_right_comm, lt_of_le_of_lt, le_trans, lit<, lit≤, sym, ap, ◌∙◌, subst}
 use Rattle.std.proofs.Math.Nat.{eq_of_mul-eq-mul_right}
 use Rattle.std.specs.Float.{nan, inf, fin, binary64}
-use Rattle.std.specs.Float.Ieee.{of_int, div, round, up, down, unlike, prec, low, emax}
+use Rattle.std.specs.Float.Ieee.{of_int, div, round, up, down}
 use Rattle.std.specs.Float.Ieee.Exact.{HasValue, round_exact}
 use Rattle.std.specs.Float.Ieee.Back.{round_whole}
 use Rattle.std.specs.Float.Ieee.Fits.{down_pos}

@@ -1,8 +1,7 @@
 -- Long division with the digit 4: what is cut so far, the rest, and how many digits are left, ten in all since 4^10 is 2^20.
-use Rattle.std.specs.Prelude.{ℕ, zero, suc, ◌+◌, ◌-◌, ◌*◌, ◌/◌, ◌%◌, ◌^◌, ◌≤◌, ◌<◌, ◌≡◌, refl}
-use Rattle.std.proofs.Common.{mul_assoc, mul_comm, mul-add, add-mul, one-mul, mul-one, pow-suc, mul-le-mul_left, mul-le-mul_right, le_of_mul-le-mul_right, le_trans, le-mul_of_pos_right, le_of_eq, lt_irrefl, mod-lt, div-add-mod', arith, sym, ap, ◌∙◌}
+use Rattle.std.specs.Prelude.{ℕ, suc, ◌+◌, ◌*◌, ◌/◌, ◌%◌, ◌^◌, ◌≤◌, ◌<◌, ◌≡◌}
+use Rattle.std.proofs.Common.{mul_assoc, mul_comm, add-mul, mul-one, pow-suc, mul-le-mul_left, le_of_mul-le-mul_right, le_trans, le-mul_of_pos_right, le_of_eq, mod-lt, div-add-mod', arith, sym, ap, ◌∙◌}
 use Rattle.std.proofs.Math.Nat.{one-le-pow, div-le_of_le-mul}
-use Rattle.std.proofs.Math.Numerals.{unary_clauses}
 use Rattle.cutting.specs.Cut.{unit, CutTo}
 
 -- what is cut and the rest, with the digits left still to come, are 2^20 times the part
@@ -28,12 +27,10 @@ next_digit n w r q r' e =
     let b : n * 4 * w ≡ 4 * (n * w) = ap (λ (x : ℕ). x * w) (mul_comm n 4) ∙ mul_assoc 4 n w in
     omega arith
 
-pub cutting_step : (part whole number rest left : ℕ) → 0 < whole → 0 < left → Cutting part whole number rest left
-    → Cutting part whole (number * 4 + rest * 4 / whole) (rest * 4 % whole) (left - 1)
-cutting_step part whole number rest zero w h c = absurd (lt_irrefl 0 h)
-cutting_step part whole number rest (suc left) w h c =
-    simp unary_clauses
-    (record {
+pub cutting_step : (part whole number rest left : ℕ) → 0 < whole → Cutting part whole number rest (suc left)
+    → Cutting part whole (number * 4 + rest * 4 / whole) (rest * 4 % whole) left
+cutting_step part whole number rest left w c =
+    record {
       below = mod-lt (rest * 4) w;
       exact =
           ap (λ (n : ℕ). n * 4 ^ left) (next_digit number whole rest (rest * 4 / whole) (rest * 4 % whole) (div-add-mod' (rest * 4) whole))
@@ -41,7 +38,7 @@ cutting_step part whole number rest (suc left) w h c =
           ∙ mul_assoc (number * whole + rest) 4 (4 ^ left)
           ∙ ap (λ (n : ℕ). (number * whole + rest) * n) (mul_comm 4 (4 ^ left) ∙ sym (pow-suc 4 left))
           ∙ c.exact);
-    })
+    }
 
 -- on the way no number is larger than the last
 pub cutting_small : (part whole number rest left : ℕ) → 0 < whole → part ≤ whole → Cutting part whole number rest left → number ≤ unit

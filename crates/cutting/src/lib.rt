@@ -14,12 +14,10 @@ pub fn cut(part: u64, whole: u64) -> u32
 {
     let mut number = part / whole;
     let mut rest = part % whole;
-    let mut left = 10u64;
-    while left > 0 {
+    for _ in 0..10u32 {
         let four = rest * 4;
         number = number * 4 + four / whole;
         rest = four % whole;
-        left -= 1;
     }
     number as u32
 }

@@ -31,10 +31,11 @@ pub record Scanning (s : List ℕ) (at limit worth next left : ℕ) : Type 0 whe
   pub counts : value_on worth (run left (drop next s)) ≡ value (run limit (drop at s))
   pub place : next + length (run left (drop next s)) ≡ at + length (run limit (drop at s))
 
-pub scan_starts : (s : List ℕ) (at limit : ℕ) → Scanning s at limit 0 at limit
+pub scan_starts : (s : List ℕ) (at limit : ℕ) → Scanning s at limit 0 at (limit - 0)
 unfolding value
 scan_starts s at limit =
-    record { few = omega arith; small = one-le-pow (limit - limit) 10 (omega arith); counts = refl; place = refl }
+    let all : limit - 0 ≡ limit = omega arith in
+    rw all (record { few = omega arith; small = one-le-pow (limit - limit) 10 (omega arith); counts = refl; place = refl })
 
 module _ {s : List ℕ} {at limit worth next left : ℕ} (c : Scanning s at limit worth next left) where
   -- ten times what is read so far, and a digit, fits 64 bits

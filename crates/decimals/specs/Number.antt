@@ -1,5 +1,5 @@
 -- Reading a number from a place of a text: a computed answer, and the theorem that says what it means.
-use Rattle.std.specs.Prelude.{Bool, true, false, ◌&&◌, ◌||◌, ◌⊎◌, ◌↔◌, leb, ltb, get_or, drop}
+use Rattle.std.specs.Prelude.{Option, Some, None, Bool, true, false, ◌&&◌, ◌||◌, ◌⊎◌, ◌↔◌, leb, ltb, get_or, drop}
 use mathlib.Core.List.{List}
 use Rattle.std.proofs.Common.{inr, sym, ap, ◌∙◌, add-zero, arith, get_or-drop, leb-true, ltb-true, lt-ltb, le-leb}
 use Rattle.std.proofs.Math.Logic.{⊎_elim}
@@ -17,21 +17,29 @@ use Rattle.decimals.specs.Digits.{digits}
 use Rattle.decimals.specs.Reading.{run, Run, run_has, run_is, RunFrom}
 use Rattle.decimals.specs.Value.{value, Canonical, digits_some, digits_below, digits_canonical, digits_value, value_digits}
 use Rattle.decimals.specs.declared.NumberRead.{NumberRead}
-use Rattle.decimals.specs.declared.NumberRead.TheVariants.{Number, Bad}
 
 -- a run of so many digits with this first one is a number: one digit or more, and no leading zero but 0 itself
 abbrev pub plain_test : ℕ → ℕ → Bool
 plain_test count first = ltb 0 count && (leb count 1 || ltb 48 first)
 
+-- a number that was read: its value, and the place behind it
+abbrev pub read_as : ℕ → ℕ → Option NumberRead
+read_as v n = Some (record { value = v; next = n })
+
+pub read_same : {v v' n n' : ℕ} → read_as v n ≡ read_as v' n' → (v ≡ v') × (n ≡ n')
+read_same {v} {v'} {n} {n'} e =
+    let same : ◌≡◌ {A = NumberRead} (record { value = v; next = n }) (record { value = v'; next = n' }) = cc in
+    (ap (λ (r : NumberRead). r.value) same, ap (λ (r : NumberRead). r.next) same)
+
 -- the longest run of digits from the place on, of at most limit digits: the number that it is, if it is one, and the place behind it
-unfoldable pub number_at : List ℕ → ℕ → ℕ → NumberRead
+unfoldable pub number_at : List ℕ → ℕ → ℕ → Option NumberRead
 number_at s at limit =
     let l = run limit (drop at s) in
-    pick (plain_test (length l) (byte_at s at)) (Number (value l) (at + length l)) Bad
+    pick (plain_test (length l) (byte_at s at)) (read_as (value l) (at + length l)) None
 
 -- the same from what the run is worth, where it ends, and the byte that it begins with
 pub number_of_run : {s : List ℕ} {at limit worth next first : ℕ} → RunFrom s at limit worth next → first ≡ byte_at s at
-    → number_at s at limit ≡ pick (plain_test (next - at) first) (Number worth next) Bad
+    → number_at s at limit ≡ pick (plain_test (next - at) first) (read_as worth next) None
 unfolding number_at
 number_of_run {s} {at} {limit} {worth} {next} r e =
     let count : next - at ≡ length (run limit (drop at s)) = omega (arith, r.place) in
@@ -84,16 +92,18 @@ module _ (s : List ℕ) (at limit : ℕ) where
         stops = rw same (stopped l r);
       }
 
-  found : {v n : ℕ} → number_at s at limit ≡ Number v n → NumberStands s at limit v n
+  found : {v n : ℕ} → number_at s at limit ≡ read_as v n → NumberStands s at limit v n
   unfolding number_at
   found {v} {n} e =
       let l : List ℕ = run limit (drop at s) in
       ⊎_elim
-      (λ h. subst₂ (NumberStands s at limit) (cc) (cc) (numbered l (run_has limit (drop at s)) h.0))
+      (λ h.
+      let (valued, ended) = read_same h.1 in
+      subst₂ (NumberStands s at limit) valued ended (numbered l (run_has limit (drop at s)) h.0))
       (λ h. let z : ◌≡◌ {A = ℕ} 0 1 = cc h.1 in absurd (omega arith))
-      (pick_gave (λ x. x ≡ Number v n) (plain_test (length l) (byte_at s at)) e)
+      (pick_gave (λ x. x ≡ read_as v n) (plain_test (length l) (byte_at s at)) e)
 
-  read : {v n : ℕ} → NumberStands s at limit v n → number_at s at limit ≡ Number v n
+  read : {v n : ℕ} → NumberStands s at limit v n → number_at s at limit ≡ read_as v n
   unfolding number_at
   read {v} {n} h =
       let c : Canonical (digits v) = digits_canonical v in
@@ -107,28 +117,28 @@ module _ (s : List ℕ) (at limit : ℕ) where
       } in
       rw (run_is limit (drop at s) (digits v) r, first_byte (digits v) r c.some, plain_passes c, value_digits v, ← place)
 
-  pub number_is : {v n : ℕ} → (number_at s at limit ≡ Number v n) ↔ NumberStands s at limit v n
+  pub number_is : {v n : ℕ} → (number_at s at limit ≡ read_as v n) ↔ NumberStands s at limit v n
   number_is = (found, read)
 
   -- ---- for a caller that looks at the byte behind the number, where it wants no digit
 
   pub number_read : (v : ℕ) {n : ℕ} → Stands s at (digits v) n → length (digits v) ≤ limit → digit_test (byte_at s n) ≡ false
-      → number_at s at limit ≡ Number v n
+      → number_at s at limit ≡ read_as v n
   number_read v w short stops = read (record { stands = w; short = short; stops = inr stops })
 
-  pub number_bad : (v : ℕ) {n : ℕ} → number_at s at limit ≡ Bad → Stands s at (digits v) n → length (digits v) ≤ limit
+  pub number_bad : (v : ℕ) {n : ℕ} → number_at s at limit ≡ None → Stands s at (digits v) n → length (digits v) ≤ limit
       → digit_test (byte_at s n) ≡ false → ⊥
   number_bad v {n} e w short stops =
       let z : ◌≡◌ {A = ℕ} 0 1 = cc (number_read v w short stops) in
       omega arith
 
   -- it lies inside, and it is small
-  pub number_inside : {v n : ℕ} → number_at s at limit ≡ Number v n → (at < n) × (n ≤ length s) × (v < 10 ^ limit)
+  pub number_inside : {v n : ℕ} → number_at s at limit ≡ read_as v n → (at < n) × (n ≤ length s) × (v < 10 ^ limit)
   number_inside {v} {n} e =
       let h : NumberStands s at limit v n = found e in
       (omega (arith, h.stands.place, digits_some v), stands_inside_some (digits_some v) h.stands, digits_below v limit h.short)
 
 -- reading what was written, where no digit follows, gives the number back
 pub written_read : {o o' : List ℕ} {at m : ℕ} (v limit : ℕ) → at ≤ length o → Wrote o at (digits v) o' m → length (digits v) ≤ limit
-    → digit_test (byte_at o' m) ≡ false → number_at o' at limit ≡ Number v m
+    → digit_test (byte_at o' m) ≡ false → number_at o' at limit ≡ read_as v m
 written_read {o'} {at} v limit h w short stops = number_read o' at limit v (wrote_stands h w) short stops

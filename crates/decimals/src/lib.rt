@@ -9,15 +9,15 @@ ghost use Rattle.decimals.specs.Number.{number_at};
 ghost use Rattle.decimals.specs.Reading.{RunFrom};
 ghost use Rattle.sequences.specs.Wrote.{Wrote};
 
-// What reading a number finds: its value and the place behind it, or that no number of the right form stands there.
-#[derive(Clone, Copy)]
-pub enum NumberRead {
-    Number { value: u64, next: usize },
-    Bad,
+// A number that was read: its value and the place behind it.
+#[derive(Clone, Copy, Debug, PartialEq, Eq)]
+pub struct NumberRead {
+    pub value: u64,
+    pub next: usize,
 }
 
 // A run of digits: what it is worth, and the place behind it.
-#[derive(Clone, Copy)]
+#[derive(Clone, Copy, Debug, PartialEq, Eq)]
 struct DigitRun {
     worth: u64,
     next: usize,
@@ -44,22 +44,20 @@ fn run_from(bytes: &[u8], at: usize, limit: usize) -> DigitRun
 {
     let mut worth: u64 = 0;
     let mut next = at;
-    let mut left = limit;
-    while left > 0 {
+    for _ in 0..limit {
         let byte = byte_at(bytes, next);
         if !is_digit(byte) {
             break;
         }
         worth = worth * 10 + (byte as u64 - 48);
         next += 1;
-        left -= 1;
     }
     DigitRun { worth, next }
 }
 
-// The number that stands from a place on, in at most limit digits and with no leading zero. Whoever calls it looks at the byte behind
-// it, where a digit too many stands.
-pub fn read_number(bytes: &[u8], at: usize, limit: usize) -> NumberRead
+// The number that stands from a place on, in at most limit digits and with no leading zero, if one does. Whoever calls it looks at the byte
+// behind it, where a digit too many stands.
+pub fn read_number(bytes: &[u8], at: usize, limit: usize) -> Option<NumberRead>
     requires { limit ≤ 19 }
     ensures { result ≡ number_at bytes.now at limit }
 {
@@ -69,9 +67,9 @@ pub fn read_number(bytes: &[u8], at: usize, limit: usize) -> NumberRead
     let count = next - at;
     let first = byte_at(bytes, at);
     if (0 < count) & ((count <= 1) | (48 < first)) {
-        NumberRead::Number { value, next }
+        Some(NumberRead { value, next })
     } else {
-        NumberRead::Bad
+        None
     }
 }
 
@@ -81,6 +79,7 @@ fn digit_count(n: u64) -> usize
 {
     let mut rest = n;
     let mut count: usize = 1;
+    // `while`, because no range is known before: how many turns there are is the answer.
     while rest >= 10 {
         rest = rest / 10;
         count += 1;
@@ -121,11 +120,9 @@ pub fn write_number(out: &mut [u8], at: usize, n: u64) -> usize
     ensures { Wrote out.old at (digits n) out.new result }
 {
     let end = at + count_digits(n);
-    let mut next = end;
     let mut rest = n;
-    while at < next {
-        next -= 1;
-        out[next] = (48 + rest % 10) as u8;
+    for place in (at..end).rev() {
+        out[place] = (48 + rest % 10) as u8;
         rest = rest / 10;
     }
     end

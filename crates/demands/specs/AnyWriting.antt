@@ -1,37 +1,34 @@
 -- 'The order in which the scene writes the ends of an edge or the corners of a triangle changes nothing': a scene written in another order has
 -- the same list and gets the same answers, refusals too, and the lent buffers then hold the same.
-use Rattle.std.specs.Prelude.{ℕ, min, Bool, false, ◌||◌, ◌↔◌, ◌≡◌, refl, leb, ltb, length}
+use Rattle.std.specs.Prelude.{ℕ, min, Bool, false, ◌||◌, ◌↔◌, ◌≡◌, refl, leb, ltb, length, Result}
 use mathlib.Core.List.{List, [], ◌∷◌, map, Memᴰ}
 use Rattle.std.proofs.Common.{sym, ◌∙◌, ap, subst, arith, ltb-true, ltb-false}
 use Rattle.sequences.specs.Lists.{lists_as}
 use Rattle.meaning.specs.Scene.{Scene, Accepted, vertex_count, edge_count, triangle_count}
 use Rattle.meaning.specs.Pieces.{piece_count}
-use Rattle.meaning.specs.Refusals.{Outcome, given, refused, Answers, not_there, shares, SceneChecked, PairJudged, PieceJudged}
+use Rattle.meaning.specs.Refusals.{Outcome, given, refused, Answers, not_there, shares, SceneChecked, PairJudged, PieceJudged, outcome_of}
 use Rattle.meaning.specs.Resting.{PairDecided, PieceDecided}
 use Rattle.meaning.specs.Boxes.{x_axis, y_axis, z_axis, boxes_meet}
-use Rattle.meaning.specs.List.{Pair, pairs, entries, room_of, list_says, list_checks, leaves, Counted, Listing}
+use Rattle.meaning.specs.List.{Pair, pairs, entries, room_of, list_checks, leaves, Counted, Listing}
 use Rattle.meaning.specs.SceneWords.{byte_of, AllSettled, SettledScene}
 use Rattle.meaning.specs.declared.Kind.{Kind}
 use Rattle.meaning.specs.declared.Kind.TheVariants.{PointTriangle, EdgeEdge}
 use Rattle.meaning.specs.declared.Settled.{Settled}
-use Rattle.meaning.specs.declared.SceneAnswer.{SceneAnswer}
-use Rattle.meaning.specs.declared.PairAnswer.{PairAnswer}
-use Rattle.meaning.specs.declared.SettledAnswer.{SettledAnswer}
-use Rattle.meaning.specs.declared.ListAnswer.{ListAnswer}
 use Rattle.theory.specs.Rewritten.{Rewritten, PartsThere, WellMade, rewritten_not_there}
 use Rattle.theory.proofs.Rewritten.{rewritten_shares, rewritten_meet, rewritten_keeps_pieces, rewritten_keeps_pairs, rewritten_keeps_words, rewritten_keeps_pair_words}
 use Rattle.answers.specs.Below.{or_left}
-use Rattle.answers.specs.Speaking.{scene_says_one, pair_says_one}
 use Rattle.list_pairs.specs.InOrder.{ToList, are_there, list_is, list_only}
-use Rattle.list_pairs.specs.Once.{list_says_one}
 use Rattle.answers.specs.Deciding.{holds_or_not}
 use Rattle.demands.specs.Demand1.{AskedTable, demand1_scene, demand1_list, demand1_judging, demand1_counted, demand1_pair, demand1_piece, demand1_settled_pair, demand1_settled_piece}
 use Rattle.demands.specs.Demand2.{ExactlyOne, demand2_verdicts}
-use Rattle.answers.specs.Speaking.{settled_says_one}
 use Rattle.list_words.specs.OneResult.{all_judged_one}
 use Rattle.demands.specs.SameAnswer.{answered_alike}
 use Rattle.demands.specs.StillAccepted.{different_ends, different_corners, rewritten_accepted, refused_alike}
 use Rattle.demands.specs.Unchanged.{judging_unchanged}
+use Rattle.meaning.specs.declared.Refusal.{Refusal}
+use Rattle.meaning.specs.declared.Refused.{Refused}
+use Rattle.meaning.specs.declared.Verdict.{Verdict}
+use Rattle.answers.specs.Speaking.{one_alone, one_carrying}
 
 -- the parts of a pair that is there
 parts_there : (s : Scene) (kind : Kind) (i j : ℕ) → not_there s kind i j ≡ false → PartsThere s kind i j
@@ -88,20 +85,20 @@ module _ {s t : Scene} (h : Rewritten s t) where
 
 module _ {s t : Scene} (h : Rewritten s t) where
   -- of the check of the scene
-  pub rewritten_checked : (r r' : SceneAnswer) → SceneChecked s r → SceneChecked t r' → r ≡ r'
+  pub rewritten_checked : (r r' : Result (Unit {0}) Refusal) → SceneChecked s r → SceneChecked t r' → r ≡ r'
   rewritten_checked r r' p q =
       let one = demand1_scene s r p in
       let other = demand1_scene t r' q in
-      scene_says_one r r'
+      one_alone r r'
       (refused_alike h one.rows other.rows (λ a. one.accepted.1 a ∙ sym (other.accepted.1 (rewritten_accepted h a))))
 
   -- of counting the pairs
-  pub count_as_written : (r r' : ListAnswer) → Counted s r → Counted t r' → r ≡ r'
+  pub count_as_written : (r r' : Result ℕ Refused) → Counted s r → Counted t r' → r ≡ r'
   count_as_written r r' p q =
       let one = demand1_counted s r p in
       let other = demand1_counted t r' q in
       let same : length (pairs s) ≡ length (pairs t) = ap (length {A = Pair}) (sym (rewritten_list h)) in
-      list_says_one r r'
+      one_carrying r r'
       (refused_alike h one.rows other.rows
       (λ a. (one.counted (length (pairs s))).1 (a, refl) ∙ sym ((other.counted (length (pairs s))).1 (rewritten_accepted h a, same))))
 
@@ -120,27 +117,27 @@ module _ {s t : Scene} (h : Rewritten s t) (kind : Kind) (i j : ℕ) where
       (λ n f. same (well_made a kind i j (there n))))
 
   -- of a pair asked for, and of a piece, in three words and in four
-  pub pair_as_written : (r r' : PairAnswer) → PairJudged s kind i j r → PairJudged t kind i j r' → r ≡ r'
+  pub pair_as_written : (r r' : Result Verdict Refusal) → PairJudged s kind i j r → PairJudged t kind i j r' → r ≡ r'
   pair_as_written r r' p q =
-      pair_says_one r r'
+      one_alone r r'
       (asked_alike (λ n. n) (demand1_pair s kind i j r p) (rw (rewritten_not_there h kind i j) at (demand1_pair t kind i j r' q))
       (demand2_verdicts s kind i j).pair.one (rewritten_keeps_pairs h kind i j))
 
-  pub piece_as_written : (k : ℕ) (r r' : PairAnswer) → PieceJudged s kind i j k r → PieceJudged t kind i j k r' → r ≡ r'
+  pub piece_as_written : (k : ℕ) (r r' : Result Verdict Refusal) → PieceJudged s kind i j k r → PieceJudged t kind i j k r' → r ≡ r'
   piece_as_written k r r' p q =
-      pair_says_one r r'
+      one_alone r r'
       (asked_alike (there_first k) (demand1_piece s kind i j k r p) (rw (rewritten_not_there h kind i j) at (demand1_piece t kind i j k r' q))
       ((demand2_verdicts s kind i j).pieces k).one (λ w. rewritten_keeps_pieces h kind i j w k))
 
-  pub word_as_written : (r r' : SettledAnswer) → PairDecided s kind i j r → PairDecided t kind i j r' → r ≡ r'
+  pub word_as_written : (r r' : Result Settled Refusal) → PairDecided s kind i j r → PairDecided t kind i j r' → r ≡ r'
   word_as_written r r' p q =
-      settled_says_one r r'
+      one_alone r r'
       (asked_alike (λ n. n) (demand1_settled_pair s kind i j r p) (rw (rewritten_not_there h kind i j) at (demand1_settled_pair t kind i j r' q))
       (demand2_verdicts s kind i j).pair.one_word (rewritten_keeps_pair_words h kind i j))
 
-  pub piece_word_as_written : (k : ℕ) (r r' : SettledAnswer) → PieceDecided s kind i j k r → PieceDecided t kind i j k r' → r ≡ r'
+  pub piece_word_as_written : (k : ℕ) (r r' : Result Settled Refusal) → PieceDecided s kind i j k r → PieceDecided t kind i j k r' → r ≡ r'
   piece_word_as_written k r r' p q =
-      settled_says_one r r'
+      one_alone r r'
       (asked_alike (there_first k) (demand1_settled_piece s kind i j k r p) (rw (rewritten_not_there h kind i j) at (demand1_settled_piece t kind i j k r' q))
       ((demand2_verdicts s kind i j).pieces k).one_word (λ w. rewritten_keeps_words h kind i j w k))
 
@@ -148,13 +145,13 @@ module _ {s t : Scene} (h : Rewritten s t) (kind : Kind) (i j : ℕ) where
 
 module _ {s t : Scene} (h : Rewritten s t) where
   -- 7 decides alike
-  room_alike : (room : ℕ) (r r' : ListAnswer) → Answers (list_checks s room) (λ n. n ≡ length (pairs s)) (list_says r)
-      → Answers (list_checks t room) (λ n. n ≡ length (pairs t)) (list_says r') → r ≡ r'
+  room_alike : (room : ℕ) (r r' : Result ℕ Refused) → Answers (list_checks s room) (λ n. n ≡ length (pairs s)) (outcome_of r)
+      → Answers (list_checks t room) (λ n. n ≡ length (pairs t)) (outcome_of r') → r ≡ r'
   room_alike room r r' p q =
-      let one = demand1_list s room (list_says r) p in
-      let other = demand1_list t room (list_says r') q in
+      let one = demand1_list s room (outcome_of r) p in
+      let other = demand1_list t room (outcome_of r') q in
       let count : length (pairs t) ≡ length (pairs s) = ap (length {A = Pair}) (rewritten_list h) in
-      list_says_one r r'
+      one_carrying r r'
       (refused_alike h one.rows other.rows (λ a.
       let b = rewritten_accepted h a in
       holds_or_not (ltb room (length (pairs s)))
@@ -164,11 +161,11 @@ module _ {s t : Scene} (h : Rewritten s t) where
       (one.listed (length (pairs s))).1 (a, (fits, refl)) ∙ sym ((other.listed (length (pairs s))).1 (b, (omega (arith, count), sym count))))))
 
   -- of two list calls with the same lent buffer
-  pub listing_as_written : (o o' o'' : List ℕ) (r r' : ListAnswer) → Listing s o o' r → Listing t o o'' r' → (r ≡ r') × (o' ≡ o'')
+  pub listing_as_written : (o o' o'' : List ℕ) (r r' : Result ℕ Refused) → Listing s o o' r → Listing t o o'' r' → (r ≡ r') × (o' ≡ o'')
   listing_as_written o o' o'' r r' p q =
       let list : pairs s ≡ pairs t = sym (rewritten_list h) in
       let same : r ≡ r' = room_alike (room_of o) r r' p.answer q.answer in
-      (same, p.buffer ∙ (λ i. leaves (list_says (same i)) (entries (list i)) o) ∙ sym q.buffer)
+      (same, p.buffer ∙ (λ i. leaves (outcome_of (same i)) (entries (list i)) o) ∙ sym q.buffer)
 
   -- each pair of the list has the word that it has in the other scene
   words_alike : (ps : List Pair) → ((p : Pair) → Memᴰ p ps → WellMade s p.kind p.first p.second) → (ws : List Settled)
@@ -192,19 +189,19 @@ module _ {s t : Scene} (h : Rewritten s t) where
   one_words a vs ws j k = all_judged_one s (pairs s) vs ws j (words_as_written a ws k)
 
   -- and of two calls that list and judge, with the same two lent buffers
-  pub judging_as_written : (o o' o'' b b' b'' : List ℕ) (r r' : ListAnswer) → SettledScene s o o' b b' r → SettledScene t o o'' b b'' r'
+  pub judging_as_written : (o o' o'' b b' b'' : List ℕ) (r r' : Result ℕ Refused) → SettledScene s o o' b b' r → SettledScene t o o'' b b'' r'
       → (r ≡ r') × (o' ≡ o'') × (b' ≡ b'')
   judging_as_written o o' o'' b b' b'' r r' p q =
       let list : pairs s ≡ pairs t = sym (rewritten_list h) in
       let same : r ≡ r' = room_alike (min (room_of o) (length b)) r r' p.answer q.answer in (
         same,
-        p.list ∙ (λ i. leaves (list_says (same i)) (entries (list i)) o) ∙ sym q.list,
-        bytes same (list_says r) refl,
+        p.list ∙ (λ i. leaves (outcome_of (same i)) (entries (list i)) o) ∙ sym q.list,
+        bytes same (outcome_of r) refl,
       )
     where
-      bytes : r ≡ r' → (x : Outcome ℕ) → list_says r ≡ x → b' ≡ b''
+      bytes : r ≡ r' → (x : Outcome ℕ) → outcome_of r ≡ x → b' ≡ b''
       bytes same (given n) e =
           let words = one_words (((demand1_judging s o o' b b' r p).listed n).0 e).0 p.words q.words p.right q.right in
-          p.bytes ∙ (λ i. leaves (list_says (same i)) (map byte_of (words i)) b) ∙ sym q.bytes
+          p.bytes ∙ (λ i. leaves (outcome_of (same i)) (map byte_of (words i)) b) ∙ sym q.bytes
       bytes same (refused n c) e =
-          (judging_unchanged s o o' b b' r p n c e).1 ∙ sym (judging_unchanged t o o'' b b'' r' q n c (ap list_says (sym same) ∙ e)).1
+          (judging_unchanged s o o' b b' r p n c e).1 ∙ sym (judging_unchanged t o o'' b b'' r' q n c (ap outcome_of (sym same) ∙ e)).1

@@ -1,22 +1,21 @@
 -- Document 02, §12: a run that is skipped holds no listed pair, the box tests are never more than vertices times (triangles + runs), and a
 -- call tells them on success alone.
-use Rattle.std.specs.Prelude.{ℕ, ◌+◌, ◌*◌, ◌/◌, ◌≤◌, ◌<◌, false, List, [], ◌∷◌, ◌≡◌, refl}
+use Rattle.std.specs.Prelude.{ℕ, ◌+◌, ◌*◌, ◌/◌, ◌≤◌, ◌<◌, false, List, [], ◌∷◌, ◌≡◌, refl, Result}
 use Rattle.std.proofs.Math.Path.{ap}
 use Rattle.std.proofs.Common.{◌∙◌, arith}
 use Rattle.sequences.specs.Range.{times, over}
 use Rattle.sequences.specs.Gather.{sum}
 use Rattle.meaning.specs.Scene.{Scene, vertex_count, triangle_count}
-use Rattle.meaning.specs.Refusals.{given, refused}
+use Rattle.meaning.specs.Refusals.{given, refused, outcome_of}
 use Rattle.meaning.specs.Boxes.{listed}
-use Rattle.meaning.specs.List.{list_says}
 use Rattle.meaning.specs.Runs.{runs_of, run_from, run_to, joint_span, run_meets, box_tests, tests_left, Tested}
 use Rattle.meaning.specs.Text.{coordinates_in, ends_in, corners_in, seam_in}
 use Rattle.meaning.specs.Lines.{after_all}
 use Rattle.meaning.specs.declared.Kind.TheVariants.{PointTriangle}
-use Rattle.meaning.specs.declared.ListAnswer.{ListAnswer}
 use Rattle.list_runs.specs.Tests.{few_tests}
 use Rattle.list_walk.specs.Testing.{missed_run}
 use Rattle.demands.specs.Printed.{records, printed_scene}
+use Rattle.meaning.specs.declared.Refused.{Refused}
 
 pub record FewerTests (s : Scene) : Type 0 where
   -- 'runs is triangles / 16 rounded up', and each triangle stands in the run of its place
@@ -39,12 +38,12 @@ fewer_tests s = record {
 
 -- ---- 'return the number of box tests for the pt part': with the count, and a refusal leaves the lent number alone
 
-module _ {s : Scene} {Right : ListAnswer → Type 0} {t t' : List ℕ} {r : ListAnswer} (p : Tested s Right t t' r) where
-  pub tests_told : (n : ℕ) → list_says r ≡ given n → t' ≡ box_tests s ∷ []
+module _ {s : Scene} {Right : Result ℕ Refused → Type 0} {t t' : List ℕ} {r : Result ℕ Refused} (p : Tested s Right t t' r) where
+  pub tests_told : (n : ℕ) → outcome_of r ≡ given n → t' ≡ box_tests s ∷ []
   unfolding tests_left
   tests_told n e = p.tests ∙ ap (λ o. tests_left s o t) e
 
-  pub tests_unchanged : (n c : ℕ) → list_says r ≡ refused n c → t' ≡ t
+  pub tests_unchanged : (n c : ℕ) → outcome_of r ≡ refused n c → t' ≡ t
   unfolding tests_left
   tests_unchanged n c e = p.tests ∙ ap (λ o. tests_left s o t) e
 

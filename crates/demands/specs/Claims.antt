@@ -1,5 +1,5 @@
 -- Document 02, §11: what a yes means, when a call of claims refuses, and what it leaves in the lent buffer.
-use Rattle.std.specs.Prelude.{ℕ, zero, suc, ◌+◌, ◌≤◌, ◌<◌, Bool, true, false, ◌↔◌, ◌⊎◌, ◌≡◌, refl, length}
+use Rattle.std.specs.Prelude.{ℕ, zero, suc, ◌+◌, ◌≤◌, ◌<◌, Bool, true, false, ◌↔◌, ◌⊎◌, ◌≡◌, refl, length, Result}
 use Rattle.std.proofs.Common.{true≢false, sym, ap, ◌∙◌, subst, arith, lit≤, lt-ltb, le-ltb}
 use mathlib.Core.List.{List, [], ◌∷◌, map, Memᴰ}
 use Rattle.std.proofs.Math.Logic.{⊎_elim}
@@ -13,16 +13,15 @@ use Rattle.meaning.specs.Pieces.{Piece, moving_triangle, piece_of, piece_count}
 use Rattle.meaning.specs.Equations.{total, Touches}
 use Rattle.meaning.specs.Verdicts.{PieceIs}
 use Rattle.meaning.specs.Resting.{PieceSettled, PairSettled}
-use Rattle.meaning.specs.Refusals.{Outcome, given, refused, not_there, shares}
+use Rattle.meaning.specs.Refusals.{Outcome, given, refused, not_there, shares, outcome_of}
 use Rattle.meaning.specs.Boxes.{boxes_meet}
 use Rattle.meaning.specs.List.{pair}
 use Rattle.meaning.specs.Lines as Lines
 use Rattle.meaning.specs.Lines.{AllSound, unformed, misplaced}
-use Rattle.meaning.specs.Claims.{Claim, weight_at, BorneOut, AnswerIs, claim_checks, claim_lines, AllAnswered, claims_first, FirstIs, ClaimsOutcome, before, faulty, read, claims_says, how_many_told, answer_byte, answers_left, ClaimsChecked}
+use Rattle.meaning.specs.Claims.{Claim, weight_at, BorneOut, AnswerIs, claim_checks, claim_lines, AllAnswered, claims_first, FirstIs, ClaimsOutcome, before, faulty, read, how_many_told, answer_byte, answers_left, ClaimsChecked}
 use Rattle.meaning.specs.declared.Kind.{Kind}
 use Rattle.meaning.specs.declared.Kind.TheVariants.{PointTriangle}
 use Rattle.meaning.specs.declared.Settled.TheVariants.{Hit, Miss, Touch, Apart}
-use Rattle.meaning.specs.declared.ClaimsAnswer.{ClaimsAnswer}
 use Rattle.theory.specs.Rational.{touch_rational}
 use Rattle.theory.specs.RationalVerdicts.{Meets}
 use Rattle.answers.specs.Answering.{refuses, lets_pass, gives}
@@ -31,6 +30,7 @@ use Rattle.claim_answers.specs.Checking.{one_outcome, few_told}
 use Rattle.answers.specs.Deciding.{number_known}
 use Rattle.demands.specs.Demand2.{demand2_verdicts, demand2_culled}
 use Rattle.demands.specs.Table.{numbered}
+use Rattle.meaning.specs.declared.Refused.{Refused}
 
 -- ---- a yes
 
@@ -141,14 +141,14 @@ line_numbers s text n (misplaced c rest formed e j) =
     Memᴰ.tail (number_known (λ t. Unit {0}) (claim_checks s c) (refused n 0) j n 0 refl)
 
 -- of the call: the table, and 'in each case no claim is answered'; after success the answers are in front, and behind them nothing changed
-pub record CallAsDemanded (s : Scene) (text o o' : List ℕ) (r : ClaimsAnswer) : Type 0 where
+pub record CallAsDemanded (s : Scene) (text o o' : List ℕ) (r : Result ℕ Refused) : Type 0 where
   pub outcome : Outcome (List Bool)
   pub table : ClaimsTable s text (length o) outcome
-  pub says : claims_says r ≡ how_many_told outcome
+  pub says : outcome_of r ≡ how_many_told outcome
   pub unchanged : (n c : ℕ) → outcome ≡ refused n c → o' ≡ o
   pub in_front : (bs : List Bool) → outcome ≡ given bs → Wrote o 0 (map answer_byte bs) o' (length bs)
 
-pub demand1_claims : (s : Scene) (text o o' : List ℕ) (r : ClaimsAnswer) → ClaimsChecked s text o o' r → CallAsDemanded s text o o' r
+pub demand1_claims : (s : Scene) (text o o' : List ℕ) (r : Result ℕ Refused) → ClaimsChecked s text o o' r → CallAsDemanded s text o o' r
 unfolding answers_left
 demand1_claims s text o o' r h =
     record {

@@ -1,24 +1,24 @@
 -- Demand 1: 'A bad scene, pair or text is refused with the number in our table, only when the table says so.' The rows of the table, one
 -- by one, for what is promised of a scene, of a pair or a piece asked for, and of the list.
-use Rattle.std.specs.Prelude.{ℕ, min, ◌≤◌, ◌<◌, Bool, true, false, ◌||◌, ◌↔◌, ◌≡◌, refl, leb, ltb, length}
+use Rattle.std.specs.Prelude.{ℕ, min, ◌≤◌, ◌<◌, Bool, true, false, ◌||◌, ◌↔◌, ◌≡◌, refl, leb, ltb, length, Result}
 use mathlib.Core.List.{List, [], ◌∷◌, ◌++◌, map, Memᴰ}
 use mathlib.Core.Logic.Iff
 use Rattle.std.proofs.Common.{sym, ◌∙◌, ltb-true, ltb-false, lt-ltb, le-ltb}
 use Rattle.meaning.specs.Scene.{Scene, Accepted, wrong_shape, out_of_range, unknown_vertex, broken_seam, repeated_vertex}
 use Rattle.meaning.specs.Pieces.{piece_of, piece_count}
 use Rattle.meaning.specs.Verdicts.{PieceIs, PairIs}
-use Rattle.meaning.specs.Refusals.{Outcome, given, refused, Check, Answers, scene_says, pair_says, scene_checks, not_there, shares, SceneChecked, PairJudged, PieceJudged}
-use Rattle.meaning.specs.Resting.{PieceSettled, PairSettled, settled_says, PairDecided, PieceDecided}
-use Rattle.meaning.specs.List.{pairs, room_of, list_says, list_checks, Counted, Listing}
+use Rattle.meaning.specs.Refusals.{Outcome, given, refused, Check, Answers, scene_checks, not_there, shares, SceneChecked, PairJudged, PieceJudged, outcome_alone, outcome_of}
+use Rattle.meaning.specs.Resting.{PieceSettled, PairSettled, PairDecided, PieceDecided}
+use Rattle.meaning.specs.List.{pairs, room_of, list_checks, Counted, Listing}
 use Rattle.meaning.specs.SceneWords.{SettledScene}
 use Rattle.meaning.specs.declared.Kind.{Kind}
-use Rattle.meaning.specs.declared.SceneAnswer.{SceneAnswer}
-use Rattle.meaning.specs.declared.PairAnswer.{PairAnswer}
-use Rattle.meaning.specs.declared.SettledAnswer.{SettledAnswer}
-use Rattle.meaning.specs.declared.ListAnswer.{ListAnswer}
 use Rattle.theory.specs.OneVerdict.{one_piece_verdict, one_pair_verdict}
 use Rattle.corner_search.specs.Decided.{one_piece_word, one_pair_word}
 use Rattle.answers.specs.Deciding.{Refuses, carried_by, NoneHolds, absent, distinct, refused_exactly, carries_only, number_known, gives_exactly}
+use Rattle.meaning.specs.declared.Refusal.{Refusal}
+use Rattle.meaning.specs.declared.Refused.{Refused}
+use Rattle.meaning.specs.declared.Settled.{Settled}
+use Rattle.meaning.specs.declared.Verdict.{Verdict}
 
 -- ---- 1, 2, 3, 15, 4, each over the whole scene before the next
 
@@ -57,14 +57,14 @@ pub record SceneTable (s : Scene) (o : Outcome (Unit {0})) : Type 0 where
   pub only : (n c : ℕ) → o ≡ refused n c → Memᴰ n (1 ∷ 2 ∷ 3 ∷ 15 ∷ 4 ∷ [])
   pub accepted : (o ≡ given tt) ↔ Accepted s
 
-pub demand1_scene : (s : Scene) (r : SceneAnswer) → SceneChecked s r → SceneTable s (scene_says r)
+pub demand1_scene : (s : Scene) (r : Result (Unit {0}) Refusal) → SceneChecked s r → SceneTable s (outcome_alone r)
 unfolding NoneHolds absent distinct
 demand1_scene s r p =
     let Right : Unit {0} → Type 0 = λ t. Unit {0} in
-    let gives = gives_exactly Right (λ a b h k. refl) (scene_checks s) (scene_says r) p tt in
+    let gives = gives_exactly Right (λ a b h k. refl) (scene_checks s) (outcome_alone r) p tt in
     record {
-      rows = scene_rows Right s [] (scene_says r) refl p;
-      only = numbers_only Right s [] (scene_says r) refl p;
+      rows = scene_rows Right s [] (outcome_alone r) refl p;
+      only = numbers_only Right s [] (outcome_alone r) refl p;
       accepted = (λ e. (then_accepted.0 (gives.0 e).0).0, λ a. gives.1 (then_accepted.1 (a, tt), tt));
     }
 
@@ -99,31 +99,31 @@ asked_table s missing shared Is o one p =
           );
     }
 
-pub demand1_pair : (s : Scene) (kind : Kind) (i j : ℕ) (r : PairAnswer) → PairJudged s kind i j r
-    → AskedTable s (not_there s kind i j) (shares s kind i j) (PairIs s kind i j) (pair_says r)
+pub demand1_pair : (s : Scene) (kind : Kind) (i j : ℕ) (r : Result Verdict Refusal) → PairJudged s kind i j r
+    → AskedTable s (not_there s kind i j) (shares s kind i j) (PairIs s kind i j) (outcome_alone r)
 unfolding asked_checks
 demand1_pair s kind i j r p =
-    asked_table s (not_there s kind i j) (shares s kind i j) (PairIs s kind i j) (pair_says r) (one_pair_verdict s kind i j) p
+    asked_table s (not_there s kind i j) (shares s kind i j) (PairIs s kind i j) (outcome_alone r) (one_pair_verdict s kind i j) p
 
-pub demand1_piece : (s : Scene) (kind : Kind) (i j k : ℕ) (r : PairAnswer) → PieceJudged s kind i j k r
-    → AskedTable s (not_there s kind i j || leb (piece_count kind) k) (shares s kind i j) (PieceIs (piece_of s kind i j k)) (pair_says r)
+pub demand1_piece : (s : Scene) (kind : Kind) (i j k : ℕ) (r : Result Verdict Refusal) → PieceJudged s kind i j k r
+    → AskedTable s (not_there s kind i j || leb (piece_count kind) k) (shares s kind i j) (PieceIs (piece_of s kind i j k)) (outcome_alone r)
 unfolding asked_checks
 demand1_piece s kind i j k r p =
     let piece = piece_of s kind i j k in
-    asked_table s (not_there s kind i j || leb (piece_count kind) k) (shares s kind i j) (PieceIs piece) (pair_says r) (one_piece_verdict piece) p
+    asked_table s (not_there s kind i j || leb (piece_count kind) k) (shares s kind i j) (PieceIs piece) (outcome_alone r) (one_piece_verdict piece) p
 
-pub demand1_settled_pair : (s : Scene) (kind : Kind) (i j : ℕ) (r : SettledAnswer) → PairDecided s kind i j r
-    → AskedTable s (not_there s kind i j) (shares s kind i j) (PairSettled s kind i j) (settled_says r)
+pub demand1_settled_pair : (s : Scene) (kind : Kind) (i j : ℕ) (r : Result Settled Refusal) → PairDecided s kind i j r
+    → AskedTable s (not_there s kind i j) (shares s kind i j) (PairSettled s kind i j) (outcome_alone r)
 unfolding asked_checks
 demand1_settled_pair s kind i j r p =
-    asked_table s (not_there s kind i j) (shares s kind i j) (PairSettled s kind i j) (settled_says r) (one_pair_word s kind i j) p
+    asked_table s (not_there s kind i j) (shares s kind i j) (PairSettled s kind i j) (outcome_alone r) (one_pair_word s kind i j) p
 
-pub demand1_settled_piece : (s : Scene) (kind : Kind) (i j k : ℕ) (r : SettledAnswer) → PieceDecided s kind i j k r
-    → AskedTable s (not_there s kind i j || leb (piece_count kind) k) (shares s kind i j) (PieceSettled (piece_of s kind i j k)) (settled_says r)
+pub demand1_settled_piece : (s : Scene) (kind : Kind) (i j k : ℕ) (r : Result Settled Refusal) → PieceDecided s kind i j k r
+    → AskedTable s (not_there s kind i j || leb (piece_count kind) k) (shares s kind i j) (PieceSettled (piece_of s kind i j k)) (outcome_alone r)
 unfolding asked_checks
 demand1_settled_piece s kind i j k r p =
     let piece = piece_of s kind i j k in
-    asked_table s (not_there s kind i j || leb (piece_count kind) k) (shares s kind i j) (PieceSettled piece) (settled_says r) (one_piece_word piece) p
+    asked_table s (not_there s kind i j || leb (piece_count kind) k) (shares s kind i j) (PieceSettled piece) (outcome_alone r) (one_piece_word piece) p
 
 -- ---- the list: 7 last, with the count needed
 
@@ -156,11 +156,11 @@ demand1_list s room o p =
           );
     }
 
-pub demand1_listing : (s : Scene) (o o' : List ℕ) (r : ListAnswer) → Listing s o o' r → ListTable s (room_of o) (list_says r)
-demand1_listing s o o' r p = demand1_list s (room_of o) (list_says r) p.answer
+pub demand1_listing : (s : Scene) (o o' : List ℕ) (r : Result ℕ Refused) → Listing s o o' r → ListTable s (room_of o) (outcome_of r)
+demand1_listing s o o' r p = demand1_list s (room_of o) (outcome_of r) p.answer
 
-pub demand1_judging : (s : Scene) (o o' b b' : List ℕ) (r : ListAnswer) → SettledScene s o o' b b' r → ListTable s (min (room_of o) (length b)) (list_says r)
-demand1_judging s o o' b b' r p = demand1_list s (min (room_of o) (length b)) (list_says r) p.answer
+pub demand1_judging : (s : Scene) (o o' b b' : List ℕ) (r : Result ℕ Refused) → SettledScene s o o' b b' r → ListTable s (min (room_of o) (length b)) (outcome_of r)
+demand1_judging s o o' b b' r p = demand1_list s (min (room_of o) (length b)) (outcome_of r) p.answer
 
 -- counting lends no room, and is refused by the scene's refusals alone
 pub record CountTable (s : Scene) (o : Outcome ℕ) : Type 0 where
@@ -168,15 +168,15 @@ pub record CountTable (s : Scene) (o : Outcome ℕ) : Type 0 where
   pub only : (n c : ℕ) → o ≡ refused n c → Memᴰ n (1 ∷ 2 ∷ 3 ∷ 15 ∷ 4 ∷ [])
   pub counted : (n : ℕ) → (o ≡ given n) ↔ (Accepted s × (n ≡ length (pairs s)))
 
-pub demand1_counted : (s : Scene) (r : ListAnswer) → Counted s r → CountTable s (list_says r)
+pub demand1_counted : (s : Scene) (r : Result ℕ Refused) → Counted s r → CountTable s (outcome_of r)
 unfolding NoneHolds absent distinct
 demand1_counted s r p =
     let Right : ℕ → Type 0 = λ n. n ≡ length (pairs s) in
     record {
-      rows = scene_rows Right s [] (list_says r) refl p;
-      only = numbers_only Right s [] (list_says r) refl p;
+      rows = scene_rows Right s [] (outcome_of r) refl p;
+      only = numbers_only Right s [] (outcome_of r) refl p;
       counted = λ n.
-          let gives = gives_exactly Right (λ a b h k. h ∙ sym k) (scene_checks s) (list_says r) p n in (
+          let gives = gives_exactly Right (λ a b h k. h ∙ sym k) (scene_checks s) (outcome_of r) p n in (
             λ e. let (h, is) = gives.0 e in ((then_accepted.0 h).0, is),
             λ h. gives.1 (then_accepted.1 (h.0, tt), h.1),
           );

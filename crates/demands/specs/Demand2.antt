@@ -1,6 +1,6 @@
 -- Demand 2, of every scene whatever: the verdicts of its pieces and pairs, its list, and the pairs that the list leaves out. The pieces and
 -- the equations are those of `meaning`, in document 01's words.
-use Rattle.std.specs.Prelude.{ℕ, ◌≤◌, ◌<◌, Bool, true, false, ◌||◌, List, ◌↔◌, ◌⊎◌, ◌≡◌, leb, pos, length, get_or}
+use Rattle.std.specs.Prelude.{ℕ, ◌≤◌, ◌<◌, Bool, true, false, ◌||◌, List, ◌↔◌, ◌⊎◌, ◌≡◌, leb, pos, length, get_or, Result}
 use Rattle.std.proofs.Math.Logic.{inl, inr, ⊎_elim}
 use Rattle.std.proofs.Common.{lit≤}
 use Rattle.std.proofs.lemmas.Bool.{lt-leb}
@@ -10,8 +10,8 @@ use Rattle.meaning.specs.Scene.{Scene, AcceptedWithin, Accepted}
 use Rattle.meaning.specs.Pieces.{Piece, piece_of, piece_count}
 use Rattle.meaning.specs.Equations.{determinant_of, Touches}
 use Rattle.meaning.specs.Verdicts.{PieceIs, SomePiece, PairIs}
-use Rattle.meaning.specs.Resting.{PieceSettled, SomeSettled, PairSettled, settled_says, PairDecided, PieceDecided}
-use Rattle.meaning.specs.Refusals.{Outcome, given, pair_says, not_there, shares, PairJudged, PieceJudged}
+use Rattle.meaning.specs.Resting.{PieceSettled, SomeSettled, PairSettled, PairDecided, PieceDecided}
+use Rattle.meaning.specs.Refusals.{Outcome, given, not_there, shares, PairJudged, PieceJudged, outcome_alone}
 use Rattle.meaning.specs.Boxes.{boxes_meet, culled}
 use Rattle.meaning.specs.Motion.{TouchInMotion}
 use Rattle.meaning.specs.List.{Pair, pairs}
@@ -20,8 +20,6 @@ use Rattle.meaning.specs.declared.Verdict.{Verdict}
 use Rattle.meaning.specs.declared.Verdict.TheVariants.{Hit, Miss, Degenerate}
 use Rattle.meaning.specs.declared.Settled as Words
 use Rattle.meaning.specs.declared.Settled.{Settled}
-use Rattle.meaning.specs.declared.PairAnswer.{PairAnswer}
-use Rattle.meaning.specs.declared.SettledAnswer.{SettledAnswer}
 use Rattle.theory.specs.Rational.{touch_rational}
 use Rattle.theory.specs.RationalVerdicts.{Solvable, Meets, RationalPieceIs}
 use Rattle.theory.proofs.RationalVerdicts.{piece_rational}
@@ -33,6 +31,7 @@ use Rattle.corner_search.specs.Decided.{piece_word, pair_word, settled_piece, pi
 use Rattle.scene_checks.specs.Facts.{accepted_wider}
 use Rattle.list_pairs.specs.InOrder.{Earlier, ToList, list_is, list_only, list_once}
 use Rattle.demands.specs.Demand1.{AskedTable, demand1_pair, demand1_piece, demand1_settled_pair, demand1_settled_piece}
+use Rattle.meaning.specs.declared.Refusal.{Refusal}
 
 -- one of the three, or of the four, and no other
 pub record ExactlyOne {W : Type 0} (Is : W → Type 0) : Type 0 where
@@ -131,12 +130,12 @@ module _ (s : Scene) (kind : Kind) (i j : ℕ) where
 -- limit, whatever meets the promises answers with them, and refuses no pair that is there and shares no vertex.
 pub record AnswersAsDemanded (s : Scene) (kind : Kind) (i j : ℕ) : Type 0 where
   pub verdicts : VerdictsAsDemanded s kind i j
-  pub pair : (r : PairAnswer) → PairJudged s kind i j r → (v : Verdict) → (pair_says r ≡ given v) ↔ PairIs s kind i j v
-  pub piece : (k : ℕ) → k < piece_count kind → (r : PairAnswer) → PieceJudged s kind i j k r
-      → (v : Verdict) → (pair_says r ≡ given v) ↔ PieceIs (piece_of s kind i j k) v
-  pub pair_word : (r : SettledAnswer) → PairDecided s kind i j r → (w : Settled) → (settled_says r ≡ given w) ↔ PairSettled s kind i j w
-  pub piece_word : (k : ℕ) → k < piece_count kind → (r : SettledAnswer) → PieceDecided s kind i j k r
-      → (w : Settled) → (settled_says r ≡ given w) ↔ PieceSettled (piece_of s kind i j k) w
+  pub pair : (r : Result Verdict Refusal) → PairJudged s kind i j r → (v : Verdict) → (outcome_alone r ≡ given v) ↔ PairIs s kind i j v
+  pub piece : (k : ℕ) → k < piece_count kind → (r : Result Verdict Refusal) → PieceJudged s kind i j k r
+      → (v : Verdict) → (outcome_alone r ≡ given v) ↔ PieceIs (piece_of s kind i j k) v
+  pub pair_word : (r : Result Settled Refusal) → PairDecided s kind i j r → (w : Settled) → (outcome_alone r ≡ given w) ↔ PairSettled s kind i j w
+  pub piece_word : (k : ℕ) → k < piece_count kind → (r : Result Settled Refusal) → PieceDecided s kind i j k r
+      → (w : Settled) → (outcome_alone r ≡ given w) ↔ PieceSettled (piece_of s kind i j k) w
 
 -- where neither 5 nor 6 holds in an accepted scene, a value is given exactly when it is right
 given_right : {W : Type 0} {s : Scene} {missing shared : Bool} {Is : W → Type 0} {o : Outcome W} → AskedTable s missing shared Is o

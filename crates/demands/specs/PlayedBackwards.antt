@@ -1,7 +1,7 @@
 -- 'Played backwards' of document 02, for a scene without seams: 'swap start and end, number the vertices from last to first, and keep edges and
 -- triangles in their places. Every corresponding pair must have the same verdict and the same place in or out of the list, as a set; the order within
 -- the list may change. Show that the pieces of a pair are the same pieces under other numbers.'
-use Rattle.std.specs.Prelude.{ℕ, ◌+◌, ◌-◌, ◌<◌, Bool, false, ◌||◌, ◌↔◌, ◌≡◌, refl, leb, length}
+use Rattle.std.specs.Prelude.{ℕ, ◌+◌, ◌-◌, ◌<◌, Bool, false, ◌||◌, ◌↔◌, ◌≡◌, refl, leb, length, Result}
 use mathlib.Core.List.{List, [], ◌∷◌, map, Memᴰ}
 use mathlib.Core.Logic.Iff
 use Rattle.std.proofs.Common.{sym, ◌∙◌, ap, ap₂, subst, arith}
@@ -11,7 +11,7 @@ use Rattle.meaning.specs.Scene.{Scene, Accepted, vertex_count, edge_count, trian
 use Rattle.meaning.specs.Pieces.{piece_of, piece_count}
 use Rattle.meaning.specs.Verdicts.{PieceIs, PairIs}
 use Rattle.meaning.specs.Resting.{PieceSettled, PairSettled, PairDecided, PieceDecided}
-use Rattle.meaning.specs.Refusals.{Outcome, Check, Answers, scene_says, not_there, shares, scene_checks, SceneChecked, PairJudged, PieceJudged}
+use Rattle.meaning.specs.Refusals.{Outcome, Check, Answers, not_there, shares, scene_checks, SceneChecked, PairJudged, PieceJudged, outcome_alone}
 use Rattle.meaning.specs.Boxes.{listed}
 use Rattle.meaning.specs.List.{Pair, pairs, Counted}
 use Rattle.meaning.specs.SceneWords.{AllSettled}
@@ -19,10 +19,6 @@ use Rattle.meaning.specs.Report.{is_one, how_many, total_line}
 use Rattle.meaning.specs.Backwards.{from_last, turned_round, first_turned, pair_turned, piece_turned, played_back}
 use Rattle.meaning.specs.declared.Kind.{Kind}
 use Rattle.meaning.specs.declared.Kind.TheVariants.{PointTriangle, EdgeEdge}
-use Rattle.meaning.specs.declared.ListAnswer.{ListAnswer}
-use Rattle.meaning.specs.declared.PairAnswer.{PairAnswer}
-use Rattle.meaning.specs.declared.SceneAnswer.{SceneAnswer}
-use Rattle.meaning.specs.declared.SettledAnswer.{SettledAnswer}
 use Rattle.meaning.specs.declared.Verdict.{Verdict}
 use Rattle.meaning.specs.declared.Settled.{Settled}
 use Rattle.meaning.specs.declared.Settled.TheVariants.{Hit, Miss, Touch, Apart}
@@ -36,17 +32,17 @@ use Rattle.turning_laws.proofs.PairsTurned.{turned_keeps_pieces, turned_keeps_wo
 use Rattle.turning_laws.specs.Checked.{vertices_turned, edges_turned, triangles_turned, shape_turned, range_turned, unknown_turned, broken_turned, repeated_turned, checks_turned, accepted_turned}
 use Rattle.turning_laws.specs.Listed.{Asked, shares_turned, boxes_turned, listed_turned, pairs_turned}
 use Rattle.answers.specs.Below.{or_left}
-use Rattle.answers.specs.Speaking.{pair_says_one}
 use Rattle.list_pairs.specs.InOrder.{ToList, FirstBelow, are_there, list_is}
-use Rattle.list_pairs.specs.Once.{list_says_one}
 use Rattle.demands.specs.AnyWriting.{well_made}
 use Rattle.demands.specs.Demand1.{AskedTable, demand1_counted, demand1_pair, demand1_piece, demand1_settled_pair, demand1_settled_piece}
 use Rattle.demands.specs.Demand2.{ExactlyOne, demand2_verdicts}
 use Rattle.demands.specs.Demand3.{vertices_there}
-use Rattle.answers.specs.Speaking.{one_scene_answer, settled_says_one}
+use Rattle.answers.specs.Speaking.{one_scene_answer, one_alone, one_carrying}
 use Rattle.list_words.specs.OneResult.{all_judged_one}
 use Rattle.demands.specs.SameAnswer.{answered_alike}
 use Rattle.demands.specs.StillAccepted.{SameChecks, refused_as}
+use Rattle.meaning.specs.declared.Refusal.{Refusal}
+use Rattle.meaning.specs.declared.Refused.{Refused}
 
 -- ---- one pair
 
@@ -238,14 +234,14 @@ same_checks_turned s unsewn = record {
   repeated = repeated_turned s unsewn;
 }
 
-pub scene_played_back : (s : Scene) → s.seams ≡ [] → (r r' : SceneAnswer) → SceneChecked s r → SceneChecked (turned_round s) r' → r ≡ r'
-scene_played_back s unsewn r r' p q = one_scene_answer s r r' p (subst (λ (ks : List Check). Answers ks (λ t. Unit {0}) (scene_says r')) (checks_turned s unsewn) q)
+pub scene_played_back : (s : Scene) → s.seams ≡ [] → (r r' : Result (Unit {0}) Refusal) → SceneChecked s r → SceneChecked (turned_round s) r' → r ≡ r'
+scene_played_back s unsewn r r' p q = one_scene_answer s r r' p (subst (λ (ks : List Check). Answers ks (λ t. Unit {0}) (outcome_alone r')) (checks_turned s unsewn) q)
 
-pub count_played_back : (s : Scene) → s.seams ≡ [] → (r r' : ListAnswer) → Counted s r → Counted (turned_round s) r' → r ≡ r'
+pub count_played_back : (s : Scene) → s.seams ≡ [] → (r r' : Result ℕ Refused) → Counted s r → Counted (turned_round s) r' → r ≡ r'
 count_played_back s unsewn r r' p q =
     let one = demand1_counted s r p in
     let other = demand1_counted (turned_round s) r' q in
-    list_says_one r r'
+    one_carrying r r'
     (refused_as (same_checks_turned s unsewn) one.rows other.rows (λ a.
     (one.counted (length (pairs s))).1 (a, refl) ∙ sym ((other.counted (length (pairs s))).1 ((accepted_turned s unsewn).0 a, as_long a))))
   where
@@ -261,15 +257,15 @@ module _ (s : Scene) (unsewn : s.seams ≡ []) (kind : Kind) (i j : ℕ) where
       answered_alike a ((accepted_turned s unsewn).0 a) p q (λ n. (same_contacts a unsewn kind i j (there n)).sharing) one
       (λ n f. same (same_contacts a unsewn kind i j (there n))))
 
-  pub pair_played_back : (r r' : PairAnswer) → PairJudged s kind i j r → PairJudged (turned_round s) kind (first_turned s kind i) j r' → r ≡ r'
+  pub pair_played_back : (r r' : Result Verdict Refusal) → PairJudged s kind i j r → PairJudged (turned_round s) kind (first_turned s kind i) j r' → r ≡ r'
   pair_played_back r r' p q =
-      pair_says_one r r'
+      one_alone r r'
       (asked_alike (λ n. n) (demand1_pair s kind i j r p) (rw (there_turned s kind i j) at (demand1_pair (turned_round s) kind (first_turned s kind i) j r' q))
       (demand2_verdicts s kind i j).pair.one (λ c. c.verdict))
 
-  pub word_played_back : (r r' : SettledAnswer) → PairDecided s kind i j r → PairDecided (turned_round s) kind (first_turned s kind i) j r' → r ≡ r'
+  pub word_played_back : (r r' : Result Settled Refusal) → PairDecided s kind i j r → PairDecided (turned_round s) kind (first_turned s kind i) j r' → r ≡ r'
   word_played_back r r' p q =
-      settled_says_one r r'
+      one_alone r r'
       (asked_alike (λ n. n) (demand1_settled_pair s kind i j r p) (rw (there_turned s kind i j) at (demand1_settled_pair (turned_round s) kind (first_turned s kind i) j r' q))
       (demand2_verdicts s kind i j).pair.one_word (λ c. c.word))
 
@@ -278,16 +274,16 @@ module _ (s : Scene) (unsewn : s.seams ≡ []) (kind : Kind) (i j : ℕ) where
     pieces_there : not_there (turned_round s) kind (first_turned s kind i) j || leb (piece_count kind) (piece_turned kind k) ≡ not_there s kind i j || leb (piece_count kind) k
     pieces_there = ap₂ ◌||◌ (there_turned s kind i j) (lt-leb (piece_count kind) (piece_turned kind k) (piece_there kind k below) ∙ sym (lt-leb (piece_count kind) k below))
 
-    pub piece_played_back : (r r' : PairAnswer) → PieceJudged s kind i j k r → PieceJudged (turned_round s) kind (first_turned s kind i) j (piece_turned kind k) r' → r ≡ r'
+    pub piece_played_back : (r r' : Result Verdict Refusal) → PieceJudged s kind i j k r → PieceJudged (turned_round s) kind (first_turned s kind i) j (piece_turned kind k) r' → r ≡ r'
     piece_played_back r r' p q =
-        pair_says_one r r'
+        one_alone r r'
         (asked_alike (or_left (not_there s kind i j) (leb (piece_count kind) k)) (demand1_piece s kind i j k r p)
         (rw pieces_there at (demand1_piece (turned_round s) kind (first_turned s kind i) j (piece_turned kind k) r' q))
         ((demand2_verdicts s kind i j).pieces k).one (λ c. c.piece_verdicts k below))
 
-    pub piece_word_played_back : (r r' : SettledAnswer) → PieceDecided s kind i j k r → PieceDecided (turned_round s) kind (first_turned s kind i) j (piece_turned kind k) r' → r ≡ r'
+    pub piece_word_played_back : (r r' : Result Settled Refusal) → PieceDecided s kind i j k r → PieceDecided (turned_round s) kind (first_turned s kind i) j (piece_turned kind k) r' → r ≡ r'
     piece_word_played_back r r' p q =
-        settled_says_one r r'
+        one_alone r r'
         (asked_alike (or_left (not_there s kind i j) (leb (piece_count kind) k)) (demand1_settled_piece s kind i j k r p)
         (rw pieces_there at (demand1_settled_piece (turned_round s) kind (first_turned s kind i) j (piece_turned kind k) r' q))
         ((demand2_verdicts s kind i j).pieces k).one_word (λ c. c.piece_words k below))

@@ -1,7 +1,7 @@
 -- 'A pair is culled when it shares no vertex number and isn't listed', by the vertex stood for: whether a pair that is asked for stands in the list. And 'an edge with
 -- itself too': it is refused 6.
 use Prim.Native.Nat.{ℕ, min, max, ◌<◌}
-use Rattle.std.specs.Prelude.{Bool, true, false, not, ◌||◌, ◌↔◌, ◌≡◌, refl, leb}
+use Rattle.std.specs.Prelude.{Bool, true, false, not, ◌||◌, ◌↔◌, ◌≡◌, refl, leb, Result}
 use Rattle.std.proofs.Common.{true≢false, sym, ◌∙◌, eq-eqb}
 use mathlib.Core.List.{Memᴰ}
 use native.Mathlib.Omega.{arith}
@@ -10,17 +10,18 @@ use Rattle.std.proofs.lemmas.Bool.{lt-leb, not-true}
 use Rattle.sequences.specs.Pick.{both}
 use Rattle.meaning.specs.Scene.{Scene, Accepted, edge_count, edge_end, counts_as}
 use Rattle.meaning.specs.Pieces.{piece_count}
-use Rattle.meaning.specs.Refusals.{Outcome, refused, pair_says, not_there, shares, PairJudged, PieceJudged}
-use Rattle.meaning.specs.Resting.{settled_says, PairDecided, PieceDecided}
+use Rattle.meaning.specs.Refusals.{Outcome, refused, not_there, shares, PairJudged, PieceJudged, outcome_alone}
+use Rattle.meaning.specs.Resting.{PairDecided, PieceDecided}
 use Rattle.meaning.specs.Boxes.{boxes_meet, listed, culled}
 use Rattle.meaning.specs.List.{Pair, pair, pairs}
 use Rattle.meaning.specs.declared.Kind.{Kind}
 use Rattle.meaning.specs.declared.Kind.TheVariants.{PointTriangle, EdgeEdge}
-use Rattle.meaning.specs.declared.PairAnswer.{PairAnswer}
-use Rattle.meaning.specs.declared.SettledAnswer.{SettledAnswer}
 use Rattle.theory.specs.EitherOrder.{listed_either_order, not_there_either_order}
 use Rattle.list_pairs.specs.InOrder.{FirstBelow, tests, list_is}
 use Rattle.demands.specs.Demand1.{AskedTable, demand1_pair, demand1_piece, demand1_settled_pair, demand1_settled_piece}
+use Rattle.meaning.specs.declared.Refusal.{Refusal}
+use Rattle.meaning.specs.declared.Settled.{Settled}
+use Rattle.meaning.specs.declared.Verdict.{Verdict}
 
 -- the pair as the list writes it: of two edges the lower place first
 unfoldable pub as_listed : Kind → ℕ → ℕ → Pair
@@ -88,14 +89,14 @@ module _ {s : Scene} (a : Accepted s) (i : ℕ) (below : i < edge_count s) where
       → AskedTable s missing (shares s EdgeEdge i i) Is o → o ≡ refused 6 0
   itself_refused there p = p.no6.1 (a, (there, edge_shares_itself s i))
 
-  pub pair_with_itself : (r : PairAnswer) → PairJudged s EdgeEdge i i r → pair_says r ≡ refused 6 0
+  pub pair_with_itself : (r : Result Verdict Refusal) → PairJudged s EdgeEdge i i r → outcome_alone r ≡ refused 6 0
   pair_with_itself r p = itself_refused itself_there (demand1_pair s EdgeEdge i i r p)
 
-  pub piece_with_itself : (k : ℕ) → k < piece_count EdgeEdge → (r : PairAnswer) → PieceJudged s EdgeEdge i i k r → pair_says r ≡ refused 6 0
+  pub piece_with_itself : (k : ℕ) → k < piece_count EdgeEdge → (r : Result Verdict Refusal) → PieceJudged s EdgeEdge i i k r → outcome_alone r ≡ refused 6 0
   piece_with_itself k few r p = itself_refused (piece_there k few) (demand1_piece s EdgeEdge i i k r p)
 
-  pub word_with_itself : (r : SettledAnswer) → PairDecided s EdgeEdge i i r → settled_says r ≡ refused 6 0
+  pub word_with_itself : (r : Result Settled Refusal) → PairDecided s EdgeEdge i i r → outcome_alone r ≡ refused 6 0
   word_with_itself r p = itself_refused itself_there (demand1_settled_pair s EdgeEdge i i r p)
 
-  pub piece_word_with_itself : (k : ℕ) → k < piece_count EdgeEdge → (r : SettledAnswer) → PieceDecided s EdgeEdge i i k r → settled_says r ≡ refused 6 0
+  pub piece_word_with_itself : (k : ℕ) → k < piece_count EdgeEdge → (r : Result Settled Refusal) → PieceDecided s EdgeEdge i i k r → outcome_alone r ≡ refused 6 0
   piece_word_with_itself k few r p = itself_refused (piece_there k few) (demand1_settled_piece s EdgeEdge i i k r p)

@@ -1,17 +1,17 @@
 -- Demand 1 of texts: '12, 8, then the first faulty line', each exactly when the table says so, and no other number; and a scene is
 -- read exactly when none does.
-use Rattle.std.specs.Prelude.{ℕ, true, false, ◌↔◌, ◌≡◌, refl}
+use Rattle.std.specs.Prelude.{ℕ, true, false, ◌↔◌, ◌≡◌, refl, Result}
 use Rattle.std.proofs.Common.{true≢false, sym, ◌∙◌, ap, arith}
 use mathlib.Core.List.{List, [], ◌∷◌, Memᴰ}
 use Rattle.std.proofs.Math.Path.{subst}
 use Rattle.meaning.specs.Scene.{Scene}
-use Rattle.meaning.specs.Refusals.{Outcome, given, refused}
-use Rattle.meaning.specs.Text.{SceneFaultyAt, Holds, TextIs, short_buffer, long_text, TextOutcome, counts_of, counts_told, text_says, TextRead}
+use Rattle.meaning.specs.Refusals.{Outcome, given, refused, outcome_of}
+use Rattle.meaning.specs.Text.{SceneFaultyAt, Holds, TextIs, short_buffer, long_text, TextOutcome, counts_of, counts_told, TextRead}
 use Rattle.meaning.specs.declared.SceneCounts.{SceneCounts}
-use Rattle.meaning.specs.declared.TextAnswer.{TextAnswer}
 use Rattle.text_scene.specs.Unique.{text_unique}
 use Rattle.answers.specs.Deciding.{holds_or_not}
 use Rattle.demands.specs.LineTable.{in_line, fault_known, fault_in_line}
+use Rattle.meaning.specs.declared.Refused.{Refused}
 
 -- ---- what an answer tells
 
@@ -99,11 +99,11 @@ module _ (text : List ℕ) (lent : Scene) (x : Outcome Scene) (p : TextOutcome t
 
 -- ---- the theorem
 
-pub demand1_text : (text : List ℕ) (lent left : Scene) (r : TextAnswer) → TextRead text lent left r → TextRows text lent (text_says r)
+pub demand1_text : (text : List ℕ) (lent left : Scene) (r : Result SceneCounts Refused) → TextRead text lent left r → TextRows text lent (outcome_of r)
 unfolding TextIs counts_told
 demand1_text text lent left r p =
     let x : Outcome Scene = p.outcome in
-    let told : (n line : ℕ) → (text_says r ≡ refused n line) ↔ (x ≡ refused n line) =
+    let told : (n line : ℕ) → (outcome_of r ≡ refused n line) ↔ (x ≡ refused n line) =
     λ n line. (λ e. (told_refused x n line).0 (sym p.says ∙ e), λ e. p.says ∙ (told_refused x n line).1 e) in
     record {
       only = λ n line e. known_number text lent x p.right n line ((told n line).0 e);

@@ -1,25 +1,24 @@
 -- 'A refusal returns its number (and line or count), and no lent byte or number changes'; 'after success the first entries hold the list and
 -- the rest of the buffer is unchanged'; 'after a text is accepted the lent buffers hold the scene in front, and what lies behind it is unchanged'.
-use Rattle.std.specs.Prelude.{ℕ, ◌*◌, ◌≤◌, false, List, map, ◌≡◌, refl, length}
+use Rattle.std.specs.Prelude.{ℕ, ◌*◌, ◌≤◌, false, List, map, ◌≡◌, refl, length, Result}
 use Rattle.std.proofs.Common.{sym, ◌∙◌, ap, subst, arith, ltb-false}
 use Rattle.sequences.specs.Wrote.{Wrote, written, wrote_written}
 use Rattle.meaning.specs.Limits.{vertex_limit, edge_limit, triangle_limit, seam_limit}
 use Rattle.meaning.specs.Scene.{Scene, Accepted, vertex_count, edge_count, triangle_count, seam_count}
-use Rattle.meaning.specs.Refusals.{Outcome, given, refused, scene_says}
+use Rattle.meaning.specs.Refusals.{Outcome, given, refused, outcome_alone, outcome_of}
 use Rattle.meaning.specs.Backwards.{turned_round, turned_left, Turning}
-use Rattle.meaning.specs.List.{pairs, entries, list_says, leaves, Listing}
+use Rattle.meaning.specs.List.{pairs, entries, leaves, Listing}
 use Rattle.meaning.specs.SceneWords.{byte_of, SettledScene}
-use Rattle.meaning.specs.Text.{Holds, short_buffer, counts_of, counts_told, text_says, filled, TextRead}
+use Rattle.meaning.specs.Text.{Holds, short_buffer, counts_of, counts_told, filled, TextRead}
 use Rattle.meaning.specs.declared.SceneCounts.{SceneCounts}
-use Rattle.meaning.specs.declared.ListAnswer.{ListAnswer}
-use Rattle.meaning.specs.declared.SceneAnswer.{SceneAnswer}
-use Rattle.meaning.specs.declared.TextAnswer.{TextAnswer}
 use Rattle.list_entries.specs.Entries.{entries_length}
 use Rattle.answers.specs.Below.{or_left, or_rest}
 use Rattle.scene_checks.specs.Facts.{accepted_sized}
 use Rattle.text_scene.specs.Accepted.{text_accepted}
 use Rattle.demands.specs.Demand1.{demand1_listing}
 use Rattle.demands.specs.TextTable.{Reads, told_given, read_so}
+use Rattle.meaning.specs.declared.Refusal.{Refusal}
+use Rattle.meaning.specs.declared.Refused.{Refused}
 
 -- ---- after a refusal
 
@@ -32,31 +31,31 @@ unfolding counts_told filled
 filled_refused (given s) lent n line e = let z : ◌≡◌ {A = ℕ} 0 1 = cc in absurd (omega arith)
 filled_refused (refused m place) lent n line e = refl
 
-pub listing_unchanged : (s : Scene) (o o' : List ℕ) (r : ListAnswer) → Listing s o o' r → (n c : ℕ) → list_says r ≡ refused n c → o' ≡ o
-listing_unchanged s o o' r p n c e = p.buffer ∙ leaves_refused (list_says r) (entries (pairs s)) o n c e
+pub listing_unchanged : (s : Scene) (o o' : List ℕ) (r : Result ℕ Refused) → Listing s o o' r → (n c : ℕ) → outcome_of r ≡ refused n c → o' ≡ o
+listing_unchanged s o o' r p n c e = p.buffer ∙ leaves_refused (outcome_of r) (entries (pairs s)) o n c e
 
-pub judging_unchanged : (s : Scene) (o o' b b' : List ℕ) (r : ListAnswer) → SettledScene s o o' b b' r → (n c : ℕ) → list_says r ≡ refused n c → (o' ≡ o) × (b' ≡ b)
+pub judging_unchanged : (s : Scene) (o o' b b' : List ℕ) (r : Result ℕ Refused) → SettledScene s o o' b b' r → (n c : ℕ) → outcome_of r ≡ refused n c → (o' ≡ o) × (b' ≡ b)
 judging_unchanged s o o' b b' r p n c e = (
-  p.list ∙ leaves_refused (list_says r) (entries (pairs s)) o n c e,
-  p.bytes ∙ leaves_refused (list_says r) (map byte_of p.words) b n c e,
+  p.list ∙ leaves_refused (outcome_of r) (entries (pairs s)) o n c e,
+  p.bytes ∙ leaves_refused (outcome_of r) (map byte_of p.words) b n c e,
 )
 
-pub reading_unchanged : (text : List ℕ) (lent left : Scene) (r : TextAnswer) → TextRead text lent left r → (n line : ℕ) → text_says r ≡ refused n line → left ≡ lent
+pub reading_unchanged : (text : List ℕ) (lent left : Scene) (r : Result SceneCounts Refused) → TextRead text lent left r → (n line : ℕ) → outcome_of r ≡ refused n line → left ≡ lent
 reading_unchanged text lent left r p n line e = p.leaves ∙ filled_refused p.outcome lent n line (sym p.says ∙ e)
 
-pub turning_unchanged : (s t : Scene) (r : SceneAnswer) → Turning s t r → (n c : ℕ) → scene_says r ≡ refused n c → t ≡ s
+pub turning_unchanged : (s t : Scene) (r : Result (Unit {0}) Refusal) → Turning s t r → (n c : ℕ) → outcome_alone r ≡ refused n c → t ≡ s
 unfolding turned_left
 turning_unchanged s t r p n c e = p.scene ∙ ap (λ (x : Outcome (Unit {0})). turned_left x s) e
 
 -- ---- after success
 
 -- the scene turned round stands where the scene stood
-pub turning_holds : (s t : Scene) (r : SceneAnswer) → Turning s t r → scene_says r ≡ given tt → t ≡ turned_round s
+pub turning_holds : (s t : Scene) (r : Result (Unit {0}) Refusal) → Turning s t r → outcome_alone r ≡ given tt → t ≡ turned_round s
 unfolding turned_left
 turning_holds s t r p e = p.scene ∙ ap (λ (x : Outcome (Unit {0})). turned_left x s) e
 
 -- the list stands in front, as many entries as the count returned, and behind it nothing changed
-pub listing_holds : (s : Scene) (o o' : List ℕ) (r : ListAnswer) → Listing s o o' r → (n : ℕ) → list_says r ≡ given n
+pub listing_holds : (s : Scene) (o o' : List ℕ) (r : Result ℕ Refused) → Listing s o o' r → (n : ℕ) → outcome_of r ≡ given n
     → Wrote o 0 (entries (pairs s)) o' n
 unfolding leaves
 listing_holds s o o' r p n e =
@@ -98,7 +97,7 @@ scene_in_front lent s room holds =
     }
 
 -- so the buffers are left where the counts are given
-pub reading_holds : (text : List ℕ) (lent left : Scene) (r : TextAnswer) → TextRead text lent left r → (c : SceneCounts) → text_says r ≡ given c
+pub reading_holds : (text : List ℕ) (lent left : Scene) (r : Result SceneCounts Refused) → TextRead text lent left r → (c : SceneCounts) → outcome_of r ≡ given c
     → SceneInFront text lent left c
 reading_holds text lent left r p c e =
     let (s, is, counts) = told_given p.outcome c (sym p.says ∙ e) in

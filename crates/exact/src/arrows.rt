@@ -12,7 +12,7 @@ ghost use Rattle.exact.specs.Arrows.{vector_of, Points, ShortArrow, arrow_volume
 
 use super::{Minors, Volumes, difference, in_turn};
 
-#[derive(Clone, Copy)]
+#[derive(Clone, Copy, Debug, PartialEq, Eq)]
 pub struct Arrow {
     pub x: i64,
     pub y: i64,

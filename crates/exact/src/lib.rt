@@ -24,7 +24,7 @@ fn difference(positions: &[i32], at: usize, base: usize, axis: usize) -> i64
 }
 
 // The three minors of two differences of places: a determinant of three is its other difference's coordinates with these.
-#[derive(Clone, Copy)]
+#[derive(Clone, Copy, Debug, PartialEq, Eq)]
 pub struct Minors {
     pub yz: i64,
     pub xz: i64,
@@ -95,7 +95,7 @@ pub fn volume_at(
 }
 
 // The four signed volumes of four differences of places: each of the other three, the signs in turn.
-#[derive(Clone, Copy)]
+#[derive(Clone, Copy, Debug, PartialEq, Eq)]
 pub struct Volumes {
     pub e0: i64,
     pub e1: i64,

@@ -9,7 +9,7 @@ ghost use Rattle.exact.specs.Shared.{Moving, PointVolumesAt, EdgeVolumesAt};
 use super::{Volumes, in_turn, minors_at, volume_with};
 
 // Of a moving point against the three pieces of a triangle.
-#[derive(Clone, Copy)]
+#[derive(Clone, Copy, Debug, PartialEq, Eq)]
 pub struct PointVolumes {
     pub first: Volumes,
     pub second: Volumes,
@@ -51,7 +51,7 @@ pub fn point_volumes(positions: &[i32], p: usize, a: usize, b: usize, c: usize) 
 }
 
 // Of two moving edges: piece A or B of the one against that of the other.
-#[derive(Clone, Copy)]
+#[derive(Clone, Copy, Debug, PartialEq, Eq)]
 pub struct EdgeVolumes {
     pub aa: Volumes,
     pub ab: Volumes,

@@ -1,5 +1,5 @@
 -- Four volumes in the range that coordinates had at first, a part of them and a whole.
-use Rattle.std.specs.Prelude.{ℕ, ◌*◌, ◌^◌, ◌≤◌, ◌<◌, Bool, true, false, List, ◌≢◌, ℤ, pos, neg_ℤ, nat_abs}
+use Rattle.std.specs.Prelude.{ℕ, ◌*◌, ◌^◌, ◌≤◌, ◌<◌, Bool, true, false, ◌≢◌, ℤ, pos, nat_abs}
 use Rattle.std.proofs.Common.{lit≤}
 use Rattle.whole.specs.Vector.{Vector}
 use Rattle.whole.specs.Sizes.{Within, within_neg}
@@ -7,7 +7,6 @@ use Rattle.whole.specs.Cramer.{Four, volumes}
 use Rattle.exact.specs.Bounds.{first_difference, first_four_small}
 use Rattle.exact.specs.Places.{Short}
 use Rattle.exact.specs.Largest.{largest}
-use Rattle.exact.specs.Volumes.{four}
 use Rattle.exact_signs.specs.BySigns.{sum, keep, kept}
 
 -- a determinant of differences in that range

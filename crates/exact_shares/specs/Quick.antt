@@ -1,6 +1,6 @@
 -- A share cut by one division, and by two.
 use Rattle.std.specs.Prelude.{ℕ, ◌+◌, ◌*◌, ◌/◌, ◌%◌, ◌≤◌, ◌<◌, ◌≡◌}
-use Rattle.std.proofs.Common.{mod-lt, div-add-mod', add-mul, mul_comm, mul_assoc, mul_right_comm, arith, ◌∙◌, ap}
+use Rattle.std.proofs.Common.{mod-lt, div-add-mod', add-mul, mul_comm, mul_right_comm, arith, ◌∙◌}
 use Rattle.std.proofs.Math.Nat.{div-le_of_le-mul}
 use Rattle.cutting.specs.Cut.{unit, CutTo}
 

@@ -20,8 +20,7 @@ fn size_of_sum(v: Volumes) -> u64
     requires { InRange (four_of v) }
     ensures { result ≡ nat_abs (sum (four_of v)) }
 {
-    let s = v.e0 + v.e1 + v.e2 + v.e3;
-    if s < 0 { (0 - s) as u64 } else { s as u64 }
+    (v.e0 + v.e1 + v.e2 + v.e3).unsigned_abs()
 }
 
 // The sum of the volumes that the p count, as a share of the sum of those that the w count.

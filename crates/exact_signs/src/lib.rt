@@ -18,7 +18,7 @@ use exact::{Volumes, volumes_at};
 use meaning::Verdict;
 
 // A sum of determinants that need not fit 64 bits: the first number less the second. The two are compared, and neither is taken from the other.
-#[derive(Clone, Copy)]
+#[derive(Clone, Copy, Debug, PartialEq, Eq)]
 pub(crate) struct Sum {
     two: i64,
     against: i64,
@@ -40,7 +40,7 @@ pub(crate) fn at_most_zero(s: Sum) -> bool
 
 // What the signs of a piece's numbers say: whether it is hit, and whether it is singular; and of several pieces, whether one of them is. The
 // pieces of a pair are put together by these two, since a branch on each piece's verdict cannot be foretold.
-#[derive(Clone, Copy)]
+#[derive(Clone, Copy, Debug, PartialEq, Eq)]
 pub struct Signs {
     pub hit: bool,
     pub flat: bool,

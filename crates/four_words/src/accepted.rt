@@ -13,6 +13,7 @@ ghost use Rattle.four_words.specs.Words.{TouchSaid, plain_word};
 use super::six::six_of;
 use corner_rest::pair_rests;
 use meaning::{Kind, Settled, Verdict};
+use scene_parts::asked::piece_count;
 
 // The word of a piece, from its verdict.
 pub(crate) fn piece_word(
@@ -50,14 +51,11 @@ fn some_piece_touches(
         × PairIs (tabled positions.now edges.now triangles.now stands.now) kind i j Degenerate }
     ensures { TouchSaid (tabled positions.now edges.now triangles.now stands.now) kind i j result }
 {
-    let count = scene_parts::asked::piece_count(kind);
-    let mut k = 0;
-    while k < count {
+    for k in 0..piece_count(kind) {
         let six = six_of(positions, edges, triangles, stands, kind, i, j, k);
         if corner_search::piece_touches(positions, six) {
             return true;
         }
-        k += 1;
     }
     false
 }

@@ -10,7 +10,7 @@ ghost use Rattle.meaning.specs.Resting.{PairDecided, PieceDecided};
 ghost use Rattle.scene_seams.specs.Sewing.{Blank};
 ghost use Rattle.scene_checks.specs.Checking.{Stitched};
 
-use meaning::{Kind, PairAnswer, SettledAnswer, VERTEX_LIMIT};
+use meaning::{Kind, Refusal, Settled, VERTEX_LIMIT};
 
 // The word of a pair, for a scene that may be anything; and the table of its seams. The refusals are those of its verdict.
 pub fn settle_into(
@@ -22,23 +22,17 @@ pub fn settle_into(
     kind: Kind,
     first: usize,
     second: usize,
-) -> SettledAnswer
+) -> Result<Settled, Refusal>
     requires { Blank seams.now stands.old }
     ensures { PairDecided (scene_of positions.now edges.now triangles.now seams.now) kind first second result
         × Stitched (scene_of positions.now edges.now triangles.now seams.now) stands.old stands.new }
 {
-    let judged = three_words::pair_into(
+    let verdict = three_words::pair_into(
         positions, edges, triangles, seams, stands, kind, first, second,
-    );
-    match judged {
-        PairAnswer::Judged(verdict) => {
-            let word = accepted::pair_word(
-                positions, edges, triangles, stands, kind, first, second, verdict,
-            );
-            SettledAnswer::Decided(word)
-        }
-        PairAnswer::Refused(refusal) => SettledAnswer::Refused(refusal),
-    }
+    )?;
+    Ok(accepted::pair_word(
+        positions, edges, triangles, stands, kind, first, second, verdict,
+    ))
 }
 
 // The word of a pair: hit, miss, touch or apart, or a refusal. A scene without seams gets by without a table of them.
@@ -50,7 +44,7 @@ pub fn settle_pair(
     kind: Kind,
     first: usize,
     second: usize,
-) -> SettledAnswer
+) -> Result<Settled, Refusal>
     ensures { PairDecided (scene_of positions.now edges.now triangles.now seams.now) kind first second result }
 {
     if seams.len() == 0 {
@@ -83,23 +77,17 @@ fn settle_piece_into(
     first: usize,
     second: usize,
     piece: usize,
-) -> SettledAnswer
+) -> Result<Settled, Refusal>
     requires { Blank seams.now stands.old }
     ensures { PieceDecided (scene_of positions.now edges.now triangles.now seams.now) kind first second piece result
         × Stitched (scene_of positions.now edges.now triangles.now seams.now) stands.old stands.new }
 {
-    let judged = three_words::piece_into(
+    let verdict = three_words::piece_into(
         positions, edges, triangles, seams, stands, kind, first, second, piece,
-    );
-    match judged {
-        PairAnswer::Judged(verdict) => {
-            let word = accepted::piece_word(
-                positions, edges, triangles, stands, kind, first, second, piece, verdict,
-            );
-            SettledAnswer::Decided(word)
-        }
-        PairAnswer::Refused(refusal) => SettledAnswer::Refused(refusal),
-    }
+    )?;
+    Ok(accepted::piece_word(
+        positions, edges, triangles, stands, kind, first, second, piece, verdict,
+    ))
 }
 
 // The word of one piece of a pair, or a refusal; `settle_pair` gives that of all of its pieces together.
@@ -112,7 +100,7 @@ pub fn settle_piece(
     first: usize,
     second: usize,
     piece: usize,
-) -> SettledAnswer
+) -> Result<Settled, Refusal>
     ensures { PieceDecided (scene_of positions.now edges.now triangles.now seams.now) kind first second piece result }
 {
     if seams.len() == 0 {

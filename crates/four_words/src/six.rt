@@ -12,7 +12,6 @@ ghost use Rattle.four_words.specs.Six.{between, PointFew, EdgesFew};
 
 use corner_leaf::SixPoints;
 use meaning::{Corners, Ends, Kind};
-use scene_parts::asked::{larger, smaller};
 
 // The point between the lower vertex at the start and the higher at the end.
 fn between(low: usize, high: usize, end: bool) -> usize
@@ -72,8 +71,8 @@ pub fn six_of(
     match kind {
         Kind::PointTriangle => point_six(i, scene_parts::corners_of(triangles, stands, j), k),
         Kind::EdgeEdge => {
-            let first = scene_parts::ends_of(edges, stands, smaller(i, j));
-            let second = scene_parts::ends_of(edges, stands, larger(i, j));
+            let first = scene_parts::ends_of(edges, stands, i.min(j));
+            let second = scene_parts::ends_of(edges, stands, i.max(j));
             edges_six(first, k / 2, second, k % 2)
         }
     }

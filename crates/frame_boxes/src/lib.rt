@@ -49,11 +49,8 @@ fn fill_vertices_at(positions: &[i32], frame: Frame, boxes: &mut [i32])
         (vertex_box_at frame (only_positions positions.now))
         × KeptBehind boxes.old boxes.new (vertex_count (only_positions positions.now)) }
 {
-    let count = vertex_count(positions);
-    let mut v = 0;
-    while v < count {
+    for v in 0..vertex_count(positions) {
         store_vertex_at(positions, frame, v, boxes);
-        v += 1;
     }
 }
 

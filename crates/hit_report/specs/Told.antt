@@ -1,23 +1,21 @@
 -- What is printed of a scene that was read: of its list, in a buffer of the program's own.
-use Rattle.std.specs.Prelude.{ℕ, ◌≤◌, ◌<◌, true, false, ◌⊎◌, List, [], ◌++◌, ◌≡◌, refl, ltb, ℤ, length, replicate}
+use Rattle.std.specs.Prelude.{ℕ, ◌≤◌, ◌<◌, true, false, ◌⊎◌, List, [], ◌++◌, ◌≡◌, refl, ltb, ℤ, length, replicate, Err, Result}
 use Rattle.std.proofs.Common.{true≢false, inl, inr, sym, ◌∙◌, ap, subst, arith, ltb-true}
 use Rattle.sequences.specs.Pick.{either}
 use Rattle.sequences.specs.Wrote.{Wrote, wrote_unique}
 use Rattle.meaning.specs.Limits.{contact_limit, report_room}
 use Rattle.meaning.specs.Scene.{Scene, scene_of, reaches_beyond}
-use Rattle.meaning.specs.Refusals.{Outcome, refused, number_of, Answers}
-use Rattle.meaning.specs.List.{pairs, room_of, list_says}
+use Rattle.meaning.specs.Refusals.{Outcome, refused, number_of, Answers, outcome_of}
+use Rattle.meaning.specs.List.{pairs, room_of}
 use Rattle.meaning.specs.Report.{refused_line}
 use Rattle.meaning.specs.WholeContacts.{range_check, AllContacts}
 use Rattle.meaning.specs.ContactLines.{contact_lines, contact_total}
-use Rattle.meaning.specs.declared.Refusal.{Refusal}
-use Rattle.meaning.specs.declared.ListAnswer as ListAnswers
-use Rattle.meaning.specs.declared.ListAnswer.{ListAnswer}
 use Rattle.meaning.specs.declared.WholeContact.{WholeContact}
 use Rattle.answers.specs.Answering.{is_refused, is_past}
 use Rattle.list_pairs.specs.Answering.{room_checks, IsCount, ListedIn}
 use Rattle.contact_entries.specs.Listed.{contacts_of, all_met, all_met_one}
 use Rattle.report_words.specs.Lines.{wrote_as}
+use Rattle.meaning.specs.declared.Refused.{Refused}
 
 -- what is printed for a scene that was read: 16, or 7 with the count needed, or the contacts and the totals
 pub data SceneContacts (s : Scene) : List ℕ → Type 0 where
@@ -57,19 +55,19 @@ pub own_room : room_of (replicate report_room 0) ≡ report_room
 own_room = refl
 
 -- a list that had no room
-pub no_room_lem : {s : Scene} {room : ℕ} {o o' : List ℕ} {r : ListAnswer} {x : Refusal} {n : ℕ} → ListedIn s room o o' r
-    → r ≡ ListAnswers.TheVariants.Refused x n → (n ≡ length (pairs s)) × (room < length (pairs s))
-unfolding list_says Answers
-no_room_lem {s} {room} {x} {n} j e = by_test (either (ltb room (length (pairs s))))
+pub no_room_lem : {s : Scene} {room : ℕ} {o o' : List ℕ} {r : Result ℕ Refused} {x : Refused} → ListedIn s room o o' r
+    → r ≡ Err x → (x.carries ≡ length (pairs s)) × (room < length (pairs s))
+unfolding outcome_of Answers
+no_room_lem {s} {room} {x} j e = by_test (either (ltb room (length (pairs s))))
   where
-    a : Answers (room_checks s room) (IsCount s) (refused (number_of x) n)
+    a : Answers (room_checks s room) (IsCount s) (refused (number_of x.why) x.carries)
     a = rw e at j.answer
 
-    by_test : (ltb room (length (pairs s)) ≡ true) ⊎ (ltb room (length (pairs s)) ≡ false) → (n ≡ length (pairs s)) × (room < length (pairs s))
+    by_test : (ltb room (length (pairs s)) ≡ true) ⊎ (ltb room (length (pairs s)) ≡ false) → (x.carries ≡ length (pairs s)) × (room < length (pairs s))
     by_test (inl h) =
-        let same : ◌≡◌ {A = Outcome ℕ} (refused (number_of x) n) (refused 7 (length (pairs s))) = is_refused (IsCount s) _ [] (refused (number_of x) n) h a in
+        let same : ◌≡◌ {A = Outcome ℕ} (refused (number_of x.why) x.carries) (refused 7 (length (pairs s))) = is_refused (IsCount s) _ [] (refused (number_of x.why) x.carries) h a in
         (cc, ltb-true room (length (pairs s)) h)
-    by_test (inr h) = absurd (is_past (IsCount s) _ [] (refused (number_of x) n) h a)
+    by_test (inr h) = absurd (is_past (IsCount s) _ [] (refused (number_of x.why) x.carries) h a)
 
 -- ---- two results are one
 

@@ -16,12 +16,12 @@ ghost use Rattle.hit_report.specs.Sizes.{contacts_length};
 ghost use Rattle.hit_report.specs.Lines.{one_hit, hits_of};
 ghost use Rattle.hit_report.specs.Told.{SceneTold};
 
-use meaning::{ListAnswer, REPORT_ROOM, WholeContact};
+use meaning::{REPORT_ROOM, WholeContact};
 use report_words::contact_lines::{contact_line, contact_total};
 use report_words::lines::refused_line;
 
 // How far the lines have come, and how many they are: a line for each hit.
-#[derive(Clone, Copy)]
+#[derive(Clone, Copy, Debug, PartialEq, Eq)]
 pub struct Lines {
     pub next: usize,
     pub hits: u64,
@@ -69,11 +69,9 @@ fn hit_lines(
         (pairs (tabled positions.now edges.now triangles.now stands.now)))) }
 {
     let mut lines = Lines { next: 0, hits: 0 };
-    let mut k = 0;
-    while k < count {
+    for k in 0..count {
         let contact = contact_entries::entry_contact(positions, edges, triangles, stands, list, k);
         lines = tell_pair(list[k], contact, out, lines);
-        k += 1;
     }
     lines
 }
@@ -126,9 +124,7 @@ pub fn near_contacts(
         REPORT_ROOM,
         &mut tests,
     ) {
-        ListAnswer::Listed(made) => hits_report(
-            positions, edges, triangles, stands, &list, made.count, out,
-        ),
-        ListAnswer::Refused(_, needed) => refused_line(out, 0, 7, needed as u64),
+        Ok(count) => hits_report(positions, edges, triangles, stands, &list, count, out),
+        Err(refused) => refused_line(out, 0, 7, refused.carries as u64),
     }
 }

@@ -18,11 +18,8 @@ pub fn fill_vertices(positions: &[i32], boxes: &mut [i32])
     ensures { VerticesIn (only_positions positions.now) boxes.new
         × KeptBehind boxes.old boxes.new (vertex_count (only_positions positions.now)) }
 {
-    let count = vertex_count(positions);
-    let mut v = 0;
-    while v < count {
+    for v in 0..vertex_count(positions) {
         store_vertex(positions, v, boxes);
-        v += 1;
     }
 }
 
@@ -66,11 +63,8 @@ fn fill_edges(positions: &[i32], edges: &[u16], boxes: &mut [i32])
         × KeptBehind boxes.old boxes.new
         (edge_place (only_positions positions.now) (edge_count (only_edges edges.now))) }
 {
-    let count = edge_count(edges);
-    let mut j = 0;
-    while j < count {
+    for j in 0..edge_count(edges) {
         store_edge(positions, edges, j, boxes);
-        j += 1;
     }
 }
 
@@ -83,11 +77,8 @@ fn fill_triangles(positions: &[i32], edges: &[u16], triangles: &[u16], boxes: &m
     ensures { (w : List ℕ) → Filled (scene_of positions.now edges.now triangles.now w)
         boxes.old boxes.new }
 {
-    let count = triangle_count(triangles);
-    let mut j = 0;
-    while j < count {
+    for j in 0..triangle_count(triangles) {
         store_triangle(positions, edges, triangles, j, boxes);
-        j += 1;
     }
 }
 

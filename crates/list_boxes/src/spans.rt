@@ -18,22 +18,14 @@ fn smaller_at(list: &[i32], i: usize, j: usize) -> i32
     requires { (i < length list.now) × (j < length list.now) }
     ensures { result ≡ smaller (get_or list.now i (pos 0)) (get_or list.now j (pos 0)) }
 {
-    if at_most(list, i, j) {
-        list[i]
-    } else {
-        list[j]
-    }
+    list[i].min(list[j])
 }
 
 fn larger_at(list: &[i32], i: usize, j: usize) -> i32
     requires { (i < length list.now) × (j < length list.now) }
     ensures { result ≡ larger (get_or list.now i (pos 0)) (get_or list.now j (pos 0)) }
 {
-    if at_most(list, i, j) {
-        list[j]
-    } else {
-        list[i]
-    }
+    list[i].max(list[j])
 }
 
 // Whether two spans meet, equal ends included.

@@ -16,6 +16,7 @@ pub fn room(list: &[u32]) -> usize
     list.len()
 }
 
+// A number and no enum, because an entry of a list that C reads is one number.
 fn kind_part(kind: Kind) -> u32
     ensures { result ≡ kind_part kind }
 {

@@ -1,7 +1,7 @@
 // The list of a scene that is accepted: counted, and made where there is room for it.
 
 ghost use Rattle.scene_seams.specs.Alone.{tabled};
-ghost use Rattle.std.specs.Prelude.{◌≤◌, [], ◌∷◌, ◌≡◌, length, take};
+ghost use Rattle.std.specs.Prelude.{◌≤◌, [], ◌∷◌, ◌≡◌, length};
 ghost use Rattle.sequences.specs.Wrote.{written};
 ghost use Rattle.meaning.specs.Scene.{Accepted};
 ghost use Rattle.meaning.specs.List.{pairs, entries, room_of};
@@ -12,7 +12,7 @@ ghost use Rattle.list_pairs.specs.Own.{OwnList};
 
 use list_walk::skipping::{WALK_NUMBERS, prepare};
 use list_walk::{Walk, walk_prepared};
-use meaning::{ListAnswer, Made, Refusal};
+use meaning::{Refusal, Refused};
 
 // Most lists are shorter: they are walked once, into an array of one's own, and copied when it is known that there is room.
 const OWN_ENTRIES: usize = 8192;
@@ -51,18 +51,6 @@ pub fn count_accepted(positions: &[i32], edges: &[u16], triangles: &[u16], stand
     count_prepared(positions, edges, triangles, stands, &boxes)
 }
 
-// The first entries of one list, in front of another.
-fn copy_front(own: &[u32], list: &mut [u32], count: usize)
-    requires { (count ≤ length own.now) × (count ≤ length list.old) }
-    ensures { list.new ≡ written (take count own.now) list.old }
-{
-    let mut k = 0;
-    while k < count {
-        list[k] = own[k];
-        k += 1;
-    }
-}
-
 // The list of so many pairs, copied where one's own has it whole; a longer one is walked again.
 fn enter(
     positions: &[i32],
@@ -80,7 +68,7 @@ fn enter(
         list.old }
 {
     if count <= own.len() {
-        copy_front(own, list, count);
+        list[..count].copy_from_slice(&own[..count]);
     } else {
         walk_prepared(positions, edges, triangles, stands, boxes, list, count);
     }
@@ -96,7 +84,7 @@ pub fn list_prepared(
     list: &mut [u32],
     room: usize,
     tests: &mut [usize; 1],
-) -> ListAnswer
+) -> Result<usize, Refused>
     requires { Prepared (tabled positions.now edges.now triangles.now stands.now) boxes.now × (room ≤ room_of list.old) }
     ensures { Tested (tabled positions.now edges.now triangles.now stands.now)
         (ListedIn (tabled positions.now edges.now triangles.now stands.now) room list.old list.new) tests.old
@@ -114,13 +102,16 @@ pub fn list_prepared(
     );
     let count = walk.next;
     if room < count {
-        return ListAnswer::Refused(Refusal::NoRoom, count);
+        return Err(Refused {
+            why: Refusal::NoRoom,
+            carries: count,
+        });
     }
     enter(
         positions, edges, triangles, stands, boxes, &own, list, count,
     );
     put_tests(tests, walk.tests);
-    ListAnswer::Listed(Made { count })
+    Ok(count)
 }
 
 // The list of an accepted scene into a lent buffer, of which so many entries may be used; or 7 with the count, and the buffer stays as it was.
@@ -132,7 +123,7 @@ pub fn list_accepted(
     list: &mut [u32],
     room: usize,
     tests: &mut [usize; 1],
-) -> ListAnswer
+) -> Result<usize, Refused>
     requires { Accepted (tabled positions.now edges.now triangles.now stands.now) × (room ≤ room_of list.old) }
     ensures { Tested (tabled positions.now edges.now triangles.now stands.now)
         (ListedIn (tabled positions.now edges.now triangles.now stands.now) room list.old list.new) tests.old

@@ -12,7 +12,7 @@ ghost use Rattle.scene_checks.specs.Checking.{Stitched};
 
 use accepted::{count_accepted, list_accepted, put_tests};
 use list_entries::room;
-use meaning::{ListAnswer, Made, SceneAnswer, VERTEX_LIMIT};
+use meaning::{Refused, VERTEX_LIMIT};
 use scene_checks::check_into;
 
 // As `count_pairs`, over a lent table without seams, which is that of the scene's seams afterwards.
@@ -23,20 +23,16 @@ fn count_into(
     seams: &[u16],
     stands: &mut [u16],
     tests: &mut [usize; 1],
-) -> ListAnswer
+) -> Result<usize, Refused>
     requires { Blank seams.now stands.old }
     ensures { Tested (scene_of positions.now edges.now triangles.now seams.now)
         (Counted (scene_of positions.now edges.now triangles.now seams.now)) tests.old tests.new result
         × Stitched (scene_of positions.now edges.now triangles.now seams.now) stands.old stands.new }
 {
-    match check_into(positions, edges, triangles, seams, stands) {
-        SceneAnswer::Refused(why) => ListAnswer::Refused(why, 0),
-        SceneAnswer::Accepted => {
-            let walk = count_accepted(positions, edges, triangles, stands);
-            put_tests(tests, walk.tests);
-            ListAnswer::Listed(Made { count: walk.next })
-        }
-    }
+    check_into(positions, edges, triangles, seams, stands)?;
+    let walk = count_accepted(positions, edges, triangles, stands);
+    put_tests(tests, walk.tests);
+    Ok(walk.next)
 }
 
 // How many pairs are listed, and into the lent number how many boxes of the pt part are tested for that.
@@ -46,7 +42,7 @@ pub fn count_pairs(
     triangles: &[u16],
     seams: &[u16],
     tests: &mut [usize; 1],
-) -> ListAnswer
+) -> Result<usize, Refused>
     ensures { Tested (scene_of positions.now edges.now triangles.now seams.now)
         (Counted (scene_of positions.now edges.now triangles.now seams.now)) tests.old tests.new result }
 {
@@ -67,19 +63,15 @@ fn list_into(
     stands: &mut [u16],
     list: &mut [u32],
     tests: &mut [usize; 1],
-) -> ListAnswer
+) -> Result<usize, Refused>
     requires { Blank seams.now stands.old }
     ensures { Tested (scene_of positions.now edges.now triangles.now seams.now)
         (Listing (scene_of positions.now edges.now triangles.now seams.now) list.old list.new) tests.old
         tests.new result × Stitched (scene_of positions.now edges.now triangles.now seams.now) stands.old stands.new }
 {
-    match check_into(positions, edges, triangles, seams, stands) {
-        SceneAnswer::Refused(why) => ListAnswer::Refused(why, 0),
-        SceneAnswer::Accepted => {
-            let most = room(list);
-            list_accepted(positions, edges, triangles, stands, list, most, tests)
-        }
-    }
+    check_into(positions, edges, triangles, seams, stands)?;
+    let most = room(list);
+    list_accepted(positions, edges, triangles, stands, list, most, tests)
 }
 
 // The list, in front of a lent buffer, and its box tests.
@@ -90,7 +82,7 @@ pub fn list_pairs(
     seams: &[u16],
     list: &mut [u32],
     tests: &mut [usize; 1],
-) -> ListAnswer
+) -> Result<usize, Refused>
     ensures { Tested (scene_of positions.now edges.now triangles.now seams.now)
         (Listing (scene_of positions.now edges.now triangles.now seams.now) list.old list.new) tests.old
         tests.new result }

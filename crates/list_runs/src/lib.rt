@@ -24,8 +24,7 @@ pub fn run_to(parts: usize, run: usize) -> usize
     requires { run < 576460752303423488 }
     ensures { result ≡ run_to parts run }
 {
-    let full = 16 * run + 16;
-    if full < parts { full } else { parts }
+    (16 * run + 16).min(parts)
 }
 
 // The joint box of the box `at` and of so many boxes behind it, stored under a number behind all of these.
@@ -34,10 +33,8 @@ fn store_run(boxes: &mut [i32], at: usize, more: usize, to: usize)
     ensures { BoxStored boxes.old to (joint_boxes (box_at boxes.old) at more) boxes.new }
 {
     store_joint_box(boxes, at, at, to);
-    let mut k = 0;
-    while k < more {
+    for k in 0..more {
         store_joint_box(boxes, to, at + 1 + k, to);
-        k += 1;
     }
 }
 
@@ -46,12 +43,9 @@ pub fn fill_runs(boxes: &mut [i32], first: usize, parts: usize, to: usize)
     requires { (first + parts ≤ to) × (parts ≤ 1152921504606846976) × (6 * (to + runs_of parts) ≤ length boxes.old) }
     ensures { RunsFilled boxes.old first parts to boxes.new }
 {
-    let runs = runs_of(parts);
-    let mut r = 0;
-    while r < runs {
+    for r in 0..runs_of(parts) {
         let from = 16 * r;
         let more = run_to(parts, r) - from - 1;
         store_run(boxes, first + from, more, to + r);
-        r += 1;
     }
 }

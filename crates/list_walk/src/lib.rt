@@ -17,7 +17,7 @@ use meaning::Kind;
 use steps::walk_rows;
 
 // What a walk tells: the number behind the last pair that it came by, and how many boxes of the pt part it tested.
-#[derive(Clone, Copy)]
+#[derive(Clone, Copy, Debug, PartialEq, Eq)]
 pub struct Walk {
     pub next: usize,
     pub tests: usize,

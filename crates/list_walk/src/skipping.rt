@@ -10,7 +10,6 @@ ghost use Rattle.list_boxes.specs.Kept.{meet_boxes};
 ghost use Rattle.list_candidates.specs.Rows.{first_count, second_count};
 ghost use Rattle.list_walk.specs.Skipping.{first_place, run_place, first_box, run_box, walk_numbers};
 ghost use Rattle.list_walk.specs.Skipping.{Prepared};
-ghost use Rattle.list_walk.specs.Taking.{CopiedUpTo};
 
 use list_boxes::filling::fill;
 use list_boxes::kept::boxes_meet;
@@ -34,18 +33,6 @@ fn join_runs(positions: &[i32], edges: &[u16], triangles: &[u16], stands: &[u16]
     fill_runs(boxes, vertices, edge_parts, all);
     let behind = all + runs_of(edge_parts);
     fill_runs(boxes, vertices + edge_parts, triangle_parts, behind);
-}
-
-// The first numbers of one list, in front of another.
-fn copy_numbers(from: &[i32], to: &mut [i32], count: usize)
-    requires { (count ≤ length from.now) × (count ≤ length to.old) }
-    ensures { CopiedUpTo from.now count to.old to.new }
-{
-    let mut k = 0;
-    while k < count {
-        to[k] = from[k];
-        k += 1;
-    }
 }
 
 // The boxes of all parts are worked out, and the runs joined behind them.
@@ -76,8 +63,8 @@ pub fn prepare_stored(
         × Boxed (tabled positions.now edges.now triangles.now stands.now) stored.now × (walk_numbers ≤ length boxes.old) }
     ensures { Prepared (tabled positions.now edges.now triangles.now stands.now) boxes.new }
 {
-    let all = vertex_count(positions) + edge_count(edges) + triangle_count(triangles);
-    copy_numbers(stored, boxes, 6 * all);
+    let taken = 6 * (vertex_count(positions) + edge_count(edges) + triangle_count(triangles));
+    boxes[..taken].copy_from_slice(&stored[..taken]);
     join_runs(positions, edges, triangles, stands, boxes);
 }
 

@@ -68,12 +68,10 @@ fn walk_stretch(
         (gather (candidate (tabled positions.now edges.now triangles.now stands.now) kind i) first end) list.new result }
 {
     let mut k = from;
-    let mut j = first;
-    while j < end {
+    for j in first..end {
         k = walk_one(
             positions, edges, triangles, stands, boxes, kind, i, j, list, most, k,
         );
-        j += 1;
     }
     k
 }
@@ -149,6 +147,7 @@ pub fn walk_row(
     let mut k = from;
     let mut tests = 0usize;
     let mut j = second_from(kind, i);
+    // A `while`, because a turn goes on at the place that `run_to` returns: the row may begin within a run.
     while j < end {
         let run = walk_run(
             positions, edges, triangles, stands, boxes, kind, i, j, list, most, k,
@@ -179,14 +178,12 @@ pub(crate) fn walk_rows(
     let end = first_count(positions, edges, triangles, stands, kind);
     let mut k = from;
     let mut tests = 0usize;
-    let mut i = 0;
-    while i < end {
+    for i in 0..end {
         let row = walk_row(
             positions, edges, triangles, stands, boxes, kind, i, list, most, k,
         );
         k = row.next;
         tests += row.tests;
-        i += 1;
     }
     Walk { next: k, tests }
 }

@@ -1,5 +1,5 @@
 -- The words of listed pairs, as code finds them one by one.
-use Rattle.std.specs.Prelude.{ℕ, zero, suc, ◌+◌, ◌≤◌, ◌<◌, cond, false, List, [], ◌∷◌, map, ◌≡◌, refl, eqb, length, get_or, take, drop}
+use Rattle.std.specs.Prelude.{ℕ, zero, suc, ◌+◌, ◌≤◌, ◌<◌, cond, false, List, [], ◌∷◌, map, ◌≡◌, refl, eqb, length, get_or, take, drop, None, Option, Some}
 use Rattle.std.proofs.Common.{sym, ap, ◌∙◌, subst, not-suc-le-zero, le_of_suc-le-suc, arith, length-take-le, get_or-take, ext_get_or}
 use Rattle.std.proofs.lemmas.List.{length-map}
 use Rattle.sequences.specs.Mapped.{map_at}
@@ -9,15 +9,13 @@ use Rattle.sequences.specs.Wrote.{written, written_in_front}
 use Rattle.meaning.specs.Scene.{Scene}
 use Rattle.meaning.specs.Refusals.{not_there}
 use Rattle.meaning.specs.Resting.{PairSettled}
-use Rattle.meaning.specs.List.{Pair, pair, pairs, entries, room_of}
+use Rattle.meaning.specs.List.{Pair, pair, pairs, room_of}
 use Rattle.meaning.specs.SceneWords.{byte_of, AllSettled}
 use Rattle.meaning.specs.declared.Kind.TheVariants.{PointTriangle}
 use Rattle.meaning.specs.declared.Settled.{Settled}
 use Rattle.meaning.specs.declared.Settled.TheVariants.{Hit, Miss, Touch, Apart}
-use Rattle.list_words.specs.declared.ByteAnswer.{ByteAnswer}
-use Rattle.list_words.specs.declared.ByteAnswer.TheVariants.{Word, NoWord}
 use Rattle.corner_search.specs.Decided.{pair_word, pair_word_is, settled_pair}
-use Rattle.list_pairs.specs.InOrder.{ToList, list_is}
+use Rattle.list_pairs.specs.InOrder.{list_is}
 use Rattle.list_entries.specs.Entries.{kind_of, first_of, second_of, pair_of, pair_at}
 
 abbrev pub word_of_pair : Scene → Pair → Settled
@@ -118,9 +116,9 @@ pub record WordByte (b : ℕ) : Type 0 where
   pub stands : byte_of word ≡ b
 
 -- what a byte says: its word, or none, where it is no word's
-unfoldable pub StandsFor : ℕ → ByteAnswer → Type 0
-StandsFor b (Word w) = byte_of w ≡ b
-StandsFor b NoWord = ¬ WordByte b
+unfoldable pub StandsFor : ℕ → Option Settled → Type 0
+StandsFor b (Some w) = byte_of w ≡ b
+StandsFor b None = ¬ WordByte b
 
 -- a byte back to its word, for a byte that stands for one
 unfoldable pub word_of_byte : ℕ → Settled
@@ -142,12 +140,12 @@ pub byte_one : (v w : Settled) → byte_of v ≡ byte_of w → v ≡ w
 byte_one v w e = word_of_its_byte v e ∙ byte_back w
 
 -- so a byte has one answer
-pub one_byte_answer : (b : ℕ) (r r' : ByteAnswer) → StandsFor b r → StandsFor b r' → r ≡ r'
+pub one_byte_answer : (b : ℕ) (r r' : Option Settled) → StandsFor b r → StandsFor b r' → r ≡ r'
 unfolding StandsFor
-one_byte_answer b (Word v) (Word w) p q = ap Word (byte_one v w (p ∙ sym q))
-one_byte_answer b (Word v) NoWord p q = absurd (q (record { word = v; stands = p }))
-one_byte_answer b NoWord (Word w) p q = absurd (p (record { word = w; stands = q }))
-one_byte_answer b NoWord NoWord p q = refl
+one_byte_answer b (Some v) (Some w) p q = ap Some (byte_one v w (p ∙ sym q))
+one_byte_answer b (Some v) None p q = absurd (q (record { word = v; stands = p }))
+one_byte_answer b None (Some w) p q = absurd (p (record { word = w; stands = q }))
+one_byte_answer b None None p q = refl
 
 -- a byte that is none of the four stands for no word
 pub no_word : {b : ℕ} → ¬ (b ≡ 0) → ¬ (b ≡ 1) → ¬ (b ≡ 3) → ¬ (b ≡ 4) → ¬ WordByte b
@@ -161,11 +159,11 @@ no_word {b} hit miss touch apart p = by_word p.word p.stands
     by_word Apart e = apart (sym e)
 
 -- the answer to a byte that stands for a word is that word
-pub answered_word : (b : ℕ) {r : ByteAnswer} (w : Settled) → r ≡ Word w → StandsFor b r → w ≡ word_of_byte b
+pub answered_word : (b : ℕ) {r : Option Settled} (w : Settled) → r ≡ Some w → StandsFor b r → w ≡ word_of_byte b
 unfolding StandsFor
 answered_word b w e h = word_of_its_byte w (subst (StandsFor b) e h)
 
-pub answered_none : {b : ℕ} {r : ByteAnswer} → WordByte b → r ≡ NoWord → ¬ StandsFor b r
+pub answered_none : {b : ℕ} {r : Option Settled} → WordByte b → r ≡ None → ¬ StandsFor b r
 unfolding StandsFor
 answered_none {b} p e h = subst (StandsFor b) e h p
 

@@ -17,16 +17,11 @@ ghost use Rattle.list_walk.specs.Skipping.{Prepared};
 ghost use Rattle.list_words.specs.Answering.{SettledIn};
 
 use list_walk::skipping::{WALK_NUMBERS, prepare};
-use meaning::{ListAnswer, SceneAnswer, Settled, VERTEX_LIMIT};
-
-// The answer to "which word does this byte stand for?".
-#[derive(Clone, Copy)]
-pub enum ByteAnswer {
-    Word(Settled),
-    NoWord,
-}
+use meaning::{Refused, Settled, VERTEX_LIMIT};
 
 // A word as the byte that stands for it in a lent buffer. No byte is 2, the number of degenerate: a number never stands for two words.
+// They are no discriminants of the type, which is shared: only these buffers have the bytes.
+#[tactic(auto, unfolding(meaning::specs::SceneWords::byte_of))]
 pub fn byte_of(w: Settled) -> u8
     ensures { result ≡ byte_of w }
 {
@@ -39,22 +34,17 @@ pub fn byte_of(w: Settled) -> u8
 }
 
 // And back: a buffer may hold any byte, and most stand for no word.
-pub fn word_of(byte: u8) -> ByteAnswer
+#[tactic(auto, using(crate::specs::Listed::no_word), unfolding(crate::specs::Listed::StandsFor, meaning::specs::SceneWords::byte_of))]
+pub fn word_of(byte: u8) -> Option<Settled>
     ensures { StandsFor byte result }
 {
-    if byte == 0 {
-        return ByteAnswer::Word(Settled::Hit);
+    match byte {
+        0 => Some(Settled::Hit),
+        1 => Some(Settled::Miss),
+        3 => Some(Settled::Touch),
+        4 => Some(Settled::Apart),
+        _ => None,
     }
-    if byte == 1 {
-        return ByteAnswer::Word(Settled::Miss);
-    }
-    if byte == 3 {
-        return ByteAnswer::Word(Settled::Touch);
-    }
-    if byte == 4 {
-        return ByteAnswer::Word(Settled::Apart);
-    }
-    ByteAnswer::NoWord
 }
 
 // The k-th entry of a list, judged.
@@ -93,17 +83,9 @@ pub fn settle_entries(
     ensures { out.new ≡ written
         (bytes_of (tabled positions.now edges.now triangles.now stands.now) (pairs_in count list.now)) out.old }
 {
-    let mut k = 0;
-    while k < count {
+    for k in 0..count {
         out[k] = settle_entry(positions, edges, triangles, stands, list, k);
-        k += 1;
     }
-}
-
-fn smaller(a: usize, b: usize) -> usize
-    ensures { result ≡ min a b }
-{
-    if a < b { a } else { b }
 }
 
 // For a scene that was checked already, and whose boxes and runs are prepared.
@@ -115,22 +97,18 @@ pub fn settle_prepared(
     boxes: &[i32],
     list: &mut [u32],
     out: &mut [u8],
-) -> ListAnswer
+) -> Result<usize, Refused>
     requires { Prepared (tabled positions.now edges.now triangles.now stands.now) boxes.now }
     ensures { SettledIn (tabled positions.now edges.now triangles.now stands.now)
         (min (room_of list.old) (length out.old)) list.old list.new out.old out.new result }
 {
-    let room = smaller(list_entries::room(list), out.len());
+    let room = list_entries::room(list).min(out.len());
     let mut tests = [0usize; 1];
-    match list_pairs::accepted::list_prepared(
+    let count = list_pairs::accepted::list_prepared(
         positions, edges, triangles, stands, boxes, list, room, &mut tests,
-    ) {
-        ListAnswer::Listed(made) => {
-            settle_entries(positions, edges, triangles, stands, list, out, made.count);
-            ListAnswer::Listed(made)
-        }
-        ListAnswer::Refused(refusal, needed) => ListAnswer::Refused(refusal, needed),
-    }
+    )?;
+    settle_entries(positions, edges, triangles, stands, list, out, count);
+    Ok(count)
 }
 
 // For a scene that was checked already.
@@ -141,7 +119,7 @@ pub fn settle_accepted(
     stands: &[u16],
     list: &mut [u32],
     out: &mut [u8],
-) -> ListAnswer
+) -> Result<usize, Refused>
     requires { Accepted (tabled positions.now edges.now triangles.now stands.now) }
     ensures { SettledIn (tabled positions.now edges.now triangles.now stands.now)
         (min (room_of list.old) (length out.old)) list.old list.new out.old out.new result }
@@ -160,17 +138,13 @@ fn settle_into(
     stands: &mut [u16],
     list: &mut [u32],
     out: &mut [u8],
-) -> ListAnswer
+) -> Result<usize, Refused>
     requires { Blank seams.now stands.old }
     ensures { SettledScene (scene_of positions.now edges.now triangles.now seams.now) list.old list.new
         out.old out.new result × Stitched (scene_of positions.now edges.now triangles.now seams.now) stands.old
         stands.new }
 {
-    if let SceneAnswer::Refused(refusal) = scene_checks::check_into(
-        positions, edges, triangles, seams, stands,
-    ) {
-        return ListAnswer::Refused(refusal, 0);
-    }
+    scene_checks::check_into(positions, edges, triangles, seams, stands)?;
     settle_accepted(positions, edges, triangles, stands, list, out)
 }
 
@@ -182,7 +156,7 @@ pub fn settle_scene(
     seams: &[u16],
     list: &mut [u32],
     out: &mut [u8],
-) -> ListAnswer
+) -> Result<usize, Refused>
     ensures { SettledScene (scene_of positions.now edges.now triangles.now seams.now) list.old list.new
         out.old out.new result }
 {

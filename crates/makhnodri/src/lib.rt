@@ -21,20 +21,12 @@ ghost use Rattle.meaning.specs.declared.Kind.TheVariants.{PointTriangle, EdgeEdg
 ghost use Rattle.meaning.specs.Report.{Reported};
 ghost use Rattle.meaning.specs.Claims.{ClaimsChecked};
 ghost use Rattle.meaning.specs.WholeContacts.{row_left, ContactsListed};
-ghost use Rattle.meaning.specs.Numbers.{claims_number};
-ghost use Rattle.meaning.specs.Numbers.{saved_number};
 ghost use Rattle.meaning.specs.Saved.{Measured, Saved};
-ghost use Rattle.meaning.specs.Numbers.{contact_number, ContactInto};
+ghost use Rattle.meaning.specs.Numbers.{scene_number, pair_number, settled_number, contact_number, list_number, text_number, claims_number, saved_number, ContactInto, ReadInto, Numbered};
 ghost use Rattle.contact_entries.specs.Rows.{SmallContact};
-ghost use Rattle.meaning.specs.Numbers.{scene_number, pair_number, settled_number, list_number, text_number, ReadInto, Numbered};
 
-use c_numbers::{
-    claims_number, list_number, pair_number, refused, saved_number, scene_number, settled_number,
-    word_number,
-};
-use meaning::{
-    Kind, REPORT_BYTES, ROW_NUMBERS, SceneCounts, TextAnswer, WholeContact, WholeContactAnswer,
-};
+use c_numbers::{count_number, pair_number, refused, scene_number, settled_number, word_number};
+use meaning::{Kind, REPORT_BYTES, ROW_NUMBERS, Refused, SceneCounts, WholeContact};
 
 pub(crate) fn put_counts(counts: &mut [usize; 4], c: SceneCounts)
     ensures { counts.new ≡ c.vertices ∷ c.edges ∷ c.triangles ∷ c.seams ∷ [] }
@@ -82,7 +74,7 @@ pub extern "C" fn makhnodri_count_pairs_slices(
     ensures { Numbered list_number (Tested (scene_of positions.now edges.now triangles.now seams.now)
         (Counted (scene_of positions.now edges.now triangles.now seams.now)) tests.old tests.new) result }
 {
-    list_number(list_pairs::count_pairs(positions, edges, triangles, seams, tests))
+    count_number(list_pairs::count_pairs(positions, edges, triangles, seams, tests))
 }
 
 // The list, in front of a lent buffer, and its box tests.
@@ -99,7 +91,7 @@ pub extern "C" fn makhnodri_list_pairs_slices(
         (Listing (scene_of positions.now edges.now triangles.now seams.now) list.old list.new) tests.old
         tests.new) result }
 {
-    list_number(list_pairs::list_pairs(positions, edges, triangles, seams, list, tests))
+    count_number(list_pairs::list_pairs(positions, edges, triangles, seams, list, tests))
 }
 
 // The list, and the word of each listed pair as a byte: hit, miss, touch or apart.
@@ -115,7 +107,7 @@ pub extern "C" fn makhnodri_settle_scene_slices(
     ensures { Numbered list_number (SettledScene (scene_of positions.now edges.now triangles.now seams.now) list.old
         list.new words.old words.new) result }
 {
-    list_number(list_words::settle_scene(positions, edges, triangles, seams, list, words))
+    count_number(list_words::settle_scene(positions, edges, triangles, seams, list, words))
 }
 
 // ---- the verdict of a pair and of a piece: hit, miss or degenerate. A kind has functions of its own, so that no bad kind can be asked for
@@ -341,11 +333,11 @@ fn contact_told(
         contact.new) result }
 {
     match contact_pair::contact_pair(positions, edges, triangles, seams, kind, first, second) {
-        WholeContactAnswer::Found(found) => {
+        Ok(found) => {
             put_contact(contact, found);
             word_number(found)
         }
-        WholeContactAnswer::Refused(why) => refused(why, 0),
+        Err(why) => refused(why, 0),
     }
 }
 
@@ -417,7 +409,7 @@ pub extern "C" fn makhnodri_contact_scene_slices(
     ensures { Numbered list_number (ContactsListed (scene_of positions.now edges.now triangles.now seams.now) list.old
         list.new words.old words.new contacts.old contacts.new) result }
 {
-    list_number(contact_scene::contact_scene(
+    count_number(contact_scene::contact_scene(
         positions, edges, triangles, seams, list, words, contacts,
     ))
 }
@@ -438,11 +430,11 @@ pub extern "C" fn makhnodri_read_scene_slices(
         (scene_of positions.new edges.new triangles.new seams.new) counts.old counts.new) result }
 {
     match text_scene::read_scene(text, positions, edges, triangles, seams) {
-        TextAnswer::Read(c) => {
+        Ok(c) => {
             put_counts(counts, c);
             0
         }
-        TextAnswer::Refused(why, line) => refused(why, line),
+        Err(Refused { why, carries }) => refused(why, carries),
     }
 }
 
@@ -470,7 +462,7 @@ pub extern "C" fn makhnodri_check_claims_slices(
         (ClaimsChecked (scene_of positions.now edges.now triangles.now seams.now) claims.now answers.old
         answers.new) result }
 {
-    claims_number(claim_answers::check_claims(positions, edges, triangles, seams, claims, answers))
+    count_number(claim_answers::check_claims(positions, edges, triangles, seams, claims, answers))
 }
 
 // ---- saving
@@ -485,7 +477,7 @@ pub extern "C" fn makhnodri_saved_length_slices(
 ) -> u64
     ensures { Numbered saved_number (Measured (scene_of positions.now edges.now triangles.now seams.now)) result }
 {
-    saved_number(saved_scene::saved_length(positions, edges, triangles, seams))
+    count_number(saved_scene::saved_length(positions, edges, triangles, seams))
 }
 
 // The text of a scene, in front of the lent buffer.
@@ -500,5 +492,5 @@ pub extern "C" fn makhnodri_save_scene_slices(
     ensures { Numbered saved_number
         (Saved (scene_of positions.now edges.now triangles.now seams.now) text.old text.new) result }
 {
-    saved_number(saved_scene::save_scene(positions, edges, triangles, seams, text))
+    count_number(saved_scene::save_scene(positions, edges, triangles, seams, text))
 }

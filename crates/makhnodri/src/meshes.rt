@@ -3,11 +3,10 @@
 
 ghost use Rattle.meaning.specs.Scene.{scene_of};
 ghost use Rattle.std.specs.Prelude.{length};
-ghost use Rattle.meaning.specs.Refusals.{scene_says};
-ghost use Rattle.meaning.specs.List.{list_says};
+ghost use Rattle.meaning.specs.Refusals.{outcome_alone, outcome_of};
 ghost use Rattle.meaning.specs.Mesh.{MeshAccepted};
 ghost use Rattle.meaning.specs.MeshEdges.{edges_say, EdgesChecked};
-ghost use Rattle.meaning.specs.MeshRows.{lent_of, kept_says, RowsCounted, RowsListed, RowsSettled, RowsContacts, RowsKept, ContactsKept};
+ghost use Rattle.meaning.specs.MeshRows.{lent_of, RowsCounted, RowsListed, RowsSettled, RowsContacts, RowsKept, ContactsKept};
 ghost use Rattle.meaning.specs.PiercedRows.{PiercedListed};
 ghost use Rattle.meaning.specs.MeshNumbers.{refusal_of, count_left, kept_left, edges_left, wanted_by, Left};
 ghost use Rattle.meaning.specs.Numbers.{Numbered};
@@ -28,7 +27,7 @@ pub extern "C" fn makhnodri_check_mesh_slices(
     seams: &[u32],
     table: &mut [u32],
 ) -> u32
-    ensures { Numbered (λ a. refusal_of (scene_says a))
+    ensures { Numbered (λ a. refusal_of (outcome_alone a))
         (MeshAccepted (scene_of positions.now edges.now triangles.now seams.now) (length table.old)) result }
 {
     tell_scene(mesh_lent::check_mesh(positions, edges, triangles, seams, table))
@@ -74,7 +73,7 @@ pub extern "C" fn makhnodri_count_rows_slices(
     end: usize,
     told: &mut [u64; 1],
 ) -> u32
-    ensures { Left list_says count_left (RowsCounted Listed (scene_of positions.now edges.now triangles.now seams.now)
+    ensures { Left outcome_of count_left (RowsCounted Listed (scene_of positions.now edges.now triangles.now seams.now)
         (lent_of edge_order.now triangle_order.now (length table.old) (length places.old) (length boxes.old)) first end)
         told.old told.new result }
 {
@@ -111,7 +110,7 @@ pub extern "C" fn makhnodri_count_near_rows_slices(
     end: usize,
     told: &mut [u64; 1],
 ) -> u32
-    ensures { Left list_says count_left (RowsCounted Near (scene_of positions.now edges.now triangles.now seams.now)
+    ensures { Left outcome_of count_left (RowsCounted Near (scene_of positions.now edges.now triangles.now seams.now)
         (lent_of edge_order.now triangle_order.now (length table.old) (length places.old) (length boxes.old)) first end)
         told.old told.new result }
 {
@@ -149,7 +148,7 @@ pub extern "C" fn makhnodri_list_rows_slices(
     list: &mut [u64],
     told: &mut [u64; 1],
 ) -> u32
-    ensures { Left list_says count_left (RowsListed Listed (scene_of positions.now edges.now triangles.now seams.now)
+    ensures { Left outcome_of count_left (RowsListed Listed (scene_of positions.now edges.now triangles.now seams.now)
         (lent_of edge_order.now triangle_order.now (length table.old) (length places.old) (length boxes.old)) first end list.old list.new)
         told.old told.new result }
 {
@@ -188,7 +187,7 @@ pub extern "C" fn makhnodri_list_near_rows_slices(
     list: &mut [u64],
     told: &mut [u64; 1],
 ) -> u32
-    ensures { Left list_says count_left (RowsListed Near (scene_of positions.now edges.now triangles.now seams.now)
+    ensures { Left outcome_of count_left (RowsListed Near (scene_of positions.now edges.now triangles.now seams.now)
         (lent_of edge_order.now triangle_order.now (length table.old) (length places.old) (length boxes.old)) first end list.old list.new)
         told.old told.new result }
 {
@@ -228,7 +227,7 @@ pub extern "C" fn makhnodri_settle_rows_slices(
     words: &mut [u8],
     told: &mut [u64; 1],
 ) -> u32
-    ensures { Left list_says count_left (RowsSettled Listed (scene_of positions.now edges.now triangles.now seams.now)
+    ensures { Left outcome_of count_left (RowsSettled Listed (scene_of positions.now edges.now triangles.now seams.now)
         (lent_of edge_order.now triangle_order.now (length table.old) (length places.old) (length boxes.old)) first end list.old list.new words.old words.new)
         told.old told.new result }
 {
@@ -269,7 +268,7 @@ pub extern "C" fn makhnodri_settle_near_rows_slices(
     words: &mut [u8],
     told: &mut [u64; 1],
 ) -> u32
-    ensures { Left list_says count_left (RowsSettled Near (scene_of positions.now edges.now triangles.now seams.now)
+    ensures { Left outcome_of count_left (RowsSettled Near (scene_of positions.now edges.now triangles.now seams.now)
         (lent_of edge_order.now triangle_order.now (length table.old) (length places.old) (length boxes.old)) first end list.old list.new words.old words.new)
         told.old told.new result }
 {
@@ -311,7 +310,7 @@ pub extern "C" fn makhnodri_contact_rows_slices(
     contacts: &mut [u32],
     told: &mut [u64; 1],
 ) -> u32
-    ensures { Left list_says count_left (RowsContacts Listed (scene_of positions.now edges.now triangles.now seams.now)
+    ensures { Left outcome_of count_left (RowsContacts Listed (scene_of positions.now edges.now triangles.now seams.now)
         (lent_of edge_order.now triangle_order.now (length table.old) (length places.old) (length boxes.old)) first end list.old list.new words.old words.new
         contacts.old contacts.new) told.old told.new result }
 {
@@ -354,7 +353,7 @@ pub extern "C" fn makhnodri_contact_near_rows_slices(
     contacts: &mut [u32],
     told: &mut [u64; 1],
 ) -> u32
-    ensures { Left list_says count_left (RowsContacts Near (scene_of positions.now edges.now triangles.now seams.now)
+    ensures { Left outcome_of count_left (RowsContacts Near (scene_of positions.now edges.now triangles.now seams.now)
         (lent_of edge_order.now triangle_order.now (length table.old) (length places.old) (length boxes.old)) first end list.old list.new words.old words.new
         contacts.old contacts.new) told.old told.new result }
 {
@@ -397,7 +396,7 @@ pub extern "C" fn makhnodri_keep_rows_slices(
     words: &mut [u8],
     told: &mut [u64; 6],
 ) -> u32
-    ensures { Left kept_says kept_left (RowsKept Listed (wanted_by wanted) (scene_of positions.now edges.now triangles.now seams.now)
+    ensures { Left outcome_of kept_left (RowsKept Listed (wanted_by wanted) (scene_of positions.now edges.now triangles.now seams.now)
         (lent_of edge_order.now triangle_order.now (length table.old) (length places.old) (length boxes.old)) first end list.old list.new words.old words.new)
         told.old told.new result }
 {
@@ -440,7 +439,7 @@ pub extern "C" fn makhnodri_keep_near_rows_slices(
     words: &mut [u8],
     told: &mut [u64; 6],
 ) -> u32
-    ensures { Left kept_says kept_left (RowsKept Near (wanted_by wanted) (scene_of positions.now edges.now triangles.now seams.now)
+    ensures { Left outcome_of kept_left (RowsKept Near (wanted_by wanted) (scene_of positions.now edges.now triangles.now seams.now)
         (lent_of edge_order.now triangle_order.now (length table.old) (length places.old) (length boxes.old)) first end list.old list.new words.old words.new)
         told.old told.new result }
 {
@@ -484,7 +483,7 @@ pub extern "C" fn makhnodri_keep_contacts_slices(
     contacts: &mut [u32],
     told: &mut [u64; 6],
 ) -> u32
-    ensures { Left kept_says kept_left (ContactsKept Listed (wanted_by wanted) (scene_of positions.now edges.now triangles.now seams.now)
+    ensures { Left outcome_of kept_left (ContactsKept Listed (wanted_by wanted) (scene_of positions.now edges.now triangles.now seams.now)
         (lent_of edge_order.now triangle_order.now (length table.old) (length places.old) (length boxes.old)) first end list.old list.new words.old words.new
         contacts.old contacts.new) told.old told.new result }
 {
@@ -529,7 +528,7 @@ pub extern "C" fn makhnodri_keep_near_contacts_slices(
     contacts: &mut [u32],
     told: &mut [u64; 6],
 ) -> u32
-    ensures { Left kept_says kept_left (ContactsKept Near (wanted_by wanted) (scene_of positions.now edges.now triangles.now seams.now)
+    ensures { Left outcome_of kept_left (ContactsKept Near (wanted_by wanted) (scene_of positions.now edges.now triangles.now seams.now)
         (lent_of edge_order.now triangle_order.now (length table.old) (length places.old) (length boxes.old)) first end list.old list.new words.old words.new
         contacts.old contacts.new) told.old told.new result }
 {
@@ -571,7 +570,7 @@ pub extern "C" fn makhnodri_pierced_at_start_rows_slices(
     list: &mut [u64],
     told: &mut [u64; 1],
 ) -> u32
-    ensures { Left list_says count_left (PiercedListed Start (scene_of positions.now edges.now triangles.now seams.now)
+    ensures { Left outcome_of count_left (PiercedListed Start (scene_of positions.now edges.now triangles.now seams.now)
         (lent_of edge_order.now triangle_order.now (length table.old) (length places.old) (length boxes.old)) first end list.old list.new)
         told.old told.new result }
 {
@@ -610,7 +609,7 @@ pub extern "C" fn makhnodri_pierced_at_end_rows_slices(
     list: &mut [u64],
     told: &mut [u64; 1],
 ) -> u32
-    ensures { Left list_says count_left (PiercedListed End (scene_of positions.now edges.now triangles.now seams.now)
+    ensures { Left outcome_of count_left (PiercedListed End (scene_of positions.now edges.now triangles.now seams.now)
         (lent_of edge_order.now triangle_order.now (length table.old) (length places.old) (length boxes.old)) first end list.old list.new)
         told.old told.new result }
 {

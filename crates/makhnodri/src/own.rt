@@ -4,7 +4,7 @@ ghost use Rattle.meaning.specs.Scene.{scene_of};
 ghost use Rattle.meaning.specs.OwnList.{OwnSettled, OwnContacts};
 ghost use Rattle.meaning.specs.Numbers.{list_number, Numbered};
 
-use c_numbers::list_number;
+use c_numbers::count_number;
 
 // The word of each pair that a lent list asks for, as a byte: hit, miss, touch or apart.
 #[unsafe(no_mangle)]
@@ -19,7 +19,7 @@ pub extern "C" fn makhnodri_settle_list_slices(
     ensures { Numbered list_number (OwnSettled (scene_of positions.now edges.now triangles.now seams.now) list.now
         words.old words.new) result }
 {
-    list_number(own_words::settle_list(positions, edges, triangles, seams, list, words))
+    count_number(own_words::settle_list(positions, edges, triangles, seams, list, words))
 }
 
 // The same, and for each hit its five numbers in its row.
@@ -36,7 +36,7 @@ pub extern "C" fn makhnodri_contact_list_slices(
     ensures { Numbered list_number (OwnContacts (scene_of positions.now edges.now triangles.now seams.now) list.now
         words.old words.new contacts.old contacts.new) result }
 {
-    list_number(own_contacts::contact_list(
+    count_number(own_contacts::contact_list(
         positions, edges, triangles, seams, list, words, contacts,
     ))
 }

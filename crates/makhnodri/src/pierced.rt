@@ -1,9 +1,10 @@
 // An edge that is through a triangle already, for C and for Rust.
 
+ghost use Rattle.meaning.specs.Refusals.{outcome_alone};
 ghost use Rattle.meaning.specs.Scene.{scene_of};
 ghost use Rattle.meaning.specs.Claims.{answer_byte};
 ghost use Rattle.meaning.specs.Numbers.{Numbered, number_for};
-ghost use Rattle.meaning.specs.Pierced.{pierced_says, PiercedDecided};
+ghost use Rattle.meaning.specs.Pierced.{PiercedDecided};
 ghost use Rattle.meaning.specs.declared.Frame.TheVariants.{Start, End};
 
 use c_meshes::pierced_number;
@@ -20,7 +21,7 @@ pub extern "C" fn makhnodri_pierced_at_start_slices(
     edge: usize,
     triangle: usize,
 ) -> u64
-    ensures { Numbered (λ a. number_for answer_byte (pierced_says a))
+    ensures { Numbered (λ a. number_for answer_byte (outcome_alone a))
         (PiercedDecided (scene_of positions.now edges.now triangles.now seams.now) Start edge triangle) result }
 {
     let frame = Frame::Start;
@@ -37,7 +38,7 @@ pub extern "C" fn makhnodri_pierced_at_end_slices(
     edge: usize,
     triangle: usize,
 ) -> u64
-    ensures { Numbered (λ a. number_for answer_byte (pierced_says a))
+    ensures { Numbered (λ a. number_for answer_byte (outcome_alone a))
         (PiercedDecided (scene_of positions.now edges.now triangles.now seams.now) End edge triangle) result }
 {
     let frame = Frame::End;

@@ -8,8 +8,8 @@ ghost use Rattle.meaning.specs.Numbers.{scene_number, list_number, text_number, 
 ghost use Rattle.meaning.specs.Numbers.{BoxedInto};
 
 use super::put_counts;
-use c_numbers::{list_number, refused, scene_number};
-use meaning::TextAnswer;
+use c_numbers::{count_number, refused, scene_number};
+use meaning::Refused;
 
 // The boxes of a scene, in front of a lent buffer.
 #[unsafe(no_mangle)]
@@ -66,7 +66,7 @@ pub extern "C" fn makhnodri_count_stored_slices(
         (CountedStored (scene_of positions.now edges.now triangles.now seams.now) boxes.now) tests.old tests.new)
         result }
 {
-    list_number(stored_list::count_stored(positions, edges, triangles, seams, boxes, tests))
+    count_number(stored_list::count_stored(positions, edges, triangles, seams, boxes, tests))
 }
 
 // The list made from the stored boxes, in front of a lent buffer, and its box tests.
@@ -84,7 +84,7 @@ pub extern "C" fn makhnodri_list_stored_slices(
         (ListedStored (scene_of positions.now edges.now triangles.now seams.now) boxes.now list.old list.new)
         tests.old tests.new) result }
 {
-    list_number(stored_list::list_stored(positions, edges, triangles, seams, boxes, list, tests))
+    count_number(stored_list::list_stored(positions, edges, triangles, seams, boxes, list, tests))
 }
 
 // The list, and the word of each listed pair as a byte: hit, miss, touch or apart.
@@ -101,7 +101,7 @@ pub extern "C" fn makhnodri_settle_stored_slices(
     ensures { Numbered list_number (SettledStored (scene_of positions.now edges.now triangles.now seams.now) boxes.now
         list.old list.new words.old words.new) result }
 {
-    list_number(stored_list::settle_stored(positions, edges, triangles, seams, boxes, list, words))
+    count_number(stored_list::settle_stored(positions, edges, triangles, seams, boxes, list, words))
 }
 
 // Reads a scene text into the lent buffers, with the boxes of its scene, and its four counts into the lent array.
@@ -120,10 +120,10 @@ pub extern "C" fn makhnodri_read_boxed_slices(
         result }
 {
     match stored_reading::read_boxed(text, positions, edges, triangles, seams, boxes) {
-        TextAnswer::Read(c) => {
+        Ok(c) => {
             put_counts(counts, c);
             0
         }
-        TextAnswer::Refused(why, line) => refused(why, line),
+        Err(Refused { why, carries }) => refused(why, carries),
     }
 }

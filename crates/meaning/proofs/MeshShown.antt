@@ -1,12 +1,12 @@
 -- Of `MeshShown`: what rests on its definitions.
-use Rattle.std.specs.Prelude.{ℕ, zero, suc, ◌<◌, false, [], ◌∷◌, ◌≡◌, refl}
+use Rattle.std.specs.Prelude.{ℕ, zero, suc, ◌<◌, false, [], ◌∷◌, ◌≡◌, refl, Ok}
 use Rattle.std.proofs.Common.{arith}
 use Rattle.meaning.specs.Scene.{stood_for, some_below}
 use Rattle.meaning.specs.Refusals.{Answers}
 use Rattle.meaning.specs.MeshEdges.{whole, twice, edges_say, EdgesAre, EdgesChecked, ends_fall, bare_side}
 use Rattle.meaning.specs.MeshNumbers.{refusal_of, edges_left, Left}
-use Rattle.meaning.specs.declared.EdgesAnswer as EdgesAnswers
 use Rattle.meaning.specs.shown.MeshShown.{one_triangle, sides_of}
+use Rattle.meaning.specs.declared.EdgesFound as Findings
 
 below_three : (P : ℕ → Type 0) → P 0 → P 1 → P 2 → (k : ℕ) → k < 3 → P k
 below_three P a b c zero h = a
@@ -28,13 +28,13 @@ unfolding EdgesAre
 edges_whole = (joined, below_two (λ k. ends_fall one_triangle (0 ∷ 2 ∷ 1 ∷ []) k ≡ false) refl refl)
 
 -- the answer, and what it leaves for C
-pub edges_told : EdgesChecked one_triangle sides_of (0 ∷ 2 ∷ 1 ∷ []) 0 3 EdgesAnswers.TheVariants.Whole
+pub edges_told : EdgesChecked one_triangle sides_of (0 ∷ 2 ∷ 1 ∷ []) 0 3 (Ok Findings.TheVariants.Whole)
 unfolding Answers edges_say some_below stood_for
 edges_told = edges_whole
 
 pub edges_left_lem : Left edges_say edges_left (EdgesChecked one_triangle sides_of (0 ∷ 2 ∷ 1 ∷ []) 0 3) (7 ∷ 7 ∷ 7 ∷ []) (0 ∷ 0 ∷ 7 ∷ []) 0
 unfolding edges_say edges_left refusal_of
-edges_left_lem = record { answer = EdgesAnswers.TheVariants.Whole; right = edges_told; is = refl; told = refl }
+edges_left_lem = record { answer = Ok Findings.TheVariants.Whole; right = edges_told; is = refl; told = refl }
 
 -- the ends of edges 1 and 2 fall
 pub order_falls : EdgesAre one_triangle sides_of (0 ∷ 1 ∷ 2 ∷ []) (twice 1)

@@ -1,14 +1,14 @@
 -- 'Played backwards' of document 02, for a scene without seams: 'swap start and end, number the vertices from last to first, and keep edges
 -- and triangles in their places'. Here too: which pair and which piece of the scene turned round corresponds to which.
-use Rattle.std.specs.Prelude.{ℕ, ◌*◌, ◌-◌, cond, List, [], ◌∷◌, ◌++◌, map, reverse, ◌≡◌, ltb, ℤ, pos, ◌-ℤ◌, drop}
+use Rattle.std.specs.Prelude.{ℕ, ◌*◌, ◌-◌, cond, List, [], ◌∷◌, ◌++◌, map, reverse, ◌≡◌, ltb, ℤ, pos, ◌-ℤ◌, drop, Result}
 use Rattle.sequences.specs.Gather.{gather}
 use Rattle.meaning.specs.Scene.{Scene, scene_of, vertex_count, start_of, end_of}
 use Rattle.meaning.specs.Pieces.{Event, Piece}
-use Rattle.meaning.specs.Refusals.{Outcome, given, refused, scene_says, SceneChecked}
+use Rattle.meaning.specs.Refusals.{Outcome, given, refused, SceneChecked, outcome_alone}
 use Rattle.meaning.specs.List.{Pair, pair}
 use Rattle.meaning.specs.declared.Kind.{Kind}
 use Rattle.meaning.specs.declared.Kind.TheVariants.{PointTriangle, EdgeEdge}
-use Rattle.meaning.specs.declared.SceneAnswer.{SceneAnswer}
+use Rattle.meaning.specs.declared.Refusal.{Refusal}
 
 -- of n vertices numbered from last to first, the number of vertex v; a number that is no vertex's stays
 abbrev pub from_last : ℕ → ℕ → ℕ
@@ -55,6 +55,6 @@ turned_left (given a) s = turned_round s
 turned_left (refused n c) s = s
 
 -- the scene s is turned round where it stands, and t stands there then
-pub record Turning (s t : Scene) (r : SceneAnswer) : Type 0 where
+pub record Turning (s t : Scene) (r : Result (Unit {0}) Refusal) : Type 0 where
   pub answer : SceneChecked s r
-  pub scene : t ≡ turned_left (scene_says r) s
+  pub scene : t ≡ turned_left (outcome_alone r) s

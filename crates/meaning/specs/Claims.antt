@@ -1,19 +1,18 @@
 -- 'Checking a partner's claims' of document 02: a claim and its line, when it is answered yes, and what the call that answers promises.
-use Rattle.std.specs.Prelude.{ℕ, ◌+◌, ◌≤◌, ◌<◌, Bool, true, false, ◌≡◌, ℤ, pos, length, get_or, ◌<ℤ◌}
+use Rattle.std.specs.Prelude.{ℕ, ◌+◌, ◌≤◌, ◌<◌, Bool, true, false, ◌≡◌, ℤ, pos, length, get_or, ◌<ℤ◌, Result}
 use mathlib.Core.List.{List, [], ◌∷◌, ◌++◌, map, flat_map}
 use Rattle.sequences.specs.Wrote.{written}
 use Rattle.meaning.specs.Limits.{text_limit, digit_limit, weight_digits, weight_limit, claim_room}
 use Rattle.meaning.specs.Scene.{Scene}
 use Rattle.meaning.specs.Pieces.{Piece, piece_of}
 use Rattle.meaning.specs.Equations.{one, total, Balanced}
-use Rattle.meaning.specs.Refusals.{Outcome, given, refused, Check, Answers, number_of, scene_checks, piece_asked, room_check}
+use Rattle.meaning.specs.Refusals.{Outcome, given, refused, Check, Answers, scene_checks, piece_asked, room_check, outcome_of}
 use Rattle.meaning.specs.Lines as Lines
 use Rattle.meaning.specs.Lines.{Grammar, AllSound}
 use Rattle.meaning.specs.Text.{tab, line_feed, numeral, further, Short, Holds, SceneFaultyAt, long_text}
 use Rattle.meaning.specs.Report.{kind_word, refused_line, InFront}
 use Rattle.meaning.specs.declared.Kind.{Kind}
-use Rattle.meaning.specs.declared.ClaimsAnswer as ClaimsAnswers
-use Rattle.meaning.specs.declared.ClaimsAnswer.{ClaimsAnswer}
+use Rattle.meaning.specs.declared.Refused.{Refused}
 
 -- ---- a claim, and when it is answered yes
 
@@ -113,10 +112,6 @@ pub data ClaimsOutcome (s : Scene) (text : List ℕ) (room : ℕ) (o : Outcome (
       → Answers (claims_last room cs) (AllAnswered s cs) o
       → ClaimsOutcome s text room o
 
-unfoldable pub claims_says : ClaimsAnswer → Outcome ℕ
-claims_says (ClaimsAnswers.TheVariants.Answered n) = given n
-claims_says (ClaimsAnswers.TheVariants.Refused r c) = refused (number_of r) c
-
 unfoldable pub how_many_told : Outcome (List Bool) → Outcome ℕ
 how_many_told (given bs) = given (length bs)
 how_many_told (refused n c) = refused n c
@@ -132,10 +127,10 @@ answers_left (given bs) o = written (map answer_byte bs) o
 answers_left (refused n c) o = o
 
 -- what is promised of the call: the buffer held o and holds o', and each of its bytes is room for an answer
-pub record ClaimsChecked (s : Scene) (text o o' : List ℕ) (r : ClaimsAnswer) : Type 0 where
+pub record ClaimsChecked (s : Scene) (text o o' : List ℕ) (r : Result ℕ Refused) : Type 0 where
   pub outcome : Outcome (List Bool)
   pub right : ClaimsOutcome s text (length o) outcome
-  pub says : claims_says r ≡ how_many_told outcome
+  pub says : outcome_of r ≡ how_many_told outcome
   pub leaves : o' ≡ answers_left outcome o
 
 -- ---- what the program prints

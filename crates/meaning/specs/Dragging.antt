@@ -1,10 +1,10 @@
 -- Document 02, §8: 'A new operation sets one vertex's six coordinates.' The scene after the move, what refuses it, and what it leaves in the
 -- positions and in the stored boxes.
-use Rattle.std.specs.Prelude.{ℕ, ◌+◌, ◌*◌, ◌<◌, Bool, cond, ◌||◌, List, [], ◌∷◌, ◌++◌, ◌≡◌, leb, eqb, ℤ, pos, get_or, set}
+use Rattle.std.specs.Prelude.{ℕ, ◌+◌, ◌*◌, ◌<◌, Bool, cond, ◌||◌, List, [], ◌∷◌, ◌++◌, ◌≡◌, leb, eqb, ℤ, pos, get_or, set, Result}
 use Rattle.meaning.specs.Scene.{Scene, scene_of, vertex_count, edge_count, triangle_count, seam_count, edge_end, corner, sewn, onto, some_below, outside, comes_apart}
-use Rattle.meaning.specs.Refusals.{Outcome, given, refused, Check, Answers, scene_says}
+use Rattle.meaning.specs.Refusals.{Outcome, given, refused, Check, Answers, outcome_alone}
 use Rattle.meaning.specs.StoredBoxes.{box_at, vertex_box, edge_box, triangle_box, edge_place, triangle_place, KeptBehind, box_checks}
-use Rattle.meaning.specs.declared.SceneAnswer.{SceneAnswer}
+use Rattle.meaning.specs.declared.Refusal.{Refusal}
 
 -- the positions with the six coordinates of vertex v set to those of c
 abbrev pub placed : List ℤ → ℕ → List ℤ → List ℤ
@@ -61,6 +61,6 @@ MovesAfter (given a) s v c p' b b' = (p' ≡ placed s.positions v c) × BoxesMov
 MovesAfter (refused n k) s v c p' b b' = (p' ≡ s.positions) × (b' ≡ b)
 
 -- vertex v of a scene is moved to c: its positions are p' then, and the box buffer held b and holds b'
-pub record VertexMoved (s : Scene) (v : ℕ) (c p' b b' : List ℤ) (r : SceneAnswer) : Type 0 where
-  pub answer : Answers (box_checks s b ++ move_checks s v c) (λ t. Unit {0}) (scene_says r)
-  pub buffers : MovesAfter (scene_says r) s v c p' b b'
+pub record VertexMoved (s : Scene) (v : ℕ) (c p' b b' : List ℤ) (r : Result (Unit {0}) Refusal) : Type 0 where
+  pub answer : Answers (box_checks s b ++ move_checks s v c) (λ t. Unit {0}) (outcome_alone r)
+  pub buffers : MovesAfter (outcome_alone r) s v c p' b b'

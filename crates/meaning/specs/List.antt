@@ -1,15 +1,14 @@
 -- The list of pairs, in order, its entries in a lent buffer, and what making it promises.
-use Rattle.std.specs.Prelude.{ℕ, ◌+◌, ◌*◌, ◌^◌, List, [], ◌∷◌, ◌++◌, map, ◌≡◌, length}
+use Rattle.std.specs.Prelude.{ℕ, ◌+◌, ◌*◌, ◌^◌, List, [], ◌∷◌, ◌++◌, map, ◌≡◌, length, Result}
 use Rattle.sequences.specs.Gather.{gather}
 use Rattle.sequences.specs.Chosen.{chosen}
 use Rattle.sequences.specs.Wrote.{written}
 use Rattle.meaning.specs.Scene.{Scene, vertex_count, edge_count, triangle_count}
 use Rattle.meaning.specs.Boxes.{listed}
-use Rattle.meaning.specs.Refusals.{Outcome, given, refused, number_of, Check, Answers, scene_checks, room_check}
+use Rattle.meaning.specs.Refusals.{Outcome, given, refused, Check, Answers, scene_checks, room_check, outcome_of}
 use Rattle.meaning.specs.declared.Kind.{Kind}
 use Rattle.meaning.specs.declared.Kind.TheVariants.{PointTriangle, EdgeEdge}
-use Rattle.meaning.specs.declared.ListAnswer as ListAnswers
-use Rattle.meaning.specs.declared.ListAnswer.{ListAnswer}
+use Rattle.meaning.specs.declared.Refused.{Refused}
 
 pub record Pair : Type 0 where
   pub kind : Kind
@@ -55,10 +54,6 @@ entries ps = map number ps
 abbrev pub room_of : List ℕ → ℕ
 room_of o = length o
 
-unfoldable pub list_says : ListAnswer → Outcome ℕ
-list_says (ListAnswers.TheVariants.Listed l) = given l.count
-list_says (ListAnswers.TheVariants.Refused r n) = refused (number_of r) n
-
 -- 1 to 4, then 7: more listed pairs than room; it carries the count needed
 abbrev pub list_checks : Scene → ℕ → List Check
 list_checks s room =
@@ -71,10 +66,10 @@ leaves (given a) l o = written l o
 leaves (refused n c) l o = o
 
 -- the pairs are counted
-abbrev pub Counted : Scene → ListAnswer → Type 0
-Counted s r = Answers (scene_checks s) (λ n. n ≡ length (pairs s)) (list_says r)
+abbrev pub Counted : Scene → Result ℕ Refused → Type 0
+Counted s r = Answers (scene_checks s) (λ n. n ≡ length (pairs s)) (outcome_of r)
 
 -- the list is made in a lent buffer that held o and holds o'
-pub record Listing (s : Scene) (o o' : List ℕ) (r : ListAnswer) : Type 0 where
-  pub answer : Answers (list_checks s (room_of o)) (λ n. n ≡ length (pairs s)) (list_says r)
-  pub buffer : o' ≡ leaves (list_says r) (entries (pairs s)) o
+pub record Listing (s : Scene) (o o' : List ℕ) (r : Result ℕ Refused) : Type 0 where
+  pub answer : Answers (list_checks s (room_of o)) (λ n. n ≡ length (pairs s)) (outcome_of r)
+  pub buffer : o' ≡ leaves (outcome_of r) (entries (pairs s)) o

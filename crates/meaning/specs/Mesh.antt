@@ -1,10 +1,10 @@
 -- A mesh is a scene of any size: at most 2^30 vertices, edges, triangles and seams. Its checks are the scene's with another first row; every other
 -- row is the scene's own, which has no size in it.
-use Rattle.std.specs.Prelude.{ℕ, Bool, cond, ◌||◌, List, [], ◌∷◌, eqb, ltb, length}
+use Rattle.std.specs.Prelude.{ℕ, Bool, cond, ◌||◌, List, [], ◌∷◌, eqb, ltb, length, Result}
 use Rattle.meaning.specs.Limits.{part_limit}
 use Rattle.meaning.specs.Scene.{Scene, vertex_count, edge_count, triangle_count, seam_count, uneven, out_of_range, unknown_vertex, broken_seam, repeated_vertex}
-use Rattle.meaning.specs.Refusals.{Check, Answers, scene_says}
-use Rattle.meaning.specs.declared.SceneAnswer.{SceneAnswer}
+use Rattle.meaning.specs.Refusals.{Check, Answers, outcome_alone}
+use Rattle.meaning.specs.declared.Refusal.{Refusal}
 
 abbrev pub over_mesh_size : Scene → Bool
 over_mesh_size s =
@@ -26,14 +26,14 @@ mesh_checks s =
     ∷ []
 
 -- what is promised of the check of a mesh
-abbrev pub MeshChecked : Scene → SceneAnswer → Type 0
-MeshChecked s r = Answers (mesh_checks s) (λ t. Unit {0}) (scene_says r)
+abbrev pub MeshChecked : Scene → Result (Unit {0}) Refusal → Type 0
+MeshChecked s r = Answers (mesh_checks s) (λ t. Unit {0}) (outcome_alone r)
 
 -- how many numbers a caller lends for the table of seams: one for each vertex, none where there are no seams
 abbrev pub table_room : Scene → ℕ
 table_room s = cond (eqb (length s.seams) 0) 0 (vertex_count s)
 
 -- of a mesh with so many numbers lent: 12, then the five
-abbrev pub MeshAccepted : Scene → ℕ → SceneAnswer → Type 0
+abbrev pub MeshAccepted : Scene → ℕ → Result (Unit {0}) Refusal → Type 0
 MeshAccepted s table r =
-    Answers (record { number = 12; holds = ltb table (table_room s); carries = 0 } ∷ mesh_checks s) (λ t. Unit {0}) (scene_says r)
+    Answers (record { number = 12; holds = ltb table (table_room s); carries = 0 } ∷ mesh_checks s) (λ t. Unit {0}) (outcome_alone r)

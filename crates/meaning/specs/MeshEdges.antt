@@ -1,13 +1,14 @@
 -- Edges that were made outside: whether every side of every triangle is an edge, and no edge stands twice. Who made them lends for each side
 -- the number of its edge, and the order of the edges by their ends; both are looked at.
-use Rattle.std.specs.Prelude.{ℕ, ◌+◌, ◌-◌, ◌*◌, ◌%◌, ◌^◌, ◌<◌, Bool, true, false, not, ◌||◌, ◌&&◌, List, [], ◌∷◌, ◌++◌, ◌≡◌, eqb, leb, ltb, length, get_or}
+use Rattle.std.specs.Prelude.{ℕ, ◌+◌, ◌-◌, ◌*◌, ◌%◌, ◌^◌, ◌<◌, Bool, true, false, not, ◌||◌, ◌&&◌, List, [], ◌∷◌, ◌++◌, ◌≡◌, eqb, leb, ltb, length, get_or, Err, Ok, Result}
 use Rattle.sequences.specs.Pick.{pick}
 use Rattle.meaning.specs.Scene.{Scene, edge_count, edge_end}
 use Rattle.meaning.specs.Refusals.{Outcome, given, refused, number_of, Check, Answers}
 use Rattle.meaning.specs.Mesh.{mesh_checks, table_room}
 use Rattle.meaning.specs.MeshRows.{no_order}
-use Rattle.meaning.specs.declared.EdgesAnswer as EdgesAnswers
-use Rattle.meaning.specs.declared.EdgesAnswer.{EdgesAnswer}
+use Rattle.meaning.specs.declared.EdgesFound as Findings
+use Rattle.meaning.specs.declared.Refusal.{Refusal}
+use Rattle.meaning.specs.declared.EdgesFound.{EdgesFound}
 
 -- side k, three to a triangle, goes from its corner to the next one around the triangle
 abbrev pub next_corner : ℕ → ℕ
@@ -42,11 +43,11 @@ pub data EdgesTold : Type 0 where
   bare : ℕ → EdgesTold
   twice : ℕ → EdgesTold
 
-unfoldable pub edges_say : EdgesAnswer → Outcome EdgesTold
-edges_say EdgesAnswers.TheVariants.Whole = given whole
-edges_say (EdgesAnswers.TheVariants.Bare k) = given (bare k)
-edges_say (EdgesAnswers.TheVariants.Twice k) = given (twice k)
-edges_say (EdgesAnswers.TheVariants.Refused r) = refused (number_of r) 0
+unfoldable pub edges_say : Result EdgesFound Refusal → Outcome EdgesTold
+edges_say (Ok Findings.TheVariants.Whole) = given whole
+edges_say (Ok (Findings.TheVariants.Bare k)) = given (bare k)
+edges_say (Ok (Findings.TheVariants.Twice k)) = given (twice k)
+edges_say (Err r) = refused (number_of r) 0
 
 module _ (s : Scene) (sides order : List ℕ) where
   -- no side before k is bare, and the ends rise up to number k of the order
@@ -68,5 +69,5 @@ module _ (s : Scene) (sides order : List ℕ) where
       ∷ (mesh_checks s
       ++ (record { number = 18; holds = not (eqb (length sides) (length s.triangles)) || no_order (edge_count s) order; carries = 0 } ∷ []))
 
-  abbrev pub EdgesChecked : (table places : ℕ) → EdgesAnswer → Type 0
+  abbrev pub EdgesChecked : (table places : ℕ) → Result EdgesFound Refusal → Type 0
   EdgesChecked table places r = Answers (edges_checks table places) EdgesAre (edges_say r)

@@ -1,14 +1,14 @@
 -- The list of a mesh of any size, row by row; an entry of 64 bits; and what the calls over a stretch of rows promise. What a caller lends as scratch
 -- may hold anything afterwards: of it a promise speaks by its length alone.
-use Rattle.std.specs.Prelude.{ℕ, ◌+◌, ◌-◌, ◌*◌, ◌/◌, ◌^◌, min, Bool, not, ◌||◌, ◌&&◌, List, [], ◌∷◌, ◌++◌, map, ◌≡◌, eqb, leb, ltb, length, get_or}
+use Rattle.std.specs.Prelude.{ℕ, ◌+◌, ◌-◌, ◌*◌, ◌/◌, ◌^◌, min, Bool, not, ◌||◌, ◌&&◌, List, [], ◌∷◌, ◌++◌, map, ◌≡◌, eqb, leb, ltb, length, get_or, Result}
 use Rattle.sequences.specs.Gather.{gather}
 use Rattle.sequences.specs.Chosen.{chosen}
 use Rattle.sequences.specs.Pick.{pick}
 use Rattle.meaning.specs.Scene.{Scene, vertex_count, edge_count, triangle_count, some_below}
 use Rattle.meaning.specs.Boxes.{listed}
 use Rattle.meaning.specs.Near.{near}
-use Rattle.meaning.specs.Refusals.{Outcome, given, refused, number_of, Check, Answers, room_check}
-use Rattle.meaning.specs.List.{Pair, pair, list_says, leaves}
+use Rattle.meaning.specs.Refusals.{Check, Answers, room_check, outcome_of}
+use Rattle.meaning.specs.List.{Pair, pair, leaves}
 use Rattle.meaning.specs.Report.{how_many}
 use Rattle.meaning.specs.SceneWords.{byte_of, AllSettled}
 use Rattle.meaning.specs.WholeContacts.{range_check, contact_room, rows_after, word_of, AllContacts}
@@ -21,10 +21,8 @@ use Rattle.meaning.specs.declared.Settled.{Settled}
 use Rattle.meaning.specs.declared.Settled.TheVariants.{Hit, Miss, Touch, Apart}
 use Rattle.meaning.specs.declared.Wanted.{Wanted}
 use Rattle.meaning.specs.declared.WholeContact.{WholeContact}
-use Rattle.meaning.specs.declared.ListAnswer.{ListAnswer}
 use Rattle.meaning.specs.declared.KeptRows.{KeptRows}
-use Rattle.meaning.specs.declared.KeptAnswer as KeptAnswers
-use Rattle.meaning.specs.declared.KeptAnswer.{KeptAnswer}
+use Rattle.meaning.specs.declared.Refused.{Refused}
 
 -- ---- rows
 
@@ -129,34 +127,34 @@ module _ (w : RowPairs) (s : Scene) (l : Lent) (first end : ℕ) where
   stretch = rows_in w s first end
 
   -- its pairs are counted
-  abbrev pub RowsCounted : ListAnswer → Type 0
-  RowsCounted r = Answers (row_checks s l (row_count s) first end []) (λ n. n ≡ length stretch) (list_says r)
+  abbrev pub RowsCounted : Result ℕ Refused → Type 0
+  RowsCounted r = Answers (row_checks s l (row_count s) first end []) (λ n. n ≡ length stretch) (outcome_of r)
 
   -- its entries are written in front of a list that held o and holds o'; 7 where there is not room for all of them
-  pub record RowsListed (o o' : List ℕ) (r : ListAnswer) : Type 0 where
-    pub answer : Answers (row_checks s l (row_count s) first end (room_check (length o) (length stretch) ∷ [])) (λ n. n ≡ length stretch) (list_says r)
-    pub list : o' ≡ leaves (list_says r) (mesh_entries stretch) o
+  pub record RowsListed (o o' : List ℕ) (r : Result ℕ Refused) : Type 0 where
+    pub answer : Answers (row_checks s l (row_count s) first end (room_check (length o) (length stretch) ∷ [])) (λ n. n ≡ length stretch) (outcome_of r)
+    pub list : o' ≡ leaves (outcome_of r) (mesh_entries stretch) o
 
   -- and their words, in a buffer that held b and holds b'. The room is the smaller of the two
-  pub record RowsSettled (o o' b b' : List ℕ) (r : ListAnswer) : Type 0 where
+  pub record RowsSettled (o o' b b' : List ℕ) (r : Result ℕ Refused) : Type 0 where
     pub answer : Answers (row_checks s l (row_count s) first end (room_check (min (length o) (length b)) (length stretch) ∷ []))
         (λ n. n ≡ length stretch)
-        (list_says r)
-    pub list : o' ≡ leaves (list_says r) (mesh_entries stretch) o
+        (outcome_of r)
+    pub list : o' ≡ leaves (outcome_of r) (mesh_entries stretch) o
     pub words : List Settled
     pub right : AllSettled s stretch words
-    pub bytes : b' ≡ leaves (list_says r) (map byte_of words) b
+    pub bytes : b' ≡ leaves (outcome_of r) (map byte_of words) b
 
   -- and the contact of each hit in its row of a buffer that held c and holds c'; 16 stands before 7
-  pub record RowsContacts (o o' b b' c c' : List ℕ) (r : ListAnswer) : Type 0 where
+  pub record RowsContacts (o o' b b' c c' : List ℕ) (r : Result ℕ Refused) : Type 0 where
     pub answer : Answers (row_checks s l (row_count s) first end (range_check s ∷ room_check (contact_room o b c) (length stretch) ∷ []))
         (λ n. n ≡ length stretch)
-        (list_says r)
-    pub list : o' ≡ leaves (list_says r) (mesh_entries stretch) o
+        (outcome_of r)
+    pub list : o' ≡ leaves (outcome_of r) (mesh_entries stretch) o
     pub contacts : List WholeContact
     pub right : AllContacts s stretch contacts
-    pub bytes : b' ≡ leaves (list_says r) (map (λ m. byte_of (word_of m)) contacts) b
-    pub rows : c' ≡ rows_after (list_says r) contacts c
+    pub bytes : b' ≡ leaves (outcome_of r) (map (λ m. byte_of (word_of m)) contacts) b
+    pub rows : c' ≡ rows_after (outcome_of r) contacts c
 
 -- ---- of a stretch the pairs whose words are asked for
 
@@ -184,32 +182,28 @@ kept_told m vs =
       aparts = how_many Apart vs;
     }
 
-unfoldable pub kept_says : KeptAnswer → Outcome KeptRows
-kept_says (KeptAnswers.TheVariants.Kept t) = given t
-kept_says (KeptAnswers.TheVariants.Refused r n) = refused (number_of r) n
-
 module _ (w : RowPairs) (m : Wanted) (s : Scene) (l : Lent) (first end : ℕ) where
   -- their entries and words; 7 where there is not room for those that are kept
-  pub record RowsKept (o o' b b' : List ℕ) (r : KeptAnswer) : Type 0 where
+  pub record RowsKept (o o' b b' : List ℕ) (r : Result KeptRows Refused) : Type 0 where
     pub words : List Settled
     pub right : AllSettled s (rows_in w s first end) words
     pub answer : Answers
         (row_checks s l (row_count s) first end (room_check (min (length o) (length b)) (length (kept m words words)) ∷ []))
         (λ t. t ≡ kept_told m words)
-        (kept_says r)
-    pub list : o' ≡ leaves (kept_says r) (mesh_entries (kept m words (rows_in w s first end))) o
-    pub bytes : b' ≡ leaves (kept_says r) (map byte_of (kept m words words)) b
+        (outcome_of r)
+    pub list : o' ≡ leaves (outcome_of r) (mesh_entries (kept m words (rows_in w s first end))) o
+    pub bytes : b' ≡ leaves (outcome_of r) (map byte_of (kept m words words)) b
 
   -- and the contact of each hit that is kept; 16 stands before 7
-  pub record ContactsKept (o o' b b' c c' : List ℕ) (r : KeptAnswer) : Type 0 where
+  pub record ContactsKept (o o' b b' c c' : List ℕ) (r : Result KeptRows Refused) : Type 0 where
     pub words : List Settled
     pub right : AllSettled s (rows_in w s first end) words
     pub answer : Answers
         (row_checks s l (row_count s) first end (range_check s ∷ room_check (contact_room o b c) (length (kept m words words)) ∷ []))
         (λ t. t ≡ kept_told m words)
-        (kept_says r)
-    pub list : o' ≡ leaves (kept_says r) (mesh_entries (kept m words (rows_in w s first end))) o
-    pub bytes : b' ≡ leaves (kept_says r) (map byte_of (kept m words words)) b
+        (outcome_of r)
+    pub list : o' ≡ leaves (outcome_of r) (mesh_entries (kept m words (rows_in w s first end))) o
+    pub bytes : b' ≡ leaves (outcome_of r) (map byte_of (kept m words words)) b
     pub contacts : List WholeContact
     pub met : AllContacts s (kept m words (rows_in w s first end)) contacts
-    pub rows : c' ≡ rows_after (kept_says r) contacts c
+    pub rows : c' ≡ rows_after (outcome_of r) contacts c

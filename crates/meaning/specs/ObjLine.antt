@@ -1,18 +1,13 @@
 -- A line of a Wavefront OBJ file (document 02, §3): what its bytes say, without the LF that ends it.
-use Rattle.std.specs.Prelude.{Bool, true, false, ◌&&◌, ◌||◌, List, [], ◌∷◌, ℕ, suc, ◌+◌, ◌*◌, leb, ltb, eqb, length, take, drop}
+use Rattle.std.specs.Prelude.{Bool, true, false, ◌&&◌, ◌||◌, List, [], ◌∷◌, ℕ, suc, ◌+◌, ◌*◌, leb, ltb, eqb, length, take, drop, None, Option, Some}
 use Rattle.sequences.specs.Pick.{pick}
 use Rattle.decimals.specs.Byte.{byte_at, digit_test}
 use Rattle.decimals.specs.Value.{value}
 use Rattle.meaning.specs.Limits.{digit_limit}
 use Rattle.meaning.specs.Text.{minus_sign}
-use Rattle.meaning.specs.declared.Whole as Wholes
-use Rattle.meaning.specs.declared.Whole.{Whole}
-use Rattle.meaning.specs.declared.Whole.TheVariants.{Worth}
-use Rattle.meaning.specs.declared.Decimal as Decimals
-use Rattle.meaning.specs.declared.Decimal.{Decimal}
-use Rattle.meaning.specs.declared.Decimal.TheVariants.{Of}
 use Rattle.meaning.specs.declared.ObjLine.{ObjLine}
 use Rattle.meaning.specs.declared.ObjLine.TheVariants.{Skipped, Vertex, Face, Bad}
+use Rattle.meaning.specs.declared.Hundredths.{Hundredths}
 
 abbrev pub space : ℕ
 space = 32
@@ -57,50 +52,50 @@ digits_alone [] = true
 digits_alone (b ∷ l) = digit_test b && digits_alone l
 
 -- one digit or more and at most so many; zeros in front are digits too
-abbrev pub whole_of : ℕ → List ℕ → Whole
-whole_of most l = pick (ltb 0 (length l) && leb (length l) most && digits_alone l) (Worth (value l)) Wholes.TheVariants.Bad
+abbrev pub whole_of : ℕ → List ℕ → Option ℕ
+whole_of most l = pick (ltb 0 (length l) && leb (length l) most && digits_alone l) (Some (value l)) None
 
 -- one digit behind the point is tenths, two are hundredths
-unfoldable pub with_part : ℕ → ℕ → Whole → Whole
-with_part n count (Worth m) = Worth (n * 100 + pick (eqb count 1) (m * 10) m)
-with_part n count Wholes.TheVariants.Bad = Wholes.TheVariants.Bad
+unfoldable pub with_part : ℕ → ℕ → Option ℕ → Option ℕ
+with_part n count (Some m) = Some (n * 100 + pick (eqb count 1) (m * 10) m)
+with_part n count None = None
 
-unfoldable pub on_whole : Whole → (ℕ → Whole) → Whole
-on_whole (Worth n) f = f n
-on_whole Wholes.TheVariants.Bad f = Wholes.TheVariants.Bad
+unfoldable pub on_whole : Option ℕ → (ℕ → Option ℕ) → Option ℕ
+on_whole (Some n) f = f n
+on_whole None f = None
 
 -- one to nine digits, then nothing, or a point and one or two digits: in hundredths
-abbrev pub size_of : List ℕ → Whole
+abbrev pub size_of : List ℕ → Option ℕ
 size_of l =
     pick (has point l)
     (on_whole (whole_of digit_limit (before_first point l)) (λ n. with_part n (length (behind point l)) (whole_of 2 (behind point l))))
-    (on_whole (whole_of digit_limit l) (λ n. Worth (n * 100)))
+    (on_whole (whole_of digit_limit l) (λ n. Some (n * 100)))
 
-unfoldable pub signed_as : Bool → Whole → Decimal
-signed_as minus (Worth n) = Of (record { minus = minus; size = n })
-signed_as minus Wholes.TheVariants.Bad = Decimals.TheVariants.Bad
+unfoldable pub signed_as : Bool → Option ℕ → Option Hundredths
+signed_as minus (Some n) = Some (record { minus = minus; size = n })
+signed_as minus None = None
 
 -- a minus or none
-abbrev pub decimal_of : List ℕ → Decimal
+abbrev pub decimal_of : List ℕ → Option Hundredths
 decimal_of l = pick (eqb (byte_at l 0) minus_sign) (signed_as true (size_of (drop 1 l))) (signed_as false (size_of l))
 
 -- a plain positive number: no zero in front
-abbrev pub vertex_number_of : List ℕ → Whole
-vertex_number_of l = pick (eqb (byte_at l 0) zero_digit) Wholes.TheVariants.Bad (whole_of digit_limit l)
+abbrev pub vertex_number_of : List ℕ → Option ℕ
+vertex_number_of l = pick (eqb (byte_at l 0) zero_digit) None (whole_of digit_limit l)
 
 -- ---- lines
 
-unfoldable pub vertex_with : Decimal → Decimal → Decimal → ObjLine
-vertex_with (Of x) (Of y) (Of z) = Vertex x y z
-vertex_with (Of x) (Of y) Decimals.TheVariants.Bad = Bad
-vertex_with (Of x) Decimals.TheVariants.Bad z = Bad
-vertex_with Decimals.TheVariants.Bad y z = Bad
+unfoldable pub vertex_with : Option Hundredths → Option Hundredths → Option Hundredths → ObjLine
+vertex_with (Some x) (Some y) (Some z) = Vertex x y z
+vertex_with (Some x) (Some y) None = Bad
+vertex_with (Some x) None z = Bad
+vertex_with None y z = Bad
 
-unfoldable pub face_with : Whole → Whole → Whole → ObjLine
-face_with (Worth a) (Worth b) (Worth c) = Face a b c
-face_with (Worth a) (Worth b) Wholes.TheVariants.Bad = Bad
-face_with (Worth a) Wholes.TheVariants.Bad c = Bad
-face_with Wholes.TheVariants.Bad b c = Bad
+unfoldable pub face_with : Option ℕ → Option ℕ → Option ℕ → ObjLine
+face_with (Some a) (Some b) (Some c) = Face a b c
+face_with (Some a) (Some b) None = Bad
+face_with (Some a) None c = Bad
+face_with None b c = Bad
 
 abbrev pub vertex_of : List ℕ → ObjLine
 vertex_of l = vertex_with (decimal_of (first_field l)) (decimal_of (second_field l)) (decimal_of (third_field l))

@@ -1,6 +1,6 @@
 -- Two Wavefront OBJ files, one for the start and one for the end (document 02, §3): the scene that they give, and what an import answers and leaves in
 -- the lent buffers.
-use Rattle.std.specs.Prelude.{ℕ, Bool, true, false, not, cond, ◌&&◌, ◌||◌, List, [], ◌∷◌, ◌≡◌, eqb, ℤ}
+use Rattle.std.specs.Prelude.{ℕ, Bool, true, false, not, cond, ◌&&◌, ◌||◌, List, [], ◌∷◌, ◌≡◌, eqb, ℤ, Err, Ok, Result}
 use Rattle.sequences.specs.Gather.{gather}
 use Rattle.meaning.specs.Scene.{Scene, scene_of, vertex_count, start_of, end_of}
 use Rattle.meaning.specs.Refusals.{given, number_of}
@@ -10,8 +10,8 @@ use Rattle.meaning.specs.ObjFile.{obj_lines}
 use Rattle.meaning.specs.declared.SceneCounts.{SceneCounts}
 use Rattle.meaning.specs.declared.WhichFile.{WhichFile}
 use Rattle.meaning.specs.declared.WhichFile.TheVariants.{Start, End}
-use Rattle.meaning.specs.declared.ImportAnswer as Answers
-use Rattle.meaning.specs.declared.ImportAnswer.{ImportAnswer}
+use Rattle.meaning.specs.declared.ImportRefusal.TheVariants.{In, Of}
+use Rattle.meaning.specs.declared.ImportRefusal.{ImportRefusal}
 
 -- ---- two files as one scene
 
@@ -76,10 +76,10 @@ pub data ImportSaid : Type 0 where
   number : ℕ → ImportSaid
   number_in : WhichFile → ℕ → ℕ → ImportSaid
 
-unfoldable pub import_says : ImportAnswer → ImportSaid
-import_says (Answers.TheVariants.Read c) = counts c
-import_says (Answers.TheVariants.Refused r) = number (number_of r)
-import_says (Answers.TheVariants.RefusedIn f r line) = number_in f (number_of r) line
+unfoldable pub import_says : Result SceneCounts ImportRefusal → ImportSaid
+import_says (Ok c) = counts c
+import_says (Err (Of r)) = number (number_of r)
+import_says (Err (In f r)) = number_in f (number_of r.why) r.carries
 
 unfoldable pub import_told : ImportOutcome → ImportSaid
 import_told (read s) = counts (counts_of s)
@@ -92,7 +92,7 @@ import_left (read s) lent = filled (given s) lent
 import_left (refused n) lent = lent
 import_left (refused_in f n line) lent = lent
 
-pub record Imported (start end : List ℕ) (lent left : Scene) (r : ImportAnswer) : Type 0 where
+pub record Imported (start end : List ℕ) (lent left : Scene) (r : Result SceneCounts ImportRefusal) : Type 0 where
   pub outcome : ImportOutcome
   pub right : ImportIs start end lent outcome
   pub says : import_says r ≡ import_told outcome

@@ -1,15 +1,15 @@
 -- A list of one's own: entries that a caller lends, each the number of a pair that is asked for, and the words or contacts of these pairs.
-use Rattle.std.specs.Prelude.{ℕ, ◌+◌, ◌/◌, ◌%◌, min, Bool, ◌||◌, List, [], ◌∷◌, ◌++◌, map, ◌≡◌, leb, ltb, length}
+use Rattle.std.specs.Prelude.{ℕ, ◌+◌, ◌/◌, ◌%◌, min, Bool, ◌||◌, List, [], ◌∷◌, ◌++◌, map, ◌≡◌, leb, ltb, length, Result}
 use Rattle.sequences.specs.Pick.{pick}
 use Rattle.meaning.specs.Scene.{Scene}
-use Rattle.meaning.specs.Refusals.{Check, Answers, scene_checks, not_there, shares, room_check}
-use Rattle.meaning.specs.List.{Pair, pair, place_step, kind_step, no_number, list_says, leaves}
+use Rattle.meaning.specs.Refusals.{Check, Answers, scene_checks, not_there, shares, room_check, outcome_of}
+use Rattle.meaning.specs.List.{Pair, pair, place_step, kind_step, no_number, leaves}
 use Rattle.meaning.specs.SceneWords.{byte_of, AllSettled}
 use Rattle.meaning.specs.WholeContacts.{range_check, row_length, rows_after, word_of, AllContacts}
 use Rattle.meaning.specs.declared.Kind.TheVariants.{PointTriangle, EdgeEdge}
 use Rattle.meaning.specs.declared.Settled.{Settled}
 use Rattle.meaning.specs.declared.WholeContact.{WholeContact}
-use Rattle.meaning.specs.declared.ListAnswer.{ListAnswer}
+use Rattle.meaning.specs.declared.Refused.{Refused}
 
 -- the pair that an entry asks for: its kind, then the two places
 abbrev pub asked_for : ℕ → Pair
@@ -52,19 +52,19 @@ word_room es room = room_check room (length es)
 
 -- the words of the entries es are written into a buffer that held b and holds b'. The list's size and the scene's
 -- refusals come first, then those of an entry, then 7
-pub record OwnSettled (s : Scene) (es b b' : List ℕ) (r : ListAnswer) : Type 0 where
-  pub answer : Answers (size_check es ∷ (scene_checks s ++ (entry_faults s es ++ (word_room es (length b) ∷ [])))) (λ n. n ≡ length es) (list_says r)
+pub record OwnSettled (s : Scene) (es b b' : List ℕ) (r : Result ℕ Refused) : Type 0 where
+  pub answer : Answers (size_check es ∷ (scene_checks s ++ (entry_faults s es ++ (word_room es (length b) ∷ [])))) (λ n. n ≡ length es) (outcome_of r)
   pub words : List Settled
   pub right : AllSettled s (map asked_for es) words
-  pub bytes : b' ≡ leaves (list_says r) (map byte_of words) b
+  pub bytes : b' ≡ leaves (outcome_of r) (map byte_of words) b
 
 -- the same with the contact of each hit in its row of a buffer that held c and holds c'; 16 stands between 6 and 7, and the room is the
 -- smaller of the two
-pub record OwnContacts (s : Scene) (es b b' c c' : List ℕ) (r : ListAnswer) : Type 0 where
+pub record OwnContacts (s : Scene) (es b b' c c' : List ℕ) (r : Result ℕ Refused) : Type 0 where
   pub answer : Answers
       (size_check es ∷ (scene_checks s ++ (entry_faults s es ++ (range_check s ∷ word_room es (min (length b) (length c / row_length)) ∷ []))))
-      (λ n. n ≡ length es) (list_says r)
+      (λ n. n ≡ length es) (outcome_of r)
   pub contacts : List WholeContact
   pub right : AllContacts s (map asked_for es) contacts
-  pub bytes : b' ≡ leaves (list_says r) (map (λ m. byte_of (word_of m)) contacts) b
-  pub rows : c' ≡ rows_after (list_says r) contacts c
+  pub bytes : b' ≡ leaves (outcome_of r) (map (λ m. byte_of (word_of m)) contacts) b
+  pub rows : c' ≡ rows_after (outcome_of r) contacts c

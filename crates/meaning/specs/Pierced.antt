@@ -1,14 +1,13 @@
 -- Pierced: an edge is through a triangle already, at the start or at the end.
-use Rattle.std.specs.Prelude.{ℕ, Bool, true, false, ◌||◌, List, [], ◌∷◌, ◌++◌, map, leb, ℤ}
+use Rattle.std.specs.Prelude.{ℕ, Bool, true, false, ◌||◌, List, [], ◌∷◌, ◌++◌, map, leb, ℤ, Result}
 use Rattle.meaning.specs.Scene.{Scene, edge_count, triangle_count, edge_end, corner}
 use Rattle.meaning.specs.Pieces.{Event, starting, ending}
 use Rattle.meaning.specs.Equations.{Touch}
-use Rattle.meaning.specs.Refusals.{Outcome, given, refused, number_of, Check, Answers, scene_checks, shares}
+use Rattle.meaning.specs.Refusals.{Check, Answers, scene_checks, shares, outcome_alone}
 use Rattle.meaning.specs.declared.Frame.{Frame}
 use Rattle.meaning.specs.declared.Frame.TheVariants.{Start, End}
 use Rattle.meaning.specs.declared.Kind.TheVariants.{PointTriangle}
-use Rattle.meaning.specs.declared.PiercedAnswer as PiercedAnswers
-use Rattle.meaning.specs.declared.PiercedAnswer.{PiercedAnswer}
+use Rattle.meaning.specs.declared.Refusal.{Refusal}
 
 -- vertex v at that time
 unfoldable pub stands_at : Frame → List ℤ → ℕ → Event
@@ -45,11 +44,6 @@ pierced_asked s i j =
 abbrev pub pierced_checks : Scene → ℕ → ℕ → List Check
 pierced_checks s i j = scene_checks s ++ pierced_asked s i j
 
-unfoldable pub pierced_says : PiercedAnswer → Outcome Bool
-pierced_says PiercedAnswers.TheVariants.Pierced = given true
-pierced_says PiercedAnswers.TheVariants.Clear = given false
-pierced_says (PiercedAnswers.TheVariants.Refused r) = refused (number_of r) 0
-
 -- what is promised of an edge and a triangle asked for
-abbrev pub PiercedDecided : Scene → Frame → ℕ → ℕ → PiercedAnswer → Type 0
-PiercedDecided s f i j r = Answers (pierced_checks s i j) (PiercedIs s f i j) (pierced_says r)
+abbrev pub PiercedDecided : Scene → Frame → ℕ → ℕ → Result Bool Refusal → Type 0
+PiercedDecided s f i j r = Answers (pierced_checks s i j) (PiercedIs s f i j) (outcome_alone r)

@@ -1,18 +1,18 @@
 -- The edges of a mesh that are through a triangle at the start, or at the end, row by row: row i is edge i's. Asked are the edges and triangles
 -- without a shared vertex whose boxes meet at that time; of these the pierced ones are listed.
-use Rattle.std.specs.Prelude.{ℕ, ◌+◌, ◌*◌, ◌^◌, Bool, not, ◌&&◌, List, [], ◌∷◌, map, ◌≡◌, length}
+use Rattle.std.specs.Prelude.{ℕ, ◌+◌, ◌*◌, ◌^◌, Bool, not, ◌&&◌, List, [], ◌∷◌, map, ◌≡◌, length, Result}
 use Rattle.sequences.specs.Gather.{gather}
 use Rattle.sequences.specs.Chosen.{chosen}
 use Rattle.sequences.specs.Pick.{pick}
 use Rattle.meaning.specs.Scene.{Scene, edge_count, triangle_count}
 use Rattle.meaning.specs.Boxes.{Axis, x_axis, y_axis, z_axis, meet}
 use Rattle.meaning.specs.Near.{edge_span_at, triangle_span_at}
-use Rattle.meaning.specs.Refusals.{Answers, room_check}
-use Rattle.meaning.specs.List.{list_says, leaves}
+use Rattle.meaning.specs.Refusals.{Answers, room_check, outcome_of}
+use Rattle.meaning.specs.List.{leaves}
 use Rattle.meaning.specs.Pierced.{PiercedIs, end_is_corner}
 use Rattle.meaning.specs.MeshRows.{Lent, row_checks}
 use Rattle.meaning.specs.declared.Frame.{Frame}
-use Rattle.meaning.specs.declared.ListAnswer.{ListAnswer}
+use Rattle.meaning.specs.declared.Refused.{Refused}
 
 -- an edge and a triangle
 pub record Through : Type 0 where
@@ -52,10 +52,10 @@ yes_of (b ∷ bs) (x ∷ l) = pick b (x ∷ yes_of bs l) (yes_of bs l)
 
 -- the entries of the pierced ones of rows `first` up to and without `end` are written in front of a list that held o and holds o'; 7 where there is
 -- not room for all of them
-pub record PiercedListed (f : Frame) (s : Scene) (l : Lent) (first end : ℕ) (o o' : List ℕ) (r : ListAnswer) : Type 0 where
+pub record PiercedListed (f : Frame) (s : Scene) (l : Lent) (first end : ℕ) (o o' : List ℕ) (r : Result ℕ Refused) : Type 0 where
   pub answers : List Bool
   pub right : AllPierced f s (through_rows f s first end) answers
   pub answer : Answers (row_checks s l (edge_count s) first end (room_check (length o) (length (yes_of answers answers)) ∷ []))
       (λ n. n ≡ length (yes_of answers answers))
-      (list_says r)
-  pub list : o' ≡ leaves (list_says r) (map through_number (yes_of answers (through_rows f s first end))) o
+      (outcome_of r)
+  pub list : o' ≡ leaves (outcome_of r) (map through_number (yes_of answers (through_rows f s first end))) o

@@ -1,6 +1,6 @@
 -- 'Refusal numbers' of document 01: the number of each refusal, and what it is for an answer to be right: refused with n exactly when
 -- n's condition holds and no check before it refuses.
-use Rattle.std.specs.Prelude.{ℕ, Bool, cond, ◌||◌, List, [], ◌∷◌, ◌++◌, ◌≡◌, leb, ltb}
+use Rattle.std.specs.Prelude.{ℕ, Bool, cond, ◌||◌, List, [], ◌∷◌, ◌++◌, ◌≡◌, leb, ltb, Err, Ok, Result}
 use Rattle.meaning.specs.Scene.{Scene, vertex_count, edge_count, triangle_count, edge_end, corner, same, wrong_shape, out_of_range, unknown_vertex, broken_seam, repeated_vertex}
 use Rattle.meaning.specs.Pieces.{piece_count, piece_of}
 use Rattle.meaning.specs.Verdicts.{PieceIs, PairIs}
@@ -8,11 +8,8 @@ use Rattle.meaning.specs.declared.Kind.{Kind}
 use Rattle.meaning.specs.declared.Kind.TheVariants.{PointTriangle, EdgeEdge}
 use Rattle.meaning.specs.declared.Verdict.{Verdict}
 use Rattle.meaning.specs.declared.Refusal.{Refusal}
+use Rattle.meaning.specs.declared.Refused.{Refused}
 use Rattle.meaning.specs.declared.Refusal.TheVariants.{Shape, Coordinate, UnknownVertex, RepeatedVertex, NotThere, SharedVertex, NoRoom, LongText, BadLine, LateRecord, TooMany, ShortBuffer, BlockLength, FilesDiffer, BrokenSeam, BeyondOldRange, StaleBox, WrongOrder}
-use Rattle.meaning.specs.declared.SceneAnswer as SceneAnswers
-use Rattle.meaning.specs.declared.SceneAnswer.{SceneAnswer}
-use Rattle.meaning.specs.declared.PairAnswer as PairAnswers
-use Rattle.meaning.specs.declared.PairAnswer.{PairAnswer}
 
 unfoldable pub number_of : Refusal → ℕ
 number_of Shape = 1
@@ -39,13 +36,16 @@ pub data Outcome (A : Type 0) : Type 0 where
   given : A → Outcome A
   refused : ℕ → ℕ → Outcome A
 
-unfoldable pub scene_says : SceneAnswer → Outcome (Unit {0})
-scene_says SceneAnswers.TheVariants.Accepted = given tt
-scene_says (SceneAnswers.TheVariants.Refused r) = refused (number_of r) 0
+abbrev pub carrying : Refusal → ℕ → Refused
+carrying why n = record { why = why; carries = n }
 
-unfoldable pub pair_says : PairAnswer → Outcome Verdict
-pair_says (PairAnswers.TheVariants.Judged v) = given v
-pair_says (PairAnswers.TheVariants.Refused r) = refused (number_of r) 0
+unfoldable pub outcome_alone : {A : Type 0} → Result A Refusal → Outcome A
+outcome_alone (Ok a) = given a
+outcome_alone (Err r) = refused (number_of r) 0
+
+unfoldable pub outcome_of : {A : Type 0} → Result A Refused → Outcome A
+outcome_of (Ok a) = given a
+outcome_of (Err r) = refused (number_of r.why) r.carries
 
 -- one row of the table: its number, whether its condition holds, what its refusal carries
 pub record Check : Type 0 where
@@ -108,11 +108,11 @@ abbrev pub piece_checks : Scene → Kind → ℕ → ℕ → ℕ → List Check
 piece_checks s kind i j k = scene_checks s ++ piece_asked s kind i j k
 
 -- what is promised of the check of a scene, of a pair asked for, and of a piece of a pair
-abbrev pub SceneChecked : Scene → SceneAnswer → Type 0
-SceneChecked s r = Answers (scene_checks s) (λ t. Unit {0}) (scene_says r)
+abbrev pub SceneChecked : Scene → Result (Unit {0}) Refusal → Type 0
+SceneChecked s r = Answers (scene_checks s) (λ t. Unit {0}) (outcome_alone r)
 
-abbrev pub PairJudged : Scene → Kind → ℕ → ℕ → PairAnswer → Type 0
-PairJudged s kind i j r = Answers (pair_checks s kind i j) (PairIs s kind i j) (pair_says r)
+abbrev pub PairJudged : Scene → Kind → ℕ → ℕ → Result Verdict Refusal → Type 0
+PairJudged s kind i j r = Answers (pair_checks s kind i j) (PairIs s kind i j) (outcome_alone r)
 
-abbrev pub PieceJudged : Scene → Kind → ℕ → ℕ → ℕ → PairAnswer → Type 0
-PieceJudged s kind i j k r = Answers (piece_checks s kind i j k) (PieceIs (piece_of s kind i j k)) (pair_says r)
+abbrev pub PieceJudged : Scene → Kind → ℕ → ℕ → ℕ → Result Verdict Refusal → Type 0
+PieceJudged s kind i j k r = Answers (piece_checks s kind i j k) (PieceIs (piece_of s kind i j k)) (outcome_alone r)

@@ -1,16 +1,15 @@
 -- 'Cloth at rest': a degenerate piece is decided too, so that a piece and a pair have one of four words.
-use Rattle.std.specs.Prelude.{ℕ, ◌<◌}
+use Rattle.std.specs.Prelude.{ℕ, ◌<◌, Result}
 use Rattle.meaning.specs.Scene.{Scene}
 use Rattle.meaning.specs.Pieces.{Piece, piece_of, piece_count}
 use Rattle.meaning.specs.Equations.{Touches}
 use Rattle.meaning.specs.Verdicts.{PieceIs, SomePiece}
-use Rattle.meaning.specs.Refusals.{Outcome, given, refused, number_of, Answers, pair_checks, piece_checks}
+use Rattle.meaning.specs.Refusals.{Answers, pair_checks, piece_checks, outcome_alone}
 use Rattle.meaning.specs.declared.Kind.{Kind}
 use Rattle.meaning.specs.declared.Verdict.{Verdict}
 use Rattle.meaning.specs.declared.Settled.{Settled}
 use Rattle.meaning.specs.declared.Settled.TheVariants.{Hit, Miss, Touch, Apart}
-use Rattle.meaning.specs.declared.SettledAnswer.{SettledAnswer}
-use Rattle.meaning.specs.declared.SettledAnswer.TheVariants.{Decided, Refused}
+use Rattle.meaning.specs.declared.Refusal.{Refusal}
 
 -- hit and miss as before; a degenerate piece is touch if nonnegative weights exist, else apart
 unfoldable pub PieceSettled : Piece → Settled → Type 0
@@ -34,12 +33,8 @@ PairSettled s kind i j Apart =
 PairSettled s kind i j Miss = ¬ SomeSettled s kind i j Hit × ¬ SomePiece s kind i j Verdict.Degenerate
 
 -- what is promised of a pair asked for, and of a piece of a pair: the refusals are those of the three-case verdict
-unfoldable pub settled_says : SettledAnswer → Outcome Settled
-settled_says (Decided w) = given w
-settled_says (Refused r) = refused (number_of r) 0
+abbrev pub PairDecided : Scene → Kind → ℕ → ℕ → Result Settled Refusal → Type 0
+PairDecided s kind i j r = Answers (pair_checks s kind i j) (PairSettled s kind i j) (outcome_alone r)
 
-abbrev pub PairDecided : Scene → Kind → ℕ → ℕ → SettledAnswer → Type 0
-PairDecided s kind i j r = Answers (pair_checks s kind i j) (PairSettled s kind i j) (settled_says r)
-
-abbrev pub PieceDecided : Scene → Kind → ℕ → ℕ → ℕ → SettledAnswer → Type 0
-PieceDecided s kind i j k r = Answers (piece_checks s kind i j k) (PieceSettled (piece_of s kind i j k)) (settled_says r)
+abbrev pub PieceDecided : Scene → Kind → ℕ → ℕ → ℕ → Result Settled Refusal → Type 0
+PieceDecided s kind i j k r = Answers (piece_checks s kind i j k) (PieceSettled (piece_of s kind i j k)) (outcome_alone r)

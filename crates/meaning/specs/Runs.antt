@@ -1,13 +1,12 @@
 -- Document 02, §12: triangles in runs of 16 by place, the joint box of a run, how many boxes the pt part tests in one pass, and how a call
 -- tells that.
-use Rattle.std.specs.Prelude.{ℕ, zero, suc, ◌+◌, ◌*◌, ◌-◌, ◌/◌, min, Bool, ◌&&◌, List, [], ◌∷◌, ◌≡◌}
+use Rattle.std.specs.Prelude.{ℕ, zero, suc, ◌+◌, ◌*◌, ◌-◌, ◌/◌, min, Bool, ◌&&◌, List, [], ◌∷◌, ◌≡◌, Result}
 use Rattle.sequences.specs.Gather.{sum}
 use Rattle.sequences.specs.Pick.{pick}
 use Rattle.meaning.specs.Scene.{Scene, vertex_count, triangle_count}
 use Rattle.meaning.specs.Boxes.{Span, Axis, x_axis, y_axis, z_axis, joint, meet, vertex_span, triangle_span}
-use Rattle.meaning.specs.Refusals.{Outcome, given, refused}
-use Rattle.meaning.specs.List.{list_says}
-use Rattle.meaning.specs.declared.ListAnswer.{ListAnswer}
+use Rattle.meaning.specs.Refusals.{Outcome, given, refused, outcome_of}
+use Rattle.meaning.specs.declared.Refused.{Refused}
 
 -- 'runs is triangles / 16 rounded up'
 abbrev pub runs_of : ℕ → ℕ
@@ -51,6 +50,6 @@ tests_left s (given n) t = box_tests s ∷ []
 tests_left s (refused n c) t = t
 
 -- an answer of the list that is right, with its box tests in a lent number that held t and holds t'
-pub record Tested (s : Scene) (Right : ListAnswer → Type 0) (t t' : List ℕ) (r : ListAnswer) : Type 0 where
+pub record Tested (s : Scene) (Right : Result ℕ Refused → Type 0) (t t' : List ℕ) (r : Result ℕ Refused) : Type 0 where
   pub list : Right r
-  pub tests : t' ≡ tests_left s (list_says r) t
+  pub tests : t' ≡ tests_left s (outcome_of r) t

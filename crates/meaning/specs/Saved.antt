@@ -1,13 +1,12 @@
 -- Document 02, §7: a scene written as text. Its records, in the order of 'Scene text', the text that is their lines, and what is promised of
 -- whoever writes it.
-use Rattle.std.specs.Prelude.{ℕ, List, [], ◌∷◌, ◌++◌, ◌≡◌, ltb, ℤ, length}
+use Rattle.std.specs.Prelude.{ℕ, List, [], ◌∷◌, ◌++◌, ◌≡◌, ltb, ℤ, length, Result}
 use Rattle.meaning.specs.Limits.{text_limit}
 use Rattle.meaning.specs.Scene.{Scene}
-use Rattle.meaning.specs.Refusals.{Outcome, given, refused, number_of, Check, Answers, scene_checks, room_check}
+use Rattle.meaning.specs.Refusals.{Check, Answers, scene_checks, room_check, outcome_of}
 use Rattle.meaning.specs.List.{leaves}
 use Rattle.meaning.specs.Text.{Entry, vertex, edge, triangle, seam, text_of}
-use Rattle.meaning.specs.declared.SaveAnswer.{SaveAnswer}
-use Rattle.meaning.specs.declared.SaveAnswer.TheVariants.{Bytes, Refused}
+use Rattle.meaning.specs.declared.Refused.{Refused}
 
 -- ---- the records of a scene: each part as it is stored, ends, corners and seams too
 
@@ -46,10 +45,6 @@ saved_text s = text_of (records_of s)
 
 -- ---- what a writer answers, and what it leaves in the lent buffer
 
-unfoldable pub save_says : SaveAnswer → Outcome ℕ
-save_says (Bytes n) = given n
-save_says (Refused r n) = refused (number_of r) n
-
 -- the scene's own refusals first, then 8 where the text is over 32,768 bytes
 abbrev pub saved_checks : Scene → List Check
 saved_checks s = scene_checks s ++ (record { number = 8; holds = ltb text_limit (length (saved_text s)); carries = 0 } ∷ [])
@@ -61,11 +56,11 @@ save_checks s room =
     ++ (room_check room (length (saved_text s)) ∷ [])
 
 -- the length of the text, asked for alone
-abbrev pub Measured : Scene → SaveAnswer → Type 0
-Measured s r = Answers (saved_checks s) (λ n. n ≡ length (saved_text s)) (save_says r)
+abbrev pub Measured : Scene → Result ℕ Refused → Type 0
+Measured s r = Answers (saved_checks s) (λ n. n ≡ length (saved_text s)) (outcome_of r)
 
 -- the text is written into a lent buffer that held o and holds o': it stands in front, and the unwritten rest is unchanged; a refusal
 -- changes nothing
-pub record Saved (s : Scene) (o o' : List ℕ) (r : SaveAnswer) : Type 0 where
-  pub answer : Answers (save_checks s (length o)) (λ n. n ≡ length (saved_text s)) (save_says r)
-  pub buffer : o' ≡ leaves (save_says r) (saved_text s) o
+pub record Saved (s : Scene) (o o' : List ℕ) (r : Result ℕ Refused) : Type 0 where
+  pub answer : Answers (save_checks s (length o)) (λ n. n ≡ length (saved_text s)) (outcome_of r)
+  pub buffer : o' ≡ leaves (outcome_of r) (saved_text s) o

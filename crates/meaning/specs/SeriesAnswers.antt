@@ -1,5 +1,5 @@
 -- What the answer for a series says: its log, what is told beside it, or its refusal.
-use Rattle.std.specs.Prelude.{replicate, length, take, List, map, ◌≡◌}
+use Rattle.std.specs.Prelude.{replicate, length, take, List, map, ◌≡◌, Err, Ok, Result}
 use Rattle.meaning.specs.declared.Kind.TheVariants.{PointTriangle}
 use Rattle.meaning.specs.Series.{log_limit, HitAt, hit_at, Told}
 use Rattle.meaning.specs.declared.StepHit.{StepHit}
@@ -7,9 +7,9 @@ use Rattle.meaning.specs.declared.Log.{Log}
 use Rattle.meaning.specs.List.{pair}
 use Rattle.meaning.specs.declared.SeriesTold.{SeriesTold}
 use Rattle.meaning.specs.Refusals.{Outcome, given, refused, number_of}
-use Rattle.meaning.specs.declared.SeriesEnding as Outcomes
-use Rattle.meaning.specs.declared.SeriesEnding.{SeriesEnding}
 use Rattle.meaning.specs.declared.SeriesAnswer.{SeriesAnswer}
+use Rattle.meaning.specs.declared.Refused.{Refused}
+use Rattle.meaning.specs.declared.SceneCounts.{SceneCounts}
 
 -- a log that has taken no hit; what stands where no entry is means nothing
 abbrev pub empty_log : Log
@@ -45,9 +45,9 @@ told_says t =
     }
 
 -- told, or refused with a line or a count
-unfoldable pub outcome_says : SeriesEnding → Told → Outcome Told
-outcome_says (Outcomes.TheVariants.Told c) t = given t
-outcome_says (Outcomes.TheVariants.Refused f n) t = refused (number_of f) n
+unfoldable pub outcome_says : Result SceneCounts Refused → Told → Outcome Told
+outcome_says (Ok c) t = given t
+outcome_says (Err f) t = refused (number_of f.why) f.carries
 
 abbrev pub answer_says : SeriesAnswer → Outcome Told
 answer_says r = outcome_says r.outcome (told_says r.told)

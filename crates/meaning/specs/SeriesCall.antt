@@ -1,5 +1,5 @@
 -- What is promised of the call for a series: its answer, and every lent number afterwards.
-use Rattle.std.specs.Prelude.{ℕ, ◌||◌, List, ◌≡◌, ℤ, length}
+use Rattle.std.specs.Prelude.{ℕ, ◌||◌, List, ◌≡◌, ℤ, length, Err, Ok, Result}
 use Rattle.meaning.specs.Scene.{Scene}
 use Rattle.meaning.specs.Refusals.{Outcome, given, refused, number_of, behind_twelve_and_eight}
 use Rattle.meaning.specs.List.{pairs, room_of}
@@ -10,10 +10,9 @@ use Rattle.meaning.specs.SeriesText.{Ended, SeriesIs, last_step_left, list_left}
 use Rattle.meaning.specs.declared.SceneCounts.{SceneCounts}
 use Rattle.meaning.specs.declared.SeriesTold.{SeriesTold}
 use Rattle.meaning.specs.declared.SeriesListed.{SeriesListed}
-use Rattle.meaning.specs.declared.SeriesEnding as Outcomes
-use Rattle.meaning.specs.declared.SeriesEnding.{SeriesEnding}
 use Rattle.meaning.specs.declared.SeriesAnswer.{SeriesAnswer}
 use Rattle.meaning.specs.SeriesAnswers.{HeldRight, nothing_told, answer_says}
+use Rattle.meaning.specs.declared.Refused.{Refused}
 
 -- 12 for any of the lent buffers, 8, then the text
 abbrev pub BoxedSeries : List ℕ → Scene → List ℤ → ℕ → Outcome Ended → Type 0
@@ -29,9 +28,9 @@ unfoldable pub counts_part : Outcome Ended → Outcome SceneCounts
 counts_part (given e) = given (counts_of (last_step e.series))
 counts_part (refused n c) = refused n c
 
-unfoldable pub counts_said : SeriesEnding → Outcome SceneCounts
-counts_said (Outcomes.TheVariants.Told c) = given c
-counts_said (Outcomes.TheVariants.Refused f n) = refused (number_of f) n
+unfoldable pub counts_said : Result SceneCounts Refused → Outcome SceneCounts
+counts_said (Ok c) = given c
+counts_said (Err f) = refused (number_of f.why) f.carries
 
 -- each stored box is then the one worked out from the last step's positions
 unfoldable pub FillsLast : Outcome Ended → List ℤ → List ℤ → Type 0
@@ -39,9 +38,9 @@ FillsLast (given e) b b' = Filled (last_step e.series) b b'
 FillsLast (refused n c) b b' = b' ≡ b
 
 -- the log that is told holds as many entries as it says, in an array of 64; a refusal tells nothing
-unfoldable pub ToldWhole : SeriesEnding → SeriesTold → Type 0
-ToldWhole (Outcomes.TheVariants.Told c) t = HeldRight t.log
-ToldWhole (Outcomes.TheVariants.Refused f n) t = t ≡ nothing_told
+unfoldable pub ToldWhole : Result SceneCounts Refused → SeriesTold → Type 0
+ToldWhole (Ok c) t = HeldRight t.log
+ToldWhole (Err f) t = t ≡ nothing_told
 
 pub record SeriesCalled (text : List ℕ) (lent left : Scene) (b b' : List ℤ) (l l' : List ℕ) (r : SeriesAnswer) : Type 0 where
   pub outcome : Outcome Ended

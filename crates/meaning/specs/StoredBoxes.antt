@@ -1,17 +1,17 @@
 -- Document 02, §8: 'Keep the boxes of all vertices, then edges, then triangles with the scene, six numbers each, the three lows first.' Where
 -- they stand, what 12 and 17 say of them, and what is promised of the calls that fill them in and that make the list from them.
-use Rattle.std.specs.Prelude.{ℕ, ◌+◌, ◌*◌, ◌≤◌, ◌<◌, min, Bool, ◌||◌, List, [], ◌∷◌, ◌++◌, map, ◌≡◌, ltb, ℤ, pos, length, get_or}
+use Rattle.std.specs.Prelude.{ℕ, ◌+◌, ◌*◌, ◌≤◌, ◌<◌, min, Bool, ◌||◌, List, [], ◌∷◌, ◌++◌, map, ◌≡◌, ltb, ℤ, pos, length, get_or, Result}
 use Rattle.meaning.specs.Limits.{vertex_limit, edge_limit, triangle_limit}
 use Rattle.meaning.specs.Scene.{Scene, vertex_count, edge_count, triangle_count, some_below, differ}
 use Rattle.meaning.specs.Boxes.{Span, Axis, x_axis, y_axis, z_axis, vertex_span, edge_span, triangle_span}
-use Rattle.meaning.specs.Refusals.{Outcome, given, refused, Check, Answers, scene_says, scene_checks, room_check, behind_twelve_and_eight}
-use Rattle.meaning.specs.List.{pairs, entries, room_of, list_says, leaves}
+use Rattle.meaning.specs.Refusals.{Outcome, given, refused, Check, Answers, scene_checks, room_check, behind_twelve_and_eight, outcome_alone, outcome_of}
+use Rattle.meaning.specs.List.{pairs, entries, room_of, leaves}
 use Rattle.meaning.specs.SceneWords.{byte_of, AllSettled}
-use Rattle.meaning.specs.Text.{TextIs, short_buffer, long_text, text_says, counts_told, filled}
+use Rattle.meaning.specs.Text.{TextIs, short_buffer, long_text, counts_told, filled}
 use Rattle.meaning.specs.declared.Settled.{Settled}
-use Rattle.meaning.specs.declared.SceneAnswer.{SceneAnswer}
-use Rattle.meaning.specs.declared.ListAnswer.{ListAnswer}
-use Rattle.meaning.specs.declared.TextAnswer.{TextAnswer}
+use Rattle.meaning.specs.declared.Refusal.{Refusal}
+use Rattle.meaning.specs.declared.Refused.{Refused}
+use Rattle.meaning.specs.declared.SceneCounts.{SceneCounts}
 
 -- ---- a box, and where it stands
 
@@ -133,26 +133,26 @@ FillsAfter (given a) s b b' = Filled s b b'
 FillsAfter (refused n c) s b b' = b' ≡ b
 
 -- the boxes of a scene in slices are filled in
-pub record BoxesFilled (s : Scene) (b b' : List ℤ) (r : SceneAnswer) : Type 0 where
-  pub answer : Answers (box_checks s b) (λ t. Unit {0}) (scene_says r)
-  pub buffer : FillsAfter (scene_says r) s b b'
+pub record BoxesFilled (s : Scene) (b b' : List ℤ) (r : Result (Unit {0}) Refusal) : Type 0 where
+  pub answer : Answers (box_checks s b) (λ t. Unit {0}) (outcome_alone r)
+  pub buffer : FillsAfter (outcome_alone r) s b b'
 
 -- the pairs are counted from the stored boxes
-abbrev pub CountedStored : Scene → List ℤ → ListAnswer → Type 0
-CountedStored s b r = Answers (box_checks s b ++ stale_checks s b) (λ n. n ≡ length (pairs s)) (list_says r)
+abbrev pub CountedStored : Scene → List ℤ → Result ℕ Refused → Type 0
+CountedStored s b r = Answers (box_checks s b ++ stale_checks s b) (λ n. n ≡ length (pairs s)) (outcome_of r)
 
 -- the list is made from the stored boxes b, in a lent buffer that held o and holds o'
-pub record ListedStored (s : Scene) (b : List ℤ) (o o' : List ℕ) (r : ListAnswer) : Type 0 where
-  pub answer : Answers (box_checks s b ++ stored_checks s b (room_of o)) (λ n. n ≡ length (pairs s)) (list_says r)
-  pub buffer : o' ≡ leaves (list_says r) (entries (pairs s)) o
+pub record ListedStored (s : Scene) (b : List ℤ) (o o' : List ℕ) (r : Result ℕ Refused) : Type 0 where
+  pub answer : Answers (box_checks s b ++ stored_checks s b (room_of o)) (λ n. n ≡ length (pairs s)) (outcome_of r)
+  pub buffer : o' ≡ leaves (outcome_of r) (entries (pairs s)) o
 
 -- and each listed pair judged, in a buffer that held w and holds w'; the room is the smaller of the two
-pub record SettledStored (s : Scene) (b : List ℤ) (o o' w w' : List ℕ) (r : ListAnswer) : Type 0 where
-  pub answer : Answers (box_checks s b ++ stored_checks s b (min (room_of o) (length w))) (λ n. n ≡ length (pairs s)) (list_says r)
-  pub list : o' ≡ leaves (list_says r) (entries (pairs s)) o
+pub record SettledStored (s : Scene) (b : List ℤ) (o o' w w' : List ℕ) (r : Result ℕ Refused) : Type 0 where
+  pub answer : Answers (box_checks s b ++ stored_checks s b (min (room_of o) (length w))) (λ n. n ≡ length (pairs s)) (outcome_of r)
+  pub list : o' ≡ leaves (outcome_of r) (entries (pairs s)) o
   pub words : List Settled
   pub right : AllSettled s (pairs s) words
-  pub bytes : w' ≡ leaves (list_says r) (map byte_of words) w
+  pub bytes : w' ≡ leaves (outcome_of r) (map byte_of words) w
 
 -- ---- a text read with its boxes
 
@@ -166,9 +166,9 @@ unfoldable pub FillsRead : Outcome Scene → List ℤ → List ℤ → Type 0
 FillsRead (given s) b b' = Filled s b b'
 FillsRead (refused n line) b b' = b' ≡ b
 
-pub record BoxedRead (text : List ℕ) (lent left : Scene) (b b' : List ℤ) (r : TextAnswer) : Type 0 where
+pub record BoxedRead (text : List ℕ) (lent left : Scene) (b b' : List ℤ) (r : Result SceneCounts Refused) : Type 0 where
   pub outcome : Outcome Scene
   pub right : BoxedOutcome text lent b outcome
-  pub says : text_says r ≡ counts_told outcome
+  pub says : outcome_of r ≡ counts_told outcome
   pub leaves : left ≡ filled outcome lent
   pub boxes : FillsRead outcome b b'

@@ -1,17 +1,16 @@
 -- 'Scene text' of document 01: a record and the bytes of its line, the texts that are scenes, the first faulty line, and what a reader
 -- of texts answers.
-use Rattle.std.specs.Prelude.{ℕ, suc, ◌*◌, ◌≤◌, Bool, false, ◌||◌, List, [], ◌∷◌, ◌++◌, map, ◌≡◌, ltb, ℤ, pos, negsuc, nat_abs, length}
+use Rattle.std.specs.Prelude.{ℕ, suc, ◌*◌, ◌≤◌, Bool, false, ◌||◌, List, [], ◌∷◌, ◌++◌, map, ◌≡◌, ltb, ℤ, pos, negsuc, nat_abs, length, Result}
 use Rattle.whole.specs.Vector.{Vector}
 use Rattle.sequences.specs.Wrote.{written}
 use Rattle.decimals.specs.Digits.{digits}
 use Rattle.meaning.specs.Limits.{vertex_limit, edge_limit, triangle_limit, seam_limit, text_limit, digit_limit}
 use Rattle.meaning.specs.Scene.{Scene, scene_of, vertex_count, edge_count, triangle_count, seam_count, over_size, out_of_range, unknown_vertex, broken_seam, repeated_vertex}
-use Rattle.meaning.specs.Refusals.{Outcome, given, refused, Check, Answers, number_of, behind_twelve_and_eight}
+use Rattle.meaning.specs.Refusals.{Outcome, given, refused, Check, Answers, behind_twelve_and_eight, outcome_of}
 use Rattle.meaning.specs.Lines as Lines
 use Rattle.meaning.specs.Lines.{Grammar, after_all, lines_of}
 use Rattle.meaning.specs.declared.SceneCounts.{SceneCounts}
-use Rattle.meaning.specs.declared.TextAnswer.{TextAnswer}
-use Rattle.meaning.specs.declared.TextAnswer.TheVariants.{Read, Refused}
+use Rattle.meaning.specs.declared.Refused.{Refused}
 
 -- ---- a record and its line
 
@@ -197,10 +196,6 @@ unfoldable pub counts_told : Outcome Scene → Outcome SceneCounts
 counts_told (given s) = given (counts_of s)
 counts_told (refused n line) = refused n line
 
-unfoldable pub text_says : TextAnswer → Outcome SceneCounts
-text_says (Read c) = given c
-text_says (Refused r line) = refused (number_of r) line
-
 -- lent buffers with a scene in front; what lies behind it is unchanged
 abbrev pub in_front_of : Scene → Scene → Scene
 in_front_of s lent =
@@ -213,8 +208,8 @@ filled (given s) lent = in_front_of s lent
 filled (refused n line) lent = lent
 
 -- what is promised of a reader: the buffers were lent, and are left
-pub record TextRead (text : List ℕ) (lent left : Scene) (r : TextAnswer) : Type 0 where
+pub record TextRead (text : List ℕ) (lent left : Scene) (r : Result SceneCounts Refused) : Type 0 where
   pub outcome : Outcome Scene
   pub right : TextOutcome text lent outcome
-  pub says : text_says r ≡ counts_told outcome
+  pub says : outcome_of r ≡ counts_told outcome
   pub leaves : left ≡ filled outcome lent

@@ -1,6 +1,6 @@
 -- The contact of a pair, as document 02 says it: of the hitting pieces the one with the smallest k, its time and its shares; the answer that
 -- carries them; and the contacts of a whole scene.
-use Rattle.std.specs.Prelude.{ℕ, ◌/◌, ◌%◌, ◌≤◌, ◌<◌, min, List, [], ◌∷◌, ◌++◌, map, ◌≡◌, length, take, drop}
+use Rattle.std.specs.Prelude.{ℕ, ◌/◌, ◌%◌, ◌≤◌, ◌<◌, min, List, [], ◌∷◌, ◌++◌, map, ◌≡◌, length, take, drop, Result}
 use Rattle.cutting.specs.Floats.{handed_out}
 use Rattle.meaning.specs.Limits.{contact_limit}
 use Rattle.meaning.specs.Scene.{Scene, reaches_beyond}
@@ -8,8 +8,8 @@ use Rattle.meaning.specs.Pieces.{Piece, piece_of, piece_count}
 use Rattle.meaning.specs.Verdicts.{PieceIs}
 use Rattle.meaning.specs.Resting.{PairSettled}
 use Rattle.meaning.specs.Contacts.{TimeIs, FirstShareIs, SecondShareIs, at_corner, at_higher_end}
-use Rattle.meaning.specs.Refusals.{Outcome, given, refused, Check, Answers, number_of, scene_checks, pair_checks, room_check}
-use Rattle.meaning.specs.List.{Pair, pairs, entries, room_of, list_says, leaves}
+use Rattle.meaning.specs.Refusals.{Outcome, given, refused, Check, Answers, scene_checks, pair_checks, room_check, outcome_alone, outcome_of}
+use Rattle.meaning.specs.List.{Pair, pairs, entries, room_of, leaves}
 use Rattle.meaning.specs.SceneWords.{byte_of}
 use Rattle.meaning.specs.declared.Kind.{Kind}
 use Rattle.meaning.specs.declared.Kind.TheVariants.{PointTriangle, EdgeEdge}
@@ -18,13 +18,10 @@ use Rattle.meaning.specs.declared.Settled.{Settled}
 use Rattle.meaning.specs.declared.ContactNumbers.{ContactNumbers}
 use Rattle.meaning.specs.declared.WholeContact.{WholeContact}
 use Rattle.meaning.specs.declared.WholeContact.TheVariants.{Hit, Miss, Touch, Apart}
-use Rattle.meaning.specs.declared.WholeContactAnswer as WholeContactAnswers
-use Rattle.meaning.specs.declared.WholeContactAnswer.{WholeContactAnswer}
 use Rattle.meaning.specs.declared.Contact as Contacts
 use Rattle.meaning.specs.declared.Contact.{Contact}
-use Rattle.meaning.specs.declared.ContactAnswer as ContactAnswers
-use Rattle.meaning.specs.declared.ContactAnswer.{ContactAnswer}
-use Rattle.meaning.specs.declared.ListAnswer.{ListAnswer}
+use Rattle.meaning.specs.declared.Refusal.{Refusal}
+use Rattle.meaning.specs.declared.Refused.{Refused}
 
 -- ---- the numbers of a hit
 
@@ -87,19 +84,11 @@ range_check s = record { number = 16; holds = reaches_beyond contact_limit s; ca
 abbrev pub contact_checks : Scene → Kind → ℕ → ℕ → List Check
 contact_checks s kind i j = pair_checks s kind i j ++ (range_check s ∷ [])
 
-unfoldable pub whole_contact_says : WholeContactAnswer → Outcome WholeContact
-whole_contact_says (WholeContactAnswers.TheVariants.Found m) = given m
-whole_contact_says (WholeContactAnswers.TheVariants.Refused r) = refused (number_of r) 0
+abbrev pub WholeContactFound : Scene → Kind → ℕ → ℕ → Result WholeContact Refusal → Type 0
+WholeContactFound s kind i j r = Answers (contact_checks s kind i j) (WholeContactIs s kind i j) (outcome_alone r)
 
-unfoldable pub contact_says : ContactAnswer → Outcome Contact
-contact_says (ContactAnswers.TheVariants.Given c) = given c
-contact_says (ContactAnswers.TheVariants.Refused r) = refused (number_of r) 0
-
-abbrev pub WholeContactFound : Scene → Kind → ℕ → ℕ → WholeContactAnswer → Type 0
-WholeContactFound s kind i j r = Answers (contact_checks s kind i j) (WholeContactIs s kind i j) (whole_contact_says r)
-
-abbrev pub ContactGiven : Scene → Kind → ℕ → ℕ → ContactAnswer → Type 0
-ContactGiven s kind i j r = Answers (contact_checks s kind i j) (ContactIs s kind i j) (contact_says r)
+abbrev pub ContactGiven : Scene → Kind → ℕ → ℕ → Result Contact Refusal → Type 0
+ContactGiven s kind i j r = Answers (contact_checks s kind i j) (ContactIs s kind i j) (outcome_alone r)
 
 -- ---- in lent buffers
 
@@ -149,10 +138,10 @@ rows_after (given n) ms c = rows_left ms c
 rows_after (refused n d) ms c = c
 
 -- the buffers held o, b and c, and hold o', b' and c'
-pub record ContactsListed (s : Scene) (o o' b b' c c' : List ℕ) (r : ListAnswer) : Type 0 where
-  pub answer : Answers (contact_list_checks s (contact_room o b c)) (λ n. n ≡ length (pairs s)) (list_says r)
-  pub list : o' ≡ leaves (list_says r) (entries (pairs s)) o
+pub record ContactsListed (s : Scene) (o o' b b' c c' : List ℕ) (r : Result ℕ Refused) : Type 0 where
+  pub answer : Answers (contact_list_checks s (contact_room o b c)) (λ n. n ≡ length (pairs s)) (outcome_of r)
+  pub list : o' ≡ leaves (outcome_of r) (entries (pairs s)) o
   pub contacts : List WholeContact
   pub right : AllContacts s (pairs s) contacts
-  pub bytes : b' ≡ leaves (list_says r) (map (λ m. byte_of (word_of m)) contacts) b
-  pub rows : c' ≡ rows_after (list_says r) contacts c
+  pub bytes : b' ≡ leaves (outcome_of r) (map (λ m. byte_of (word_of m)) contacts) b
+  pub rows : c' ≡ rows_after (outcome_of r) contacts c

@@ -2,6 +2,9 @@
 
 #![tactic(auto)]
 
+ghost use Rattle.std.specs.Prelude.{◌≡◌};
+ghost use Rattle.meaning.specs.Refusals.{carrying};
+
 // The sizes of document 01. specs/Limits.antt has the same numbers for promises and proofs.
 pub const COORDINATE_LIMIT: i32 = 524287;
 
@@ -63,14 +66,14 @@ pub const WEIGHT_LIMIT: u64 = 1099511627776;
 pub const CLAIM_ROOM: usize = 2048;
 
 // A pair is asked for by kind: a point and a triangle, or two edges.
-#[derive(Clone, Copy)]
+#[derive(Clone, Copy, Debug, PartialEq, Eq)]
 pub enum Kind {
     PointTriangle,
     EdgeEdge,
 }
 
 // A verdict is one of three named outcomes, never a bare number.
-#[derive(Clone, Copy)]
+#[derive(Clone, Copy, Debug, PartialEq, Eq)]
 pub enum Verdict {
     Hit,
     Miss,
@@ -78,7 +81,7 @@ pub enum Verdict {
 }
 
 // The four words once a degenerate piece is decided too: touch if weights exist, else apart.
-#[derive(Clone, Copy)]
+#[derive(Clone, Copy, Debug, PartialEq, Eq)]
 pub enum Settled {
     Hit,
     Miss,
@@ -86,102 +89,76 @@ pub enum Settled {
     Apart,
 }
 
-// The refusals of documents 01 and 02, in the order of their numbers, 1 to 17, and 18 of a mesh.
-#[derive(Clone, Copy)]
+// The refusals of documents 01 and 02, each with its number: 1 to 17, and 18 of a mesh.
+#[derive(Clone, Copy, Debug, PartialEq, Eq)]
 pub enum Refusal {
-    Shape,
-    Coordinate,
-    UnknownVertex,
-    RepeatedVertex,
-    NotThere,
-    SharedVertex,
-    NoRoom,
-    LongText,
-    BadLine,
-    LateRecord,
-    TooMany,
-    ShortBuffer,
-    BlockLength,
-    FilesDiffer,
-    BrokenSeam,
-    BeyondOldRange,
-    StaleBox,
-    WrongOrder,
+    Shape = 1,
+    Coordinate = 2,
+    UnknownVertex = 3,
+    RepeatedVertex = 4,
+    NotThere = 5,
+    SharedVertex = 6,
+    NoRoom = 7,
+    LongText = 8,
+    BadLine = 9,
+    LateRecord = 10,
+    TooMany = 11,
+    ShortBuffer = 12,
+    BlockLength = 13,
+    FilesDiffer = 14,
+    BrokenSeam = 15,
+    BeyondOldRange = 16,
+    StaleBox = 17,
+    WrongOrder = 18,
 }
 
-// The answer to "may this scene be used?".
-#[derive(Clone, Copy)]
-pub enum SceneAnswer {
-    Accepted,
-    Refused(Refusal),
+// A refusal with what it carries: the line at fault, the entry at fault, or the count or length that is needed where it is NoRoom; else 0.
+#[derive(Clone, Copy, Debug, PartialEq, Eq)]
+pub struct Refused {
+    pub why: Refusal,
+    pub carries: usize,
 }
 
-// The answer to a question about a pair, or about a piece of a pair.
-#[derive(Clone, Copy)]
-pub enum PairAnswer {
-    Judged(Verdict),
-    Refused(Refusal),
-}
+// A refusal alone carries nothing.
+impl From<Refusal> for Refused {
+    ghost from_gives = { λ why refused. refused ≡ carrying why 0 };
 
-// The same, in the four words.
-#[derive(Clone, Copy)]
-pub enum SettledAnswer {
-    Decided(Settled),
-    Refused(Refusal),
+    fn from(why: Refusal) -> Refused {
+        Refused { why, carries: 0 }
+    }
 }
 
 // One of the two times of a scene.
-#[derive(Clone, Copy)]
+#[derive(Clone, Copy, Debug, PartialEq, Eq)]
 pub enum Frame {
     Start,
     End,
 }
 
-// The answer to "is this edge through this triangle at that time?".
-#[derive(Clone, Copy)]
-pub enum PiercedAnswer {
-    Pierced,
-    Clear,
-    Refused(Refusal),
-}
-
 // An edge's ends, the lower vertex first; vertices are ordered by the number of the vertex stood for.
-#[derive(Clone, Copy)]
+#[derive(Clone, Copy, Debug, PartialEq, Eq)]
 pub struct Ends {
     pub low: usize,
     pub high: usize,
 }
 
 // A triangle's corners, in rising order of the vertex stood for.
-#[derive(Clone, Copy)]
+#[derive(Clone, Copy, Debug, PartialEq, Eq)]
 pub struct Corners {
     pub low: usize,
     pub middle: usize,
     pub high: usize,
 }
 
-// What a made list is: how many entries it has.
-#[derive(Clone, Copy)]
-pub struct Made {
-    pub count: usize,
-}
-
-// The answer to a call that makes or counts the list. A refusal carries the count needed where it is NoRoom, else 0.
-#[derive(Clone, Copy)]
-pub enum ListAnswer {
-    Listed(Made),
-    Refused(Refusal, usize),
-}
-
 // Which pairs of the rows of a mesh: all that are listed, or of these the ones that are not far from each other.
-#[derive(Clone, Copy)]
+#[derive(Clone, Copy, Debug, PartialEq, Eq)]
 pub enum RowPairs {
     Listed,
     Near,
 }
 
 // Which of the four words are asked for.
-#[derive(Clone, Copy)]
+#[derive(Clone, Copy, Debug, PartialEq, Eq)]
 pub struct Wanted {
     pub hit: bool,
     pub miss: bool,
@@ -190,7 +167,7 @@ pub struct Wanted {
 }
 
 // Of a stretch of rows: how many pairs were kept, how many there are, and how many of these have each word.
-#[derive(Clone, Copy)]
+#[derive(Clone, Copy, Debug, PartialEq, Eq)]
 pub struct KeptRows {
     pub count: usize,
     pub listed: u64,
@@ -200,25 +177,17 @@ pub struct KeptRows {
     pub aparts: u64,
 }
 
-// The answer to "keep the pairs whose words are asked for". A refusal carries the count needed where it is NoRoom, else 0.
-#[derive(Clone, Copy)]
-pub enum KeptAnswer {
-    Kept(KeptRows),
-    Refused(Refusal, usize),
-}
-
-// The answer to "is every side of every triangle an edge, and no edge there twice?": the first side that has not the edge lent for it, or the
-// first number of the order of the edges behind which their ends do not rise.
-#[derive(Clone, Copy)]
-pub enum EdgesAnswer {
+// Whether every side of every triangle is an edge, and no edge there twice: the first side that has not the edge lent for it, or the first number of
+// the order of the edges behind which their ends do not rise.
+#[derive(Clone, Copy, Debug, PartialEq, Eq)]
+pub enum EdgesFound {
     Whole,
     Bare(usize),
     Twice(usize),
-    Refused(Refusal),
 }
 
 // How many vertices, edges, triangles and seams a scene has.
-#[derive(Clone, Copy)]
+#[derive(Clone, Copy, Debug, PartialEq, Eq)]
 pub struct SceneCounts {
     pub vertices: usize,
     pub edges: usize,
@@ -226,25 +195,9 @@ pub struct SceneCounts {
     pub seams: usize,
 }
 
-// The answer to "read this text": the counts of the scene that now stands in the lent buffers, or a refusal with its line (0 where it
-// has none).
-#[derive(Clone, Copy)]
-pub enum TextAnswer {
-    Read(SceneCounts),
-    Refused(Refusal, usize),
-}
-
-// The answer to "check these claims": how many were answered, or a refusal with its line, or with the count needed where it is NoRoom
-// (0 where it has neither).
-#[derive(Clone, Copy)]
-pub enum ClaimsAnswer {
-    Answered(usize),
-    Refused(Refusal, usize),
-}
-
 // When and where a pair is hit: the piece, k, and three shares, each number in whole 2^20ths. Of a point and a triangle the shares are the
 // corners', in rising number. Of two edges each has its share at its higher end, the edge with the lower place first, and the third is 0.
-#[derive(Clone, Copy)]
+#[derive(Clone, Copy, Debug, PartialEq, Eq)]
 pub struct ContactNumbers {
     pub piece: usize,
     pub k: u32,
@@ -254,7 +207,7 @@ pub struct ContactNumbers {
 }
 
 // The four words, the hit with its numbers.
-#[derive(Clone, Copy)]
+#[derive(Clone, Copy, Debug, PartialEq, Eq)]
 pub enum WholeContact {
     Hit(ContactNumbers),
     Miss,
@@ -262,14 +215,8 @@ pub enum WholeContact {
     Apart,
 }
 
-#[derive(Clone, Copy)]
-pub enum WholeContactAnswer {
-    Found(WholeContact),
-    Refused(Refusal),
-}
-
 // What a contact of a point and a triangle carries: the time handed out, and the share of each corner, in rising number.
-#[derive(Clone, Copy)]
+#[derive(Clone, Copy, Debug, PartialEq)]
 pub struct PointContact {
     pub time: f64,
     pub low: f64,
@@ -278,7 +225,7 @@ pub struct PointContact {
 }
 
 // What a contact of two edges carries: the time handed out, and each edge's share at its higher-numbered end, the lower place first.
-#[derive(Clone, Copy)]
+#[derive(Clone, Copy, Debug, PartialEq)]
 pub struct EdgeContact {
     pub time: f64,
     pub first: f64,
@@ -286,7 +233,7 @@ pub struct EdgeContact {
 }
 
 // A hit carries its piece, k itself and beside it the time and the place; the other words carry nothing.
-#[derive(Clone, Copy)]
+#[derive(Clone, Copy, Debug, PartialEq)]
 pub enum Contact {
     PointHit(usize, u32, PointContact),
     EdgeHit(usize, u32, EdgeContact),
@@ -295,34 +242,15 @@ pub enum Contact {
     Apart,
 }
 
-#[derive(Clone, Copy)]
-pub enum ContactAnswer {
-    Given(Contact),
-    Refused(Refusal),
-}
-
-// Digits: what they are worth, or that they are no number of the form.
-#[derive(Clone, Copy)]
-pub enum Whole {
-    Worth(u64),
-    Bad,
-}
-
 // A decimal, in hundredths.
-#[derive(Clone, Copy)]
+#[derive(Clone, Copy, Debug, PartialEq, Eq)]
 pub struct Hundredths {
     pub minus: bool,
     pub size: u64,
 }
 
-#[derive(Clone, Copy)]
-pub enum Decimal {
-    Of(Hundredths),
-    Bad,
-}
-
 // What a line says: nothing, a vertex, a face by the numbers of its vertices counted from 1; or it is none of these.
-#[derive(Clone, Copy)]
+#[derive(Clone, Copy, Debug, PartialEq, Eq)]
 pub enum ObjLine {
     Skipped,
     Vertex(Hundredths, Hundredths, Hundredths),
@@ -331,33 +259,24 @@ pub enum ObjLine {
 }
 
 // Of two OBJ files: the start or the end.
-#[derive(Clone, Copy)]
+#[derive(Clone, Copy, Debug, PartialEq, Eq)]
 pub enum WhichFile {
     Start,
     End,
 }
 
-// What an import answers: the counts of the scene, or the refusal; for 8 and for a fault of a line also its file and its line.
-#[derive(Clone, Copy)]
-pub enum ImportAnswer {
-    Read(SceneCounts),
-    Refused(Refusal),
-    RefusedIn(WhichFile, Refusal, usize),
-}
-
-// The answer to "write this scene as text" and to "how long is it?": how many bytes the text has, or a refusal, with the length needed where it
-// is NoRoom (else 0).
-#[derive(Clone, Copy)]
-pub enum SaveAnswer {
-    Bytes(usize),
-    Refused(Refusal, usize),
+// Why two files are not imported: for 8 and for a fault of a line also the file, and the line (0 where it has none).
+#[derive(Clone, Copy, Debug, PartialEq, Eq)]
+pub enum ImportRefusal {
+    Of(Refusal),
+    In(WhichFile, Refused),
 }
 
 // The entries of a log.
 pub const LOG_ROOM: usize = 64;
 
 // A hit: its step, counted from 1, its kind and its two places.
-#[derive(Clone, Copy)]
+#[derive(Clone, Copy, Debug, PartialEq, Eq)]
 pub struct StepHit {
     pub step: usize,
     pub kind: Kind,
@@ -366,7 +285,7 @@ pub struct StepHit {
 }
 
 // The first `held` of the hits are entries; `later` counts the hits that came when the log was full.
-#[derive(Clone, Copy)]
+#[derive(Clone, Copy, Debug, PartialEq, Eq)]
 pub struct Log {
     pub hits: [StepHit; LOG_ROOM],
     pub held: usize,
@@ -374,7 +293,7 @@ pub struct Log {
 }
 
 // What is told of a series: its log, the totals over all steps, and the first step with a hit, counted from 1, or 0 where there is none.
-#[derive(Clone, Copy)]
+#[derive(Clone, Copy, Debug, PartialEq, Eq)]
 pub struct SeriesTold {
     pub log: Log,
     pub listed: u64,
@@ -385,22 +304,15 @@ pub struct SeriesTold {
     pub first: usize,
 }
 
-// The counts of the last step, or the refusal with its line or the count needed.
-#[derive(Clone, Copy)]
-pub enum SeriesEnding {
-    Told(SceneCounts),
-    Refused(Refusal, usize),
-}
-
 // After a refusal nothing is told: the log is empty and every number 0.
-#[derive(Clone, Copy)]
+#[derive(Clone, Copy, Debug, PartialEq, Eq)]
 pub struct SeriesAnswer {
-    pub outcome: SeriesEnding,
+    pub outcome: Result<SceneCounts, Refused>,
     pub told: SeriesTold,
 }
 
 // The answer for a series, and how many pairs its last step lists: 0 after a refusal.
-#[derive(Clone, Copy)]
+#[derive(Clone, Copy, Debug, PartialEq, Eq)]
 pub struct SeriesListed {
     pub answer: SeriesAnswer,
     pub count: usize,

@@ -1,17 +1,15 @@
 -- The checks with which every call over rows of a mesh begins: what each way out of them gives, and what holds where none refuses.
-use Rattle.std.specs.Prelude.{ℕ, ◌≤◌, Bool, true, false, ◌||◌, List, [], ◌∷◌, ◌≡◌, ltb, length}
+use Rattle.std.specs.Prelude.{ℕ, ◌≤◌, Bool, true, false, ◌||◌, List, [], ◌∷◌, ◌≡◌, ltb, length, Err, Ok, Result}
 use Rattle.std.proofs.Math.Path.{refl}
-use Rattle.std.proofs.Common.{ap, arith}
+use Rattle.std.proofs.Common.{arith}
 use borrow.Author.Tests.{ltb-false}
 use Rattle.sequences.specs.Pick.{neither}
 use Rattle.meaning.specs.Scene.{Scene, edge_count, triangle_count}
 use Rattle.meaning.specs.Mesh.{mesh_checks, table_room}
 use Rattle.meaning.specs.MeshRows.{Lent, place_room, box_room, scratch_short, wrong_order, rows_gone, row_checks}
-use Rattle.meaning.specs.Refusals.{Outcome, given, refused, number_of, Check, Answers, scene_says}
+use Rattle.meaning.specs.Refusals.{Outcome, given, refused, number_of, Check, Answers, outcome_alone}
 use Rattle.meaning.specs.declared.Refusal.{Refusal}
 use Rattle.meaning.specs.declared.Refusal.TheVariants.{NotThere, ShortBuffer, WrongOrder}
-use Rattle.meaning.specs.declared.SceneAnswer as SceneAnswers
-use Rattle.meaning.specs.declared.SceneAnswer.{SceneAnswer}
 use Rattle.answers.specs.Answering.{refuses, lets_pass, gives, is_given, refused_before, given_before}
 use Rattle.answers.specs.Below.{or_left, or_rest}
 use Rattle.scene_seams.specs.Alone.{tabled}
@@ -48,21 +46,21 @@ abbrev last_checks : Scene → Lent → (rows first end : ℕ) → List Check
 last_checks s l rows first end =
     record { number = 18; holds = wrong_order s l; carries = 0 } ∷ record { number = 5; holds = rows_gone rows first end; carries = 0 } ∷ []
 
-abbrev pub RowsThere : (e t a b : List ℕ) → (rows first end : ℕ) → SceneAnswer → Type 0
-RowsThere e t a b rows first end r = Answers (last_checks (parts_only e t) (orders_only a b) rows first end) (λ u. Unit {0}) (scene_says r)
+abbrev pub RowsThere : (e t a b : List ℕ) → (rows first end : ℕ) → Result (Unit {0}) Refusal → Type 0
+RowsThere e t a b rows first end r = Answers (last_checks (parts_only e t) (orders_only a b) rows first end) (λ u. Unit {0}) (outcome_alone r)
 
 module _ (e t a b : List ℕ) (rows first end : ℕ) where
-  pub orders_wrong : wrong_order (parts_only e t) (orders_only a b) ≡ true → RowsThere e t a b rows first end (SceneAnswers.TheVariants.Refused WrongOrder)
-  unfolding scene_says number_of
+  pub orders_wrong : wrong_order (parts_only e t) (orders_only a b) ≡ true → RowsThere e t a b rows first end (Err WrongOrder)
+  unfolding outcome_alone number_of
   orders_wrong h = refuses _ _ _ _ h refl
 
   module _ (right : wrong_order (parts_only e t) (orders_only a b) ≡ false) where
-    pub rows_not_there : rows_gone rows first end ≡ true → RowsThere e t a b rows first end (SceneAnswers.TheVariants.Refused NotThere)
-    unfolding scene_says number_of
+    pub rows_not_there : rows_gone rows first end ≡ true → RowsThere e t a b rows first end (Err NotThere)
+    unfolding outcome_alone number_of
     rows_not_there h = lets_pass _ _ _ _ right (refuses _ _ _ _ h refl)
 
-    pub rows_there : rows_gone rows first end ≡ false → RowsThere e t a b rows first end SceneAnswers.TheVariants.Accepted
-    unfolding scene_says
+    pub rows_there : rows_gone rows first end ≡ false → RowsThere e t a b rows first end (Ok tt)
+    unfolding outcome_alone
     rows_there h = lets_pass _ _ _ _ right (lets_pass _ _ _ _ h (gives (λ u. Unit {0}) tt tt))
 
 -- ---- all of them
@@ -77,34 +75,33 @@ pub record RowsOpen (s : Scene) (l : Lent) (rows first end : ℕ) (t' : List ℕ
   pub rising : first ≤ end
   pub within : end ≤ rows
 
-pub record RowsAsked (s : Scene) (l : Lent) (rows first end : ℕ) (t' : List ℕ) (r : SceneAnswer) : Type 0 where
-  pub answer : Answers (row_checks s l rows first end []) (λ u. Unit {0}) (scene_says r)
-  pub opened : r ≡ SceneAnswers.TheVariants.Accepted → RowsOpen s l rows first end t'
+pub record RowsAsked (s : Scene) (l : Lent) (rows first end : ℕ) (t' : List ℕ) (r : Result (Unit {0}) Refusal) : Type 0 where
+  pub answer : Answers (row_checks s l rows first end []) (λ u. Unit {0}) (outcome_alone r)
+  pub opened : r ≡ Ok tt → RowsOpen s l rows first end t'
 
--- a refusal is no Accepted
-not_accepted : {x : Refusal} → SceneAnswers.TheVariants.Refused x ≡ SceneAnswers.TheVariants.Accepted → ⊥
-unfolding scene_says
-not_accepted e = let q = ap scene_says e in let z : ◌≡◌ {A = ℕ} 0 1 = cc in absurd (omega arith)
+-- a refusal lets nothing pass
+not_passed : {x : Refusal} → ◌≡◌ {A = Result (Unit {0}) Refusal} (Err x) (Ok tt) → ⊥
+not_passed e = let z : ◌≡◌ {A = ℕ} 0 1 = cc in absurd (omega arith)
 
 module _ (s : Scene) (l : Lent) (rows first end : ℕ) where
-  pub too_short : (t' : List ℕ) → scratch_short s l ≡ true → RowsAsked s l rows first end t' (SceneAnswers.TheVariants.Refused ShortBuffer)
-  unfolding scene_says number_of
-  too_short t' h = record { answer = refuses _ _ _ _ h refl; opened = λ e. absurd (not_accepted e) }
+  pub too_short : (t' : List ℕ) → scratch_short s l ≡ true → RowsAsked s l rows first end t' (Err ShortBuffer)
+  unfolding outcome_alone number_of
+  too_short t' h = record { answer = refuses _ _ _ _ h refl; opened = λ e. absurd (not_passed e) }
 
-  module _ (long : scratch_short s l ≡ false) {t' : List ℕ} {checked : SceneAnswer} (sewn : MeshSewn s t' checked) where
-    pub mesh_refused : (x : Refusal) → checked ≡ SceneAnswers.TheVariants.Refused x
-        → RowsAsked s l rows first end t' (SceneAnswers.TheVariants.Refused x)
-    unfolding scene_says
+  module _ (long : scratch_short s l ≡ false) {t' : List ℕ} {checked : Result (Unit {0}) Refusal} (sewn : MeshSewn s t' checked) where
+    pub mesh_refused : (x : Refusal) → checked ≡ Err x
+        → RowsAsked s l rows first end t' (Err x)
+    unfolding outcome_alone
     mesh_refused x e =
         let a : Answers (mesh_checks s) (λ u. Unit {0}) (refused (number_of x) 0) = rw e at sewn.checked in
         record {
           answer = lets_pass _ _ _ _ long (refused_before (λ u. Unit {0}) (λ u. Unit {0}) (mesh_checks s) _ (number_of x) 0 a);
-          opened = λ q. absurd (not_accepted q);
+          opened = λ q. absurd (not_passed q);
         }
 
-    module _ (passed : checked ≡ SceneAnswers.TheVariants.Accepted) (r : SceneAnswer) (there : RowsThere s.edges s.triangles l.edge_order l.triangle_order rows first end r) where
-      is_open : r ≡ SceneAnswers.TheVariants.Accepted → RowsOpen s l rows first end t'
-      unfolding scene_says
+    module _ (passed : checked ≡ Ok tt) (r : Result (Unit {0}) Refusal) (there : RowsThere s.edges s.triangles l.edge_order l.triangle_order rows first end r) where
+      is_open : r ≡ Ok tt → RowsOpen s l rows first end t'
+      unfolding outcome_alone
       is_open e =
           let a : Answers (last_checks s l rows first end) (λ u. Unit {0}) (given tt) = rw e at there in
           let (right, rest) = is_given (λ u. Unit {0}) _ _ tt a in
@@ -121,25 +118,25 @@ module _ (s : Scene) (l : Lent) (rows first end : ℕ) where
           }
 
       pub mesh_passed : RowsAsked s l rows first end t' r
-      unfolding scene_says
+      unfolding outcome_alone
       mesh_passed =
           let a : Answers (mesh_checks s) (λ u. Unit {0}) (given tt) = rw passed at sewn.checked in
           record {
-            answer = lets_pass _ _ _ _ long (given_before (λ u. Unit {0}) (λ u. Unit {0}) (mesh_checks s) _ tt (scene_says r) a there);
+            answer = lets_pass _ _ _ _ long (given_before (λ u. Unit {0}) (λ u. Unit {0}) (mesh_checks s) _ tt (outcome_alone r) a there);
             opened = is_open;
           }
 
 -- ---- what else a call asks comes behind them
 
-module _ {s : Scene} {l : Lent} {rows first end : ℕ} {t' : List ℕ} {asked : SceneAnswer} (p : RowsAsked s l rows first end t' asked) {A : Type 0} (R : A → Type 0) (more : List Check) where
-  pub refused_first : (x : Refusal) → asked ≡ SceneAnswers.TheVariants.Refused x → Answers (row_checks s l rows first end more) R (refused (number_of x) 0)
-  unfolding scene_says
+module _ {s : Scene} {l : Lent} {rows first end : ℕ} {t' : List ℕ} {asked : Result (Unit {0}) Refusal} (p : RowsAsked s l rows first end t' asked) {A : Type 0} (R : A → Type 0) (more : List Check) where
+  pub refused_first : (x : Refusal) → asked ≡ Err x → Answers (row_checks s l rows first end more) R (refused (number_of x) 0)
+  unfolding outcome_alone
   refused_first x e =
       let a : Answers (row_checks s l rows first end []) (λ u. Unit {0}) (refused (number_of x) 0) = rw e at p.answer in
       refused_before (λ u. Unit {0}) R (row_checks s l rows first end []) more (number_of x) 0 a
 
-  pub passed_first : (o : Outcome A) → asked ≡ SceneAnswers.TheVariants.Accepted → Answers more R o → Answers (row_checks s l rows first end more) R o
-  unfolding scene_says
+  pub passed_first : (o : Outcome A) → asked ≡ Ok tt → Answers more R o → Answers (row_checks s l rows first end more) R o
+  unfolding outcome_alone
   passed_first o e rest =
       let a : Answers (row_checks s l rows first end []) (λ u. Unit {0}) (given tt) = rw e at p.answer in
       given_before (λ u. Unit {0}) R (row_checks s l rows first end []) more tt o a rest

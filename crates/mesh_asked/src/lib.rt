@@ -9,7 +9,7 @@ ghost use Rattle.meaning.specs.MeshRows.{lent_of, row_count, scratch_short, rows
 ghost use Rattle.mesh_orders.specs.Told.{parts_only};
 ghost use Rattle.mesh_asked.specs.Asking.{RowsThere, RowsAsked};
 
-use meaning::{Refusal, SceneAnswer};
+use meaning::Refusal;
 use mesh_lent::{check_over, table_short};
 use mesh_orders::wrong_order;
 use mesh_parts::{edge_count, triangle_count};
@@ -61,19 +61,19 @@ fn ask_there(
     rows: usize,
     first: usize,
     end: usize,
-) -> SceneAnswer
+) -> Result<(), Refusal>
     requires edge_order_in_bounds { (length edge_order.now ≤ length places.old) × (length triangle_order.now ≤ length places.old) }
     requires triangles_bound { (edge_count (parts_only edges.now triangles.now) ≤ 1073741824)
         × (triangle_count (parts_only edges.now triangles.now) ≤ 1073741824) }
     ensures { RowsThere edges.now triangles.now edge_order.now triangle_order.now rows first end result }
 {
     if wrong_order(edges, triangles, edge_order, triangle_order, places) {
-        return SceneAnswer::Refused(Refusal::WrongOrder);
+        return Err(Refusal::WrongOrder);
     }
     if rows_gone(rows, first, end) {
-        SceneAnswer::Refused(Refusal::NotThere)
+        Err(Refusal::NotThere)
     } else {
-        SceneAnswer::Accepted
+        Ok(())
     }
 }
 
@@ -92,7 +92,7 @@ pub fn ask_rows(
     rows: usize,
     first: usize,
     end: usize,
-) -> SceneAnswer
+) -> Result<(), Refusal>
     ensures { RowsAsked (scene_of positions.now edges.now triangles.now seams.now)
         (lent_of edge_order.now triangle_order.now (length table.old) (length places.old) boxes)
         rows first end table.new result }
@@ -109,19 +109,17 @@ pub fn ask_rows(
         lent,
         boxes,
     ) {
-        return SceneAnswer::Refused(Refusal::ShortBuffer);
+        return Err(Refusal::ShortBuffer);
     }
-    match check_over(positions, edges, triangles, seams, table) {
-        SceneAnswer::Refused(why) => SceneAnswer::Refused(why),
-        SceneAnswer::Accepted => ask_there(
-            edges,
-            triangles,
-            edge_order,
-            triangle_order,
-            places,
-            rows,
-            first,
-            end,
-        ),
-    }
+    check_over(positions, edges, triangles, seams, table)?;
+    ask_there(
+        edges,
+        triangles,
+        edge_order,
+        triangle_order,
+        places,
+        rows,
+        first,
+        end,
+    )
 }

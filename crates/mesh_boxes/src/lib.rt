@@ -83,11 +83,8 @@ fn join_edges(positions: &[i32], edges: &[u32], order: &[u32], boxes: &mut [i32]
         × KeptBehind boxes.old boxes.new
         (edge_place (only_positions positions.now) (edge_count (only_edges edges.now))) }
 {
-    let count = edge_count(edges);
-    let mut k = 0;
-    while k < count {
+    for k in 0..edge_count(edges) {
         store_edge(positions, edges, order, k, boxes);
-        k += 1;
     }
 }
 
@@ -110,11 +107,8 @@ fn join_triangles(
         × KeptBehind boxes.old boxes.new
         (triangle_place (scene_of positions.now edges.now [] []) (triangle_count (only_triangles triangles.now))) }
 {
-    let count = triangle_count(triangles);
-    let mut k = 0;
-    while k < count {
+    for k in 0..triangle_count(triangles) {
         store_triangle(positions, edges, triangles, order, k, boxes);
-        k += 1;
     }
 }
 

@@ -1,5 +1,5 @@
 -- What holds in a mesh that none of the five checks refuses: its sizes, its coordinates, its vertex numbers.
-use Rattle.std.specs.Prelude.{ℕ, ◌+◌, ◌*◌, ◌≤◌, ◌<◌, false, ◌≡◌, length}
+use Rattle.std.specs.Prelude.{ℕ, ◌*◌, ◌≤◌, false, ◌≡◌, length}
 use Rattle.std.proofs.Common.{arith, ltb-false}
 use Rattle.meaning.specs.Scene.{Scene, vertex_count, edge_count, triangle_count, seam_count, reaches_beyond}
 use Rattle.meaning.specs.Limits.{part_limit}

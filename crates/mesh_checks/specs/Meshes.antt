@@ -1,12 +1,11 @@
 -- A mesh that none of its five checks refuses, and from the check to it and back.
-use Rattle.std.specs.Prelude.{false, ◌≡◌, refl}
+use Rattle.std.specs.Prelude.{false, ◌≡◌, refl, Ok, Result}
 use Rattle.meaning.specs.Scene.{Scene, out_of_range, unknown_vertex, broken_seam, repeated_vertex}
-use Rattle.meaning.specs.Refusals.{Answers, scene_says}
+use Rattle.meaning.specs.Refusals.{Answers, outcome_alone}
 use Rattle.meaning.specs.Mesh.{mesh_shape, mesh_checks, MeshChecked}
-use Rattle.meaning.specs.declared.SceneAnswer as SceneAnswers
-use Rattle.meaning.specs.declared.SceneAnswer.{SceneAnswer}
 use Rattle.answers.specs.Answering.{is_given, one_answer}
-use Rattle.answers.specs.Speaking.{scene_says_one}
+use Rattle.meaning.specs.declared.Refusal.{Refusal}
+use Rattle.answers.specs.Speaking.{one_alone}
 
 -- a mesh that none of the five refuses
 pub record AcceptedMesh (s : Scene) : Type 0 where
@@ -16,12 +15,12 @@ pub record AcceptedMesh (s : Scene) : Type 0 where
   pub sewn_well : broken_seam s ≡ false
   pub distinct : repeated_vertex s ≡ false
 
-pub mesh_checked : (s : Scene) → AcceptedMesh s → MeshChecked s SceneAnswers.TheVariants.Accepted
-unfolding Answers scene_says
+pub mesh_checked : (s : Scene) → AcceptedMesh s → MeshChecked s (Ok tt)
+unfolding Answers outcome_alone
 mesh_checked s a = rw (a.shapely, a.in_range, a.known, a.sewn_well, a.distinct) tt
 
-pub mesh_accepted : (s : Scene) → MeshChecked s SceneAnswers.TheVariants.Accepted → AcceptedMesh s
-unfolding scene_says
+pub mesh_accepted : (s : Scene) → MeshChecked s (Ok tt) → AcceptedMesh s
+unfolding outcome_alone
 mesh_accepted s a =
     let (h1, a1) = is_given (λ t. Unit {0}) _ _ tt a in
     let (h2, a2) = is_given (λ t. Unit {0}) _ _ tt a1 in
@@ -31,6 +30,6 @@ mesh_accepted s a =
     record { shapely = h1; in_range = h2; known = h3; sewn_well = h4; distinct = h5 }
 
 -- only one answer is right
-pub one_mesh_answer : (s : Scene) (r r' : SceneAnswer) → MeshChecked s r → MeshChecked s r' → r ≡ r'
+pub one_mesh_answer : (s : Scene) (r r' : Result (Unit {0}) Refusal) → MeshChecked s r → MeshChecked s r' → r ≡ r'
 one_mesh_answer s r r' p q =
-    scene_says_one r r' (one_answer (λ t. Unit {0}) (λ a b h k. refl) (mesh_checks s) (scene_says r) (scene_says r') p q)
+    one_alone r r' (one_answer (λ t. Unit {0}) (λ a b h k. refl) (mesh_checks s) (outcome_alone r) (outcome_alone r') p q)

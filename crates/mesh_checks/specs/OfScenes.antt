@@ -1,15 +1,14 @@
 -- Meshes and scenes: within a scene's sizes the checks of a mesh are the scene's own, so every accepted scene is an accepted mesh, and a mesh
 -- within a scene's sizes is answered as the scene is.
-use Rattle.std.specs.Prelude.{ℕ, ◌≤◌, Bool, false, ◌||◌, List, ◌≡◌, ltb}
-use Rattle.std.proofs.Math.Bool.{or-false}
+use Rattle.std.specs.Prelude.{ℕ, ◌≤◌, false, ◌||◌, List, ◌≡◌, ltb, Result}
 use Rattle.std.proofs.Common.{sym, ◌∙◌, ap, subst, arith, ltb-false, le-ltb}
 use Rattle.meaning.specs.Scene.{Scene, Accepted, vertex_count, edge_count, triangle_count, seam_count, uneven, over_size, wrong_shape}
 use Rattle.meaning.specs.Limits.{vertex_limit, edge_limit, triangle_limit, seam_limit, part_limit}
-use Rattle.meaning.specs.Refusals.{Check, Answers, SceneChecked, scene_says, scene_checks}
+use Rattle.meaning.specs.Refusals.{Check, Answers, SceneChecked, scene_checks, outcome_alone}
 use Rattle.meaning.specs.Mesh.{over_mesh_size, mesh_shape, mesh_checks, MeshChecked}
-use Rattle.meaning.specs.declared.SceneAnswer.{SceneAnswer}
 use Rattle.answers.specs.Below.{or_left, or_rest}
 use Rattle.mesh_checks.specs.Meshes.{AcceptedMesh}
+use Rattle.meaning.specs.declared.Refusal.{Refusal}
 
 -- what is not over a lower limit is not over a higher one
 fewer : (a b n : ℕ) → a ≤ b → ltb a n ≡ false → ltb b n ≡ false
@@ -32,11 +31,11 @@ module _ (s : Scene) (small : over_size s ≡ false) where
   same_checks = rw one_shape
 
   -- within a scene's sizes the answer to the mesh is the answer to the scene
-  pub answered_as_scene : (r : SceneAnswer) → MeshChecked s r → SceneChecked s r
-  answered_as_scene r a = subst (λ (ks : List Check). Answers ks (λ t. Unit {0}) (scene_says r)) same_checks a
+  pub answered_as_scene : (r : Result (Unit {0}) Refusal) → MeshChecked s r → SceneChecked s r
+  answered_as_scene r a = subst (λ (ks : List Check). Answers ks (λ t. Unit {0}) (outcome_alone r)) same_checks a
 
-  pub answered_as_mesh : (r : SceneAnswer) → SceneChecked s r → MeshChecked s r
-  answered_as_mesh r a = subst (λ (ks : List Check). Answers ks (λ t. Unit {0}) (scene_says r)) (sym same_checks) a
+  pub answered_as_mesh : (r : Result (Unit {0}) Refusal) → SceneChecked s r → MeshChecked s r
+  answered_as_mesh r a = subst (λ (ks : List Check). Answers ks (λ t. Unit {0}) (outcome_alone r)) (sym same_checks) a
 
   -- and it is accepted exactly when the scene is
   pub mesh_is_scene : AcceptedMesh s → Accepted s

@@ -1,7 +1,7 @@
 // What the refusals 1, 3 and 4 ask of the whole mesh; 2 is asked by scene_checks, over positions of any number, and 15 is decided as the table of
 // seams is made.
 
-ghost use Rattle.std.specs.Prelude.{◌<◌, [], ◌≡◌, leb, length, get_or};
+ghost use Rattle.std.specs.Prelude.{◌<◌, [], ◌≡◌};
 ghost use Rattle.meaning.specs.Scene.{scene_of, edge_count, triangle_count, some_below};
 ghost use Rattle.meaning.specs.Scene.{unknown_in, unknown_vertex, twice_in_edge, twice_in_triangle, repeated_vertex};
 ghost use Rattle.meaning.specs.Mesh.{mesh_shape};
@@ -29,21 +29,12 @@ pub fn wrong_shape(positions: &[i32], edges: &[u32], triangles: &[u32], seams: &
 }
 
 // 3: a vertex number that is not below the count.
-fn unknown(list: &[u32], i: usize, count: usize) -> bool
-    requires { i < length list.now }
-    ensures { result ≡ leb count (get_or list.now i 0) }
-{
-    count <= wide(list[i])
-}
-
 fn unknown_in(list: &[u32], count: usize) -> bool
     ensures { result ≡ unknown_in count list.now }
 {
     let mut found = false;
-    let mut i = 0;
-    while i < list.len() {
-        found = found | unknown(list, i, count);
-        i += 1;
+    for x in list {
+        found |= count <= wide(*x);
     }
     found
 }
@@ -80,10 +71,8 @@ fn repeated_in_edges(edges: &[u32], stands: &[u32]) -> bool
 {
     let count = edges.len() / 2;
     let mut found = false;
-    let mut j = 0;
-    while j < count {
-        found = found | twice_in_edge(edges, stands, j);
-        j += 1;
+    for j in 0..count {
+        found |= twice_in_edge(edges, stands, j);
     }
     found
 }
@@ -94,10 +83,8 @@ fn repeated_in_triangles(triangles: &[u32], stands: &[u32]) -> bool
 {
     let count = triangles.len() / 3;
     let mut found = false;
-    let mut j = 0;
-    while j < count {
-        found = found | twice_in_triangle(triangles, stands, j);
-        j += 1;
+    for j in 0..count {
+        found |= twice_in_triangle(triangles, stands, j);
     }
     found
 }

@@ -10,7 +10,7 @@ ghost use Rattle.mesh_seams.specs.Sewing.{MeshBlank};
 ghost use Rattle.mesh_checks.specs.Checking.{CheckedInto};
 
 use faults::{repeated_vertex, unknown_vertex, wrong_shape};
-use meaning::{Refusal, SceneAnswer};
+use meaning::Refusal;
 use mesh_seams::sew_all;
 use scene_checks::faults::out_of_range;
 
@@ -22,29 +22,29 @@ pub fn check_mesh_into(
     triangles: &[u32],
     seams: &[u32],
     stands: &mut [u32],
-) -> SceneAnswer
+) -> Result<(), Refusal>
     requires { MeshBlank (vertex_count (only_positions positions.now)) seams.now stands.old }
     ensures { CheckedInto (scene_of positions.now edges.now triangles.now seams.now) stands.old stands.new result }
 {
     if wrong_shape(positions, edges, triangles, seams) {
-        return SceneAnswer::Refused(Refusal::Shape);
+        return Err(Refusal::Shape);
     }
     let outside = out_of_range(positions);
     let unknown = unknown_vertex(positions, edges, triangles, seams);
     if outside {
-        return SceneAnswer::Refused(Refusal::Coordinate);
+        return Err(Refusal::Coordinate);
     }
     if unknown {
-        return SceneAnswer::Refused(Refusal::UnknownVertex);
+        return Err(Refusal::UnknownVertex);
     }
     let broken = sew_all(positions, seams, stands);
     let repeated = repeated_vertex(edges, triangles, stands);
     if broken {
-        return SceneAnswer::Refused(Refusal::BrokenSeam);
+        return Err(Refusal::BrokenSeam);
     }
     if repeated {
-        SceneAnswer::Refused(Refusal::RepeatedVertex)
+        Err(Refusal::RepeatedVertex)
     } else {
-        SceneAnswer::Accepted
+        Ok(())
     }
 }

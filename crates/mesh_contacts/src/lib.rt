@@ -65,12 +65,10 @@ pub fn contact_hits(
         (contacts_of (tabled positions.now edges.now triangles.now stands.now) (mesh_pairs_in count list.now))
         contacts.old }
 {
-    let mut k = 0;
-    while k < count {
+    for k in 0..count {
         let word = word_in(words[k]);
         let contact = entry_contact(positions, edges, triangles, stands, list, k, word);
         put_contact_row(contacts, ROW_NUMBERS * k, contact);
-        k += 1;
     }
 }
 

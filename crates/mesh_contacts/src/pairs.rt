@@ -12,7 +12,6 @@ ghost use Rattle.scene_checks.specs.Facts.{SoundWithin};
 use contact_times::{edges_contact_numbers, point_contact_numbers};
 use meaning::{ContactNumbers, Kind, Settled, WholeContact};
 use mesh_parts::{corners_of, ends_of};
-use scene_parts::asked::{larger, smaller};
 
 // The numbers of a pair that is hit.
 fn contact_numbers(
@@ -34,8 +33,8 @@ fn contact_numbers(
             point_contact_numbers(positions, i, corners_of(triangles, stands, j))
         }
         Kind::EdgeEdge => {
-            let first = ends_of(edges, stands, smaller(i, j));
-            let second = ends_of(edges, stands, larger(i, j));
+            let first = ends_of(edges, stands, i.min(j));
+            let second = ends_of(edges, stands, i.max(j));
             edges_contact_numbers(positions, first, second)
         }
     }

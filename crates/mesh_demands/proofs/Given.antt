@@ -2,17 +2,16 @@
 use Prim.Native.Nat.{ℕ, suc, ◌+◌, ◌*◌, ◌≤◌, ◌<◌}
 use Rattle.std.proofs.Math.Bool.{false}
 use mathlib.Core.List.{List, [], ◌∷◌, ◌++◌}
-use Rattle.std.specs.Prelude.{◌≡◌, length}
+use Rattle.std.specs.Prelude.{◌≡◌, length, Result}
 use Rattle.std.proofs.Math.Path.{refl, ap}
 use Rattle.std.proofs.Common.{sym, ◌∙◌, subst, arith, le-ltb}
 use Rattle.std.proofs.lemmas.Bool.{lt-leb}
 use Rattle.sequences.specs.Wrote.{written}
 use Rattle.meaning.specs.Limits.{coordinate_limit}
 use Rattle.meaning.specs.Scene.{Scene}
-use Rattle.meaning.specs.Refusals.{Outcome, given, refused, Check, Answers, not_there, shares}
-use Rattle.meaning.specs.List.{Pair, no_number, list_says}
+use Rattle.meaning.specs.Refusals.{Outcome, given, refused, Check, Answers, not_there, shares, outcome_of}
+use Rattle.meaning.specs.List.{Pair, no_number}
 use Rattle.meaning.specs.OwnList.{entry_missing, faulty_from, size_check, word_room, own_limit, OwnSettled}
-use Rattle.meaning.specs.declared.ListAnswer.{ListAnswer}
 use Rattle.answers.specs.Answering.{is_past}
 use Rattle.scene_checks.specs.Accepting.{past_accepted}
 use Rattle.theory.specs.Bounds.{Every}
@@ -30,6 +29,7 @@ use Rattle.mesh_demands.specs.Together.{edges_in, triangles_in, entries_from, en
 use Rattle.mesh_demands.proofs.Together.{narrow, all_held, words_together}
 use Rattle.mesh_demands.specs.Answered.{AllNear}
 use Rattle.mesh_demands.proofs.Answered.{together_is_accepted}
+use Rattle.meaning.specs.declared.Refused.{Refused}
 
 -- ---- an entry is not at fault
 
@@ -82,15 +82,15 @@ module _ {s : Scene} (mesh : Mesh s) where
   -- ---- the call gives as many words as there are pairs, and they are those of the mesh
 
   pub settled_together : (xs : List Pair) → length xs ≤ 128 → AllApart s xs → AllNear coordinate_limit s xs
-      → {b b' : List ℕ} {r : ListAnswer} → OwnSettled (together s xs) (entries_of s xs) b b' r → length xs ≤ length b
-      → (list_says r ≡ given (length xs)) × (b' ≡ written (bytes_of s xs) b)
+      → {b b' : List ℕ} {r : Result ℕ Refused} → OwnSettled (together s xs) (entries_of s xs) b b' r → length xs ≤ length b
+      → (outcome_of r ≡ given (length xs)) × (b' ≡ written (bytes_of s xs) b)
   settled_together xs room apart near {b} {b'} {r} o lent =
       let R : ℕ → Type 0 = λ n. n ≡ length (entries_of s xs) in
       let many = entries_many 0 0 0 xs in
-      let past = past_accepted (together s xs) _ R (list_says r) (together_is_accepted mesh coordinate_limit xs room apart near)
-      (is_past R (size_check (entries_of s xs)) _ (list_says r) (le-ltb own_limit (length (entries_of s xs)) (omega (arith, many))) o.answer) in
-      let all = past_entries R (together s xs) 1 (entries_of s xs) xs (word_room (entries_of s xs) (length b) ∷ []) (list_says r)
+      let past = past_accepted (together s xs) _ R (outcome_of r) (together_is_accepted mesh coordinate_limit xs room apart near)
+      (is_past R (size_check (entries_of s xs)) _ (outcome_of r) (le-ltb own_limit (length (entries_of s xs)) (omega (arith, many))) o.answer) in
+      let all = past_entries R (together s xs) 1 (entries_of s xs) xs (word_room (entries_of s xs) (length b) ∷ []) (outcome_of r)
       (entries_small 0 0 0 0 refl (omega arith) (omega arith) xs (omega arith)) (all_held mesh xs room apart) past in
-      let says : list_says r ≡ given (length (entries_of s xs)) = so_many (length (entries_of s xs)) (list_says r)
-      (is_past R (word_room (entries_of s xs) (length b)) [] (list_says r) (le-ltb (length b) (length (entries_of s xs)) (omega (arith, many))) all) in
+      let says : outcome_of r ≡ given (length (entries_of s xs)) = so_many (length (entries_of s xs)) (outcome_of r)
+      (is_past R (word_room (entries_of s xs) (length b)) [] (outcome_of r) (le-ltb (length b) (length (entries_of s xs)) (omega (arith, many))) all) in
       (says ∙ ap given many, words_together mesh xs room apart o says)

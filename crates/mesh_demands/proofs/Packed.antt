@@ -1,16 +1,15 @@
 -- Where a pair alone stands in a scene, that scene says of it what the mesh says; so with the words and the contacts of a list of one's own.
-use Rattle.std.specs.Prelude.{ℕ, ◌≡◌}
+use Rattle.std.specs.Prelude.{ℕ, ◌≡◌, Result}
 use mathlib.Core.List.{List, [], ◌∷◌, map}
 use Rattle.std.proofs.Math.Path.{refl}
 use Rattle.std.proofs.Common.{sym, ◌∙◌, ap}
 use Rattle.sequences.specs.Wrote.{written}
 use Rattle.meaning.specs.Scene.{Scene}
-use Rattle.meaning.specs.Refusals.{given}
-use Rattle.meaning.specs.List.{Pair, list_says, leaves}
+use Rattle.meaning.specs.Refusals.{given, outcome_of}
+use Rattle.meaning.specs.List.{Pair, leaves}
 use Rattle.meaning.specs.SceneWords.{byte_of}
 use Rattle.meaning.specs.WholeContacts.{rows_left, rows_after}
 use Rattle.meaning.specs.OwnList.{asked_for, OwnSettled, OwnContacts}
-use Rattle.meaning.specs.declared.ListAnswer.{ListAnswer}
 use Rattle.corner_search.specs.Decided.{pair_word_is, settled_pair}
 use Rattle.list_words.specs.Listed.{word_of_pair, words_of, bytes_of, all_judged}
 use Rattle.list_words.specs.OneResult.{all_judged_one}
@@ -23,6 +22,7 @@ use Rattle.mesh_demands.proofs.Says.{a_part_says_the_same}
 use Rattle.mesh_demands.specs.Alone.{alone_there}
 use Rattle.mesh_demands.proofs.Alone.{alone_is_a_mesh, alone_says_the_same}
 use Rattle.mesh_demands.specs.Packed.{own_pair, Holds, AllHeld}
+use Rattle.meaning.specs.declared.Refused.{Refused}
 
 module _ {p s : Scene} {q x : Pair} (mesh : Mesh s) (h : Holds p s q x) where
   abbrev stands_at : Pair
@@ -65,7 +65,7 @@ module _ (p : Scene) {s : Scene} (mesh : Mesh s) where
   packed_contacts_are (e ∷ es) (x ∷ xs) h = λ t. packed_contact mesh h.0 t ∷ packed_contacts_are es xs h.1 t
 
   -- where the call gives words, they are those that the pairs have in the mesh, in their order
-  pub packed_words : {es b b' : List ℕ} {r : ListAnswer} → OwnSettled p es b b' r → {n : ℕ} → list_says r ≡ given n
+  pub packed_words : {es b b' : List ℕ} {r : Result ℕ Refused} → OwnSettled p es b b' r → {n : ℕ} → outcome_of r ≡ given n
       → (xs : List Pair) → AllHeld p s es xs → b' ≡ written (bytes_of s xs) b
   unfolding leaves
   packed_words {es} {b} o g xs h =
@@ -73,7 +73,7 @@ module _ (p : Scene) {s : Scene} (mesh : Mesh s) where
       o.bytes ∙ (λ t. leaves (g t) (map byte_of (words t)) b)
 
   -- so with contacts
-  pub packed_contacts : {es b b' c c' : List ℕ} {r : ListAnswer} → OwnContacts p es b b' c c' r → {n : ℕ} → list_says r ≡ given n
+  pub packed_contacts : {es b b' c c' : List ℕ} {r : Result ℕ Refused} → OwnContacts p es b b' c c' r → {n : ℕ} → outcome_of r ≡ given n
       → (xs : List Pair) → AllHeld p s es xs → (b' ≡ written (contact_bytes s xs) b) × (c' ≡ rows_left (contacts_of s xs) c)
   unfolding leaves rows_after
   packed_contacts {es} {b} {b'} {c} o g xs h =

@@ -1,18 +1,17 @@
 -- The scene of pairs written alone, one behind the other, holds each of them, so the call for them gives the words and contacts of the mesh.
-use Rattle.std.specs.Prelude.{ℕ, ◌+◌, ◌*◌, ◌≤◌, ◌<◌, ◌≡◌, refl, ℤ}
+use Rattle.std.specs.Prelude.{ℕ, ◌+◌, ◌*◌, ◌≤◌, ◌<◌, ◌≡◌, refl, ℤ, Result}
 use mathlib.Core.List.{List, [], ◌∷◌, ◌++◌, map, append_assoc}
 use Rattle.std.proofs.Math.Path.{sym, subst}
 use Rattle.std.proofs.Common.{◌∙◌, arith}
 use Rattle.std.proofs.Math.ListN.{length, length-append, length-map}
 use Rattle.sequences.specs.Wrote.{written}
 use Rattle.meaning.specs.Scene.{Scene, scene_of}
-use Rattle.meaning.specs.Refusals.{given}
-use Rattle.meaning.specs.List.{Pair, place_step, list_says}
+use Rattle.meaning.specs.Refusals.{given, outcome_of}
+use Rattle.meaning.specs.List.{Pair, place_step}
 use Rattle.meaning.specs.WholeContacts.{rows_left}
 use Rattle.meaning.specs.OwnList.{OwnSettled, OwnContacts}
 use Rattle.meaning.specs.declared.Kind.{Kind}
 use Rattle.meaning.specs.declared.Kind.TheVariants.{PointTriangle, EdgeEdge}
-use Rattle.meaning.specs.declared.ListAnswer.{ListAnswer}
 use Rattle.list_entries.specs.Entries.{Narrow, number_back}
 use Rattle.list_words.specs.Listed.{bytes_of}
 use Rattle.contact_entries.specs.Listed.{contacts_of, contact_bytes}
@@ -25,6 +24,7 @@ use Rattle.mesh_demands.proofs.Packed.{packed_words, packed_contacts}
 use Rattle.mesh_demands.specs.Beside.{Around, moved_up}
 use Rattle.mesh_demands.proofs.Beside.{held_amid}
 use Rattle.mesh_demands.specs.Together.{alone_of, edges_in, triangles_in, positions_of, edges_from, triangles_from, entries_from, together, entries_of, AllApart}
+use Rattle.meaning.specs.declared.Refused.{Refused}
 
 -- a pair's numbers there are those of an entry
 first_edge_first : (s : Scene) (i j : ℕ) → alone_first s EdgeEdge i j ≡ 0
@@ -83,11 +83,11 @@ module _ {s : Scene} (mesh : Mesh s) where
   all_held xs room apart = all_held_from [] [] [] 0 0 0 0 refl (omega arith) (omega arith) refl refl refl xs (omega arith) apart
 
   -- so the call gives the words of the mesh, in the order of the pairs
-  pub words_together : (xs : List Pair) → length xs ≤ 128 → AllApart s xs → {b b' : List ℕ} {r : ListAnswer} → OwnSettled (together s xs) (entries_of s xs) b b' r
-      → {n : ℕ} → list_says r ≡ given n → b' ≡ written (bytes_of s xs) b
+  pub words_together : (xs : List Pair) → length xs ≤ 128 → AllApart s xs → {b b' : List ℕ} {r : Result ℕ Refused} → OwnSettled (together s xs) (entries_of s xs) b b' r
+      → {n : ℕ} → outcome_of r ≡ given n → b' ≡ written (bytes_of s xs) b
   words_together xs room apart o g = packed_words (together s xs) mesh o g xs (all_held xs room apart)
 
   -- and its contacts
-  pub contacts_together : (xs : List Pair) → length xs ≤ 128 → AllApart s xs → {b b' c c' : List ℕ} {r : ListAnswer} → OwnContacts (together s xs) (entries_of s xs) b b' c c' r
-      → {n : ℕ} → list_says r ≡ given n → (b' ≡ written (contact_bytes s xs) b) × (c' ≡ rows_left (contacts_of s xs) c)
+  pub contacts_together : (xs : List Pair) → length xs ≤ 128 → AllApart s xs → {b b' c c' : List ℕ} {r : Result ℕ Refused} → OwnContacts (together s xs) (entries_of s xs) b b' c c' r
+      → {n : ℕ} → outcome_of r ≡ given n → (b' ≡ written (contact_bytes s xs) b) × (c' ≡ rows_left (contacts_of s xs) c)
   contacts_together xs room apart o g = packed_contacts (together s xs) mesh o g xs (all_held xs room apart)

@@ -1,29 +1,26 @@
 -- The check of edges that were made outside: what each way out of it gives.
-use Rattle.std.specs.Prelude.{ℕ, ◌-◌, ◌%◌, ◌≤◌, ◌<◌, Bool, true, false, not, ◌||◌, List, [], ◌∷◌, ◌++◌, ◌≢◌, ◌≡◌, eqb, ltb, ℤ, length}
+use Rattle.std.specs.Prelude.{ℕ, ◌-◌, ◌%◌, ◌≤◌, ◌<◌, Bool, true, false, not, ◌||◌, List, [], ◌∷◌, ◌≢◌, ◌≡◌, eqb, ltb, ℤ, length, Err, Ok, Result}
 use Rattle.std.proofs.Math.Path.{refl}
-use Rattle.std.proofs.Common.{sym, ap, ◌∙◌, subst, arith, eq-eqb, ne_eqb, eqb-true, ltb-false}
+use Rattle.std.proofs.Common.{sym, ap, ◌∙◌, arith, eq-eqb, ne_eqb, eqb-true, ltb-false}
 use Rattle.std.proofs.lemmas.Bool.{not-false}
 use Rattle.sequences.specs.Pick.{neither}
 use Rattle.meaning.specs.Scene.{Scene, scene_of, edge_count}
 use Rattle.meaning.specs.Mesh.{mesh_checks, table_room}
 use Rattle.meaning.specs.MeshRows.{no_order}
-use Rattle.meaning.specs.MeshEdges.{EdgesTold, whole, bare, twice, edges_say, bare_side, ends_fall, EdgesAre, edges_checks, EdgesChecked}
-use Rattle.meaning.specs.Refusals.{Outcome, given, refused, number_of, Check, Answers, scene_says}
+use Rattle.meaning.specs.MeshEdges.{whole, bare, twice, edges_say, bare_side, ends_fall, EdgesAre, EdgesChecked}
+use Rattle.meaning.specs.Refusals.{given, refused, number_of, Answers, outcome_alone}
 use Rattle.meaning.specs.declared.Refusal.{Refusal}
 use Rattle.meaning.specs.declared.Refusal.TheVariants.{ShortBuffer, WrongOrder}
-use Rattle.meaning.specs.declared.SceneAnswer as SceneAnswers
-use Rattle.meaning.specs.declared.SceneAnswer.{SceneAnswer}
-use Rattle.meaning.specs.declared.EdgesAnswer as EdgesAnswers
-use Rattle.meaning.specs.declared.EdgesAnswer.{EdgesAnswer}
 use Rattle.answers.specs.Answering.{refuses, lets_pass, gives, refused_before, given_before}
 use Rattle.mesh_checks.specs.Meshes.{AcceptedMesh}
 use Rattle.mesh_check_laws.specs.Facts.{mesh_sized}
 use Rattle.mesh_lent.specs.Answering.{MeshSewn, short_for, short_told}
-use Rattle.mesh_orders.specs.Orders.{Order, at}
 use Rattle.mesh_orders.specs.Deciding.{order_of}
 use Rattle.mesh_orders.specs.Told.{OrderTold, parts_only}
 use Rattle.mesh_edges.specs.First.{FirstWith}
 use Rattle.mesh_edges.specs.Ends.{EdgeOrder}
+use Rattle.meaning.specs.declared.EdgesFound as Findings
+use Rattle.meaning.specs.declared.EdgesFound.{EdgesFound}
 
 -- ---- 18
 
@@ -66,24 +63,24 @@ edge_order e t order fine =
 -- ---- what is told of them
 
 -- whatever the positions and the seams are
-abbrev pub ToldOf : (e t sides order : List ℕ) → EdgesAnswer → Type 0
+abbrev pub ToldOf : (e t sides order : List ℕ) → Result EdgesFound Refusal → Type 0
 ToldOf e t sides order r = (p : List ℤ) (w : List ℕ) → Answers [] (EdgesAre (scene_of p e t w) sides order) (edges_say r)
 
-abbrev pub LookedAt : (e t sides order : List ℕ) → EdgesAnswer → Type 0
+abbrev pub LookedAt : (e t sides order : List ℕ) → Result EdgesFound Refusal → Type 0
 LookedAt e t sides order r =
     (p : List ℤ) (w : List ℕ)
     → Answers (record { number = 18; holds = wrong_hints (parts_only e t) sides order; carries = 0 } ∷ []) (EdgesAre (scene_of p e t w) sides order) (edges_say r)
 
 module _ (e t sides order : List ℕ) where
-  pub hints_refused : wrong_hints (parts_only e t) sides order ≡ true → LookedAt e t sides order (EdgesAnswers.TheVariants.Refused WrongOrder)
+  pub hints_refused : wrong_hints (parts_only e t) sides order ≡ true → LookedAt e t sides order (Err WrongOrder)
   unfolding edges_say number_of
   hints_refused h p w = refuses _ _ _ _ h refl
 
-  pub hints_pass : (r : EdgesAnswer) → wrong_hints (parts_only e t) sides order ≡ false → ToldOf e t sides order r → LookedAt e t sides order r
+  pub hints_pass : (r : Result EdgesFound Refusal) → wrong_hints (parts_only e t) sides order ≡ false → ToldOf e t sides order r → LookedAt e t sides order r
   hints_pass r h told p w = lets_pass _ _ _ _ h (told p w)
 
   module _ {side : ℕ} (first : FirstWith (length t) (bare_side (parts_only e t) sides) side) where
-    pub tells_bare : side < length t → ToldOf e t sides order (EdgesAnswers.TheVariants.Bare side)
+    pub tells_bare : side < length t → ToldOf e t sides order (Ok (Findings.TheVariants.Bare side))
     unfolding edges_say EdgesAre
     tells_bare h p w = gives (EdgesAre (scene_of p e t w) sides order) (bare side) (h, first.before, first.passes h)
 
@@ -92,13 +89,13 @@ module _ (e t sides order : List ℕ) where
       joined_all i h = first.before i (omega arith)
 
       module _ {fall : ℕ} (low : FirstWith (length order - 1) (ends_fall (parts_only e t) order) fall) where
-        pub tells_twice : fall < length order - 1 → ToldOf e t sides order (EdgesAnswers.TheVariants.Twice fall)
+        pub tells_twice : fall < length order - 1 → ToldOf e t sides order (Ok (Findings.TheVariants.Twice fall))
         unfolding edges_say EdgesAre
         tells_twice h p w =
             gives (EdgesAre (scene_of p e t w) sides order) (twice fall)
             (omega (arith, long), joined_all, low.before, low.passes h)
 
-        pub tells_whole : length order - 1 ≤ fall → ToldOf e t sides order EdgesAnswers.TheVariants.Whole
+        pub tells_whole : length order - 1 ≤ fall → ToldOf e t sides order (Ok Findings.TheVariants.Whole)
         unfolding edges_say EdgesAre
         tells_whole h p w =
             gives (EdgesAre (scene_of p e t w) sides order) whole (joined_all, λ i l. low.before i (omega (arith, long)))
@@ -112,7 +109,7 @@ module _ (s : Scene) (sides order table places : List ℕ) where
   short_is : hints_short ≡ ltb (length table) (table_room s) || ltb (length places) (edge_count s)
   short_is = ap (λ b. b || ltb (length places) (edge_count s)) (short_told s table)
 
-  pub lent_short : hints_short ≡ true → EdgesChecked s sides order (length table) (length places) (EdgesAnswers.TheVariants.Refused ShortBuffer)
+  pub lent_short : hints_short ≡ true → EdgesChecked s sides order (length table) (length places) (Err ShortBuffer)
   unfolding edges_say number_of
   lent_short h = refuses _ _ _ _ (sym short_is ∙ h) refl
 
@@ -125,18 +122,18 @@ module _ (s : Scene) (sides order table places : List ℕ) where
     pub place_room_lem : edge_count s ≤ length places
     place_room_lem = ltb-false (length places) (edge_count s) (neither (short_for s table) (ltb (length places) (edge_count s)) long).1
 
-    module _ {t' : List ℕ} {checked : SceneAnswer} (sewn : MeshSewn s t' checked) where
-      pub mesh_refused : (x : Refusal) → checked ≡ SceneAnswers.TheVariants.Refused x
-          → EdgesChecked s sides order (length table) (length places) (EdgesAnswers.TheVariants.Refused x)
-      unfolding scene_says edges_say
+    module _ {t' : List ℕ} {checked : Result (Unit {0}) Refusal} (sewn : MeshSewn s t' checked) where
+      pub mesh_refused : (x : Refusal) → checked ≡ Err x
+          → EdgesChecked s sides order (length table) (length places) (Err x)
+      unfolding outcome_alone edges_say
       mesh_refused x e =
           let a : Answers (mesh_checks s) (λ t. Unit {0}) (refused (number_of x) 0) = rw e at sewn.checked in
           lets_pass _ _ _ _ (sym short_is ∙ long)
           (refused_before (λ t. Unit {0}) (EdgesAre s sides order) (mesh_checks s) _ (number_of x) 0 a)
 
-      pub mesh_passed : (r : EdgesAnswer) → checked ≡ SceneAnswers.TheVariants.Accepted → LookedAt s.edges s.triangles sides order r
+      pub mesh_passed : (r : Result EdgesFound Refusal) → checked ≡ Ok tt → LookedAt s.edges s.triangles sides order r
           → EdgesChecked s sides order (length table) (length places) r
-      unfolding scene_says
+      unfolding outcome_alone
       mesh_passed r e looked =
           let a : Answers (mesh_checks s) (λ t. Unit {0}) (given tt) = rw e at sewn.checked in
           lets_pass _ _ _ _ (sym short_is ∙ long)

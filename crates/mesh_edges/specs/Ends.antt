@@ -1,6 +1,6 @@
 -- No edge stands twice: told by an order of the edges in which their ends rise.
-use Rattle.std.specs.Prelude.{ℕ, zero, suc, ◌+◌, ◌-◌, ◌*◌, ◌≤◌, ◌<◌, List, ◌⊎◌, ◌≡◌, refl, ltb, length, get_or}
-use Rattle.std.proofs.Common.{inl, inr, ⊎_elim, sym, ap, ◌∙◌, arith, lt-ltb, le-ltb, leb-false}
+use Rattle.std.specs.Prelude.{ℕ, zero, suc, ◌+◌, ◌-◌, ◌*◌, ◌≤◌, ◌<◌, List, min, max, ◌⊎◌, ◌≡◌, ltb, length, get_or}
+use Rattle.std.proofs.Common.{⊎_elim, sym, ap, ◌∙◌, arith, lt-ltb, le-ltb, leb-false}
 use Rattle.std.proofs.Math.Decide.{dec_lt}
 use Rattle.meaning.specs.Scene.{Scene, edge_count, edge_end}
 use Rattle.meaning.specs.MeshEdges.{ends_number, RisingTo}
@@ -34,6 +34,13 @@ number_up a b h = sym (pick_true (4294967296 * a + b) (4294967296 * b + a) (lt-l
 
 pub number_down : (a b : ℕ) → b ≤ a → 4294967296 * b + a ≡ number_of_ends a b
 number_down a b h = sym (pick_false (4294967296 * a + b) (4294967296 * b + a) (le-ltb a b h))
+
+pub number_joined : (a b low high : ℕ) → low ≡ min a b → high ≡ max a b → 4294967296 * low + high ≡ number_of_ends a b
+number_joined a b low high e f = by_place (dec_lt a b)
+  where
+    by_place : Dec (a < b) → 4294967296 * low + high ≡ number_of_ends a b
+    by_place (yes h) = let placed : 4294967296 * low + high ≡ 4294967296 * a + b = omega (arith, e, f) in placed ∙ number_up a b h
+    by_place (no h) = let placed : 4294967296 * low + high ≡ 4294967296 * b + a = omega (arith, e, f) in placed ∙ number_down a b (omega arith)
 
 -- an order of the edges, of which each number is an edge's
 pub record EdgeOrder (edges order : List ℕ) : Type 0 where

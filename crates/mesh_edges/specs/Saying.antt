@@ -1,21 +1,21 @@
 -- What an answer to the check of edges says: a yes, that every side of every triangle is an edge and none stands twice; and only one answer is right.
-use Rattle.std.specs.Prelude.{ℕ, ◌-◌, ◌≤◌, ◌<◌, true, false, List, [], ◌∷◌, ◌≡◌, length}
+use Rattle.std.specs.Prelude.{ℕ, ◌<◌, false, List, [], ◌≡◌, Err, Ok, Result}
 use Rattle.std.proofs.Common.{true≢false, sym, ◌∙◌}
 use Rattle.std.proofs.Math.Path.{refl, ap}
 use Rattle.std.proofs.Math.Decide.{dec_lt}
 use native.Mathlib.Omega.{arith}
 use Rattle.meaning.specs.Scene.{Scene, edge_count}
-use Rattle.meaning.specs.Mesh.{mesh_checks}
-use Rattle.meaning.specs.MeshEdges.{EdgesTold, whole, bare, twice, edges_say, JoinedTo, RisingTo, EdgesAre, edges_checks, EdgesChecked}
-use Rattle.meaning.specs.Refusals.{Outcome, given, Answers, number_of}
-use Rattle.meaning.specs.declared.EdgesAnswer as EdgesAnswers
-use Rattle.meaning.specs.declared.EdgesAnswer.{EdgesAnswer}
+use Rattle.meaning.specs.MeshEdges.{EdgesTold, whole, bare, twice, edges_say, EdgesAre, edges_checks, EdgesChecked}
+use Rattle.meaning.specs.Refusals.{given, Answers, number_of}
 use Rattle.answers.specs.Answering.{is_given, one_answer}
 use Rattle.answers.specs.Speaking.{one_number}
 use Rattle.mesh_orders.specs.Deciding.{order_of}
 use Rattle.mesh_edges.specs.Sides.{EverySide, every_side}
 use Rattle.mesh_edges.specs.Ends.{NoneTwice, none_twice}
 use Rattle.mesh_edges.specs.Checking.{right_order, wrong_hints}
+use Rattle.meaning.specs.declared.EdgesFound as Findings
+use Rattle.meaning.specs.declared.Refusal.{Refusal}
+use Rattle.meaning.specs.declared.EdgesFound.{EdgesFound}
 
 nothing_left : {A : Type 0} (R : A → Type 0) (a : A) → Answers [] R (given a) → R a
 unfolding Answers
@@ -36,7 +36,7 @@ module _ (s : Scene) (sides order : List ℕ) (table places : ℕ) where
       (h7, nothing_left (EdgesAre s sides order) t a7)
 
   -- said yes
-  pub whole_means : EdgesChecked s sides order table places EdgesAnswers.TheVariants.Whole → EverySide s × NoneTwice s
+  pub whole_means : EdgesChecked s sides order table places (Ok Findings.TheVariants.Whole) → EverySide s × NoneTwice s
   unfolding edges_say EdgesAre
   whole_means a =
       let (right, are) = given_right whole a in
@@ -69,28 +69,28 @@ module _ (s : Scene) (sides order : List ℕ) where
       by_place (no h) (no g) = let e : k ≡ l = omega arith in ap twice e
 
 -- what an answer says tells the answer
-edges_say_one : (r r' : EdgesAnswer) → edges_say r ≡ edges_say r' → r ≡ r'
+edges_say_one : (r r' : Result EdgesFound Refusal) → edges_say r ≡ edges_say r' → r ≡ r'
 unfolding edges_say
-edges_say_one EdgesAnswers.TheVariants.Whole EdgesAnswers.TheVariants.Whole e = refl
-edges_say_one EdgesAnswers.TheVariants.Whole (EdgesAnswers.TheVariants.Bare k) e = cc
-edges_say_one EdgesAnswers.TheVariants.Whole (EdgesAnswers.TheVariants.Twice k) e = cc
-edges_say_one EdgesAnswers.TheVariants.Whole (EdgesAnswers.TheVariants.Refused x) e = cc
-edges_say_one (EdgesAnswers.TheVariants.Bare k) EdgesAnswers.TheVariants.Whole e = cc
-edges_say_one (EdgesAnswers.TheVariants.Bare k) (EdgesAnswers.TheVariants.Bare l) e = cc
-edges_say_one (EdgesAnswers.TheVariants.Bare k) (EdgesAnswers.TheVariants.Twice l) e = cc
-edges_say_one (EdgesAnswers.TheVariants.Bare k) (EdgesAnswers.TheVariants.Refused x) e = cc
-edges_say_one (EdgesAnswers.TheVariants.Twice k) EdgesAnswers.TheVariants.Whole e = cc
-edges_say_one (EdgesAnswers.TheVariants.Twice k) (EdgesAnswers.TheVariants.Bare l) e = cc
-edges_say_one (EdgesAnswers.TheVariants.Twice k) (EdgesAnswers.TheVariants.Twice l) e = cc
-edges_say_one (EdgesAnswers.TheVariants.Twice k) (EdgesAnswers.TheVariants.Refused x) e = cc
-edges_say_one (EdgesAnswers.TheVariants.Refused x) EdgesAnswers.TheVariants.Whole e = cc
-edges_say_one (EdgesAnswers.TheVariants.Refused x) (EdgesAnswers.TheVariants.Bare l) e = cc
-edges_say_one (EdgesAnswers.TheVariants.Refused x) (EdgesAnswers.TheVariants.Twice l) e = cc
-edges_say_one (EdgesAnswers.TheVariants.Refused x) (EdgesAnswers.TheVariants.Refused y) e =
+edges_say_one (Ok Findings.TheVariants.Whole) (Ok Findings.TheVariants.Whole) e = refl
+edges_say_one (Ok Findings.TheVariants.Whole) (Ok (Findings.TheVariants.Bare k)) e = cc
+edges_say_one (Ok Findings.TheVariants.Whole) (Ok (Findings.TheVariants.Twice k)) e = cc
+edges_say_one (Ok Findings.TheVariants.Whole) (Err x) e = cc
+edges_say_one (Ok (Findings.TheVariants.Bare k)) (Ok Findings.TheVariants.Whole) e = cc
+edges_say_one (Ok (Findings.TheVariants.Bare k)) (Ok (Findings.TheVariants.Bare l)) e = cc
+edges_say_one (Ok (Findings.TheVariants.Bare k)) (Ok (Findings.TheVariants.Twice l)) e = cc
+edges_say_one (Ok (Findings.TheVariants.Bare k)) (Err x) e = cc
+edges_say_one (Ok (Findings.TheVariants.Twice k)) (Ok Findings.TheVariants.Whole) e = cc
+edges_say_one (Ok (Findings.TheVariants.Twice k)) (Ok (Findings.TheVariants.Bare l)) e = cc
+edges_say_one (Ok (Findings.TheVariants.Twice k)) (Ok (Findings.TheVariants.Twice l)) e = cc
+edges_say_one (Ok (Findings.TheVariants.Twice k)) (Err x) e = cc
+edges_say_one (Err x) (Ok Findings.TheVariants.Whole) e = cc
+edges_say_one (Err x) (Ok (Findings.TheVariants.Bare l)) e = cc
+edges_say_one (Err x) (Ok (Findings.TheVariants.Twice l)) e = cc
+edges_say_one (Err x) (Err y) e =
     let n : number_of x ≡ number_of y = cc in
-    ap EdgesAnswers.TheVariants.Refused (one_number x y n)
+    ap Err (one_number x y n)
 
-pub one_edges_answer : (s : Scene) (sides order : List ℕ) (table places : ℕ) (r r' : EdgesAnswer) → EdgesChecked s sides order table places r
+pub one_edges_answer : (s : Scene) (sides order : List ℕ) (table places : ℕ) (r r' : Result EdgesFound Refusal) → EdgesChecked s sides order table places r
     → EdgesChecked s sides order table places r'
     → r ≡ r'
 one_edges_answer s sides order table places r r' p q =

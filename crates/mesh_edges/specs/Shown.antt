@@ -1,7 +1,7 @@
 -- What is said of edges, said of a triangle with its three sides, one of them written from its higher end.
-use Rattle.std.specs.Prelude.{ℕ, zero, suc, ◌+◌, ◌-◌, ◌≤◌, ◌<◌, Bool, false, List, [], ◌∷◌, ◌≡◌, refl, length}
+use Rattle.std.specs.Prelude.{ℕ, zero, suc, ◌<◌, false, List, [], ◌∷◌, ◌≡◌, refl}
 use Rattle.std.proofs.Common.{arith}
-use Rattle.meaning.specs.Scene.{Scene, scene_of, edge_count}
+use Rattle.meaning.specs.Scene.{Scene, scene_of}
 use Rattle.mesh_orders.specs.Orders.{Order, LeadsBack, at}
 use Rattle.meaning.specs.MeshEdges.{whole, bare_side, ends_fall, EdgesAre}
 use Rattle.mesh_edges.specs.Sides.{EverySide, every_side}

@@ -7,24 +7,16 @@ ghost use Rattle.std.specs.Prelude.{◌+◌, ◌-◌, ◌*◌, ◌%◌, ◌≤�
 ghost use Rattle.meaning.specs.Scene.{scene_of, edge_count};
 ghost use Rattle.meaning.specs.MeshEdges.{next_corner, joins, bare_side, ends_number, ends_fall, EdgesChecked};
 ghost use Rattle.scene_seams.specs.Alone.{only_edges};
-ghost use Rattle.sequences.specs.Pick.{pick};
 ghost use Rattle.mesh_edges.specs.First.{FirstWith};
 ghost use Rattle.mesh_edges.specs.Ends.{EdgeOrder};
 ghost use Rattle.mesh_edges.specs.Checking.{wrong_hints, ToldOf, LookedAt, hints_short};
 ghost use Rattle.mesh_orders.specs.Told.{parts_only};
 
-use meaning::{EdgesAnswer, Refusal, SceneAnswer};
+use meaning::{EdgesFound, Refusal};
 use mesh_lent::{check_over, table_short};
 use mesh_orders::is_order;
 use mesh_parts::edge_end;
 use mesh_seams::wide;
-
-// Numbers are tried from the last to the first, so that the one kept at the end is the first.
-fn kept(found: bool, k: usize, first: usize) -> usize
-    ensures { result ≡ pick found k first }
-{
-    if found { k } else { first }
-}
 
 // The corner behind a corner, around its triangle.
 fn next_corner(k: usize) -> usize
@@ -64,14 +56,12 @@ pub fn first_bare(edges: &[u32], triangles: &[u32], sides: &[u32]) -> usize
     requires { (length triangles.now % 3 ≡ 0) × (length sides.now ≡ length triangles.now) }
     ensures { FirstWith (length triangles.now) (bare_side (parts_only edges.now triangles.now) sides.now) result }
 {
-    let count = triangles.len();
-    let mut first = count;
-    let mut k = count;
-    while 0 < k {
-        k -= 1;
-        first = kept(bare(edges, triangles, sides, k), k, first);
+    for k in 0..triangles.len() {
+        if bare(edges, triangles, sides, k) {
+            return k;
+        }
     }
-    first
+    triangles.len()
 }
 
 // Two vertex numbers in one.
@@ -88,7 +78,7 @@ fn ends_number(edges: &[u32], j: usize) -> u64
 {
     let a = edges[2 * j];
     let b = edges[2 * j + 1];
-    if a < b { joined(a, b) } else { joined(b, a) }
+    joined(a.min(b), a.max(b))
 }
 
 // Whether the ends of the edge behind number k of the order do not come behind those of number k.
@@ -99,26 +89,18 @@ fn falls(edges: &[u32], order: &[u32], k: usize) -> bool
     ends_number(edges, wide(order[k + 1])) <= ends_number(edges, wide(order[k]))
 }
 
-// One less, or 0.
-fn one_less(n: usize) -> usize
-    ensures { result ≡ n - 1 }
-{
-    if 0 < n { n - 1 } else { 0 }
-}
-
 // The first number of the order behind which the ends do not rise; the last one, where all rise.
 pub fn first_fall(edges: &[u32], order: &[u32]) -> usize
     requires { EdgeOrder edges.now order.now }
     ensures { FirstWith (length order.now - 1) (ends_fall (only_edges edges.now) order.now) result }
 {
-    let count = one_less(order.len());
-    let mut first = count;
-    let mut k = count;
-    while 0 < k {
-        k -= 1;
-        first = kept(falls(edges, order, k), k, first);
+    let last = order.len().saturating_sub(1);
+    for k in 0..last {
+        if falls(edges, order, k) {
+            return k;
+        }
     }
-    first
+    last
 }
 
 // 18: a number for each side is not lent, or the order of the edges is none.
@@ -142,21 +124,26 @@ fn wrong_hints(
 }
 
 // What is told of edges with the right hints.
-fn tell(edges: &[u32], triangles: &[u32], sides: &[u32], order: &[u32]) -> EdgesAnswer
+fn tell(
+    edges: &[u32],
+    triangles: &[u32],
+    sides: &[u32],
+    order: &[u32],
+) -> Result<EdgesFound, Refusal>
     requires { (length triangles.now % 3 ≡ 0)
         × (wrong_hints (parts_only edges.now triangles.now) sides.now order.now ≡ false) }
     ensures { ToldOf edges.now triangles.now sides.now order.now result }
 {
     let side = first_bare(edges, triangles, sides);
     if side < triangles.len() {
-        return EdgesAnswer::Bare(side);
+        return Ok(EdgesFound::Bare(side));
     }
     let fall = first_fall(edges, order);
-    let last = one_less(order.len());
+    let last = order.len().saturating_sub(1);
     if fall < last {
-        EdgesAnswer::Twice(fall)
+        Ok(EdgesFound::Twice(fall))
     } else {
-        EdgesAnswer::Whole
+        Ok(EdgesFound::Whole)
     }
 }
 
@@ -167,13 +154,13 @@ fn look(
     sides: &[u32],
     order: &[u32],
     places: &mut [u32],
-) -> EdgesAnswer
+) -> Result<EdgesFound, Refusal>
     requires { ((length triangles.now % 3 ≡ 0) × (edge_count (only_edges edges.now) ≤ 1073741824))
         × (edge_count (only_edges edges.now) ≤ length places.old) }
     ensures { LookedAt edges.now triangles.now sides.now order.now result }
 {
     if wrong_hints(edges, triangles, sides, order, places) {
-        return EdgesAnswer::Refused(Refusal::WrongOrder);
+        return Err(Refusal::WrongOrder);
     }
     tell(edges, triangles, sides, order)
 }
@@ -203,15 +190,13 @@ pub fn check_edges(
     order: &[u32],
     table: &mut [u32],
     places: &mut [u32],
-) -> EdgesAnswer
+) -> Result<EdgesFound, Refusal>
     ensures { EdgesChecked (scene_of positions.now edges.now triangles.now seams.now) sides.now order.now
         (length table.old) (length places.old) result }
 {
     if hints_short(positions, edges, seams, table, places) {
-        return EdgesAnswer::Refused(Refusal::ShortBuffer);
+        return Err(Refusal::ShortBuffer);
     }
-    match check_over(positions, edges, triangles, seams, table) {
-        SceneAnswer::Refused(why) => EdgesAnswer::Refused(why),
-        SceneAnswer::Accepted => look(edges, triangles, sides, order, places),
-    }
+    check_over(positions, edges, triangles, seams, table)?;
+    look(edges, triangles, sides, order, places)
 }

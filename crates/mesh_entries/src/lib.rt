@@ -10,6 +10,7 @@ ghost use Rattle.mesh_entries.specs.Telling.{mesh_kind_of, mesh_first_of, mesh_s
 
 use meaning::Kind;
 
+// A number and no enum, because an entry of a list that C reads is one number.
 fn kind_part(kind: Kind) -> u64
     ensures { result ≡ mesh_kind_part kind }
 {

@@ -8,7 +8,7 @@ ghost use Rattle.sequences.specs.Wrote.{written};
 ghost use Rattle.mesh_held.specs.Held.{Holds, HeldMore, HeldOn};
 
 // What a walk counted, and whether all of it is held.
-#[derive(Clone, Copy)]
+#[derive(Clone, Copy, Debug, PartialEq, Eq)]
 pub struct Walked {
     pub count: usize,
     pub held: bool,
@@ -28,10 +28,8 @@ fn hold_entries(entries: &[u64], count: usize, places: &mut [u32], from: usize)
     requires { (count ≤ length entries.now) × (from + 2 * count ≤ length places.old) }
     ensures { HeldMore places.old places.new from entries.now count }
 {
-    let mut c = 0;
-    while c < count {
+    for c in 0..count {
         hold_entry(entries[c], places, from + 2 * c);
-        c += 1;
     }
 }
 
@@ -71,9 +69,7 @@ pub fn take_held(places: &[u32], from: usize, count: usize, list: &mut [u64])
     requires { (from + 2 * count ≤ length places.now) × (count ≤ length list.old) }
     ensures { (es : List ℕ) → length es ≡ count → Holds places.now from es → list.new ≡ written es list.old }
 {
-    let mut c = 0;
-    while c < count {
+    for c in 0..count {
         list[c] = of_halves(places[from + 2 * c], places[from + 2 * c + 1]);
-        c += 1;
     }
 }

@@ -16,7 +16,6 @@ ghost use Rattle.mesh_judged.specs.Judged.{none_yet, told_of, KeptInto, KeptOwn}
 use meaning::{KeptRows, RowPairs, Wanted};
 use mesh_keep::Going;
 use mesh_wanted::keep_stretch;
-use scene_parts::asked::smaller;
 use tally::Tally;
 
 // How many entries and words the arrays of one's own hold.
@@ -121,12 +120,8 @@ fn copy_kept(own: &[u64], marks: &[u8], list: &mut [u64], words: &mut [u8], coun
     ensures { (list.new ≡ written (take count own.now) list.old)
         × (words.new ≡ written (take count marks.now) words.old) }
 {
-    let mut k = 0;
-    while k < count {
-        list[k] = own[k];
-        words[k] = marks[k];
-        k += 1;
-    }
+    list[..count].copy_from_slice(&own[..count]);
+    words[..count].copy_from_slice(&marks[..count]);
 }
 
 // All pairs of the rows are judged and counted. Those that are kept are written to the lent lists where these have so much room and one's own arrays hold
@@ -188,7 +183,7 @@ pub fn keep_own(
         &mut marks,
         OWN_ENTRIES,
     );
-    if counted.count <= smaller(room, OWN_ENTRIES) {
+    if counted.count <= room.min(OWN_ENTRIES) {
         copy_kept(&own, &marks, list, words, counted.count);
     }
     counted

@@ -4,8 +4,7 @@ use Rattle.std.proofs.Common.{sym, ap, ◌∙◌, arith}
 use Rattle.sequences.specs.Mapped.{map_append}
 use Rattle.sequences.specs.Parts.{take_next}
 use Rattle.meaning.specs.Scene.{Scene}
-use Rattle.meaning.specs.List.{Pair, pair}
-use Rattle.meaning.specs.declared.Kind.{Kind}
+use Rattle.meaning.specs.List.{Pair}
 use Rattle.meaning.specs.declared.Wanted.{Wanted}
 use Rattle.mesh_laws.specs.Entries.{mesh_pair_of, Within}
 use Rattle.mesh_words.specs.Asked.{mesh_pair_at, mesh_pairs_in, mesh_in_length, PairThere}

@@ -1,15 +1,15 @@
 -- The pairs of a row, told by its number and the second places that stand in scratch.
-use Rattle.std.specs.Prelude.{ℕ, ◌+◌, ◌-◌, ◌≤◌, ◌<◌, Bool, true, false, ◌≡◌, refl, length, get_or, take, drop}
+use Rattle.std.specs.Prelude.{ℕ, ◌+◌, ◌≤◌, ◌<◌, Bool, true, false, ◌≡◌, refl, length, get_or, take, drop}
 use mathlib.Core.List.{List, [], ◌∷◌, ◌++◌, map, Memᴰ}
 use Rattle.std.proofs.Common.{sym, ap, ◌∙◌, subst, arith, get_or-take, take_at, length-take-le}
 use Rattle.std.proofs.lemmas.List.{length-map}
 use Rattle.sequences.specs.Chosen.{one, chosen}
-use Rattle.sequences.specs.Gather.{gather, gather_same, gather_none, gather_last, gather_has}
+use Rattle.sequences.specs.Gather.{gather_same, gather_none, gather_last, gather_has}
 use Rattle.sequences.specs.Mapped.{map_at, map_append}
 use Rattle.sequences.specs.Parts.{take_next}
 use Rattle.sequences.specs.Rising.{at_place}
-use Rattle.sequences.specs.Wrote.{written, written_length}
-use Rattle.meaning.specs.Scene.{Scene, vertex_count, edge_count, triangle_count}
+use Rattle.sequences.specs.Wrote.{written_length}
+use Rattle.meaning.specs.Scene.{Scene}
 use Rattle.meaning.specs.Refusals.{not_there}
 use Rattle.meaning.specs.List.{Pair, pair}
 use Rattle.meaning.specs.MeshRows.{row_test, row_count, mesh_row, rows_in}
@@ -20,9 +20,9 @@ use Rattle.meaning.specs.declared.Wanted.{Wanted}
 use Rattle.list_candidates.specs.Rows.{second_count, second_from}
 use Rattle.list_pairs.specs.InOrder.{list_is}
 use Rattle.list_words.specs.Listed.{no_pair}
-use Rattle.mesh_laws.specs.Entries.{MeshSized, Within}
+use Rattle.mesh_laws.specs.Entries.{MeshSized}
 use Rattle.mesh_rows.specs.Rows.{part_row, part_row_short, second_of, seconds_of, SecondsPut}
-use Rattle.mesh_rows.specs.Sifting.{map_gather, map_one}
+use Rattle.mesh_rows.specs.Sifting.{map_gather}
 use Rattle.mesh_words.specs.Asked.{PairThere}
 use Rattle.mesh_words.specs.OfRows.{rows_of_list, there_within}
 use Rattle.mesh_keep.specs.Keeping.{KeptBy, kept_none, kept_then, kept_as, kept_bound}

@@ -22,7 +22,7 @@ use mesh_words::pairs::word;
 use tally::Tally;
 
 // How many are kept so far, and how many have each word.
-#[derive(Clone, Copy)]
+#[derive(Clone, Copy, Debug, PartialEq, Eq)]
 pub struct Going {
     pub count: usize,
     pub tally: Tally,
@@ -113,8 +113,7 @@ pub fn keep_row(
         list.old words.old going list.new words.new result }
 {
     let mut so_far = going;
-    let mut k = 0;
-    while k < parts {
+    for k in 0..parts {
         so_far = keep_pair(
             positions,
             edges,
@@ -129,7 +128,6 @@ pub fn keep_row(
             most,
             so_far,
         );
-        k += 1;
     }
     so_far
 }
@@ -184,12 +182,10 @@ pub fn keep_entries(
         list.old words.old going list.new words.new result }
 {
     let mut so_far = going;
-    let mut k = 0;
-    while k < count {
+    for k in 0..count {
         so_far = keep_entry(
             positions, edges, triangles, stands, entries, k, wanted, list, words, most, so_far,
         );
-        k += 1;
     }
     so_far
 }

@@ -14,12 +14,11 @@ ghost use Rattle.mesh_ordered.specs.Either.{OrdersLent};
 ghost use Rattle.near_either.specs.Ready.{NodesReady};
 ghost use Rattle.mesh_keeping.specs.Kept.{StretchKept};
 
-use meaning::{KeptAnswer, Refusal, RowPairs, SceneAnswer, Wanted};
+use meaning::{KeptRows, Refusal, Refused, RowPairs, Wanted};
 use mesh_asked::{ask_rows, row_count};
 use mesh_judged::{OWN_ENTRIES, keep_into, keep_own};
 use mesh_trees::plant;
 use near_either::plant_nodes;
-use scene_parts::asked::smaller;
 
 // Where a level of a tree begins and how many nodes it has, for each of its levels.
 const LEVEL_NUMBERS: usize = 34;
@@ -46,7 +45,7 @@ fn keep_grown(
     list: &mut [u64],
     words: &mut [u8],
     room: usize,
-) -> KeptAnswer
+) -> Result<KeptRows, Refused>
     requires forest { Forest (tabled positions.now edges.now triangles.now stands.now) edge_order.now triangle_order.now boxes.now
         edge_levels.now triangle_levels.now edge_top triangle_top × (first ≤ end)
         × (end ≤ row_count (tabled positions.now edges.now triangles.now stands.now))
@@ -81,10 +80,13 @@ fn keep_grown(
         room,
     );
     if room < counted.count {
-        return KeptAnswer::Refused(Refusal::NoRoom, counted.count);
+        return Err(Refused {
+            why: Refusal::NoRoom,
+            carries: counted.count,
+        });
     }
     if counted.count <= OWN_ENTRIES {
-        return KeptAnswer::Kept(counted);
+        return Ok(counted);
     }
     let kept = keep_into(
         positions,
@@ -108,7 +110,7 @@ fn keep_grown(
         words,
         room,
     );
-    KeptAnswer::Kept(kept)
+    Ok(kept)
 }
 
 // Of a mesh whose seams stand in a table, in lists with so much room: the scratch is prepared, and 7 carries the count of those that would be kept.
@@ -128,7 +130,7 @@ pub fn keep_there(
     list: &mut [u64],
     words: &mut [u8],
     room: usize,
-) -> KeptAnswer
+) -> Result<KeptRows, Refused>
     requires plantable { Plantable (tabled positions.now edges.now triangles.now stands.now) boxes.old × (first ≤ end)
         × (end ≤ row_count (tabled positions.now edges.now triangles.now stands.now)) }
     requires orders_lent { OrdersLent (tabled positions.now edges.now triangles.now stands.now) edge_order.now triangle_order.now (length places.old) }
@@ -200,14 +202,14 @@ pub fn keep_rows(
     end: usize,
     list: &mut [u64],
     words: &mut [u8],
-) -> KeptAnswer
+) -> Result<KeptRows, Refused>
     ensures { RowsKept which wanted (scene_of positions.now edges.now triangles.now seams.now)
         (lent_of edge_order.now triangle_order.now (length table.old) (length places.old) (length boxes.old)) first end list.old list.new
         words.old words.new result }
 {
     let rows = row_count(positions, edges);
     let lent = boxes.len();
-    match ask_rows(
+    ask_rows(
         positions,
         edges,
         triangles,
@@ -220,27 +222,23 @@ pub fn keep_rows(
         rows,
         first,
         end,
-    ) {
-        SceneAnswer::Refused(why) => KeptAnswer::Refused(why, 0),
-        SceneAnswer::Accepted => {
-            let room = smaller(list.len(), words.len());
-            keep_there(
-                positions,
-                edges,
-                triangles,
-                table,
-                edge_order,
-                triangle_order,
-                places,
-                boxes,
-                which,
-                wanted,
-                first,
-                end,
-                list,
-                words,
-                room,
-            )
-        }
-    }
+    )?;
+    let room = list.len().min(words.len());
+    keep_there(
+        positions,
+        edges,
+        triangles,
+        table,
+        edge_order,
+        triangle_order,
+        places,
+        boxes,
+        which,
+        wanted,
+        first,
+        end,
+        list,
+        words,
+        room,
+    )
 }

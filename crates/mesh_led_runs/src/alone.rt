@@ -30,11 +30,9 @@ fn enter_places(
     ensures { Entered most list.old at (map (entry_of kind i) (take count places.now)) list.new result }
 {
     let mut k = at;
-    let mut c = 0;
-    while c < count {
-        put_below(list, most, k, kind, i, wide(places[c]));
+    for place in &places[..count] {
+        put_below(list, most, k, kind, i, wide(*place));
         k += 1;
-        c += 1;
     }
     k
 }
@@ -66,14 +64,12 @@ pub fn enter_alone(
         (gather (kind_entries which (tabled positions.now edges.now triangles.now stands.now) kind) first end) list.new result }
 {
     let mut k = at;
-    let mut i = first;
-    while i < end {
+    for i in first..end {
         let count = order_places(
             positions, edges, triangles, stands, boxes, levels, parts, top, which, kind, i, order,
             places,
         );
         k = enter_places(kind, i, places, count, list, most, k);
-        i += 1;
     }
     k
 }

@@ -47,10 +47,8 @@ fn own_boxes(edges: &[u32], boxes: &[i32], kind: Kind, first: usize, count: usiz
         × (first ≤ 1073741824) × (108 ≤ length own.old) }
     ensures { BoxesStand own.new 0 count (λ r. own_box edges.now boxes.now kind (first + r)) }
 {
-    let mut r = 0;
-    while r < count {
+    for r in 0..count {
         own_box(edges, boxes, kind, first + r, own, r);
-        r += 1;
     }
 }
 
@@ -124,10 +122,8 @@ pub fn spread_parts(
         six.new }
 {
     let mut part = [0i32; PART_NUMBERS];
-    let mut q = 0;
-    while q < count {
-        part_box(edges, triangles, boxes, kind, wide(places[q]), &mut part);
+    for (q, place) in places[..count].iter().enumerate() {
+        part_box(edges, triangles, boxes, kind, wide(*place), &mut part);
         spread_box(&part, 0, six, q);
-        q += 1;
     }
 }

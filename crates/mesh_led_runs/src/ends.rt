@@ -15,13 +15,12 @@ const RUN_ROWS: usize = 8;
 // How many nodes are looked at.
 const SAMPLES: usize = 64;
 
-// How far apart two numbers of a list are. In 64 bits: the difference of two of 32 need not fit these.
+// How far apart two numbers of a list are.
 fn gap(list: &[i32], i: usize, j: usize) -> usize
     requires { (i < length list.now) × (j < length list.now) }
     ensures { result ≤ 4294967296 }
 {
-    let d = list[i] as i64 - list[j] as i64;
-    if d < 0 { (0 - d) as usize } else { d as usize }
+    list[i].abs_diff(list[j]) as usize
 }
 
 // How far a box reaches, on all three axes together.
@@ -56,11 +55,9 @@ fn near_share(boxes: &[i32], first: usize, nodes: usize) -> usize
     let stride = stride_of(nodes);
     let mut sum = 0usize;
     let mut looked = 0usize;
-    let mut k = 0usize;
-    while k < nodes {
+    for k in (0..nodes).step_by(stride) {
         sum += extent(boxes, first + k);
         looked += 1;
-        k += stride;
     }
     if looked == 0 {
         return 0;
@@ -100,12 +97,10 @@ pub fn near_end(
 {
     let last = run_end(first, end, RUN_ROWS);
     let v = vertex_of(edges, kind, first, 0);
-    let mut i = first + 1;
-    while i < last {
+    for i in first + 1..last {
         if !is_near(edges, boxes, kind, v, i, reach) {
             return i;
         }
-        i += 1;
     }
-    i
+    last
 }

@@ -55,13 +55,11 @@ fn lead_places(order: &[u32], places: &mut [u32], met: usize, from: usize) -> us
     ensures { Leading order.now from places.old places.new met result }
 {
     let mut n = 0usize;
-    let mut c = 0usize;
-    while c < met {
+    for c in 0..met {
         let k = wide(places[c]);
         let j = order[k];
         places[n] = j;
         n = one_more(n, from <= wide(j));
-        c += 1;
     }
     n
 }
@@ -117,15 +115,13 @@ fn enter_near(
 {
     let mut seconds = [0u32; SPREAD_PARTS];
     let mut k = at;
-    let mut i = first;
-    while i < end {
+    for i in first..end {
         let from = first_second(kind, i);
         mark_met(own, i - first, six, count, marks);
         let n = take_marked(places, count, marks, from, &mut seconds);
         k = enter_seconds(
             positions, edges, triangles, stands, which, kind, i, &seconds, n, list, most, k,
         );
-        i += 1;
     }
     k
 }
@@ -211,6 +207,7 @@ pub fn walk_led_runs(
     let reach = reach_of(boxes, levels, parts, top);
     let mut k = at;
     let mut i = first;
+    // A `while`, because each run says where the next begins.
     while i < end {
         let next = near_end(edges, boxes, kind, i, end, reach);
         k = walk_run(

@@ -1,21 +1,20 @@
 -- The check of a mesh over a list lent for its table of seams: what each way out of it gives.
-use Rattle.std.specs.Prelude.{ℕ, ◌/◌, ◌≤◌, Bool, true, false, not, cond, ◌&&◌, List, [], ◌∷◌, ◌≢◌, ◌≡◌, eqb, ltb, length}
+use Rattle.std.specs.Prelude.{ℕ, ◌/◌, ◌≤◌, Bool, true, false, not, cond, ◌&&◌, List, ◌∷◌, ◌≢◌, ◌≡◌, eqb, ltb, length, Err, Ok, Result}
 use Rattle.std.proofs.Math.Path.{refl}
 use Rattle.std.proofs.Common.{sym, ◌∙◌, arith, ne_eqb, ltb-false, le-ltb}
 use Rattle.std.proofs.lemmas.List.{length-replicate}
 use Rattle.meaning.specs.Scene.{Scene, vertex_count}
 use Rattle.meaning.specs.Mesh.{mesh_checks, MeshChecked, table_room, MeshAccepted}
-use Rattle.meaning.specs.Refusals.{scene_says, number_of}
+use Rattle.meaning.specs.Refusals.{number_of, outcome_alone}
 use Rattle.meaning.specs.declared.Refusal.TheVariants.{ShortBuffer}
-use Rattle.meaning.specs.declared.SceneAnswer as SceneAnswers
-use Rattle.meaning.specs.declared.SceneAnswer.{SceneAnswer}
 use Rattle.answers.specs.Answering.{refuses, lets_pass, one_answer}
-use Rattle.answers.specs.Speaking.{scene_says_one}
 use Rattle.scene_seams.specs.Alone.{tabled}
 use Rattle.mesh_seams.specs.Sewing.{MeshBlank}
 use Rattle.mesh_checks.specs.Meshes.{AcceptedMesh, mesh_accepted}
 use Rattle.mesh_checks.specs.Checking.{CheckedInto, one_mesh}
 use Rattle.mesh_lent.specs.Blanking.{blank_of, blank_everywhere}
+use Rattle.meaning.specs.declared.Refusal.{Refusal}
+use Rattle.answers.specs.Speaking.{one_alone}
 
 -- by how many numbers there are: seams, and no room for an entry for each vertex
 abbrev pub table_short : (positions seams table : ℕ) → Bool
@@ -47,32 +46,32 @@ room_for s t room =
     }
 
 -- ---- the five checks over a list that is t' afterwards: where the mesh is accepted, its seams stand there
-pub record MeshSewn (s : Scene) (t' : List ℕ) (r : SceneAnswer) : Type 0 where
+pub record MeshSewn (s : Scene) (t' : List ℕ) (r : Result (Unit {0}) Refusal) : Type 0 where
   pub checked : MeshChecked s r
-  pub accepted : r ≡ SceneAnswers.TheVariants.Accepted → AcceptedMesh s
-  pub tells : r ≡ SceneAnswers.TheVariants.Accepted → tabled s.positions s.edges s.triangles t' ≡ s
+  pub accepted : r ≡ Ok tt → AcceptedMesh s
+  pub tells : r ≡ Ok tt → tabled s.positions s.edges s.triangles t' ≡ s
 
-pub mesh_sewn : (s : Scene) {t t' : List ℕ} {r : SceneAnswer} → CheckedInto s t t' r → MeshSewn s t' r
+pub mesh_sewn : (s : Scene) {t t' : List ℕ} {r : Result (Unit {0}) Refusal} → CheckedInto s t t' r → MeshSewn s t' r
 mesh_sewn s {t} {t'} {r} c =
     record { checked = c.checked; accepted = passed; tells = λ e. one_mesh {s = s} c.into (passed e) }
   where
-    passed : r ≡ SceneAnswers.TheVariants.Accepted → AcceptedMesh s
+    passed : r ≡ Ok tt → AcceptedMesh s
     passed e = mesh_accepted s (rw e at c.checked)
 
 -- ---- 12, then the five
 
 module _ (s : Scene) (t : List ℕ) where
-  pub too_short : short_for s t ≡ true → MeshAccepted s (length t) (SceneAnswers.TheVariants.Refused ShortBuffer)
-  unfolding scene_says number_of
+  pub too_short : short_for s t ≡ true → MeshAccepted s (length t) (Err ShortBuffer)
+  unfolding outcome_alone number_of
   too_short h = refuses _ _ _ _ (sym (short_told s t) ∙ h) refl
 
   pub long_enough : short_for s t ≡ false → table_room s ≤ length t
   long_enough h = ltb-false (length t) (table_room s) (sym (short_told s t) ∙ h)
 
-  pub by_checks : {t' : List ℕ} {r : SceneAnswer} → short_for s t ≡ false → MeshSewn s t' r → MeshAccepted s (length t) r
+  pub by_checks : {t' : List ℕ} {r : Result (Unit {0}) Refusal} → short_for s t ≡ false → MeshSewn s t' r → MeshAccepted s (length t) r
   by_checks h m = lets_pass _ _ _ _ (sym (short_told s t) ∙ h) m.checked
 
 -- only one answer is right
-pub one_accepted : (s : Scene) (n : ℕ) (r r' : SceneAnswer) → MeshAccepted s n r → MeshAccepted s n r' → r ≡ r'
+pub one_accepted : (s : Scene) (n : ℕ) (r r' : Result (Unit {0}) Refusal) → MeshAccepted s n r → MeshAccepted s n r' → r ≡ r'
 one_accepted s n r r' p q =
-    scene_says_one r r' (one_answer (λ u. Unit {0}) (λ a b h k. refl) (record { number = 12; holds = ltb n (table_room s); carries = 0 } ∷ mesh_checks s) (scene_says r) (scene_says r') p q)
+    one_alone r r' (one_answer (λ u. Unit {0}) (λ a b h k. refl) (record { number = 12; holds = ltb n (table_room s); carries = 0 } ∷ mesh_checks s) (outcome_alone r) (outcome_alone r') p q)

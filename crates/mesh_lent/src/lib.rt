@@ -8,18 +8,14 @@ ghost use Rattle.meaning.specs.Mesh.{table_room, MeshAccepted};
 ghost use Rattle.mesh_lent.specs.Blanking.{blank_of};
 ghost use Rattle.mesh_lent.specs.Answering.{table_short, MeshSewn};
 
-use meaning::{Refusal, SceneAnswer};
+use meaning::Refusal;
 use mesh_checks::check_mesh_into;
 
 // Every number of a lent list set to 0: a table without seams.
 pub fn blank(table: &mut [u32])
     ensures { table.new ≡ blank_of table.old }
 {
-    let mut k = 0;
-    while k < table.len() {
-        table[k] = 0;
-        k += 1;
-    }
+    table.fill(0);
 }
 
 // 12: there are seams, and the lent list has no room for a table of the vertices.
@@ -37,7 +33,7 @@ pub fn check_over(
     triangles: &[u32],
     seams: &[u32],
     table: &mut [u32],
-) -> SceneAnswer
+) -> Result<(), Refusal>
     requires { table_room (scene_of positions.now edges.now triangles.now seams.now) ≤ length table.old }
     ensures { MeshSewn (scene_of positions.now edges.now triangles.now seams.now) table.new result }
 {
@@ -52,11 +48,11 @@ pub fn check_mesh(
     triangles: &[u32],
     seams: &[u32],
     table: &mut [u32],
-) -> SceneAnswer
+) -> Result<(), Refusal>
     ensures { MeshAccepted (scene_of positions.now edges.now triangles.now seams.now) (length table.old) result }
 {
     if table_short(positions, seams, table) {
-        return SceneAnswer::Refused(Refusal::ShortBuffer);
+        return Err(Refusal::ShortBuffer);
     }
     check_over(positions, edges, triangles, seams, table)
 }

@@ -1,20 +1,16 @@
 -- A stretch of rows that may be looked at: its scratch has room for boxes, trees and places, what was lent as orders are orders, and what is counted and
 -- listed of the mesh that its table tells is said of the mesh.
-use Rattle.std.specs.Prelude.{ℕ, ◌≤◌, false, ◌≡◌, ℤ}
-use mathlib.Core.List.{List, [], ◌∷◌}
+use Rattle.std.specs.Prelude.{ℕ, ◌≤◌, false, ◌≡◌, ℤ, Err, Ok, Result}
+use mathlib.Core.List.{List, []}
 use Rattle.std.proofs.Math.Path.{refl}
 use Rattle.std.proofs.Common.{sym, subst, arith, ne_eqb}
 use Rattle.std.proofs.Math.ListN.{length}
 use Rattle.meaning.specs.Scene.{Scene, edge_count, triangle_count}
-use Rattle.meaning.specs.Refusals.{given, refused, room_check, Answers}
-use Rattle.meaning.specs.List.{list_says, leaves}
-use Rattle.meaning.specs.MeshRows.{Lent, place_room, wrong_order, row_count, rows_in, mesh_entries, RowsCounted, RowsListed}
+use Rattle.meaning.specs.Refusals.{given, carrying, outcome_of}
+use Rattle.meaning.specs.List.{leaves}
+use Rattle.meaning.specs.MeshRows.{Lent, place_room, wrong_order, row_count, rows_in, RowsCounted, RowsListed}
 use Rattle.meaning.specs.declared.Refusal.{Refusal}
 use Rattle.meaning.specs.declared.RowPairs.{RowPairs}
-use Rattle.meaning.specs.declared.SceneAnswer as SceneAnswers
-use Rattle.meaning.specs.declared.SceneAnswer.{SceneAnswer}
-use Rattle.meaning.specs.declared.ListAnswer as ListAnswers
-use Rattle.meaning.specs.declared.ListAnswer.{ListAnswer}
 use Rattle.answers.specs.Answering.{gives}
 use Rattle.answers.specs.Below.{or_left, or_rest}
 use Rattle.scene_seams.specs.Alone.{tabled}
@@ -24,10 +20,11 @@ use Rattle.mesh_boxes.specs.Led.{OrderLent}
 use Rattle.mesh_trees.specs.Planting.{Plantable, mesh_plantable}
 use Rattle.mesh_ordered.specs.Either.{OrdersLent}
 use Rattle.mesh_stretch.specs.Stretching.{IsRowCount, StretchListed}
-use Rattle.mesh_asked.specs.Asking.{RowsOpen, RowsAsked, refused_first, passed_first}
+use Rattle.mesh_asked.specs.Asking.{RowsAsked, refused_first, passed_first}
+use Rattle.meaning.specs.declared.Refused.{Refused}
 
 -- the rows were counted first
-pub by_count : {s : Scene} {l : Lent} {rows first end : ℕ} {t' : List ℕ} {asked : SceneAnswer} → rows ≡ row_count s → RowsAsked s l rows first end t' asked
+pub by_count : {s : Scene} {l : Lent} {rows first end : ℕ} {t' : List ℕ} {asked : Result (Unit {0}) Refusal} → rows ≡ row_count s → RowsAsked s l rows first end t' asked
     → RowsAsked s l (row_count s) first end t' asked
 by_count {s} {l} {first = first} {end = end} {t'} {asked} e p = subst (λ (n : ℕ). RowsAsked s l n first end t' asked) e p
 
@@ -48,7 +45,7 @@ lent_orders s l n e room =
 abbrev pub told_by : Scene → List ℕ → Scene
 told_by s t = tabled s.positions s.edges s.triangles t
 
-module _ {s : Scene} {l : Lent} {rows first end : ℕ} {t' : List ℕ} {asked : SceneAnswer} (p : RowsAsked s l rows first end t' asked) (passed : asked ≡ SceneAnswers.TheVariants.Accepted) where
+module _ {s : Scene} {l : Lent} {rows first end : ℕ} {t' : List ℕ} {asked : Result (Unit {0}) Refusal} (p : RowsAsked s l rows first end t' asked) (passed : asked ≡ Ok tt) where
   pub open_plantable : (b : List ℤ) → l.boxes ≡ length b → Plantable (told_by s t') b
   open_plantable b same =
       let o = p.opened passed in
@@ -65,24 +62,24 @@ module _ {s : Scene} {l : Lent} {rows first end : ℕ} {t' : List ℕ} {asked : 
   pub open_told : told_by s t' ≡ s
   open_told = (p.opened passed).told
 
-module _ (w : RowPairs) (s : Scene) (l : Lent) (first end : ℕ) {t' : List ℕ} {asked : SceneAnswer} (p : RowsAsked s l (row_count s) first end t' asked) where
-  pub not_counted : (x : Refusal) → asked ≡ SceneAnswers.TheVariants.Refused x → RowsCounted w s l first end (ListAnswers.TheVariants.Refused x 0)
-  unfolding list_says
+module _ (w : RowPairs) (s : Scene) (l : Lent) (first end : ℕ) {t' : List ℕ} {asked : Result (Unit {0}) Refusal} (p : RowsAsked s l (row_count s) first end t' asked) where
+  pub not_counted : (x : Refusal) → asked ≡ Err x → RowsCounted w s l first end (Err (carrying x 0))
+  unfolding outcome_of
   not_counted x e = refused_first p (λ n. n ≡ length (rows_in w s first end)) [] x e
 
-  pub not_listed : (o : List ℕ) (x : Refusal) → asked ≡ SceneAnswers.TheVariants.Refused x
-      → RowsListed w s l first end o o (ListAnswers.TheVariants.Refused x 0)
-  unfolding list_says leaves
+  pub not_listed : (o : List ℕ) (x : Refusal) → asked ≡ Err x
+      → RowsListed w s l first end o o (Err (carrying x 0))
+  unfolding outcome_of leaves
   not_listed o x e = record { answer = refused_first p (λ n. n ≡ length (rows_in w s first end)) _ x e; list = refl }
 
-  module _ (passed : asked ≡ SceneAnswers.TheVariants.Accepted) where
-    pub counted : (n : ℕ) → IsRowCount w (told_by s t') first end n → RowsCounted w s l first end (ListAnswers.TheVariants.Listed (record { count = n }))
-    unfolding list_says
+  module _ (passed : asked ≡ Ok tt) where
+    pub counted : (n : ℕ) → IsRowCount w (told_by s t') first end n → RowsCounted w s l first end (Ok n)
+    unfolding outcome_of
     counted n h =
         passed_first p (λ n. n ≡ length (rows_in w s first end)) [] (given n) passed
         (gives (λ n. n ≡ length (rows_in w s first end)) n (subst (λ (m : Scene). IsRowCount w m first end n) (open_told p passed) h))
 
-    pub listed : {o o' : List ℕ} {r : ListAnswer} → StretchListed w (told_by s t') first end (length o) o o' r → RowsListed w s l first end o o' r
+    pub listed : {o o' : List ℕ} {r : Result ℕ Refused} → StretchListed w (told_by s t') first end (length o) o o' r → RowsListed w s l first end o o' r
     listed {o} {o'} {r} h =
         let k = subst (λ (m : Scene). StretchListed w m first end (length o) o o' r) (open_told p passed) h in
-        record { answer = passed_first p (λ n. n ≡ length (rows_in w s first end)) _ (list_says r) passed k.answer; list = k.list }
+        record { answer = passed_first p (λ n. n ≡ length (rows_in w s first end)) _ (outcome_of r) passed k.answer; list = k.list }

@@ -7,7 +7,7 @@ ghost use Rattle.meaning.specs.Scene.{scene_of};
 ghost use Rattle.std.specs.Prelude.{length, [], ◌≡◌};
 ghost use Rattle.meaning.specs.MeshRows.{lent_of, RowsCounted, RowsListed};
 
-use meaning::{ListAnswer, Made, RowPairs, SceneAnswer};
+use meaning::{Refused, RowPairs};
 use mesh_asked::{ask_rows, row_count};
 use mesh_stretch::{count_stretch, list_stretch};
 
@@ -25,13 +25,13 @@ pub fn count_rows(
     which: RowPairs,
     first: usize,
     end: usize,
-) -> ListAnswer
+) -> Result<usize, Refused>
     ensures { RowsCounted which (scene_of positions.now edges.now triangles.now seams.now)
         (lent_of edge_order.now triangle_order.now (length table.old) (length places.old) (length boxes.old)) first end result }
 {
     let rows = row_count(positions, edges);
     let lent = boxes.len();
-    match ask_rows(
+    ask_rows(
         positions,
         edges,
         triangles,
@@ -44,25 +44,20 @@ pub fn count_rows(
         rows,
         first,
         end,
-    ) {
-        SceneAnswer::Refused(why) => ListAnswer::Refused(why, 0),
-        SceneAnswer::Accepted => {
-            let count = count_stretch(
-                positions,
-                edges,
-                triangles,
-                table,
-                edge_order,
-                triangle_order,
-                places,
-                boxes,
-                which,
-                first,
-                end,
-            );
-            ListAnswer::Listed(Made { count })
-        }
-    }
+    )?;
+    Ok(count_stretch(
+        positions,
+        edges,
+        triangles,
+        table,
+        edge_order,
+        triangle_order,
+        places,
+        boxes,
+        which,
+        first,
+        end,
+    ))
 }
 
 // The entries of these pairs, in front of a lent list; the rest of it is unchanged.
@@ -80,13 +75,13 @@ pub fn list_rows(
     first: usize,
     end: usize,
     list: &mut [u64],
-) -> ListAnswer
+) -> Result<usize, Refused>
     ensures { RowsListed which (scene_of positions.now edges.now triangles.now seams.now)
         (lent_of edge_order.now triangle_order.now (length table.old) (length places.old) (length boxes.old)) first end list.old list.new result }
 {
     let rows = row_count(positions, edges);
     let lent = boxes.len();
-    match ask_rows(
+    ask_rows(
         positions,
         edges,
         triangles,
@@ -99,25 +94,21 @@ pub fn list_rows(
         rows,
         first,
         end,
-    ) {
-        SceneAnswer::Refused(why) => ListAnswer::Refused(why, 0),
-        SceneAnswer::Accepted => {
-            let room = list.len();
-            list_stretch(
-                positions,
-                edges,
-                triangles,
-                table,
-                edge_order,
-                triangle_order,
-                places,
-                boxes,
-                which,
-                first,
-                end,
-                list,
-                room,
-            )
-        }
-    }
+    )?;
+    let room = list.len();
+    list_stretch(
+        positions,
+        edges,
+        triangles,
+        table,
+        edge_order,
+        triangle_order,
+        places,
+        boxes,
+        which,
+        first,
+        end,
+        list,
+        room,
+    )
 }

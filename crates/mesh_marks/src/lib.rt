@@ -3,7 +3,7 @@
 
 #![tactic(auto)]
 
-ghost use Rattle.std.specs.Prelude.{◌+◌, ◌*◌, ◌≤◌, ◌<◌, ◌≡◌, pos, length, get_or, set};
+ghost use Rattle.std.specs.Prelude.{◌+◌, ◌*◌, ◌≤◌, ◌<◌, ◌≡◌, length};
 ghost use Rattle.meaning.specs.Boxes.{meet};
 ghost use Rattle.meaning.specs.StoredBoxes.{span_at, box_at, BoxesStand};
 ghost use Rattle.list_boxes.specs.Kept.{meet_boxes};
@@ -17,25 +17,14 @@ use mesh_walk::sixteens::put_over;
 // The numbers of one box.
 const BOX_NUMBERS: usize = 6;
 
-// One number.
-fn copy_number(boxes: &[i32], i: usize, own: &mut [i32], n: usize)
-    requires { (i < length boxes.now) × (n < length own.old) }
-    ensures { own.new ≡ set own.old n (get_or boxes.now i (pos 0)) }
-{
-    own[n] = boxes[i];
-}
-
 // So many boxes from `first` on, in front of another list.
 pub fn copy_boxes(boxes: &[i32], first: usize, count: usize, own: &mut [i32])
     requires { (6 * (first + count) ≤ length boxes.now) × (6 * count ≤ length own.old) }
     ensures { BoxesStand own.new 0 count (λ r. box_at boxes.now (first + r)) }
 {
-    let end = 6 * count;
-    let mut n = 0;
-    while n < end {
-        copy_number(boxes, 6 * first + n, own, n);
-        n += 1;
-    }
+    let from = 6 * first;
+    let numbers = 6 * count;
+    own[..numbers].copy_from_slice(&boxes[from..from + numbers]);
 }
 
 // The low and the high of a box on one axis, each in its own row of `six`.
@@ -63,10 +52,8 @@ pub fn spread_boxes(boxes: &[i32], base: usize, places: &[u32], count: usize, si
     requires { PlacesIn boxes.now base places.now count × (count ≤ 256) × (1536 ≤ length six.old) }
     ensures { Spread boxes.now base places.now count six.new }
 {
-    let mut q = 0;
-    while q < count {
+    for q in 0..count {
         spread_box(boxes, base + wide(places[q]), six, q);
-        q += 1;
     }
 }
 
@@ -97,10 +84,8 @@ pub fn mark_met(boxes: &[i32], row: usize, six: &[i32], count: usize, marks: &mu
 {
     let mut own = [0i32; BOX_NUMBERS];
     copy_boxes(boxes, row, 1, &mut own);
-    let mut q = 0;
-    while q < count {
+    for q in 0..count {
         marks[q] = meets_spread(&own, six, q);
-        q += 1;
     }
 }
 
@@ -117,11 +102,9 @@ pub fn take_marked(
     ensures { PutDown seconds.old 0 (marked_places places.now marks.now from count) seconds.new result }
 {
     let mut n = 0usize;
-    let mut c = 0;
-    while c < count {
+    for c in 0..count {
         let j = places[c];
         n = put_over(seconds, n, j, (from <= wide(j)) & marks[c]);
-        c += 1;
     }
     n
 }

@@ -16,20 +16,18 @@ ghost use Rattle.mesh_ordered.specs.Either.{OrdersLent};
 ghost use Rattle.mesh_met.specs.Meeting.{MetNear, MetThere};
 
 use contact_pair::beyond_old_range;
-use meaning::{ListAnswer, ROW_NUMBERS, Refusal, RowPairs, SceneAnswer};
+use meaning::{ROW_NUMBERS, Refusal, Refused, RowPairs};
 use mesh_asked::{ask_rows, row_count};
 use mesh_contacts::contact_mesh_entries;
 use mesh_stretch::list_stretch;
-use scene_parts::asked::smaller;
 
 // How many pairs the three lent lists have room for.
 pub fn room_for(list: &[u64], words: &[u8], contacts: &[u32]) -> usize
     ensures { result ≡ contact_room list.now words.now contacts.now }
 {
-    smaller(
-        smaller(list.len(), words.len()),
-        contacts.len() / ROW_NUMBERS,
-    )
+    list.len()
+        .min(words.len())
+        .min(contacts.len() / ROW_NUMBERS)
 }
 
 // Of a mesh within the old range, whose seams stand in a table.
@@ -48,7 +46,7 @@ fn contact_near(
     list: &mut [u64],
     words: &mut [u8],
     contacts: &mut [u32],
-) -> ListAnswer
+) -> Result<usize, Refused>
     requires plantable { Plantable (tabled positions.now edges.now triangles.now stands.now) boxes.old × (first ≤ end)
         × (end ≤ row_count (tabled positions.now edges.now triangles.now stands.now)) }
     requires orders_lent { OrdersLent (tabled positions.now edges.now triangles.now stands.now) edge_order.now triangle_order.now (length places.old) }
@@ -58,7 +56,7 @@ fn contact_near(
         words.new contacts.old contacts.new result }
 {
     let room = room_for(list, words, contacts);
-    match list_stretch(
+    let count = list_stretch(
         positions,
         edges,
         triangles,
@@ -72,15 +70,11 @@ fn contact_near(
         end,
         list,
         room,
-    ) {
-        ListAnswer::Listed(made) => {
-            contact_mesh_entries(
-                positions, edges, triangles, stands, list, words, contacts, made.count,
-            );
-            ListAnswer::Listed(made)
-        }
-        ListAnswer::Refused(refusal, needed) => ListAnswer::Refused(refusal, needed),
-    }
+    )?;
+    contact_mesh_entries(
+        positions, edges, triangles, stands, list, words, contacts, count,
+    );
+    Ok(count)
 }
 
 // Of an accepted mesh whose seams stand in a table.
@@ -99,7 +93,7 @@ fn contact_there(
     list: &mut [u64],
     words: &mut [u8],
     contacts: &mut [u32],
-) -> ListAnswer
+) -> Result<usize, Refused>
     requires plantable { Plantable (tabled positions.now edges.now triangles.now stands.now) boxes.old × (first ≤ end)
         × (end ≤ row_count (tabled positions.now edges.now triangles.now stands.now)) }
     requires orders_lent { OrdersLent (tabled positions.now edges.now triangles.now stands.now) edge_order.now triangle_order.now (length places.old) }
@@ -108,7 +102,7 @@ fn contact_there(
         list.new words.old words.new contacts.old contacts.new result }
 {
     if beyond_old_range(positions) {
-        return ListAnswer::Refused(Refusal::BeyondOldRange, 0);
+        return Err(Refused::from(Refusal::BeyondOldRange));
     }
     contact_near(
         positions,
@@ -146,14 +140,14 @@ pub fn contact_rows(
     list: &mut [u64],
     words: &mut [u8],
     contacts: &mut [u32],
-) -> ListAnswer
+) -> Result<usize, Refused>
     ensures { RowsContacts which (scene_of positions.now edges.now triangles.now seams.now)
         (lent_of edge_order.now triangle_order.now (length table.old) (length places.old) (length boxes.old)) first end list.old list.new
         words.old words.new contacts.old contacts.new result }
 {
     let rows = row_count(positions, edges);
     let lent = boxes.len();
-    match ask_rows(
+    ask_rows(
         positions,
         edges,
         triangles,
@@ -166,23 +160,21 @@ pub fn contact_rows(
         rows,
         first,
         end,
-    ) {
-        SceneAnswer::Refused(why) => ListAnswer::Refused(why, 0),
-        SceneAnswer::Accepted => contact_there(
-            positions,
-            edges,
-            triangles,
-            table,
-            edge_order,
-            triangle_order,
-            places,
-            boxes,
-            which,
-            first,
-            end,
-            list,
-            words,
-            contacts,
-        ),
-    }
+    )?;
+    contact_there(
+        positions,
+        edges,
+        triangles,
+        table,
+        edge_order,
+        triangle_order,
+        places,
+        boxes,
+        which,
+        first,
+        end,
+        list,
+        words,
+        contacts,
+    )
 }

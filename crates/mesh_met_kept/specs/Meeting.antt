@@ -1,5 +1,5 @@
 -- The pairs of a stretch that were kept, with the contacts of the hits among them: what each way out of the call gives.
-use Rattle.std.specs.Prelude.{ℕ, ◌≤◌, Bool, true, false, ◌≡◌, length, take, drop}
+use Rattle.std.specs.Prelude.{ℕ, ◌≤◌, Bool, true, false, ◌≡◌, length, take, drop, Err, Ok, Result}
 use mathlib.Core.List.Memᴰ
 use mathlib.Core.List.{List, [], ◌∷◌, map, Memᴰ}
 use Rattle.std.proofs.Common.{⊎_elim, sym, ◌∙◌, arith, take_at}
@@ -10,19 +10,15 @@ use Rattle.sequences.specs.Pick.{pick}
 use Rattle.sequences.specs.Wrote.{written, written_length}
 use Rattle.meaning.specs.Limits.{contact_limit}
 use Rattle.meaning.specs.Scene.{Scene, reaches_beyond}
-use Rattle.meaning.specs.Refusals.{number_of, room_check, Answers}
+use Rattle.meaning.specs.Refusals.{number_of, room_check, Answers, carrying, outcome_of}
 use Rattle.meaning.specs.List.{Pair, leaves}
 use Rattle.meaning.specs.SceneWords.{byte_of}
 use Rattle.meaning.specs.WholeContacts.{range_check, contact_room, rows_left, rows_after}
-use Rattle.meaning.specs.MeshRows.{Lent, row_count, rows_in, mesh_number, wants_word, kept, kept_says, ContactsKept}
-use Rattle.meaning.specs.declared.KeptAnswer as KeptAnswers
-use Rattle.meaning.specs.declared.KeptAnswer.{KeptAnswer}
+use Rattle.meaning.specs.MeshRows.{Lent, row_count, rows_in, mesh_number, wants_word, kept, ContactsKept}
 use Rattle.meaning.specs.declared.KeptRows.{KeptRows}
 use Rattle.meaning.specs.declared.Refusal.{Refusal}
 use Rattle.meaning.specs.declared.Refusal.TheVariants.{BeyondOldRange}
 use Rattle.meaning.specs.declared.RowPairs.{RowPairs}
-use Rattle.meaning.specs.declared.SceneAnswer as SceneAnswers
-use Rattle.meaning.specs.declared.SceneAnswer.{SceneAnswer}
 use Rattle.meaning.specs.declared.Wanted.{Wanted}
 use Rattle.answers.specs.Answering.{refuses, lets_pass, is_given}
 use Rattle.list_words.specs.Listed.{word_of_pair, words_of, bytes_of, all_judged}
@@ -35,6 +31,7 @@ use Rattle.mesh_words.specs.OfRows.{rows_of_list, listed_entered}
 use Rattle.mesh_keep.specs.Keeping.{kept_pairs, kept_is, kept_words}
 use Rattle.mesh_judged.specs.Judged.{row_words, kept_entries, kept_bytes, KeptTold}
 use Rattle.mesh_keeping.specs.Kept.{StretchKept}
+use Rattle.meaning.specs.declared.Refused.{Refused}
 
 -- what is kept was there
 module _ (s : Scene) (m : Wanted) where
@@ -62,11 +59,11 @@ module _ (w : RowPairs) (m : Wanted) (s : Scene) (a b : ℕ) where
     pub list : o' ≡ written (kept_entries w m s a b) o
     pub bytes : v' ≡ written (kept_bytes w m s a b) v
 
-  module _ {room : ℕ} {o o' v v' : List ℕ} {r : KeptAnswer} (l : StretchKept w m s a b room o o' v v' r) {t : KeptRows} (e : r ≡ KeptAnswers.TheVariants.Kept t) where
+  module _ {room : ℕ} {o o' v v' : List ℕ} {r : Result KeptRows Refused} (l : StretchKept w m s a b room o o' v v' r) {t : KeptRows} (e : r ≡ Ok t) where
     pub kept_made : KeptMade room o o' v v' t.count
-    unfolding kept_says leaves Answers
+    unfolding outcome_of leaves Answers
     kept_made =
-        let k : StretchKept w m s a b room o o' v v' (KeptAnswers.TheVariants.Kept t) = subst (StretchKept w m s a b room o o' v v') e l in
+        let k : StretchKept w m s a b room o o' v v' (Ok t) = subst (StretchKept w m s a b room o o' v v') e l in
         let (h, rest) = is_given (KeptTold w m s a b) (room_check room (length (kept m (row_words w s a b) (row_words w s a b)))) [] t k.answer in
         let same = ap (λ (u : KeptRows). u.count) rest in
         record {
@@ -118,43 +115,42 @@ module _ (w : RowPairs) (m : Wanted) (s : Scene) (a b : ℕ) where
 
   -- ---- within the old range
 
-  pub record KeptNear (room : ℕ) (o o' v v' c c' : List ℕ) (r : KeptAnswer) : Type 0 where
+  pub record KeptNear (room : ℕ) (o o' v v' c c' : List ℕ) (r : Result KeptRows Refused) : Type 0 where
     pub stays : StretchKept w m s a b room o o' v v' r
-    pub rows : c' ≡ rows_after (kept_says r) (contacts_of s kept_rows) c
+    pub rows : c' ≡ rows_after (outcome_of r) (contacts_of s kept_rows) c
 
-  module _ {room : ℕ} {o o' v v' : List ℕ} {r : KeptAnswer} (l : StretchKept w m s a b room o o' v v' r) where
+  module _ {room : ℕ} {o o' v v' : List ℕ} {r : Result KeptRows Refused} (l : StretchKept w m s a b room o o' v v' r) where
     pub near_made : {t : KeptRows} {c c' : List ℕ} → MeshSized s → b ≤ row_count s → room ≤ length o → room ≤ length v
-        → r ≡ KeptAnswers.TheVariants.Kept t
+        → r ≡ Ok t
         → c' ≡ rows_left (contacts_of s (mesh_pairs_in t.count o')) c
-        → KeptNear room o o' v v' c c' (KeptAnswers.TheVariants.Kept t)
-    unfolding kept_says rows_after
+        → KeptNear room o o' v v' c c' (Ok t)
+    unfolding outcome_of rows_after
     near_made {c = c} few within high wide e k =
         record {
           stays = subst (StretchKept w m s a b room o o' v v') e l;
           rows = k ∙ ap (λ (ps : List Pair). rows_left (contacts_of s ps) c) (made_pairs few within high wide (kept_made l e));
         }
 
-    pub near_without : {x : Refusal} {n : ℕ} {c : List ℕ} → r ≡ KeptAnswers.TheVariants.Refused x n
-        → KeptNear room o o' v v' c c (KeptAnswers.TheVariants.Refused x n)
-    unfolding kept_says rows_after
+    pub near_without : {x : Refused} {c : List ℕ} → r ≡ Err x → KeptNear room o o' v v' c c (Err x)
+    unfolding outcome_of rows_after
     near_without e = record { stays = subst (StretchKept w m s a b room o o' v v') e l; rows = refl }
 
   -- ---- 16, then 7
 
-  pub record KeptThere (o o' v v' c c' : List ℕ) (r : KeptAnswer) : Type 0 where
+  pub record KeptThere (o o' v v' c c' : List ℕ) (r : Result KeptRows Refused) : Type 0 where
     pub answer : Answers
         (range_check s ∷ room_check (contact_room o v c) (length (kept m (row_words w s a b) (row_words w s a b))) ∷ [])
         (KeptTold w m s a b)
-        (kept_says r)
-    pub list : o' ≡ leaves (kept_says r) (kept_entries w m s a b) o
-    pub bytes : v' ≡ leaves (kept_says r) (kept_bytes w m s a b) v
-    pub rows : c' ≡ rows_after (kept_says r) (contacts_of s kept_rows) c
+        (outcome_of r)
+    pub list : o' ≡ leaves (outcome_of r) (kept_entries w m s a b) o
+    pub bytes : v' ≡ leaves (outcome_of r) (kept_bytes w m s a b) v
+    pub rows : c' ≡ rows_after (outcome_of r) (contacts_of s kept_rows) c
 
-  pub kept_beyond : (o v c : List ℕ) → reaches_beyond contact_limit s ≡ true → KeptThere o o v v c c (KeptAnswers.TheVariants.Refused BeyondOldRange 0)
-  unfolding kept_says leaves rows_after number_of
+  pub kept_beyond : (o v c : List ℕ) → reaches_beyond contact_limit s ≡ true → KeptThere o o v v c c (Err (carrying BeyondOldRange 0))
+  unfolding outcome_of leaves rows_after number_of
   kept_beyond o v c h = record { answer = refuses _ _ _ _ h refl; list = refl; bytes = refl; rows = refl }
 
-  pub kept_near : (o v c : List ℕ) {o' v' c' : List ℕ} {r : KeptAnswer} → reaches_beyond contact_limit s ≡ false
+  pub kept_near : (o v c : List ℕ) {o' v' c' : List ℕ} {r : Result KeptRows Refused} → reaches_beyond contact_limit s ≡ false
       → KeptNear (contact_room o v c) o o' v v' c c' r
       → KeptThere o o' v v' c c' r
   kept_near o v c h k =
@@ -162,10 +158,10 @@ module _ (w : RowPairs) (m : Wanted) (s : Scene) (a b : ℕ) where
 
 -- ---- the answer of the whole call
 
-module _ (w : RowPairs) (m : Wanted) (s : Scene) (l : Lent) (first end : ℕ) {t' : List ℕ} {asked : SceneAnswer} (p : RowsAsked s l (row_count s) first end t' asked) where
-  pub not_met : (o v c : List ℕ) (x : Refusal) → asked ≡ SceneAnswers.TheVariants.Refused x
-      → ContactsKept w m s l first end o o v v c c (KeptAnswers.TheVariants.Refused x 0)
-  unfolding kept_says leaves rows_after
+module _ (w : RowPairs) (m : Wanted) (s : Scene) (l : Lent) (first end : ℕ) {t' : List ℕ} {asked : Result (Unit {0}) Refusal} (p : RowsAsked s l (row_count s) first end t' asked) where
+  pub not_met : (o v c : List ℕ) (x : Refusal) → asked ≡ Err x
+      → ContactsKept w m s l first end o o v v c c (Err (carrying x 0))
+  unfolding outcome_of leaves rows_after
   not_met o v c x e =
       record {
         words = row_words w s first end;
@@ -178,7 +174,7 @@ module _ (w : RowPairs) (m : Wanted) (s : Scene) (l : Lent) (first end : ℕ) {t
         rows = refl;
       }
 
-  pub met : {o o' v v' c c' : List ℕ} {r : KeptAnswer} → asked ≡ SceneAnswers.TheVariants.Accepted
+  pub met : {o o' v v' c c' : List ℕ} {r : Result KeptRows Refused} → asked ≡ Ok tt
       → KeptThere w m (told_by s t') first end o o' v v' c c' r
       → ContactsKept w m s l first end o o' v v' c c' r
   met {o} {o'} {v} {v'} {c} {c'} {r} passed h =
@@ -186,7 +182,7 @@ module _ (w : RowPairs) (m : Wanted) (s : Scene) (l : Lent) (first end : ℕ) {t
       record {
         words = row_words w s first end;
         right = all_judged s (rows_in w s first end);
-        answer = passed_first p (KeptTold w m s first end) _ (kept_says r) passed k.answer;
+        answer = passed_first p (KeptTold w m s first end) _ (outcome_of r) passed k.answer;
         list = k.list;
         bytes = k.bytes;
         contacts = contacts_of s (kept_rows w m s first end);

@@ -16,7 +16,7 @@ ghost use Rattle.mesh_ordered.specs.Either.{OrdersLent};
 ghost use Rattle.mesh_met_kept.specs.Meeting.{KeptNear, KeptThere};
 
 use contact_pair::beyond_old_range;
-use meaning::{KeptAnswer, Refusal, RowPairs, SceneAnswer, Wanted};
+use meaning::{KeptRows, Refusal, Refused, RowPairs, Wanted};
 use mesh_asked::{ask_rows, row_count};
 use mesh_contacts::contact_hits;
 use mesh_keeping::keep_there;
@@ -39,7 +39,7 @@ fn contact_near(
     list: &mut [u64],
     words: &mut [u8],
     contacts: &mut [u32],
-) -> KeptAnswer
+) -> Result<KeptRows, Refused>
     requires plantable { Plantable (tabled positions.now edges.now triangles.now stands.now) boxes.old × (first ≤ end)
         × (end ≤ row_count (tabled positions.now edges.now triangles.now stands.now)) }
     requires orders_lent { OrdersLent (tabled positions.now edges.now triangles.now stands.now) edge_order.now triangle_order.now (length places.old) }
@@ -49,7 +49,7 @@ fn contact_near(
         words.new contacts.old contacts.new result }
 {
     let room = room_for(list, words, contacts);
-    match keep_there(
+    let kept = keep_there(
         positions,
         edges,
         triangles,
@@ -65,15 +65,11 @@ fn contact_near(
         list,
         words,
         room,
-    ) {
-        KeptAnswer::Kept(kept) => {
-            contact_hits(
-                positions, edges, triangles, stands, list, words, contacts, kept.count,
-            );
-            KeptAnswer::Kept(kept)
-        }
-        KeptAnswer::Refused(refusal, needed) => KeptAnswer::Refused(refusal, needed),
-    }
+    )?;
+    contact_hits(
+        positions, edges, triangles, stands, list, words, contacts, kept.count,
+    );
+    Ok(kept)
 }
 
 // Of an accepted mesh whose seams stand in a table.
@@ -93,7 +89,7 @@ fn contact_there(
     list: &mut [u64],
     words: &mut [u8],
     contacts: &mut [u32],
-) -> KeptAnswer
+) -> Result<KeptRows, Refused>
     requires plantable { Plantable (tabled positions.now edges.now triangles.now stands.now) boxes.old × (first ≤ end)
         × (end ≤ row_count (tabled positions.now edges.now triangles.now stands.now)) }
     requires orders_lent { OrdersLent (tabled positions.now edges.now triangles.now stands.now) edge_order.now triangle_order.now (length places.old) }
@@ -102,7 +98,7 @@ fn contact_there(
         list.new words.old words.new contacts.old contacts.new result }
 {
     if beyond_old_range(positions) {
-        return KeptAnswer::Refused(Refusal::BeyondOldRange, 0);
+        return Err(Refused::from(Refusal::BeyondOldRange));
     }
     contact_near(
         positions,
@@ -143,14 +139,14 @@ pub fn keep_contacts(
     list: &mut [u64],
     words: &mut [u8],
     contacts: &mut [u32],
-) -> KeptAnswer
+) -> Result<KeptRows, Refused>
     ensures { ContactsKept which wanted (scene_of positions.now edges.now triangles.now seams.now)
         (lent_of edge_order.now triangle_order.now (length table.old) (length places.old) (length boxes.old)) first end list.old list.new
         words.old words.new contacts.old contacts.new result }
 {
     let rows = row_count(positions, edges);
     let lent = boxes.len();
-    match ask_rows(
+    ask_rows(
         positions,
         edges,
         triangles,
@@ -163,24 +159,22 @@ pub fn keep_contacts(
         rows,
         first,
         end,
-    ) {
-        SceneAnswer::Refused(why) => KeptAnswer::Refused(why, 0),
-        SceneAnswer::Accepted => contact_there(
-            positions,
-            edges,
-            triangles,
-            table,
-            edge_order,
-            triangle_order,
-            places,
-            boxes,
-            which,
-            wanted,
-            first,
-            end,
-            list,
-            words,
-            contacts,
-        ),
-    }
+    )?;
+    contact_there(
+        positions,
+        edges,
+        triangles,
+        table,
+        edge_order,
+        triangle_order,
+        places,
+        boxes,
+        which,
+        wanted,
+        first,
+        end,
+        list,
+        words,
+        contacts,
+    )
 }

@@ -32,33 +32,18 @@ fn point_far_at(positions: &[i32], p: usize, a: usize, b: usize, c: usize) -> bo
         | (below(positions, a, p) & below(positions, b, p) & below(positions, c, p))
 }
 
-fn at_most(positions: &[i32], i: usize, j: usize) -> bool
-    requires { (i < length positions.now) × (j < length positions.now) }
-    ensures { result ≡ le_z (get_or positions.now i (pos 0)) (get_or positions.now j (pos 0)) }
-{
-    positions[i] <= positions[j]
-}
-
 fn lower(positions: &[i32], i: usize, j: usize) -> i32
     requires { (i < length positions.now) × (j < length positions.now) }
     ensures { result ≡ smaller (get_or positions.now i (pos 0)) (get_or positions.now j (pos 0)) }
 {
-    if at_most(positions, i, j) {
-        positions[i]
-    } else {
-        positions[j]
-    }
+    positions[i].min(positions[j])
 }
 
 fn higher(positions: &[i32], i: usize, j: usize) -> i32
     requires { (i < length positions.now) × (j < length positions.now) }
     ensures { result ≡ larger (get_or positions.now i (pos 0)) (get_or positions.now j (pos 0)) }
 {
-    if at_most(positions, i, j) {
-        positions[j]
-    } else {
-        positions[i]
-    }
+    positions[i].max(positions[j])
 }
 
 // One edge below another at one time: four numbers are halved to two before they are compared.

@@ -143,6 +143,7 @@ fn find_led(
     let mut level = start.level;
     let mut node = start.node;
     let mut n = 0usize;
+    // A `while`, because each step says which node comes next: one under this one, or one behind it, at its level or further up.
     while node < levels[2 * level + 1] {
         let next = step(own, 2, boxes, levels, parts, top, level, node);
         n = put_led(

@@ -1,13 +1,13 @@
 -- An order as meaning asks for it: no number of the list is too high, none stands twice and none is missing. That is so of exactly the lists that have an
 -- inverse.
-use Rattle.std.specs.Prelude.{ℕ, ◌<◌, Bool, true, false, not, ◌||◌, ◌&&◌, List, ◌≡◌, refl, eqb, leb, length}
-use Rattle.std.proofs.Common.{true≢false, sym, ap, ◌∙◌, arith, leb-false, eq-eqb, ne_eqb, eqb-true}
+use Rattle.std.specs.Prelude.{ℕ, ◌<◌, Bool, false, not, ◌||◌, List, ◌≡◌, eqb, leb, length}
+use Rattle.std.proofs.Common.{sym, ap, ◌∙◌, arith, leb-false, eq-eqb, ne_eqb, eqb-true}
 use Rattle.std.proofs.Math.Decide.{dec_lt}
 use Rattle.std.proofs.lemmas.Bool.{lt-leb, eqb-false, not-false}
 use Rattle.meaning.specs.Scene.{some_below}
 use Rattle.meaning.specs.MeshRows.{no_order}
 use Rattle.answers.specs.Below.{Found, or_left, or_rest, found_below, none_passes, none_below, some_passes}
-use Rattle.mesh_orders.specs.Orders.{at, LeadsBack, Order}
+use Rattle.mesh_orders.specs.Orders.{at, Order}
 
 -- number k of the list is too high, or stands before, or no number leads to k
 abbrev before : List ℕ → ℕ → Bool

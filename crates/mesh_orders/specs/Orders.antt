@@ -1,7 +1,7 @@
 -- An order of n parts is a list of n numbers that leads to every part, each once: there is a way back. A loop makes the only list that can be the
 -- way back, and two more look whether it is.
 use Rattle.std.specs.Prelude.{ℕ, zero, suc, ◌+◌, ◌≤◌, ◌<◌, Bool, true, false, not, List, ◌≡◌, refl, eqb, ltb, length, get_or, set}
-use Rattle.std.proofs.Common.{true≢false, sym, ap, ◌∙◌, add-one, arith, length-set, get_or-set_same, get_or-set_other, lt-ltb, le-ltb, ltb-true, ltb-false, eq-eqb, eqb-true}
+use Rattle.std.proofs.Common.{true≢false, sym, ap, ◌∙◌, add-one, arith, length-set, get_or-set_same, get_or-set_other, lt-ltb, le-ltb, ltb-true, eq-eqb, eqb-true}
 use Rattle.std.proofs.Math.Decide.{dec_lt}
 use Rattle.meaning.specs.Scene.{some_below}
 use Rattle.answers.specs.Below.{none_passes, none_below}

@@ -28,10 +28,8 @@ fn put_places(order: &[u32], inverse: &mut [u32])
     requires { (length order.now ≤ length inverse.old) × (length order.now ≤ 1073741824) }
     ensures { inverse.new ≡ places_after order.now inverse.old (length order.now) }
 {
-    let mut k = 0;
-    while k < order.len() {
+    for k in 0..order.len() {
         put_place(order, inverse, k);
-        k += 1;
     }
 }
 
@@ -53,10 +51,8 @@ fn some_astray(there: &[u32], back: &[u32], count: usize) -> bool
     ensures { result ≡ some_below count (astray_at there.now back.now count) }
 {
     let mut found = false;
-    let mut k = 0;
-    while k < count {
-        found = found | astray(there, back, count, k);
-        k += 1;
+    for k in 0..count {
+        found |= astray(there, back, count, k);
     }
     found
 }

@@ -126,6 +126,7 @@ pub fn walk_row(
     let mut level = start.level;
     let mut node = start.node;
     let mut k = at;
+    // A `while`: up and down a tree the next node comes from what the step met.
     while node < levels[2 * level + 1] {
         let next = step(boxes, row, boxes, levels, parts, top, level, node);
         k = enter_found(
@@ -195,6 +196,7 @@ pub fn place_row(
     let mut level = start.level;
     let mut node = start.node;
     let mut k = 0usize;
+    // A `while`: up and down a tree the next node comes from what the step met.
     while node < levels[2 * level + 1] {
         let next = step(boxes, row, boxes, levels, parts, top, level, node);
         k = put_found(

@@ -1,10 +1,10 @@
 -- A row goes over the places that were found for its run, one by one; and rows go one behind the other.
 use Rattle.std.specs.Prelude.{ℕ, ◌+◌, ◌*◌, ◌-◌, ◌≤◌, ◌<◌, Bool, false, ◌&&◌, ◌≡◌, ℤ, get_or, take}
-use mathlib.Core.List.{List, [], ◌∷◌}
-use Rattle.std.proofs.Math.Path.{sym, ap}
-use Rattle.std.proofs.Common.{◌∙◌, arith, get_or-take}
+use mathlib.Core.List.{List, []}
+use Rattle.std.proofs.Math.Path.{ap}
+use Rattle.std.proofs.Common.{arith}
 use Rattle.std.proofs.Math.ListN.{length, drop}
-use Rattle.std.proofs.Math.Seq.{length-take-le, drop-length}
+use Rattle.std.proofs.lemmas.List.{drop_all}
 use Rattle.sequences.specs.Chosen.{one}
 use Rattle.sequences.specs.Gather.{gather, gather_short}
 use Rattle.sequences.specs.Parts.{drop_next}
@@ -15,10 +15,11 @@ use Rattle.meaning.specs.declared.Kind.{Kind}
 use Rattle.meaning.specs.declared.RowPairs.{RowPairs}
 use Rattle.list_candidates.specs.Rows.{first_count}
 use Rattle.mesh_entries.specs.Entering.{Entered, Entering, entered_none, entering_starts, entering_as, entering_step, entering_ends}
-use Rattle.mesh_rows.specs.Asking.{passes}
+use Rattle.mesh_rows.specs.Asking.{passes, Askable}
 use Rattle.mesh_rows.specs.Sifting.{sifted}
 use Rattle.mesh_rows.specs.Rows.{entry_of, row_few}
 use Rattle.mesh_runs.specs.Runs.{KindTree, kind_entries, goes_with, Sought, AllSought}
+use Rattle.mesh_runs.specs.Taken.{front_read}
 
 -- what is left of a row, of the places from the c-th on
 abbrev pub sought_left : RowPairs → Scene → Kind → ℕ → List ℤ → (base row from : ℕ) → List ℕ → (count c : ℕ) → List ℕ
@@ -30,13 +31,19 @@ module _ (w : RowPairs) {s : Scene} {kind : Kind} {i : ℕ} {l : List ℤ} {base
   pub sought_starts : (most at : ℕ) (o : List ℕ) → Entering most o at (kind_entries w s kind i) o at (sought_left w s kind i l base row from ps count 0)
   sought_starts most at o = entering_as so.whole (entering_starts most o at (kind_entries w s kind i))
 
-  sought_next : (c : ℕ) → c < count → drop c (take count ps) ≡ get_or ps c 0 ∷ drop (c + 1) (take count ps)
-  sought_next c h =
-      let long = length-take-le count ps so.room in
-      drop_next (take count ps) c 0 (omega arith) ∙ ap (λ (x : ℕ). x ∷ drop (c + 1) (take count ps)) (get_or-take count ps c 0 h)
+  pub sought_asked : (c j : ℕ) → c < length (take count ps) → j ≡ get_or (take count ps) c 0 → Askable s kind i j
+  sought_asked c j h read =
+      let there = front_read ps count c j so.room h read in
+      rw there.1 (so.asked c there.0)
+
+  pub sought_reached : (c j : ℕ) → c < length (take count ps) → j ≡ get_or (take count ps) c 0 → 6 * (base + j) + 5 < length l
+  sought_reached c j h read =
+      let there = front_read ps count c j so.room h read in
+      omega (arith, there.1, so.reach c there.0)
 
   -- the c-th place is entered, if it is listed
-  pub sought_goes : (c j : ℕ) {found : Bool} {most at k k' : ℕ} {o₀ want o o' : List ℕ} → c < count → j ≡ get_or ps c 0
+  pub sought_goes : (c j : ℕ) {found : Bool} {most at k k' : ℕ} {o₀ want o o' : List ℕ} → c < length (take count ps)
+      → j ≡ get_or (take count ps) c 0
       → found ≡ goes_with l base row from j
       → Entering most o₀ at want o k (sought_left w s kind i l base row from ps count c)
       → Entered most o k (one (found && passes w s kind i j) (entry_of kind i j)) o' k'
@@ -44,21 +51,21 @@ module _ (w : RowPairs) {s : Scene} {kind : Kind} {i : ℕ} {l : List ℤ} {base
   unfolding sifted
   sought_goes c j h read made so_far e =
       entering_step
-      (entering_as (ap (sifted (λ j. goes_with l base row from j && passes w s kind i j) (entry_of kind i)) (sought_next c h)) so_far)
+      (entering_as (ap (sifted (λ j. goes_with l base row from j && passes w s kind i j) (entry_of kind i)) (drop_next (take count ps) c 0 h)) so_far)
       (rw (made, read) at e)
 
   -- a place that does not go with the row leaves everything as it is
-  pub sought_skips : (c j : ℕ) {most at k : ℕ} {o₀ want o : List ℕ} → c < count → j ≡ get_or ps c 0 → false ≡ goes_with l base row from j
+  pub sought_skips : (c j : ℕ) {most at k : ℕ} {o₀ want o : List ℕ} → c < length (take count ps)
+      → j ≡ get_or (take count ps) c 0 → false ≡ goes_with l base row from j
       → Entering most o₀ at want o k (sought_left w s kind i l base row from ps count c)
       → Entering most o₀ at want o k (sought_left w s kind i l base row from ps count (c + 1))
   sought_skips c j {most} {at} {k} {o₀} {want} {o} h read stops so_far = sought_goes c j h read stops so_far (entered_none most o k)
 
-  pub sought_ends : (c : ℕ) {most at k : ℕ} {o₀ want o : List ℕ} → c ≡ count
+  pub sought_ends : (c : ℕ) {most at k : ℕ} {o₀ want o : List ℕ} → length (take count ps) ≤ c
       → Entering most o₀ at want o k (sought_left w s kind i l base row from ps count c) → Entered most o₀ at want o k
   unfolding sifted
-  sought_ends c all so_far =
-      let long : length (take count ps) ≡ c = length-take-le count ps so.room ∙ sym all in
-      let none : drop c (take count ps) ≡ [] = ap (λ (n : ℕ). drop n (take count ps)) (sym long) ∙ drop-length (take count ps) in
+  sought_ends c past so_far =
+      let none : drop c (take count ps) ≡ [] = drop_all c (take count ps) past in
       entering_ends
       (entering_as (ap (sifted (λ j. goes_with l base row from j && passes w s kind i j) (entry_of kind i)) none) so_far)
 

@@ -1,5 +1,5 @@
 -- A stretch of rows is one of vertices and one of edges, each run by run.
-use Rattle.std.specs.Prelude.{ℕ, ◌+◌, ◌-◌, ◌≤◌, List, ◌++◌, ◌≡◌, refl, ℤ, length}
+use Rattle.std.specs.Prelude.{ℕ, ◌+◌, ◌-◌, ◌≤◌, ◌<◌, min, List, ◌++◌, ◌≡◌, refl, ℤ, length}
 use Rattle.std.proofs.Common.{⊎_elim, sym, ap, ◌∙◌, zero-add, arith}
 use Rattle.std.proofs.Math.Path.{subst}
 use Rattle.sequences.specs.Gather.{gather, gather_none, gather_cut, gather_same}
@@ -11,7 +11,7 @@ use Rattle.meaning.specs.declared.RowPairs.{RowPairs}
 use Rattle.list_candidates.specs.Rows.{first_count, second_from}
 use Rattle.mesh_laws.specs.Rows.{gather_moved}
 use Rattle.mesh_trees.specs.Forest.{Forest}
-use Rattle.mesh_entries.specs.Entering.{Entered, EnteringUpTo, entered_then}
+use Rattle.mesh_entries.specs.Entering.{Entered, EnteringUpTo, entered_then, up_to_starts}
 use Rattle.mesh_rows.specs.Rows.{RowTree, vertex_tree, edge_tree, vertex_row_of, edge_row_of, row_entries, rows_gathered}
 use Rattle.mesh_runs.specs.Runs.{KindTree, kind_entries}
 
@@ -56,6 +56,32 @@ pub run_entered : (f : ℕ → List ℕ) {most from first k i m next : ℕ} {o�
     → Entered most o k (gather f i next) o' m → EnteringUpTo f most o₀ from first o' m next
 run_entered f {first = first} {i = i} {next = next} h so w =
     record { past = omega (arith, so.past); done = rw (gather_cut f first i next so.past h) (entered_then so.done w) }
+
+-- runs of so many rows, the last of which ends with the stretch: those before a row are entered
+module _ (f : ℕ → List ℕ) {most first end : ℕ} {o₀ : List ℕ} where
+  pub runs_start : {k : ℕ} → first ≤ end → EnteringUpTo f most o₀ k first o₀ k (min first end)
+  runs_start {k} h =
+      let whole : min first end ≡ first = omega arith in
+      rw whole (up_to_starts f o₀ k first)
+
+  pub run_passed : {from k i : ℕ} {o : List ℕ} → i < end → EnteringUpTo f most o₀ from first o k (min i end) → EnteringUpTo f most o₀ from first o k i
+  run_passed {i} below so =
+      let here : min i end ≡ i = omega arith in
+      rw here at so
+
+  pub runs_next : (rows : ℕ) {from k i m next : ℕ} {o o' : List ℕ} → i < end → next ≡ min (i + rows) end
+      → EnteringUpTo f most o₀ from first o k (min i end)
+      → Entered most o k (gather f i next) o' m → EnteringUpTo f most o₀ from first o' m (min (i + rows) end)
+  runs_next rows below made so w = rw (← made) (run_entered f (omega arith) (run_passed below so) w)
+
+  pub runs_last : {from k i m next : ℕ} {o o' : List ℕ} → i < end → next ≡ end → EnteringUpTo f most o₀ from first o k (min i end)
+      → Entered most o k (gather f i next) o' m → Entered most o₀ from (gather f first end) o' m
+  runs_last below last so w = (run_entered f (omega arith) (run_passed below so) (rw last at w)).done
+
+  pub runs_end : {from k i : ℕ} {o : List ℕ} → end ≤ i → EnteringUpTo f most o₀ from first o k (min i end) → Entered most o₀ from (gather f first end) o k
+  runs_end {i} past so =
+      let all : min i end ≡ end = omega arith in
+      rw all at so.done
 
 -- ---- both kinds
 

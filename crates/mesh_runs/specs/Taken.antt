@@ -3,6 +3,7 @@ use Rattle.std.specs.Prelude.{ℕ, ◌+◌, ◌≤◌, ◌<◌, Bool, ◌&&◌, 
 use mathlib.Core.List.{List, [], ◌∷◌, ◌++◌, Memᴰ}
 use Rattle.std.proofs.Common.{sym, ap, ◌∙◌, subst, arith, get_or-take, length-take-le}
 use Rattle.std.proofs.Math.Seq.{drop-length}
+use Rattle.std.proofs.lemmas.List.{drop_all}
 use Rattle.sequences.specs.Chosen.{one, chosen, chosen_none, chosen_first, chosen_members, chosen_short}
 use Rattle.sequences.specs.Parts.{drop_next}
 use Rattle.sequences.specs.Range.{towards}
@@ -28,6 +29,13 @@ pub record Taken (w : RowPairs) (s : Scene) (kind : Kind) (i : ℕ) (ps : List �
 
 -- ---- a row goes over them, one by one
 
+-- a place that is read in front of a list stands there in the list
+pub front_read : (ps : List ℕ) (count c j : ℕ) → count ≤ length ps → c < length (take count ps) → j ≡ get_or (take count ps) c 0
+    → (c < count) × (j ≡ get_or ps c 0)
+front_read ps count c j room h read =
+    let below : c < count = omega (arith, length-take-le count ps room) in
+    (below, read ∙ get_or-take count ps c 0 below)
+
 -- what is left of a list from a place on
 left_next : (ps : List ℕ) (count c : ℕ) → count ≤ length ps → c < count → drop c (take count ps) ≡ get_or ps c 0 ∷ drop (c + 1) (take count ps)
 left_next ps count c room h =
@@ -46,21 +54,26 @@ module _ (w : RowPairs) {s : Scene} {kind : Kind} {i : ℕ} {ps : List ℕ} {cou
   pub taken_starts : (most at : ℕ) (o : List ℕ) → Entering most o at (kind_entries w s kind i) o at (taken_left w s kind i ps count 0)
   taken_starts most at o = entering_as so.whole (entering_starts most o at (kind_entries w s kind i))
 
-  pub taken_goes : (c j : ℕ) {most at k k' : ℕ} {o₀ want o o' : List ℕ} → c < count → j ≡ get_or ps c 0
+  pub taken_asked : (c j : ℕ) → c < length (take count ps) → j ≡ get_or (take count ps) c 0 → Askable s kind i j
+  taken_asked c j h read =
+      let there = front_read ps count c j so.room h read in
+      rw there.1 (so.asked c there.0)
+
+  pub taken_goes : (c j : ℕ) {most at k k' : ℕ} {o₀ want o o' : List ℕ} → c < length (take count ps) → j ≡ get_or (take count ps) c 0
       → Entering most o₀ at want o k (taken_left w s kind i ps count c)
       → Entered most o k (one (passes w s kind i j) (entry_of kind i j)) o' k'
       → Entering most o₀ at want o' k' (taken_left w s kind i ps count (c + 1))
   unfolding sifted
   taken_goes c j h read so_far e =
       entering_step
-      (entering_as (ap (sifted (passes w s kind i) (entry_of kind i)) (left_next ps count c so.room h)) so_far)
+      (entering_as (ap (sifted (passes w s kind i) (entry_of kind i)) (drop_next (take count ps) c 0 h)) so_far)
       (rw read at e)
 
-  pub taken_ends : (c : ℕ) {most at k : ℕ} {o₀ want o : List ℕ} → c ≡ count → Entering most o₀ at want o k (taken_left w s kind i ps count c)
+  pub taken_ends : (c : ℕ) {most at k : ℕ} {o₀ want o : List ℕ} → length (take count ps) ≤ c → Entering most o₀ at want o k (taken_left w s kind i ps count c)
       → Entered most o₀ at want o k
   unfolding sifted
-  taken_ends c all so_far =
-      entering_ends (entering_as (ap (sifted (passes w s kind i) (entry_of kind i)) (left_none ps count c so.room all)) so_far)
+  taken_ends c past so_far =
+      entering_ends (entering_as (ap (sifted (passes w s kind i) (entry_of kind i)) (drop_all c (take count ps) past)) so_far)
 
 -- ---- of the places of a run those that are marked
 

@@ -88,15 +88,13 @@ fn enter_sought(
         (mesh_entries (part_row which (tabled positions.now edges.now triangles.now stands.now) kind i)) list.new result }
 {
     let mut k = at;
-    let mut c = 0;
-    while c < count {
-        let j = wide(places[c]);
+    for place in &places[..count] {
+        let j = wide(*place);
         if is_met(boxes, base, row, from, j) {
             k = enter_found(
                 positions, edges, triangles, stands, which, kind, i, j, true, list, most, k,
             );
         }
-        c += 1;
     }
     k
 }
@@ -122,13 +120,11 @@ pub fn enter_seconds(
         (mesh_entries (part_row which (tabled positions.now edges.now triangles.now stands.now) kind i)) list.new result }
 {
     let mut k = at;
-    let mut c = 0;
-    while c < count {
-        let j = wide(seconds[c]);
+    for second in &seconds[..count] {
+        let j = wide(*second);
         k = enter_found(
             positions, edges, triangles, stands, which, kind, i, j, true, list, most, k,
         );
-        c += 1;
     }
     k
 }
@@ -164,8 +160,7 @@ fn enter_spread(
 {
     let mut seconds = [0u32; SPREAD_PLACES];
     let mut k = at;
-    let mut i = first;
-    while i < end {
+    for i in first..end {
         let from = first_second(kind, i);
         let row = offset + i;
         mark_met(boxes, row, six, count, marks);
@@ -173,7 +168,6 @@ fn enter_spread(
         k = enter_seconds(
             positions, edges, triangles, stands, which, kind, i, &seconds, taken, list, most, k,
         );
-        i += 1;
     }
     k
 }
@@ -204,8 +198,7 @@ fn enter_each(
         (gather (kind_entries which (tabled positions.now edges.now triangles.now stands.now) kind) first end) list.new result }
 {
     let mut k = at;
-    let mut i = first;
-    while i < end {
+    for i in first..end {
         let from = first_second(kind, i);
         k = enter_sought(
             positions,
@@ -225,7 +218,6 @@ fn enter_each(
             most,
             k,
         );
-        i += 1;
     }
     k
 }
@@ -298,8 +290,7 @@ pub fn enter_alone(
         (gather (kind_entries which (tabled positions.now edges.now triangles.now stands.now) kind) first end) list.new result }
 {
     let mut k = at;
-    let mut i = first;
-    while i < end {
+    for i in first..end {
         let from = first_second(kind, i);
         k = walk_row(
             positions,
@@ -319,7 +310,6 @@ pub fn enter_alone(
             most,
             k,
         );
-        i += 1;
     }
     k
 }
@@ -375,11 +365,7 @@ pub fn run_end(first: usize, end: usize, rows: usize) -> usize
     requires { (first < end) × (first < 1073741824) × (0 < rows) × (rows ≤ 16) }
     ensures { (first < result) × (result ≤ end) × (result ≤ first + 16) }
 {
-    if first + rows < end {
-        first + rows
-    } else {
-        end
-    }
+    (first + rows).min(end)
 }
 
 // The rows of a kind from one up to another, run by run: all their pairs are counted, and entered while there is room below a bound.
@@ -413,14 +399,12 @@ pub fn walk_kind(
         (gather (kind_entries which (tabled positions.now edges.now triangles.now stands.now) kind) first end) list.new result }
 {
     let mut k = at;
-    let mut i = first;
-    while i < end {
-        let next = run_end(i, end, RUN_ROWS);
+    for i in (first..end).step_by(RUN_ROWS) {
+        let next = (i + RUN_ROWS).min(end);
         k = walk_run(
             positions, edges, triangles, stands, boxes, levels, parts, top, which, kind, offset, i,
             next, places, six, marks, list, most, k,
         );
-        i = next;
     }
     k
 }
@@ -430,16 +414,12 @@ pub fn kinds_meet(vertices: usize, first: usize, end: usize) -> usize
     requires { first ≤ end }
     ensures { Parted vertices first end result }
 {
-    if vertices <= first {
-        first
-    } else {
-        if vertices <= end { vertices } else { end }
-    }
+    vertices.clamp(first, end)
 }
 
 // An edge's number, of its row's; 0 for a row of a vertex.
 pub fn behind(row: usize, vertices: usize) -> usize
     ensures { result ≡ row - vertices }
 {
-    if row <= vertices { 0 } else { row - vertices }
+    row.saturating_sub(vertices)
 }

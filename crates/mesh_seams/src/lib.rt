@@ -10,9 +10,9 @@ ghost use Rattle.scene_seams.specs.Table.{seams_of, sewn_to};
 ghost use Rattle.scene_seams.specs.Sewing.{breaks_rules, Sewn};
 ghost use Rattle.mesh_seams.specs.Sewing.{MeshSewable};
 
-use scene_seams::{comes_apart, lowered};
+use scene_seams::comes_apart;
 
-// A number of a lent list, in the type of indices.
+// A number of a lent list, in the type of indices. A function of its own, so that proofs meet the cast in one place.
 pub fn wide(x: u32) -> usize
     ensures { result ≡ x }
 {
@@ -24,7 +24,7 @@ pub fn counts_as(stands: &[u32], v: usize) -> usize
     ensures { result ≡ stood_for (seams_of stands.now) v }
 {
     if v < stands.len() {
-        lowered(v, wide(stands[v]))
+        v.saturating_sub(wide(stands[v]))
     } else {
         v
     }
@@ -50,18 +50,12 @@ fn breaks_rules(positions: &[i32], stands: &[u32], least: usize, i: usize, j: us
     (i < least) | (i <= j) | replaced(stands, j) | comes_apart(positions, i, j)
 }
 
-fn distance(i: u32, j: u32) -> u32
-    ensures { result ≡ i - j }
-{
-    if j < i { i - j } else { 0 }
-}
-
 fn sew(stands: &mut [u32], i: u32, j: u32)
     ensures { stands.new ≡ sewn_to stands.old i j }
 {
     let v = wide(i);
     if v < stands.len() {
-        stands[v] = distance(i, j);
+        stands[v] = i.saturating_sub(j);
     }
 }
 
@@ -84,11 +78,9 @@ pub fn sew_all(positions: &[i32], seams: &[u32], stands: &mut [u32]) -> bool
 {
     let mut broken = false;
     let mut least = 0;
-    let mut k = 0;
-    while k < seams.len() / 2 {
-        broken = broken | sew_next(positions, stands, least, seams[2 * k], seams[2 * k + 1]);
+    for k in 0..seams.len() / 2 {
+        broken |= sew_next(positions, stands, least, seams[2 * k], seams[2 * k + 1]);
         least = wide(seams[2 * k]) + 1;
-        k += 1;
     }
     broken
 }

@@ -1,22 +1,17 @@
 -- A stretch of rows that was listed, and then judged by its entries: what each way out of the call gives.
-use Rattle.std.specs.Prelude.{ℕ, ◌≤◌, min, false, ◌≡◌, ℤ, take, drop}
-use mathlib.Core.List.{List, [], ◌∷◌, map}
+use Rattle.std.specs.Prelude.{ℕ, ◌≤◌, min, ◌≡◌, ℤ, take, drop, Err, Ok, Result}
+use mathlib.Core.List.{List, []}
 use Rattle.std.proofs.Math.Path.{refl, ap, subst}
 use Rattle.std.proofs.Common.{sym, ◌∙◌, arith, take_at}
 use Rattle.std.proofs.Math.ListN.{length}
 use borrow.Author.Tests.{ltb-false}
 use Rattle.sequences.specs.Wrote.{written, written_length}
 use Rattle.meaning.specs.Scene.{Scene}
-use Rattle.meaning.specs.Refusals.{given, refused, room_check, Answers}
-use Rattle.meaning.specs.List.{Pair, list_says, leaves}
+use Rattle.meaning.specs.Refusals.{given, room_check, Answers, carrying, outcome_of}
+use Rattle.meaning.specs.List.{Pair, leaves}
 use Rattle.meaning.specs.MeshRows.{Lent, row_count, rows_in, mesh_entries, RowsSettled}
-use Rattle.meaning.specs.declared.Made.{Made}
 use Rattle.meaning.specs.declared.Refusal.{Refusal}
 use Rattle.meaning.specs.declared.RowPairs.{RowPairs}
-use Rattle.meaning.specs.declared.SceneAnswer as SceneAnswers
-use Rattle.meaning.specs.declared.SceneAnswer.{SceneAnswer}
-use Rattle.meaning.specs.declared.ListAnswer as ListAnswers
-use Rattle.meaning.specs.declared.ListAnswer.{ListAnswer}
 use Rattle.answers.specs.Answering.{is_given}
 use Rattle.scene_checks.specs.Facts.{Sound}
 use Rattle.list_words.specs.Listed.{words_of, bytes_of, all_judged}
@@ -29,6 +24,7 @@ use Rattle.mesh_asked.specs.Asking.{RowsAsked, refused_first, passed_first}
 use Rattle.mesh_list.specs.Answering.{told_by, open_told}
 use Rattle.mesh_words.specs.Asked.{mesh_pairs_in, MeshThere, Entered, entered_pairs, entered_there}
 use Rattle.mesh_words.specs.OfRows.{rows_entered}
+use Rattle.meaning.specs.declared.Refused.{Refused}
 
 -- ---- a stretch that was listed
 
@@ -41,13 +37,13 @@ nothing_left : {A : Type 0} (R : A → Type 0) (a : A) → Answers [] R (given a
 unfolding Answers
 nothing_left R a h = h
 
-module _ {w : RowPairs} {s : Scene} {a b room : ℕ} {o o' : List ℕ} {r : ListAnswer} (l : StretchListed w s a b room o o' r) {m : Made} (e : r ≡ ListAnswers.TheVariants.Listed m) where
-  pub rows_made : RowsMade w s a b room m.count o o'
-  unfolding list_says leaves
+module _ {w : RowPairs} {s : Scene} {a b room : ℕ} {o o' : List ℕ} {r : Result ℕ Refused} (l : StretchListed w s a b room o o' r) {m : ℕ} (e : r ≡ Ok m) where
+  pub rows_made : RowsMade w s a b room m o o'
+  unfolding outcome_of leaves
   rows_made =
-      let k : StretchListed w s a b room o o' (ListAnswers.TheVariants.Listed m) = subst (StretchListed w s a b room o o') e l in
-      let (h, rest) = is_given (IsRowCount w s a b) (room_check room (length (rows_in w s a b))) [] m.count k.answer in
-      record { counts = nothing_left (IsRowCount w s a b) m.count rest; fits = ltb-false room (length (rows_in w s a b)) h; list = k.list }
+      let k : StretchListed w s a b room o o' (Ok m) = subst (StretchListed w s a b room o o') e l in
+      let (h, rest) = is_given (IsRowCount w s a b) (room_check room (length (rows_in w s a b))) [] m k.answer in
+      record { counts = nothing_left (IsRowCount w s a b) m rest; fits = ltb-false room (length (rows_in w s a b)) h; list = k.list }
 
 pub plant_sized : {s : Scene} {l : List ℤ} → Plantable s l → MeshSized s
 plant_sized p = record { few_vertices = p.few_vertices; few_edges = p.few_edges; few_triangles = p.few_triangles }
@@ -73,32 +69,31 @@ module _ {w : RowPairs} {s : Scene} {a b room n : ℕ} {o o' : List ℕ} (few : 
 
 -- ---- and judged
 
-pub record SettledThere (w : RowPairs) (s : Scene) (a b room : ℕ) (o o' c c' : List ℕ) (r : ListAnswer) : Type 0 where
+pub record SettledThere (w : RowPairs) (s : Scene) (a b room : ℕ) (o o' c c' : List ℕ) (r : Result ℕ Refused) : Type 0 where
   pub list : StretchListed w s a b room o o' r
-  pub bytes : c' ≡ leaves (list_says r) (bytes_of s (rows_in w s a b)) c
+  pub bytes : c' ≡ leaves (outcome_of r) (bytes_of s (rows_in w s a b)) c
 
-module _ {w : RowPairs} {s : Scene} {a b room : ℕ} {o o' : List ℕ} {r : ListAnswer} (l : StretchListed w s a b room o o' r) where
-  pub settled_made : {m : Made} {c c' : List ℕ} → MeshSized s → b ≤ row_count s → room ≤ length o → r ≡ ListAnswers.TheVariants.Listed m
-      → c' ≡ written (bytes_of s (mesh_pairs_in m.count o')) c
-      → SettledThere w s a b room o o' c c' (ListAnswers.TheVariants.Listed m)
-  unfolding list_says leaves
+module _ {w : RowPairs} {s : Scene} {a b room : ℕ} {o o' : List ℕ} {r : Result ℕ Refused} (l : StretchListed w s a b room o o' r) where
+  pub settled_made : {m : ℕ} {c c' : List ℕ} → MeshSized s → b ≤ row_count s → room ≤ length o → r ≡ Ok m
+      → c' ≡ written (bytes_of s (mesh_pairs_in m o')) c
+      → SettledThere w s a b room o o' c c' (Ok m)
+  unfolding outcome_of leaves
   settled_made {m} {c} few within h e q =
       record {
         list = subst (StretchListed w s a b room o o') e l;
         bytes = q ∙ ap (λ (ps : List Pair). written (bytes_of s ps) c) (made_pairs few within h (rows_made l e));
       }
 
-  pub settled_without : {x : Refusal} {n : ℕ} {c : List ℕ} → r ≡ ListAnswers.TheVariants.Refused x n
-      → SettledThere w s a b room o o' c c (ListAnswers.TheVariants.Refused x n)
-  unfolding list_says leaves
+  pub settled_without : {x : Refused} {c : List ℕ} → r ≡ Err x → SettledThere w s a b room o o' c c (Err x)
+  unfolding outcome_of leaves
   settled_without e = record { list = subst (StretchListed w s a b room o o') e l; bytes = refl }
 
 -- ---- the answer of the whole call
 
-module _ (w : RowPairs) (s : Scene) (l : Lent) (first end : ℕ) {t' : List ℕ} {asked : SceneAnswer} (p : RowsAsked s l (row_count s) first end t' asked) where
-  pub not_settled : (o b : List ℕ) (x : Refusal) → asked ≡ SceneAnswers.TheVariants.Refused x
-      → RowsSettled w s l first end o o b b (ListAnswers.TheVariants.Refused x 0)
-  unfolding list_says leaves
+module _ (w : RowPairs) (s : Scene) (l : Lent) (first end : ℕ) {t' : List ℕ} {asked : Result (Unit {0}) Refusal} (p : RowsAsked s l (row_count s) first end t' asked) where
+  pub not_settled : (o b : List ℕ) (x : Refusal) → asked ≡ Err x
+      → RowsSettled w s l first end o o b b (Err (carrying x 0))
+  unfolding outcome_of leaves
   not_settled o b x e =
       record {
         answer = refused_first p (λ n. n ≡ length (rows_in w s first end)) _ x e;
@@ -108,16 +103,16 @@ module _ (w : RowPairs) (s : Scene) (l : Lent) (first end : ℕ) {t' : List ℕ}
         bytes = refl;
       }
 
-  module _ (passed : asked ≡ SceneAnswers.TheVariants.Accepted) where
+  module _ (passed : asked ≡ Ok tt) where
     pub open_sound : Sound (told_by s t')
     open_sound = subst Sound (sym (open_told p passed)) (mesh_sound {s = s} (p.opened passed).accepted)
 
-    pub settled : {o o' b b' : List ℕ} {r : ListAnswer} → SettledThere w (told_by s t') first end (min (length o) (length b)) o o' b b' r
+    pub settled : {o o' b b' : List ℕ} {r : Result ℕ Refused} → SettledThere w (told_by s t') first end (min (length o) (length b)) o o' b b' r
         → RowsSettled w s l first end o o' b b' r
     settled {o} {o'} {b} {b'} {r} h =
         let k = subst (λ (m : Scene). SettledThere w m first end (min (length o) (length b)) o o' b b' r) (open_told p passed) h in
         record {
-          answer = passed_first p (λ n. n ≡ length (rows_in w s first end)) _ (list_says r) passed k.list.answer;
+          answer = passed_first p (λ n. n ≡ length (rows_in w s first end)) _ (outcome_of r) passed k.list.answer;
           list = k.list.list;
           words = words_of s (rows_in w s first end);
           right = all_judged s (rows_in w s first end);

@@ -11,11 +11,10 @@ ghost use Rattle.mesh_trees.specs.Planting.{Plantable};
 ghost use Rattle.mesh_ordered.specs.Either.{OrdersLent};
 ghost use Rattle.mesh_settled.specs.Settling.{SettledThere};
 
-use meaning::{ListAnswer, RowPairs, SceneAnswer};
+use meaning::{Refused, RowPairs};
 use mesh_asked::{ask_rows, row_count};
 use mesh_stretch::list_stretch;
 use mesh_words::settle_mesh_entries;
-use scene_parts::asked::smaller;
 
 // Of an accepted mesh whose seams stand in a table.
 fn settle_there(
@@ -32,7 +31,7 @@ fn settle_there(
     end: usize,
     list: &mut [u64],
     words: &mut [u8],
-) -> ListAnswer
+) -> Result<usize, Refused>
     requires plantable { Plantable (tabled positions.now edges.now triangles.now stands.now) boxes.old × (first ≤ end)
         × (end ≤ row_count (tabled positions.now edges.now triangles.now stands.now)) }
     requires orders_lent { OrdersLent (tabled positions.now edges.now triangles.now stands.now) edge_order.now triangle_order.now (length places.old) }
@@ -41,8 +40,8 @@ fn settle_there(
         (min (length list.old) (length words.old)) list.old list.new words.old
         words.new result }
 {
-    let room = smaller(list.len(), words.len());
-    match list_stretch(
+    let room = list.len().min(words.len());
+    let count = list_stretch(
         positions,
         edges,
         triangles,
@@ -56,13 +55,9 @@ fn settle_there(
         end,
         list,
         room,
-    ) {
-        ListAnswer::Listed(made) => {
-            settle_mesh_entries(positions, edges, triangles, stands, list, words, made.count);
-            ListAnswer::Listed(made)
-        }
-        ListAnswer::Refused(refusal, needed) => ListAnswer::Refused(refusal, needed),
-    }
+    )?;
+    settle_mesh_entries(positions, edges, triangles, stands, list, words, count);
+    Ok(count)
 }
 
 // The entries of the pairs of the rows from one up to another, in front of a lent list, and their words in front of another; 7 where the smaller of the two
@@ -82,14 +77,14 @@ pub fn settle_rows(
     end: usize,
     list: &mut [u64],
     words: &mut [u8],
-) -> ListAnswer
+) -> Result<usize, Refused>
     ensures { RowsSettled which (scene_of positions.now edges.now triangles.now seams.now)
         (lent_of edge_order.now triangle_order.now (length table.old) (length places.old) (length boxes.old)) first end list.old list.new
         words.old words.new result }
 {
     let rows = row_count(positions, edges);
     let lent = boxes.len();
-    match ask_rows(
+    ask_rows(
         positions,
         edges,
         triangles,
@@ -102,22 +97,20 @@ pub fn settle_rows(
         rows,
         first,
         end,
-    ) {
-        SceneAnswer::Refused(why) => ListAnswer::Refused(why, 0),
-        SceneAnswer::Accepted => settle_there(
-            positions,
-            edges,
-            triangles,
-            table,
-            edge_order,
-            triangle_order,
-            places,
-            boxes,
-            which,
-            first,
-            end,
-            list,
-            words,
-        ),
-    }
+    )?;
+    settle_there(
+        positions,
+        edges,
+        triangles,
+        table,
+        edge_order,
+        triangle_order,
+        places,
+        boxes,
+        which,
+        first,
+        end,
+        list,
+        words,
+    )
 }

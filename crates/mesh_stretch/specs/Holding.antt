@@ -1,5 +1,5 @@
 -- Rows walked block by block: how many pairs they have, and whether all their entries are held in scratch.
-use Rattle.std.specs.Prelude.{ℕ, ◌+◌, ◌*◌, ◌-◌, ◌≤◌, ◌<◌, Bool, true, List, [], ◌++◌, ◌≡◌, refl, ℤ, length, get_or, take, drop}
+use Rattle.std.specs.Prelude.{ℕ, ◌+◌, ◌*◌, ◌-◌, ◌≤◌, ◌<◌, Bool, true, List, [], ◌++◌, ◌≡◌, ℤ, length, get_or, take, drop}
 use Rattle.std.proofs.Math.Logic.{⊎_elim}
 use Rattle.std.proofs.Common.{sym, ap, ◌∙◌, length-append, length-drop, get_or-append-add, get_or-drop}
 use native.Mathlib.Omega.{arith}

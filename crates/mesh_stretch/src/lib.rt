@@ -15,7 +15,7 @@ ghost use Rattle.near_either.specs.Ready.{NodesReady};
 ghost use Rattle.mesh_stretch.specs.Stretching.{IsRowCount, StretchListed};
 ghost use Rattle.mesh_stretch.specs.Holding.{KeptFrom, BlockHeld, RowsHeld};
 
-use meaning::{ListAnswer, Made, Refusal, RowPairs};
+use meaning::{Refusal, Refused, RowPairs};
 use mesh_held::{Walked, hold_walked, take_held};
 use mesh_trees::plant;
 use near_either::{plant_nodes, walk_ready};
@@ -85,11 +85,7 @@ fn block_end(first: usize, end: usize, rows: usize) -> usize
     requires { (first < end) × (end ≤ 4294967296) × (0 < rows) × (rows ≤ 64) }
     ensures { (first < result) × (result ≤ end) }
 {
-    if first + rows < end {
-        first + rows
-    } else {
-        end
-    }
+    (first + rows).min(end)
 }
 
 // The rows of the next block, by the pairs that the last one had: on thin cloth a block of many rows saves calls, on thick cloth it would have more pairs than
@@ -253,6 +249,7 @@ fn hold_rows(
     };
     let mut rows = 2usize;
     let mut row = first;
+    // A `while`: a `for` would be no plainer, because each block tells where the next one begins and how many rows it has.
     while row < end {
         let next = block_end(row, end, rows);
         let walked = hold_block(
@@ -303,7 +300,7 @@ fn list_grown(
     places: &mut [u32],
     list: &mut [u64],
     room: usize,
-) -> ListAnswer
+) -> Result<usize, Refused>
     requires forest { Forest (tabled positions.now edges.now triangles.now stands.now) edge_order.now triangle_order.now boxes.now
         edge_levels.now triangle_levels.now edge_top triangle_top × (first ≤ end)
         × (end ≤ row_count (tabled positions.now edges.now triangles.now stands.now))
@@ -336,11 +333,14 @@ fn list_grown(
     );
     let count = walked.count;
     if room < count {
-        return ListAnswer::Refused(Refusal::NoRoom, count);
+        return Err(Refused {
+            why: Refusal::NoRoom,
+            carries: count,
+        });
     }
     if walked.held {
         take_held(places, front, count, list);
-        return ListAnswer::Listed(Made { count });
+        return Ok(count);
     }
     walk_ready(
         positions,
@@ -362,7 +362,7 @@ fn list_grown(
         list,
         room,
     );
-    ListAnswer::Listed(Made { count })
+    Ok(count)
 }
 
 // How many pairs a stretch of rows has.
@@ -440,7 +440,7 @@ pub fn list_stretch(
     end: usize,
     list: &mut [u64],
     room: usize,
-) -> ListAnswer
+) -> Result<usize, Refused>
     requires plantable { Plantable (tabled positions.now edges.now triangles.now stands.now) boxes.old × (first ≤ end)
         × (end ≤ row_count (tabled positions.now edges.now triangles.now stands.now)) }
     requires orders_lent { OrdersLent (tabled positions.now edges.now triangles.now stands.now) edge_order.now triangle_order.now (length places.old) }

@@ -1,17 +1,17 @@
 -- The boxes of all nodes of a tree in a list, level by level: the parts' from one box on, the levels above one behind the other from another.
-use Prim.Native.Nat.{ℕ, zero, suc, ◌+◌, ◌*◌, ◌-◌, ◌/◌, ◌≤◌, ◌<◌}
+use Prim.Native.Nat.{ℕ, zero, suc, ◌+◌, ◌*◌, ◌-◌, ◌≤◌, ◌<◌}
 use Rattle.std.specs.Prelude.{true, false, ◌&&◌, List, ◌≢◌, ◌⊎◌, ◌≡◌, refl, ltb, ℤ, pos, length, get_or, set}
-use Rattle.std.proofs.Common.{inl, inr, sym, ◌∙◌, not-suc-le-zero, add-one, length-set, get_or-set_same, get_or-set_other, ltb-true, ltb-false}
+use Rattle.std.proofs.Common.{inl, inr, ⊎_elim, ltb-true, ltb-false, ◌∙◌, not-suc-le-zero, add-one, length-set, get_or-set_same, get_or-set_other}
 use Rattle.std.proofs.Math.Logic.{⊎_elim}
 use native.Mathlib.Omega.{arith}
-use Rattle.sequences.specs.Pick.{both, not_both}
 use Rattle.sequences.specs.Range.{le_or_lt}
 use Rattle.meaning.specs.Runs.{runs_of, run_from, run_to}
-use Rattle.meaning.specs.StoredBoxes.{Box, box_at, BoxesStand}
+use Rattle.sequences.specs.Pick.{both, not_both}
+use Rattle.meaning.specs.StoredBoxes.{box_at, BoxesStand}
 use Rattle.meaning.specs.MeshRows.{tree_room}
 use Rattle.list_boxes.specs.Storing.{same_box}
 use Rattle.list_runs.specs.Joined.{joint_same}
-use Rattle.list_runs.specs.Filled.{RunsFilling, RunsFilled, run_inside}
+use Rattle.list_runs.specs.Filled.{RunsFilled, run_inside}
 use Rattle.mesh_tree.specs.Levels.{nodes_at, node_box}
 
 -- the nodes of the levels above the parts, up to and with a level
@@ -221,19 +221,6 @@ level_next {first} {n} {to} {v} {at} {count} {free} so tall low =
           (le_or_lt v u);
     })
 
--- the test of the loop: passed, and failed
-pub test_passed : (count v : ℕ) → ltb 1 count && ltb v 16 ≡ true → (1 < count) × (v < 16)
-test_passed count v e =
-    let (many, low) = both (ltb 1 count) (ltb v 16) e in
-    (ltb-true 1 count many, ltb-true v 16 low)
-
-pub test_failed : (count v : ℕ) → ltb 1 count && ltb v 16 ≡ false → (count ≤ 1) ⊎ (16 ≤ v)
-test_failed count v e =
-    ⊎_elim
-    (λ few. inl (ltb-false 1 count few))
-    (λ high. inr (ltb-false v 16 high.1))
-    (not_both (ltb 1 count) (ltb v 16) e)
-
 pub level_ends : {first n to v at count free : ℕ} → AtLevel first n to v at count free → (count ≤ 1) ⊎ (16 ≤ v) → Height n v
 level_ends {first} {n} {to} {v} so h =
     record { more = so.more; most = so.low; ends = ⊎_elim (λ one. inl (omega (arith, so.many))) (λ high. inr high) h }
@@ -276,3 +263,16 @@ pub record Grown (l l' : List ℤ) (t t' : List ℕ) (first n to top : ℕ) : Ty
   pub height : Height n top
   pub nodes : Growing l first n to top l'
   pub levels : Told t first n to top t'
+
+-- whether two more nodes stand there, and a level for them: they do, or not
+pub test_passed : (count v : ℕ) → ltb 1 count && ltb v 16 ≡ true → (1 < count) × (v < 16)
+test_passed count v e =
+    let (many, low) = both (ltb 1 count) (ltb v 16) e in
+    (ltb-true 1 count many, ltb-true v 16 low)
+
+pub test_failed : (count v : ℕ) → ltb 1 count && ltb v 16 ≡ false → (count ≤ 1) ⊎ (16 ≤ v)
+test_failed count v e =
+    ⊎_elim
+    (λ few. inl (ltb-false 1 count few))
+    (λ high. inr (ltb-false v 16 high.1))
+    (not_both (ltb 1 count) (ltb v 16) e)

@@ -9,6 +9,9 @@ ghost use Rattle.meaning.specs.MeshRows.{tree_room};
 
 use list_runs::{fill_runs, runs_of};
 
+// The nodes of the top level: over so few there is no other.
+const TOP_NODES: usize = 1;
+
 // Where a level begins, and how many nodes it has.
 fn put_level(levels: &mut [usize], level: usize, place: usize, count: usize)
     requires { 2 * level + 1 < length levels.old }
@@ -26,17 +29,18 @@ pub fn grow(boxes: &mut [i32], levels: &mut [usize], first: usize, parts: usize,
     ensures { Grown boxes.old boxes.new levels.old levels.new first parts to result }
 {
     put_level(levels, 0, first, parts);
-    let mut level = 0usize;
     let mut at = first;
     let mut count = parts;
     let mut free = to;
-    while (1 < count) & (level < 16) {
+    for level in 0..16 {
+        if count <= TOP_NODES {
+            return level;
+        }
         fill_runs(boxes, at, count, free);
         at = free;
         count = runs_of(count);
-        level += 1;
-        put_level(levels, level, at, count);
+        put_level(levels, level + 1, at, count);
         free += count;
     }
-    level
+    16
 }

@@ -39,7 +39,7 @@ pub fn scratch_short(positions: &[i32], edges: &[u32], triangles: &[u32], boxes:
 }
 
 // How high the two trees are.
-#[derive(Clone, Copy)]
+#[derive(Clone, Copy, Debug, PartialEq, Eq)]
 pub struct Heights {
     pub edges: usize,
     pub triangles: usize,

@@ -1,5 +1,5 @@
 -- A node of a tree is passed by a walk that puts down all parts of a 16 that are met: what was put down, with what is left, is what was to be found.
-use Rattle.std.specs.Prelude.{ℕ, ◌+◌, ◌*◌, ◌-◌, ◌≤◌, ◌<◌, Bool, true, false, List, [], ◌++◌, ◌≡◌, refl, ℤ, length, get_or}
+use Rattle.std.specs.Prelude.{ℕ, ◌+◌, ◌*◌, ◌-◌, ◌≤◌, ◌<◌, Bool, false, List, [], ◌++◌, ◌≡◌, refl, ℤ, length, get_or}
 use Rattle.std.proofs.Common.{sym, ap, ◌∙◌, arith}
 use Rattle.sequences.specs.Chosen.{one, chosen}
 use Rattle.sequences.specs.Gather.{gather_cut}

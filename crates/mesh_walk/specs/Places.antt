@@ -1,6 +1,5 @@
 -- The places whose part passes a test, in order, from a place on; what a step of a walk over a tree leaves of them.
 use Rattle.std.specs.Prelude.{ℕ, zero, suc, ◌+◌, ◌*◌, ◌-◌, ◌/◌, ◌%◌, ◌≤◌, ◌<◌, Bool, true, false, ◌&&◌, ◌↔◌, ◌≡◌, ltb, eqb, length}
-use Rattle.std.proofs.lemmas.Bool.{false≢true}
 use mathlib.Core.List.{List, [], ◌∷◌, ◌++◌, Memᴰ}
 use Rattle.std.proofs.Common.{⊎_elim, sym, ◌∙◌, subst, not-suc-le-zero, not-le_of_lt, add-one, arith, ltb-true, eqb-true}
 use Rattle.std.proofs.Math.Path.{refl, ap}

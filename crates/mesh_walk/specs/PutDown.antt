@@ -1,6 +1,6 @@
 -- Numbers put down one behind the other in front of a list, where what stands behind them is of no account: so a number may be put down and not counted, and
 -- the next is put down over it.
-use Rattle.std.specs.Prelude.{ℕ, ◌+◌, ◌≤◌, Bool, true, false, List, [], ◌∷◌, ◌++◌, ◌≡◌, refl, ltb, length, set, take}
+use Rattle.std.specs.Prelude.{ℕ, ◌+◌, ◌≤◌, Bool, true, false, List, [], ◌++◌, ◌≡◌, refl, ltb, length, set, take}
 use Rattle.std.proofs.Common.{append_assoc, append-nil, sym, ap, ◌∙◌, arith, length-append, length-set, lt-ltb}
 use Rattle.std.proofs.lemmas.List.{take-set-le}
 use Rattle.sequences.specs.Chosen.{one}

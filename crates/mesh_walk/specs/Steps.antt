@@ -1,12 +1,12 @@
 -- A tree in a list of boxes, with the list of its levels; which parts a row meets; and one step of the walk of a row over it.
-use Rattle.std.specs.Prelude.{ℕ, ◌+◌, ◌*◌, ◌-◌, ◌≤◌, ◌<◌, Bool, true, false, List, ◌≡◌, refl, ℤ, length, get_or}
+use Rattle.std.specs.Prelude.{ℕ, ◌+◌, ◌*◌, ◌-◌, ◌≤◌, ◌<◌, Bool, true, false, List, ◌≡◌, ℤ, length, get_or}
 use Rattle.std.proofs.Common.{sym, ap, ◌∙◌, arith}
 use Rattle.meaning.specs.StoredBoxes.{Box, box_at, BoxesStand}
 use Rattle.meaning.specs.MeshRows.{tree_room}
 use Rattle.list_boxes.specs.Kept.{meet_boxes}
 use Rattle.list_boxes.specs.Storing.{same_box}
 use Rattle.mesh_tree.specs.Levels.{nodes_at, first_under, node_box, node_same, node_skips}
-use Rattle.mesh_tree.specs.Grown.{level_place, nodes_up_to, room_enough, levels_before, Height, Growing, Told, Grown}
+use Rattle.mesh_tree.specs.Grown.{level_place, room_enough, levels_before, Grown}
 use Rattle.mesh_walk.specs.Places.{Stepped, step_missed, step_down, step_found, down_same}
 
 -- the box of the part in place j: level 0 stands where the levels say

@@ -15,7 +15,7 @@ ghost use Rattle.mesh_walk.specs.Places.{Stepped};
 ghost use Rattle.mesh_walk.specs.Steps.{Tree, box_meets};
 
 // Where a walk stands, and whether its last step found a part.
-#[derive(Clone, Copy)]
+#[derive(Clone, Copy, Debug, PartialEq, Eq)]
 pub struct Spot {
     pub level: usize,
     pub node: usize,
@@ -29,6 +29,7 @@ pub fn climb(level: usize, node: usize, top: usize, found: bool) -> Spot
 {
     let mut v = level;
     let mut r = node;
+    // A `while`: how far up it goes is told by the node, not by a count.
     while (v < top) & (r % 16 == 0) {
         v += 1;
         r /= 16;

@@ -16,7 +16,7 @@ ghost use Rattle.mesh_walk.specs.Passing.{NodePassed};
 use super::{climb, spans_meet};
 
 // Where a walk stands, and how many places it has put down.
-#[derive(Clone, Copy)]
+#[derive(Clone, Copy, Debug, PartialEq, Eq)]
 pub struct Went {
     pub level: usize,
     pub node: usize,
@@ -58,8 +58,7 @@ fn sixteen_end(j: usize, parts: usize) -> usize
     requires { (j < parts) × (parts ≤ 1152921504606846976) }
     ensures { (j < result) × (result ≤ parts) }
 {
-    let end = 16 * (j / 16) + 16;
-    if end < parts { end } else { parts }
+    (16 * (j / 16) + 16).min(parts)
 }
 
 // Of some parts those that a box meets are put down.
@@ -80,11 +79,9 @@ fn put_met(
 {
     let base = levels[0];
     let mut n = k;
-    let mut j = first;
-    while j < end {
+    for j in first..end {
         let met = boxes_meet_flat(own, row, boxes, base + j);
         n = put_over(list, n, j as u32, met);
-        j += 1;
     }
     n
 }
@@ -153,6 +150,7 @@ pub fn find_met(
     let mut level = start.level;
     let mut node = start.node;
     let mut k = 0usize;
+    // A `while`: up and down a tree the next node comes from what the step met.
     while node < levels[2 * level + 1] {
         let next = pass_node(own, row, boxes, levels, parts, top, level, node, list, k);
         level = next.level;

@@ -1,6 +1,6 @@
 -- The rows of a stretch, judged one after the other: what is kept of those passed.
-use Rattle.std.specs.Prelude.{ℕ, ◌+◌, ◌-◌, ◌≤◌, ◌<◌, List, [], ◌≡◌, ℤ, length, get_or, take}
-use Rattle.std.proofs.Common.{⊎_elim, sym, ap, ◌∙◌, subst, arith, length-append}
+use Rattle.std.specs.Prelude.{ℕ, ◌+◌, ◌-◌, ◌≤◌, ◌<◌, List, ◌≡◌, ℤ, length, take}
+use Rattle.std.proofs.Common.{⊎_elim, sym, ap, ◌∙◌, arith, length-append}
 use Rattle.sequences.specs.Gather.{gather_short}
 use Rattle.sequences.specs.Range.{le_or_lt}
 use Rattle.meaning.specs.Scene.{Scene, vertex_count}

@@ -147,8 +147,7 @@ fn keep_alone(
         list.new words.new result }
 {
     let mut so_far = going;
-    let mut row = first;
-    while row < end {
+    for row in first..end {
         so_far = keep_numbered(
             positions,
             edges,
@@ -170,7 +169,6 @@ fn keep_alone(
             most,
             so_far,
         );
-        row += 1;
     }
     so_far
 }
@@ -269,11 +267,7 @@ fn block_end(first: usize, rows: usize, end: usize) -> usize
     requires { (first < end) × (end ≤ 4294967296) × (0 < rows) × (rows ≤ 64) }
     ensures { (first < result) × (result ≤ end) }
 {
-    if first + rows < end {
-        first + rows
-    } else {
-        end
-    }
+    (first + rows).min(end)
 }
 
 // How many pairs are listed so far.
@@ -337,6 +331,7 @@ pub fn keep_stretch(
     let mut so_far = going;
     let mut rows = FEW_ROWS;
     let mut row = first;
+    // A `while`: a `for` would be no plainer, because each block tells where the next one begins and how many rows it has.
     while row < end {
         let next = block_end(row, rows, end);
         let before = listed_so_far(so_far);

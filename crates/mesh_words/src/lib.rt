@@ -55,9 +55,7 @@ pub fn settle_mesh_entries(
     ensures { out.new ≡ written
         (bytes_of (tabled positions.now edges.now triangles.now stands.now) (mesh_pairs_in count list.now)) out.old }
 {
-    let mut k = 0;
-    while k < count {
+    for k in 0..count {
         out[k] = settle_entry(positions, edges, triangles, stands, list, k);
-        k += 1;
     }
 }

@@ -28,14 +28,11 @@ fn some_piece_touches(
         × PairIs (tabled positions.now edges.now triangles.now stands.now) kind i j Degenerate }
     ensures { TouchSaid (tabled positions.now edges.now triangles.now stands.now) kind i j result }
 {
-    let count = scene_parts::asked::piece_count(kind);
-    let mut k = 0;
-    while k < count {
+    for k in 0..scene_parts::asked::piece_count(kind) {
         let six = six_of(positions, edges, triangles, stands, kind, i, j, k);
         if corner_search::piece_touches(positions, six) {
             return true;
         }
-        k += 1;
     }
     false
 }

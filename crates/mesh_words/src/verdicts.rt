@@ -14,7 +14,6 @@ use corner_rest::{edges_rest, point_rests};
 use four_words::six::{edges_six, point_six};
 use meaning::{Kind, Verdict};
 use mesh_parts::{corners_of, ends_of};
-use scene_parts::asked::{larger, smaller};
 use three_words::accepted::{edges_pair, point_pair};
 
 // Hit, miss or degenerate.
@@ -34,8 +33,8 @@ pub fn verdict(
     match kind {
         Kind::PointTriangle => point_pair(positions, i, corners_of(triangles, stands, j)),
         Kind::EdgeEdge => {
-            let first = ends_of(edges, stands, smaller(i, j));
-            let second = ends_of(edges, stands, larger(i, j));
+            let first = ends_of(edges, stands, i.min(j));
+            let second = ends_of(edges, stands, i.max(j));
             edges_pair(positions, first, second)
         }
     }
@@ -58,8 +57,8 @@ pub fn rests(
     match kind {
         Kind::PointTriangle => point_rests(positions, i, corners_of(triangles, stands, j)),
         Kind::EdgeEdge => {
-            let first = ends_of(edges, stands, smaller(i, j));
-            let second = ends_of(edges, stands, larger(i, j));
+            let first = ends_of(edges, stands, i.min(j));
+            let second = ends_of(edges, stands, i.max(j));
             edges_rest(positions, first, second)
         }
     }
@@ -83,8 +82,8 @@ pub fn six_of(
     match kind {
         Kind::PointTriangle => point_six(i, corners_of(triangles, stands, j), k),
         Kind::EdgeEdge => {
-            let first = ends_of(edges, stands, smaller(i, j));
-            let second = ends_of(edges, stands, larger(i, j));
+            let first = ends_of(edges, stands, i.min(j));
+            let second = ends_of(edges, stands, i.max(j));
             edges_six(first, k / 2, second, k % 2)
         }
     }

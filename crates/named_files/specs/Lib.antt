@@ -1,2 +1,2 @@
--- What is said of a file that was read.
+-- What is said of files that were read.
 pub mod Files

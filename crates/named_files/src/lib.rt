@@ -1,8 +1,8 @@
 // What the programs share that are given two files by name.
 #![tactic(auto)]
 
-ghost use Rattle.std.specs.Prelude.{◌≤◌, length};
-ghost use Rattle.named_files.specs.Files.{ReadInto, BothInto};
+ghost use Rattle.std.specs.Prelude.{◌≤◌, length, IfSome};
+ghost use Rattle.named_files.specs.Files.{BothInto};
 
 use std::env::FillError;
 use std::rt::{Env, Files};
@@ -13,38 +13,23 @@ pub use streams::write_out;
 // A longer name is no file's.
 const NAME_BYTES: usize = 4096;
 
-// What reading a file gives: how many of its bytes are in front of the buffer, or nothing.
-#[derive(Clone, Copy)]
-enum FileRead {
-    Bytes(usize),
-    Failed,
-}
-
-// The file that an argument names, into a buffer that is one byte longer than a text may be: a full one decides refusal 8.
-fn read_file(rt: &(impl Env + Files), place: usize, text: &mut [u8]) -> FileRead
-    ensures { ReadInto text.new result }
+// The file that an argument names, into a buffer that is one byte longer than a text may be: a full one decides refusal 8. How many of its bytes are in
+// front of the buffer, where it can be read.
+fn read_file(rt: &(impl Env + Files), place: usize, text: &mut [u8]) -> Option<usize>
+    ensures { IfSome result (λ n. n ≤ length text.new) }
 {
     let mut name = [0u8; NAME_BYTES];
-    let Ok(length) = rt.arg(place, &mut name) else {
-        return FileRead::Failed;
-    };
-    let Ok(path) = str::from_utf8(&name[..length]) else {
-        return FileRead::Failed;
-    };
-    let Ok(mut file) = fs::open(rt, path) else {
-        return FileRead::Failed;
-    };
-    match read_text(&mut file, text) {
-        Ok(count) => FileRead::Bytes(count),
-        Err(_) => FileRead::Failed,
-    }
+    let length = rt.arg(place, &mut name).ok()?;
+    let path = str::from_utf8(&name[..length]).ok()?;
+    let mut file = fs::open(rt, path).ok()?;
+    read_text(&mut file, text).ok()
 }
 
-// What reading two files gives: how many bytes of each are in front of its buffer, or nothing.
-#[derive(Clone, Copy)]
-pub enum PairRead {
-    Lengths(usize, usize),
-    Failed,
+// How many bytes of two files are in front of their buffers.
+#[derive(Clone, Copy, Debug, PartialEq, Eq)]
+pub struct Lengths {
+    pub first: usize,
+    pub second: usize,
 }
 
 // Whether there is such an argument; the name of the program is argument 0.
@@ -62,20 +47,23 @@ pub fn read_pair(
     second_failed: &[u8],
     first: &mut [u8],
     second: &mut [u8],
-) -> PairRead
-    ensures { BothInto first.new second.new result }
+) -> Option<Lengths>
+    ensures { IfSome result (BothInto first.new second.new) }
 {
     if !is_given(rt, 2) || is_given(rt, 3) {
         let _ = errors.write_all(usage);
-        return PairRead::Failed;
+        return None;
     }
-    let FileRead::Bytes(one) = read_file(rt, 1, first) else {
+    let Some(one) = read_file(rt, 1, first) else {
         let _ = errors.write_all(first_failed);
-        return PairRead::Failed;
+        return None;
     };
-    let FileRead::Bytes(two) = read_file(rt, 2, second) else {
+    let Some(two) = read_file(rt, 2, second) else {
         let _ = errors.write_all(second_failed);
-        return PairRead::Failed;
+        return None;
     };
-    PairRead::Lengths(one, two)
+    Some(Lengths {
+        first: one,
+        second: two,
+    })
 }

@@ -92,11 +92,9 @@ pub fn falls(positions: &[i32]) -> bool {
     }
     let last = vertices - 7;
     let stride = vertices / SAMPLES;
-    let mut v = 0usize;
     let mut found = 0usize;
-    while v < last {
+    for v in (0..last).step_by(stride) {
         found = one_more(found, moves_off(positions, v));
-        v += stride;
     }
     FEW <= found
 }

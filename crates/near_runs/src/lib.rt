@@ -21,7 +21,7 @@ ghost use Rattle.near_runs.specs.Near.{NearKind, NearForest};
 use list_boxes::kept::store_joint_box;
 use meaning::{Frame, Kind, RowPairs};
 use mesh_parts::{edge_count, edge_end, triangle_count};
-use mesh_runs::{behind, enter_alone, enter_run, first_second, kinds_meet, run_end};
+use mesh_runs::{behind, enter_alone, enter_run, first_second, kinds_meet};
 use near_walk::find_near;
 use pierced_pair::places::place_of;
 use scene_parts::vertex_count;
@@ -136,8 +136,7 @@ fn hold_run(
 {
     empty_box(own, 0);
     empty_box(own, 6);
-    let mut i = first;
-    while i < end {
+    for i in first..end {
         widen_row(
             positions,
             edges,
@@ -160,7 +159,6 @@ fn hold_run(
             own,
             1,
         );
-        i += 1;
     }
 }
 
@@ -276,14 +274,12 @@ fn walk_kind(
         (gather (kind_entries Near (tabled positions.now edges.now triangles.now stands.now) kind) first end) list.new result }
 {
     let mut k = at;
-    let mut i = first;
-    while i < end {
-        let next = run_end(i, end, RUN_ROWS);
+    for i in (first..end).step_by(RUN_ROWS) {
+        let next = (i + RUN_ROWS).min(end);
         k = walk_run(
             positions, edges, triangles, stands, boxes, levels, shift, parts, top, kind, offset, i,
             next, places, six, marks, list, most, k,
         );
-        i = next;
     }
     k
 }

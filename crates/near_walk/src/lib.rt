@@ -120,6 +120,7 @@ pub fn find_near(
     let mut level = start.level;
     let mut node = start.node;
     let mut k = 0usize;
+    // A `while`, because each step says which node comes next: one under this one, or one behind it, at its level or further up.
     while node < levels[2 * level + 1] {
         let next = near_step(
             own, positions, edges, triangles, stands, boxes, levels, shift, parts, top, kind,

@@ -2,13 +2,13 @@
 #![tactic(auto)]
 
 use meaning::{READ_BYTES, REPORT_BYTES};
-use named_files::{PairRead, read_pair, write_out};
+use named_files::{read_pair, write_out};
 
 fn main(rt: HostRuntime) {
     // one byte more than a text may have: a full buffer decides refusal 8
     let mut start = [0u8; READ_BYTES];
     let mut end = [0u8; READ_BYTES];
-    let PairRead::Lengths(start_length, end_length) = read_pair(
+    let Some(lengths) = read_pair(
         &rt,
         &rt.stderr(),
         b"usage: obj START END\n",
@@ -20,7 +20,7 @@ fn main(rt: HostRuntime) {
         return;
     };
     let mut out = [0u8; REPORT_BYTES];
-    let length = obj_report::obj_report_read(&start, start_length, &end, end_length, &mut out);
+    let length = obj_report::obj_report_read(&start, lengths.first, &end, lengths.second, &mut out);
     write_out(
         &rt.stdout(),
         &rt.stderr(),

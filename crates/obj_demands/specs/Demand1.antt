@@ -1,6 +1,6 @@
 -- Demand 1 of an import: '12, then 8 for either file, then line faults in the order of 01, the start file first .. 14 last', each exactly when it is
 -- due, with its file and its line, and no other number; a scene is brought in exactly when none does. A refusal leaves every lent number.
-use Rattle.std.specs.Prelude.{ℕ, ◌+◌, ◌<◌, Bool, true, false, cond, ◌||◌, ◌↔◌, ◌⊎◌, refl, ℤ}
+use Rattle.std.specs.Prelude.{ℕ, ◌+◌, ◌<◌, Bool, true, false, cond, ◌||◌, ◌↔◌, ◌⊎◌, refl, ℤ, Result}
 use mathlib.Core.List.{List, [], ◌∷◌, Memᴰ}
 use Rattle.std.proofs.Common.{inl, inr, sym, ◌∙◌, subst, arith}
 use Rattle.std.proofs.Math.Path.{◌≡◌, ap}
@@ -14,11 +14,11 @@ use Rattle.meaning.specs.ObjBoxes.{FillsImported, BoxedImport}
 use Rattle.meaning.specs.declared.SceneCounts.{SceneCounts}
 use Rattle.meaning.specs.declared.WhichFile.{WhichFile}
 use Rattle.meaning.specs.declared.WhichFile.TheVariants.{Start, End}
-use Rattle.meaning.specs.declared.ImportAnswer.{ImportAnswer}
 use Rattle.answers.specs.Deciding.{holds_or_not}
 use Rattle.obj_scene.specs.OneImport.{files_one}
 use Rattle.obj_scene.specs.Using.{outcome_read, outcome_refused, outcome_refused_in}
 use Rattle.obj_demands.specs.Faults.{in_file, fault_in_file}
+use Rattle.meaning.specs.declared.ImportRefusal.{ImportRefusal}
 
 -- neither 12 nor 8
 abbrev pub Passed : Bool → List ℕ → List ℕ → Type 0
@@ -177,13 +177,13 @@ module _ (short : Bool) (start end : List ℕ) (x : ImportOutcome) (p : cond sho
         only_in = λ f n line e. known_in f n line (outcome_refused_in x (sym e));
       }
 
-pub demand1_import : (start end : List ℕ) (lent left : Scene) (b b' : List ℤ) (r : ImportAnswer) → BoxedImport start end lent left b b' r
+pub demand1_import : (start end : List ℕ) (lent left : Scene) (b b' : List ℤ) (r : Result SceneCounts ImportRefusal) → BoxedImport start end lent left b b' r
     → ImportRows (short_boxes b || short_buffer lent) start end (import_says r)
 demand1_import start end lent left b b' r p =
     rw p.says (rows_of (short_boxes b || short_buffer lent) start end p.outcome p.right)
 
 -- a refusal leaves the five buffers as they were
-pub import_unchanged : (start end : List ℕ) (lent left : Scene) (b b' : List ℤ) (r : ImportAnswer) → BoxedImport start end lent left b b' r
+pub import_unchanged : (start end : List ℕ) (lent left : Scene) (b b' : List ℤ) (r : Result SceneCounts ImportRefusal) → BoxedImport start end lent left b b' r
     → ((c : SceneCounts) → import_says r ≡ counts c → ⊥) → (left ≡ lent) × (b' ≡ b)
 unfolding import_told import_left FillsImported
 import_unchanged start end lent left b b' r p never = go p.outcome p.says p.leaves p.boxes

@@ -1,8 +1,8 @@
 -- What one line does to a draft that holds the scene of the lines above.
-use Rattle.std.specs.Prelude.{Bool, true, ◌||◌, ◌≢◌, ◌⊎◌, refl, ℕ, ◌+◌, ◌-◌, ◌*◌, ◌/◌, ◌≤◌, ◌<◌, ltb, ℤ, drop}
+use Rattle.std.specs.Prelude.{Bool, Result, Ok, Err, true, ◌||◌, ◌≢◌, refl, ℕ, ◌+◌, ◌-◌, ◌*◌, ◌≤◌, ◌<◌, ltb, ℤ, drop}
 use Rattle.std.proofs.Math.Bool.{false}
 use mathlib.Core.List.{List, [], ◌∷◌, ◌++◌, append-nil}
-use Rattle.std.proofs.Common.{inl, inr, ⊎_elim, ◌∙◌, arith, length-drop}
+use Rattle.std.proofs.Common.{⊎_elim, ◌∙◌, arith, length-drop}
 use Rattle.std.proofs.Math.Path.{◌≡◌, sym, ap, subst}
 use Rattle.std.proofs.Math.Dec.{leb, eqb}
 use Rattle.std.proofs.Math.ListN.{length, take}
@@ -14,8 +14,8 @@ use Rattle.meaning.specs.Limits.{vertex_limit, edge_limit, triangle_limit, seam_
 use Rattle.meaning.specs.Lines as Lines
 use Rattle.meaning.specs.Lines.{nothing, RecordJudged}
 use Rattle.meaning.specs.Refusals.{Outcome, given, refused, Check, Answers, number_of}
-use Rattle.meaning.specs.Scene.{Scene, scene_of, vertex_count, edge_count, triangle_count, seam_count, over_size, wrong_shape, uneven}
-use Rattle.meaning.specs.Text.{vertex, triangle, coordinates, scene_with, coordinates_in, ends_in, corners_in, seam_in, entry_checks, EntryJudged, line_feed}
+use Rattle.meaning.specs.Scene.{Scene, vertex_count, edge_count, triangle_count, seam_count, over_size, uneven}
+use Rattle.meaning.specs.Text.{vertex, triangle, coordinates, scene_with, coordinates_in, ends_in, corners_in, seam_in, entry_checks, line_feed}
 use Rattle.meaning.specs.declared.Refusal.{Refusal}
 use Rattle.meaning.specs.declared.Refusal.TheVariants.{BadLine}
 use Rattle.meaning.specs.declared.SceneCounts.{SceneCounts}
@@ -29,15 +29,12 @@ use Rattle.meaning.specs.declared.ObjLine.{ObjLine}
 use Rattle.obj_edges.specs.Chains.{Knows}
 use Rattle.obj_records.specs.Faults.{VertexFault, FaceFault, faultless}
 use Rattle.obj_records.specs.Adding.{VertexPut, VertexAdded, FaceRoom, sides_with, FaceOver, FacePut, FaceAdded}
-use Rattle.obj_records.specs.declared.Added as Addeds
-use Rattle.obj_records.specs.declared.Added.{Added}
 use Rattle.obj_numbers.specs.Finding.{place_fits}
 use Rattle.obj_numbers.specs.Sizing.{to_the_end}
 use Rattle.obj_laws.specs.Ended.{body_unbroken, body_stands, line_unformed, line_unended, line_misplaced}
-use Rattle.obj_laws.specs.Faces.{EdgesOk, ok_scene, ok_sides, with_edges, counts_with, above_edges}
+use Rattle.obj_laws.specs.Faces.{EdgesOk, ok_scene, ok_sides, counts_with, above_edges}
 use Rattle.obj_laws.specs.Judged.{vertex_judged, face_judged}
 use Rattle.obj_draft.specs.declared.Taken.{Taken}
-use Rattle.obj_draft.specs.declared.Taken.TheVariants.{Fault, Next}
 
 -- the arrays hold this scene in front, and the table behind its edges knows them
 pub record Drafted (p : List ℤ) (e t : List ℕ) (s : Scene) (c : SceneCounts) : Type 0 where
@@ -209,24 +206,20 @@ pub record TookLine (text : List ℕ) (at : ℕ) (p : List ℤ) (e t : List ℕ)
   pub good : RecordJudged obj_lines s body (nothing (drop next text)) (given tt)
   pub drafted : Drafted p e t (scene_after s (says body)) k
 
-unfoldable pub TakenAs : List ℕ → ℕ → List ℤ → List ℕ → List ℕ → Scene → Taken → Type 0
-TakenAs text at p e t s (Fault f) = Lines.Fault obj_lines s (drop at text) (number_of f)
-TakenAs text at p e t s (Next k next) = TookLine text at p e t s k next
+unfoldable pub TakenAs : List ℕ → ℕ → List ℤ → List ℕ → List ℕ → Scene → Result Taken Refusal → Type 0
+TakenAs text at p e t s (Err f) = Lines.Fault obj_lines s (drop at text) (number_of f)
+TakenAs text at p e t s (Ok k) = TookLine text at p e t s k.counts k.next
 
 -- below any scene that the draft held
-abbrev pub LineTaken : List ℕ → ℕ → SceneCounts → List ℤ → List ℕ → List ℕ → List ℤ → List ℕ → List ℕ → Taken → Type 0
+abbrev pub LineTaken : List ℕ → ℕ → SceneCounts → List ℤ → List ℕ → List ℕ → List ℤ → List ℕ → List ℕ → Result Taken Refusal → Type 0
 LineTaken text at c p₀ e₀ t₀ p e t r = (s : Scene) → Drafted p₀ e₀ t₀ s c → TakenAs text at p e t s r
-
-unfoldable pub next_after : Added → ℕ → Taken
-next_after (Addeds.TheVariants.Fault f) next = Fault f
-next_after (Addeds.TheVariants.Counts c) next = Next c next
 
 module _ (text : List ℕ) (at : ℕ) (c : SceneCounts) {end stop : ℕ} (found : end ≡ place_of line_feed (take (length text - at) (drop at text)))
     (there : stop ≡ at + end) (p : List ℤ) (e t : List ℕ) (inside : at < length text) where
   is : end ≡ place_of line_feed (drop at text)
   is = found ∙ ap (place_of line_feed) (to_the_end at text)
 
-  pub take_unended : length text ≤ stop → LineTaken text at c p e t p e t (Fault BadLine)
+  pub take_unended : length text ≤ stop → LineTaken text at c p e t p e t (Err BadLine)
   unfolding TakenAs number_of
   take_unended h s d = line_unended text at is s inside (omega (arith, there))
 
@@ -237,7 +230,7 @@ module _ (text : List ℕ) (at : ℕ) (c : SceneCounts) {end stop : ℕ} (found 
     in_text : at + end < length text
     in_text = omega (arith, there)
 
-    pub take_bad : said ≡ Said.TheVariants.Bad → LineTaken text at c p e t p e t (Fault BadLine)
+    pub take_bad : said ≡ Said.TheVariants.Bad → LineTaken text at c p e t p e t (Err BadLine)
     unfolding TakenAs number_of
     take_bad q s d = line_unformed text at is s inside in_text (sym e' ∙ q)
 
@@ -248,7 +241,7 @@ module _ (text : List ℕ) (at : ℕ) (c : SceneCounts) {end stop : ℕ} (found 
     formed_as : (o : ObjLine) → said ≡ o → o ≢ Said.TheVariants.Bad → SaysSome (take end (drop at text))
     formed_as o q n = record { unbroken = body_unbroken text at is; some = λ z. n (sym q ∙ e' ∙ z) }
 
-    pub take_skipped : said ≡ Said.TheVariants.Skipped → LineTaken text at c p e t p e t (Next c (stop + 1))
+    pub take_skipped : said ≡ Said.TheVariants.Skipped → LineTaken text at c p e t p e t (Ok (record { counts = c; next = stop + 1 }))
     unfolding TakenAs scene_after
     take_skipped q s d =
         let is_so : says (take end (drop at text)) ≡ Said.TheVariants.Skipped = sym e' ∙ q in
@@ -264,12 +257,16 @@ module _ (text : List ℕ) (at : ℕ) (c : SceneCounts) {end stop : ℕ} (found 
       vertex_some : Said.TheVariants.Vertex x y z ≢ Said.TheVariants.Bad
       vertex_some w = let u : ◌≡◌ {A = ℕ} 0 1 = cc in omega arith
 
-      pub take_vertex : (p' : List ℤ) (r : Added) → VertexAdded c x y z p p' r → LineTaken text at c p e t p' e t (next_after r (stop + 1))
-      unfolding TakenAs next_after VertexAdded
-      take_vertex p' (Addeds.TheVariants.Fault f) v s d =
+      pub take_misplaced_vertex : (p' : List ℤ) (f : Refusal) → VertexAdded c x y z p p' (Err f) → LineTaken text at c p e t p' e t (Err f)
+      unfolding TakenAs VertexAdded
+      take_misplaced_vertex p' f v s d =
           line_misplaced text at is s inside in_text (λ w. vertex_some (sym q ∙ e' ∙ w))
           (judged_vertex s (take end (drop at text)) (nothing (drop (at + end + 1) text)) d.above (refused (number_of f) 0) (sym e' ∙ q) v)
-      take_vertex p' (Addeds.TheVariants.Counts k) v s d =
+
+      pub take_vertex : (p' : List ℤ) (k : SceneCounts) → VertexAdded c x y z p p' (Ok k)
+          → LineTaken text at c p e t p' e t (Ok (record { counts = k; next = stop + 1 }))
+      unfolding TakenAs VertexAdded
+      take_vertex p' k v s d =
           record {
             body = take end (drop at text);
             formed = formed_as (Said.TheVariants.Vertex x y z) q vertex_some;
@@ -285,9 +282,9 @@ module _ (text : List ℕ) (at : ℕ) (c : SceneCounts) {end stop : ℕ} (found 
       face_some : Said.TheVariants.Face a b f ≢ Said.TheVariants.Bad
       face_some w = let u : ◌≡◌ {A = ℕ} 0 1 = cc in omega arith
 
-      pub take_face : (e₁ t₁ : List ℕ) (r : Added) → FaceAdded c a b f e t e₁ t₁ r → LineTaken text at c p e t p e₁ t₁ (next_after r (stop + 1))
-      unfolding TakenAs next_after FaceAdded
-      take_face e₁ t₁ (Addeds.TheVariants.Fault r) v s d =
+      pub take_misplaced_face : (e₁ t₁ : List ℕ) (r : Refusal) → FaceAdded c a b f e t e₁ t₁ (Err r) → LineTaken text at c p e t p e₁ t₁ (Err r)
+      unfolding TakenAs FaceAdded
+      take_misplaced_face e₁ t₁ r v s d =
           line_misplaced text at is s inside in_text (λ w. face_some (sym q ∙ e' ∙ w))
           (⊎_elim
           (λ u. judged_face s (take end (drop at text)) (nothing (drop (at + end + 1) text)) d.above (sym e' ∙ q) (number_of r) u)
@@ -295,7 +292,11 @@ module _ (text : List ℕ) (at : ℕ) (c : SceneCounts) {end stop : ℕ} (found 
           judged_over s (take end (drop at text)) (nothing (drop (at + end + 1) text)) d.above (sym e' ∙ q) (number_of r) u.good u.number
           (edges_over a b f (number_of r) d u))
           v)
-      take_face e₁ t₁ (Addeds.TheVariants.Counts k) v s d =
+
+      pub take_face : (e₁ t₁ : List ℕ) (k : SceneCounts) → FaceAdded c a b f e t e₁ t₁ (Ok k)
+          → LineTaken text at c p e t p e₁ t₁ (Ok (record { counts = k; next = stop + 1 }))
+      unfolding TakenAs FaceAdded
+      take_face e₁ t₁ k v s d =
           record {
             body = take end (drop at text);
             formed = formed_as (Said.TheVariants.Face a b f) q face_some;

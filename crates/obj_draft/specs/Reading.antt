@@ -1,26 +1,23 @@
 -- What the reader of a file promises, and how it goes on from line to line.
-use Rattle.std.specs.Prelude.{List, [], ◌≡◌, refl, ℕ, ◌+◌, ◌*◌, ◌≤◌, ◌<◌, ℤ, length, drop}
+use Rattle.std.specs.Prelude.{Result, Ok, Err, List, ◌≡◌, refl, ℕ, ◌+◌, ◌≤◌, ◌<◌, ℤ, length, drop}
 use Rattle.std.proofs.Math.Path.{sym, ap}
 use Rattle.std.proofs.Common.{◌∙◌, arith}
 use Rattle.meaning.specs.Lines as Lines
 use Rattle.meaning.specs.Lines.{after_all, AllSound, FaultyAt}
-use Rattle.meaning.specs.Refusals.{number_of}
+use Rattle.meaning.specs.Refusals.{number_of, carrying}
 use Rattle.meaning.specs.Scene.{Scene}
 use Rattle.meaning.specs.Text.{none}
 use Rattle.meaning.specs.declared.Refusal.{Refusal}
 use Rattle.meaning.specs.declared.SceneCounts.{SceneCounts}
-use Rattle.meaning.specs.declared.TextAnswer.{TextAnswer}
-use Rattle.meaning.specs.declared.TextAnswer.TheVariants.{Read, Refused}
 use Rattle.text_laws.specs.Going.{Reached, reached_first, reached_none, reached_next, reached_longer, reached_fault, reached_end}
 use Rattle.text_line.specs.Above.{above_none, no_counts}
 use Rattle.meaning.specs.ObjLine.{says}
 use Rattle.meaning.specs.ObjFile.{scene_after, obj_lines}
 use Rattle.obj_laws.specs.Ended.{obj_readable}
 use Rattle.obj_edges.specs.Chains.{Knows}
-use Rattle.obj_records.specs.Adding.{FaceRoom}
 use Rattle.obj_draft.specs.Drafting.{Drafted, DraftRoom, TakenAs, LineTaken, TookLine}
 use Rattle.obj_draft.specs.declared.Taken.{Taken}
-use Rattle.obj_draft.specs.declared.Taken.TheVariants.{Fault, Next}
+use Rattle.meaning.specs.declared.Refused.{Refused}
 
 -- ---- the promise
 
@@ -32,9 +29,9 @@ pub record DraftRead (text : List ℕ) (p : List ℤ) (e t : List ℕ) (c : Scen
   pub state : scene ≡ after_all obj_lines none lines
   pub drafted : Drafted p e t scene c
 
-unfoldable pub DraftIs : List ℕ → List ℤ → List ℕ → List ℕ → TextAnswer → Type 0
-DraftIs text p e t (Read c) = DraftRead text p e t c
-DraftIs text p e t (Refused f line) = FaultyAt obj_lines none text (number_of f) line
+unfoldable pub DraftIs : List ℕ → List ℤ → List ℕ → List ℕ → Result SceneCounts Refused → Type 0
+DraftIs text p e t (Ok c) = DraftRead text p e t c
+DraftIs text p e t (Err f) = FaultyAt obj_lines none text (number_of f.why) f.carries
 
 -- ---- the loop
 
@@ -76,12 +73,12 @@ draft_starts text p e t blank =
     }
 
 module _ {text : List ℕ} {p : List ℤ} {e t : List ℕ} {c : SceneCounts} {at line : ℕ} (i : Drafting text p e t c at line) where
-  module _ (p' : List ℤ) (e' t' : List ℕ) {r : Taken} (taken : LineTaken text at c p e t p' e' t' r) where
-    pub draft_goes : {after : SceneCounts} {next : ℕ} → r ≡ Next after next → Drafting text p' e' t' after next (line + 1) × (at < next)
+  module _ (p' : List ℤ) (e' t' : List ℕ) {r : Result Taken Refusal} (taken : LineTaken text at c p e t p' e' t' r) where
+    pub draft_goes : {k : Taken} → r ≡ Ok k → Drafting text p' e' t' k.counts k.next (line + 1) × (at < k.next)
     unfolding TakenAs
-    draft_goes {after} {next} q =
+    draft_goes {k = on_line} q =
         let any : TakenAs text at p' e' t' i.scene r = taken i.scene i.drafted in
-        let k : TookLine text at p' e' t' i.scene after next = rw q at any in
+        let k : TookLine text at p' e' t' i.scene on_line.counts on_line.next = rw q at any in
         let (on, further) = reached_next i.reached obj_readable k.body k.formed k.good k.stands in (
           record {
             scene = scene_after i.scene (says k.body);
@@ -93,14 +90,14 @@ module _ {text : List ℕ} {p : List ℤ} {e t : List ℕ} {c : SceneCounts} {at
           further,
         )
 
-    pub draft_fails : {f : Refusal} → r ≡ Fault f → DraftIs text p' e' t' (Refused f line)
+    pub draft_fails : {f : Refusal} → r ≡ Err f → DraftIs text p' e' t' (Err (carrying f line))
     unfolding TakenAs DraftIs
     draft_fails {f} q =
         let any : TakenAs text at p' e' t' i.scene r = taken i.scene i.drafted in
         let fault : Lines.Fault obj_lines i.scene (drop at text) (number_of f) = rw q at any in
         reached_fault i.reached fault i.place
 
-  pub draft_ends : length text ≤ at → DraftIs text p e t (Read c)
+  pub draft_ends : length text ≤ at → DraftIs text p e t (Ok c)
   unfolding DraftIs
   draft_ends h =
       record {

@@ -2,32 +2,23 @@
 
 #![tactic(auto)]
 
-ghost use Rattle.std.specs.Prelude.{◌≡◌};
 ghost use Rattle.obj_edges.specs.Chains.{Knows};
-ghost use Rattle.obj_draft.specs.Drafting.{DraftRoom, LineReady, LineTaken, next_after};
+ghost use Rattle.obj_draft.specs.Drafting.{DraftRoom, LineReady, LineTaken};
 ghost use Rattle.obj_draft.specs.Reading.{DraftIs};
 
-use meaning::{ObjLine, Refusal, SceneCounts, TextAnswer};
+use meaning::{ObjLine, Refusal, Refused, SceneCounts};
 use obj_line::line_of;
 use obj_numbers::place_of;
-use obj_records::{Added, add_face, add_vertex};
+use obj_records::{add_face, add_vertex};
 
-// What a line gives: its fault; or the counts of the scene with what it says, which the draft then holds, and the place of the next line.
-#[derive(Clone, Copy)]
-enum Taken {
-    Fault(Refusal),
-    Next(SceneCounts, usize),
+// What a line gives: the counts of the scene with what it says, which the draft then holds, and the place of the next line.
+#[derive(Clone, Copy, Debug, PartialEq, Eq)]
+struct Taken {
+    counts: SceneCounts,
+    next: usize,
 }
 
-fn next_after(added: Added, next: usize) -> Taken
-    ensures { result ≡ next_after added next }
-{
-    match added {
-        Added::Fault(fault) => Taken::Fault(fault),
-        Added::Counts(c) => Taken::Next(c, next),
-    }
-}
-
+// One line, or its fault.
 fn take_line(
     text: &[u8],
     at: usize,
@@ -35,20 +26,27 @@ fn take_line(
     positions: &mut [i32],
     edges: &mut [u16],
     triangles: &mut [u16],
-) -> Taken
+) -> Result<Taken, Refusal>
     requires { LineReady text.now at c positions.old edges.old triangles.old }
     ensures { LineTaken text.now at c positions.old edges.old triangles.old
         positions.new edges.new triangles.new result }
 {
     let stop = at + place_of(&text[at..], b'\n');
     if text.len() <= stop {
-        return Taken::Fault(Refusal::BadLine);
+        return Err(Refusal::BadLine);
     }
+    let next = stop + 1;
     match line_of(&text[at..stop]) {
-        ObjLine::Bad => Taken::Fault(Refusal::BadLine),
-        ObjLine::Skipped => Taken::Next(c, stop + 1),
-        ObjLine::Vertex(x, y, z) => next_after(add_vertex(c, x, y, z, positions), stop + 1),
-        ObjLine::Face(a, b, d) => next_after(add_face(c, a, b, d, edges, triangles), stop + 1),
+        ObjLine::Bad => Err(Refusal::BadLine),
+        ObjLine::Skipped => Ok(Taken { counts: c, next }),
+        ObjLine::Vertex(x, y, z) => {
+            let counts = add_vertex(c, x, y, z, positions)?;
+            Ok(Taken { counts, next })
+        }
+        ObjLine::Face(a, b, d) => {
+            let counts = add_face(c, a, b, d, edges, triangles)?;
+            Ok(Taken { counts, next })
+        }
     }
 }
 
@@ -58,7 +56,7 @@ pub fn draft_file(
     positions: &mut [i32],
     edges: &mut [u16],
     triangles: &mut [u16],
-) -> TextAnswer
+) -> Result<SceneCounts, Refused>
     requires draft_room { DraftRoom positions.old edges.old triangles.old }
     requires knows { Knows edges.old 0 }
     ensures { DraftIs text.now positions.new edges.new triangles.new result }
@@ -71,17 +69,16 @@ pub fn draft_file(
     };
     let mut at = 0;
     let mut line = 1;
+    // A `while`, because each line says where the next one begins.
     while at < text.len() {
         match take_line(text, at, c, positions, edges, triangles) {
-            Taken::Fault(fault) => {
-                return TextAnswer::Refused(fault, line);
-            }
-            Taken::Next(after, next) => {
-                c = after;
-                at = next;
+            Err(why) => return Err(Refused { why, carries: line }),
+            Ok(taken) => {
+                c = taken.counts;
+                at = taken.next;
                 line += 1;
             }
         }
     }
-    TextAnswer::Read(c)
+    Ok(c)
 }

@@ -33,6 +33,7 @@ fn is_joined(edges: &[u16], count: usize, a: u16, b: u16) -> bool
     ensures { result ≡ joined a b (take (2 * count) edges.now) }
 {
     let mut e = edges[LASTS + (a as usize + b as usize)] as usize;
+    // A `while`, because the table says which edge comes next.
     while 0 < e {
         let x = edges[2 * e - 2];
         let y = edges[2 * e - 1];

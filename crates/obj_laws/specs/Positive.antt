@@ -1,5 +1,5 @@
 -- The numbers of a face are positive: none begins with a zero.
-use Rattle.std.specs.Prelude.{Bool, true, false, ◌&&◌, List, [], ◌∷◌, ◌≡◌, refl, ℕ, suc, ◌+◌, ◌-◌, ◌*◌, ◌≤◌, ◌<◌, leb, ltb, eqb, length, drop}
+use Rattle.std.specs.Prelude.{Bool, true, false, ◌&&◌, List, [], ◌∷◌, ◌≡◌, refl, ℕ, suc, ◌+◌, ◌-◌, ◌*◌, ◌≤◌, ◌<◌, leb, ltb, eqb, length, drop, None, Option, Some}
 use Rattle.std.proofs.Common.{⊎_elim, sym, ap, ◌∙◌, arith, ltb-true}
 use Rattle.std.proofs.lemmas.Bool.{eqb-false}
 use Rattle.sequences.specs.Pick.{pick, pick_gave, both}
@@ -7,14 +7,10 @@ use Rattle.decimals.specs.Byte.{byte_at, IsDigit, digit_test, digit_passed}
 use Rattle.decimals.specs.Value.{value, value_on}
 use Rattle.meaning.specs.Limits.{digit_limit}
 use Rattle.meaning.specs.ObjLine.{digits_alone, whole_of, vertex_number_of, zero_digit, face_with, vertex_with, vertex_of, face_of, first_field, second_field, third_field, says, is_skipped, begins_with, space, decimal_of}
-use Rattle.meaning.specs.declared.Decimal as Decimals
-use Rattle.meaning.specs.declared.Decimal.{Decimal}
-use Rattle.meaning.specs.declared.Whole as Wholes
-use Rattle.meaning.specs.declared.Whole.{Whole}
-use Rattle.meaning.specs.declared.Whole.TheVariants.{Worth}
 use Rattle.meaning.specs.declared.ObjLine.{ObjLine}
 use Rattle.meaning.specs.declared.ObjLine.TheVariants.{Skipped, Vertex, Face, Bad}
 use Rattle.obj_records.specs.Adding.{Positive}
+use Rattle.meaning.specs.declared.Hundredths.{Hundredths}
 
 on_from : (v : ℕ) (l : List ℕ) → v ≤ value_on v l
 unfolding value_on
@@ -30,7 +26,7 @@ value_some (b ∷ l) h e z =
     let other : b ≡ 48 → ⊥ = eqb-false b 48 z in
     omega (arith, on_from (0 * 10 + (b - 48)) l, d.low, other)
 
-pub number_positive : (l : List ℕ) {n : ℕ} → vertex_number_of l ≡ Worth n → 0 < n
+pub number_positive : (l : List ℕ) {n : ℕ} → vertex_number_of l ≡ Some n → 0 < n
 number_positive l {n} e =
     ⊎_elim
     (λ g. let z : ◌≡◌ {A = ℕ} 0 1 = cc g.1 in absurd (omega arith))
@@ -42,15 +38,15 @@ number_positive l {n} e =
     let is : value l ≡ n = cc h.1 in
     omega (arith, is, value_some l (ltb-true 0 (length l) some) alone g.0))
     (λ h. let z : ◌≡◌ {A = ℕ} 0 1 = cc h.1 in absurd (omega arith))
-    (pick_gave (λ x. x ≡ Worth n) (ltb 0 (length l) && leb (length l) digit_limit && digits_alone l) g.1))
-    (pick_gave (λ x. x ≡ Worth n) (eqb (byte_at l 0) zero_digit) e)
+    (pick_gave (λ x. x ≡ Some n) (ltb 0 (length l) && leb (length l) digit_limit && digits_alone l) g.1))
+    (pick_gave (λ x. x ≡ Some n) (eqb (byte_at l 0) zero_digit) e)
 
-face_with_lem : (u v w : Whole) {a b d : ℕ} → face_with u v w ≡ Face a b d → (u ≡ Worth a) × (v ≡ Worth b) × (w ≡ Worth d)
+face_with_lem : (u v w : Option ℕ) {a b d : ℕ} → face_with u v w ≡ Face a b d → (u ≡ Some a) × (v ≡ Some b) × (w ≡ Some d)
 unfolding face_with
-face_with_lem (Worth x) (Worth y) (Worth z) e = (cc, cc, cc)
-face_with_lem (Worth x) (Worth y) Wholes.TheVariants.Bad e = let z : ◌≡◌ {A = ℕ} 0 1 = cc in absurd (omega arith)
-face_with_lem (Worth x) Wholes.TheVariants.Bad w e = let z : ◌≡◌ {A = ℕ} 0 1 = cc in absurd (omega arith)
-face_with_lem Wholes.TheVariants.Bad v w e = let z : ◌≡◌ {A = ℕ} 0 1 = cc in absurd (omega arith)
+face_with_lem (Some x) (Some y) (Some z) e = (cc, cc, cc)
+face_with_lem (Some x) (Some y) None e = let z : ◌≡◌ {A = ℕ} 0 1 = cc in absurd (omega arith)
+face_with_lem (Some x) None w e = let z : ◌≡◌ {A = ℕ} 0 1 = cc in absurd (omega arith)
+face_with_lem None v w e = let z : ◌≡◌ {A = ℕ} 0 1 = cc in absurd (omega arith)
 
 face_of_lem : (l : List ℕ) {a b d : ℕ} → face_of l ≡ Face a b d → Positive a b d
 face_of_lem l e =
@@ -61,12 +57,12 @@ face_of_lem l e =
       third = number_positive (third_field l) r;
     }
 
-vertex_no_face : (x y z : Decimal) {a b d : ℕ} → vertex_with x y z ≡ Face a b d → ⊥
+vertex_no_face : (x y z : Option Hundredths) {a b d : ℕ} → vertex_with x y z ≡ Face a b d → ⊥
 unfolding vertex_with
-vertex_no_face (Decimals.TheVariants.Of x) (Decimals.TheVariants.Of y) (Decimals.TheVariants.Of z) e = let q : ◌≡◌ {A = ℕ} 0 1 = cc in omega arith
-vertex_no_face (Decimals.TheVariants.Of x) (Decimals.TheVariants.Of y) Decimals.TheVariants.Bad e = let q : ◌≡◌ {A = ℕ} 0 1 = cc in omega arith
-vertex_no_face (Decimals.TheVariants.Of x) Decimals.TheVariants.Bad z e = let q : ◌≡◌ {A = ℕ} 0 1 = cc in omega arith
-vertex_no_face Decimals.TheVariants.Bad y z e = let q : ◌≡◌ {A = ℕ} 0 1 = cc in omega arith
+vertex_no_face (Some x) (Some y) (Some z) e = let q : ◌≡◌ {A = ℕ} 0 1 = cc in omega arith
+vertex_no_face (Some x) (Some y) None e = let q : ◌≡◌ {A = ℕ} 0 1 = cc in omega arith
+vertex_no_face (Some x) None z e = let q : ◌≡◌ {A = ℕ} 0 1 = cc in omega arith
+vertex_no_face None y z e = let q : ◌≡◌ {A = ℕ} 0 1 = cc in omega arith
 
 pub face_positive : (l : List ℕ) {a b d : ℕ} → says l ≡ Face a b d → Positive a b d
 face_positive l {a} {b} {d} e =

@@ -1,16 +1,15 @@
 -- A line parted at its first space.
-use Rattle.std.specs.Prelude.{Bool, true, false, ◌&&◌, ◌||◌, List, [], ◌≡◌, refl, ℕ, ◌+◌, ◌-◌, ◌≤◌, ◌<◌, ltb, eqb, length, take, drop}
-use Rattle.std.proofs.Common.{sym, ap, ◌∙◌, arith, length-drop, drop_of_length-le, take_all, eqb-true}
-use Rattle.sequences.specs.Pick.{pick, both, pick_true, pick_false}
+use Rattle.std.specs.Prelude.{Bool, true, false, ◌&&◌, ◌||◌, List, ◌≡◌, ℕ, ◌+◌, ◌-◌, ◌≤◌, ◌<◌, eqb, length, take, drop, Option}
+use Rattle.std.proofs.Common.{sym, ap, ◌∙◌, arith, drop_of_length-le, eqb-true}
+use Rattle.sequences.specs.Pick.{both, pick_true, pick_false}
 use Rattle.decimals.specs.Byte.{byte_at, byte_inside}
 use Rattle.obj_numbers.specs.Finding.{place_fits}
 use Rattle.obj_numbers.specs.Sizing.{to_the_end}
-use Rattle.meaning.specs.ObjLine.{place_of, space, before_first, behind, first_field, second_field, third_field, decimal_of, vertex_number_of, vertex_with, face_with, vertex_of, face_of, begins_with, is_skipped, says}
-use Rattle.meaning.specs.declared.Decimal.{Decimal}
-use Rattle.meaning.specs.declared.Whole.{Whole}
+use Rattle.meaning.specs.ObjLine.{place_of, space, before_first, behind, decimal_of, vertex_number_of, vertex_with, face_with, vertex_of, face_of, begins_with, is_skipped, says}
 use Rattle.meaning.specs.declared.ObjLine.{ObjLine}
 use Rattle.meaning.specs.declared.ObjLine.TheVariants.{Skipped, Bad}
 use Rattle.obj_line.specs.declared.Cut.{Cut}
+use Rattle.meaning.specs.declared.Hundredths.{Hundredths}
 
 -- what stands before_first the first space ends there, and what stands behind it begins there
 pub record CutAt (s : List ℕ) (r : Cut) : Type 0 where
@@ -40,32 +39,32 @@ module _ (s : List ℕ) {end : ℕ} (e : end ≡ place_of space s) where
       }
 
 -- what is left of a line behind its first number
-abbrev pub vertex_from : Decimal → List ℕ → ObjLine
+abbrev pub vertex_from : Option Hundredths → List ℕ → ObjLine
 vertex_from x l = vertex_with x (decimal_of (before_first space l)) (decimal_of (behind space l))
 
-abbrev pub face_from : Whole → List ℕ → ObjLine
+abbrev pub face_from : Option ℕ → List ℕ → ObjLine
 face_from x l = face_with x (vertex_number_of (before_first space l)) (vertex_number_of (behind space l))
 
 module _ (s : List ℕ) {r : Cut} (c : CutAt s r) where
-  pub vertex_from_lem : (x : Decimal) {y z : Decimal} {o : ObjLine} → y ≡ decimal_of (take r.end s)
+  pub vertex_from_lem : (x : Option Hundredths) {y z : Option Hundredths} {o : ObjLine} → y ≡ decimal_of (take r.end s)
       → z ≡ decimal_of (take (length s - r.next) (drop r.next s)) → o ≡ vertex_with x y z → o ≡ vertex_from x s
   vertex_from_lem x {y} {z} p q e =
       e ∙ ap (λ w. vertex_with x w z) (p ∙ ap (λ (l : List ℕ). decimal_of l) c.front)
       ∙ ap (λ z. vertex_with x (decimal_of (before_first space s)) z) (q ∙ ap (λ (l : List ℕ). decimal_of l) c.back)
 
-  pub vertex_of_lem : {x : Decimal} {o : ObjLine} → x ≡ decimal_of (take r.end s)
+  pub vertex_of_lem : {x : Option Hundredths} {o : ObjLine} → x ≡ decimal_of (take r.end s)
       → o ≡ vertex_from x (take (length s - r.next) (drop r.next s)) → o ≡ vertex_of s
   vertex_of_lem {x} p e =
       e ∙ ap (λ (l : List ℕ). vertex_from x l) c.back
       ∙ ap (λ x. vertex_from x (behind space s)) (p ∙ ap (λ (l : List ℕ). decimal_of l) c.front)
 
-  pub face_from_lem : (x : Whole) {y z : Whole} {o : ObjLine} → y ≡ vertex_number_of (take r.end s)
+  pub face_from_lem : (x : Option ℕ) {y z : Option ℕ} {o : ObjLine} → y ≡ vertex_number_of (take r.end s)
       → z ≡ vertex_number_of (take (length s - r.next) (drop r.next s)) → o ≡ face_with x y z → o ≡ face_from x s
   face_from_lem x {y} {z} p q e =
       e ∙ ap (λ w. face_with x w z) (p ∙ ap (λ (l : List ℕ). vertex_number_of l) c.front)
       ∙ ap (λ z. face_with x (vertex_number_of (before_first space s)) z) (q ∙ ap (λ (l : List ℕ). vertex_number_of l) c.back)
 
-  pub face_of_lem : {x : Whole} {o : ObjLine} → x ≡ vertex_number_of (take r.end s)
+  pub face_of_lem : {x : Option ℕ} {o : ObjLine} → x ≡ vertex_number_of (take r.end s)
       → o ≡ face_from x (take (length s - r.next) (drop r.next s)) → o ≡ face_of s
   face_of_lem {x} p e =
       e ∙ ap (λ (l : List ℕ). face_from x l) c.back

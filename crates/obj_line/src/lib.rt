@@ -6,11 +6,11 @@ ghost use Rattle.std.specs.Prelude.{◌≤◌, length, ◌≡◌};
 ghost use Rattle.meaning.specs.ObjLine.{says, vertex_of, face_of, vertex_with, face_with};
 ghost use Rattle.obj_line.specs.Parting.{CutAt, vertex_from, face_from};
 
-use meaning::{Decimal, ObjLine, Whole};
+use meaning::{Hundredths, ObjLine};
 use obj_numbers::{decimal_of, number_of, place_of};
 
 // Where a field ends, and where what stands behind the space begins.
-#[derive(Clone, Copy)]
+#[derive(Clone, Copy, Debug, PartialEq, Eq)]
 struct Cut {
     end: usize,
     next: usize,
@@ -27,38 +27,28 @@ fn cut_at_space(s: &[u8]) -> Cut
     }
 }
 
-fn vertex_with(x: Decimal, y: Decimal, z: Decimal) -> ObjLine
+#[tactic(auto, unfolding(meaning::specs::ObjLine::vertex_with))]
+fn vertex_with(x: Option<Hundredths>, y: Option<Hundredths>, z: Option<Hundredths>) -> ObjLine
     ensures { result ≡ vertex_with x y z }
 {
-    match x {
-        Decimal::Bad => ObjLine::Bad,
-        Decimal::Of(a) => match y {
-            Decimal::Bad => ObjLine::Bad,
-            Decimal::Of(b) => match z {
-                Decimal::Bad => ObjLine::Bad,
-                Decimal::Of(c) => ObjLine::Vertex(a, b, c),
-            },
-        },
+    match (x, y, z) {
+        (Some(a), Some(b), Some(c)) => ObjLine::Vertex(a, b, c),
+        _ => ObjLine::Bad,
     }
 }
 
-fn face_with(x: Whole, y: Whole, z: Whole) -> ObjLine
+#[tactic(auto, unfolding(meaning::specs::ObjLine::face_with))]
+fn face_with(x: Option<u64>, y: Option<u64>, z: Option<u64>) -> ObjLine
     ensures { result ≡ face_with x y z }
 {
-    match x {
-        Whole::Bad => ObjLine::Bad,
-        Whole::Worth(a) => match y {
-            Whole::Bad => ObjLine::Bad,
-            Whole::Worth(b) => match z {
-                Whole::Bad => ObjLine::Bad,
-                Whole::Worth(c) => ObjLine::Face(a, b, c),
-            },
-        },
+    match (x, y, z) {
+        (Some(a), Some(b), Some(c)) => ObjLine::Face(a, b, c),
+        _ => ObjLine::Bad,
     }
 }
 
 // The second and the third decimal, behind the first.
-fn vertex_from(x: Decimal, s: &[u8]) -> ObjLine
+fn vertex_from(x: Option<Hundredths>, s: &[u8]) -> ObjLine
     ensures { result ≡ vertex_from x s.now }
 {
     let parts = cut_at_space(s);
@@ -76,7 +66,7 @@ fn vertex_of(s: &[u8]) -> ObjLine
     vertex_from(decimal_of(&s[..end]), &s[next..])
 }
 
-fn face_from(x: Whole, s: &[u8]) -> ObjLine
+fn face_from(x: Option<u64>, s: &[u8]) -> ObjLine
     ensures { result ≡ face_from x s.now }
 {
     let parts = cut_at_space(s);

@@ -27,11 +27,11 @@ module _ {c : ℕ} {s : List ℕ} {k : ℕ} (f : Finding c s k) where
       let one : place_of c (drop k s) ≡ suc (place_of c (drop (k + 1) s)) = rw (drop_next s k 0 h, e) in
       record { place = omega (arith, f.place, one); within = omega arith }
 
-  pub find_ends : length s ≤ k → k ≡ place_of c s
+  pub find_ends : length s ≤ k → length s ≡ place_of c s
   unfolding place_of
   find_ends h =
       let none : place_of c (drop k s) ≡ 0 = rw (drop_of_length-le s h) in
-      omega (arith, f.place, none)
+      omega (arith, f.place, f.within, none)
 
 pub place_within : (c : ℕ) (l : List ℕ) → place_of c l ≤ length l
 unfolding place_of

@@ -1,5 +1,5 @@
 -- The loop that reads digits: what it has read, with the digits that are left, is worth what all are.
-use Rattle.std.specs.Prelude.{Bool, ◌&&◌, ◌||◌, ◌≡◌, refl, leb, ltb, eqb, length, take}
+use Rattle.std.specs.Prelude.{Bool, ◌&&◌, ◌||◌, ◌≡◌, refl, leb, ltb, eqb, length, take, None, Some}
 use Rattle.std.proofs.Math.Bool.{true, false}
 use Rattle.std.proofs.lemmas.Bool.{false≢true, lt-leb}
 use mathlib.Core.List.{List, [], ◌∷◌}
@@ -14,8 +14,6 @@ use Rattle.sequences.specs.Pick.{pick, both, neither, pick_true, pick_false, pic
 use Rattle.decimals.specs.Byte.{IsDigit, digit_test, digit_passed}
 use Rattle.decimals.specs.Value.{value, value_on}
 use Rattle.meaning.specs.ObjLine.{place_of, whole_of, digits_alone}
-use Rattle.meaning.specs.declared.Whole.{Whole}
-use Rattle.meaning.specs.declared.Whole.TheVariants.{Worth, Bad}
 
 pub record Reading (s : List ℕ) (worth k : ℕ) : Type 0 where
   pub counts : value_on worth (drop k s) ≡ value s
@@ -53,23 +51,23 @@ module _ {s : List ℕ} {worth k : ℕ} (r : Reading s worth k) where
     counted : ltb 0 (length s) && leb (length s) most && digits_alone s ≡ digits_alone s
     counted = cc (lt-ltb 0 (length s) c.some, le-leb (length s) most c.few)
 
-    pub read_stops : k < length s → digit_test (get_or s k 0) ≡ false → Bad ≡ whole_of most s
+    pub read_stops : k < length s → digit_test (get_or s k 0) ≡ false → None ≡ whole_of most s
     unfolding digits_alone
     read_stops h f =
         let e : drop k s ≡ get_or s k 0 ∷ drop (k + 1) s = drop_next s k 0 h in
         let none : digits_alone s ≡ false = r.alone ∙ ap digits_alone e ∙ rw f in
         sym (pick_false _ _ (counted ∙ none))
 
-    pub read_ends : length s ≤ k → Worth worth ≡ whole_of most s
+    pub read_ends : length s ≤ k → Some worth ≡ whole_of most s
     unfolding value_on digits_alone
     read_ends h =
         let e : drop k s ≡ [] = drop_of_length-le s h in
         let all : digits_alone s ≡ true = r.alone ∙ ap digits_alone e in
         let is : worth ≡ value s = ap (value_on worth) (sym e) ∙ r.counts in
-        ap Worth is ∙ sym (pick_true _ _ (counted ∙ all))
+        ap Some is ∙ sym (pick_true _ _ (counted ∙ all))
 
 module _ (s : List ℕ) (most : ℕ) where
-  pub none_or_many : leb (length s) 0 || ltb most (length s) ≡ true → Bad ≡ whole_of most s
+  pub none_or_many : leb (length s) 0 || ltb most (length s) ≡ true → None ≡ whole_of most s
   none_or_many e = sym (pick_false _ _ (go (leb (length s) 0) refl (ltb most (length s)) refl e))
     where
       go : (t : Bool) → leb (length s) 0 ≡ t → (u : Bool) → ltb most (length s) ≡ u → t || u ≡ true
@@ -99,7 +97,7 @@ value_small v (b ∷ l) e =
     mul_assoc (v + 1) 10 (10 ^ length l) ∙ ap (λ (x : ℕ). (v + 1) * x) (mul_comm 10 (10 ^ length l)) in
     rw ten (omega (arith, step, wide, same))
 
-pub whole_below : (most : ℕ) (l : List ℕ) {n : ℕ} → whole_of most l ≡ Worth n → n < 10 ^ most
+pub whole_below : (most : ℕ) (l : List ℕ) {n : ℕ} → whole_of most l ≡ Some n → n < 10 ^ most
 unfolding value
 whole_below most l {n} e =
     ⊎_elim
@@ -114,4 +112,4 @@ whole_below most l {n} e =
       pow-le-pow_right {n = 10} (omega arith) {i = length l} {j = most} (leb-true (length l) most few),
     ))
     (λ g. let z : ◌≡◌ {A = ℕ} 0 1 = cc g.1 in absurd (omega arith))
-    (pick_gave (λ x. x ≡ Worth n) (ltb 0 (length l) && leb (length l) most && digits_alone l) e)
+    (pick_gave (λ x. x ≡ Some n) (ltb 0 (length l) && leb (length l) most && digits_alone l) e)

@@ -1,5 +1,5 @@
 -- What is put into a draft for a vertex and for a face, and when it can be.
-use Rattle.std.specs.Prelude.{Bool, true, false, ◌||◌, List, [], ◌∷◌, ◌++◌, ◌⊎◌, ◌≡◌, ℕ, ◌+◌, ◌-◌, ◌*◌, ◌/◌, ◌≤◌, ◌<◌, leb, ltb, eqb, ℤ, length, take}
+use Rattle.std.specs.Prelude.{Result, Ok, Err, false, ◌||◌, List, [], ◌∷◌, ◌++◌, ◌⊎◌, ◌≡◌, ℕ, ◌+◌, ◌-◌, ◌*◌, ◌/◌, ◌≤◌, ◌<◌, leb, ltb, ℤ, length, take}
 use Rattle.std.proofs.Math.Logic.{inl, inr}
 use Rattle.std.proofs.Math.Path.{refl}
 use Rattle.std.proofs.Common.{sym, ap, ◌∙◌, length-take-le, leb-false, ltb-false}
@@ -7,7 +7,7 @@ use native.Mathlib.Omega.{arith}
 use Rattle.sequences.specs.Wrote.{Wrote, wrote_then}
 use Rattle.answers.specs.Below.{or_left, or_rest}
 use Rattle.meaning.specs.Limits.{coordinate_limit, vertex_limit, edge_limit, triangle_limit}
-use Rattle.meaning.specs.Refusals.{Outcome, given, refused, number_of}
+use Rattle.meaning.specs.Refusals.{given, refused, number_of, outcome_alone}
 use Rattle.meaning.specs.Text.{coordinates}
 use Rattle.meaning.specs.declared.Refusal.{Refusal}
 use Rattle.meaning.specs.declared.Refusal.TheVariants.{TooMany}
@@ -15,14 +15,9 @@ use Rattle.meaning.specs.declared.SceneCounts.{SceneCounts}
 use Rattle.meaning.specs.ObjFile.{signed, place_at, with_sides}
 use Rattle.meaning.specs.declared.Hundredths.{Hundredths}
 use Rattle.text_line.specs.Above.{Bounded}
-use Rattle.text_line.specs.Judging.{judged_says}
-use Rattle.text_line.specs.declared.Judged as Judgements
-use Rattle.text_line.specs.declared.Judged.{Judged}
 use Rattle.obj_edges.specs.Chains.{tabled, Knows}
 use Rattle.obj_edges.specs.Sides.{Tabled, SidesAdded}
-use Rattle.obj_records.specs.Faults.{VertexFault, FaceFault, Faultless, faultless}
-use Rattle.obj_records.specs.declared.Added.{Added}
-use Rattle.obj_records.specs.declared.Added.TheVariants.{Fault, Counts}
+use Rattle.obj_records.specs.Faults.{VertexFault, FaceFault, faultless}
 
 pub record Near (x y z : Hundredths) : Type 0 where
   pub first : x.size ≤ coordinate_limit
@@ -39,20 +34,20 @@ pub record VertexPut (c : SceneCounts) (x y z : Hundredths) (o o' : List ℤ) (k
   pub put : Wrote o (6 * c.vertices) (coordinates (place_at x y z) (place_at x y z)) o' (6 * (c.vertices + 1))
   pub counts : k ≡ record { vertices = c.vertices + 1; edges = c.edges; triangles = c.triangles; seams = c.seams }
 
-unfoldable pub VertexAdded : SceneCounts → Hundredths → Hundredths → Hundredths → List ℤ → List ℤ → Added → Type 0
-VertexAdded c x y z o o' (Fault f) = VertexFault c x y z (refused (number_of f) 0)
-VertexAdded c x y z o o' (Counts k) = VertexPut c x y z o o' k
+unfoldable pub VertexAdded : SceneCounts → Hundredths → Hundredths → Hundredths → List ℤ → List ℤ → Result SceneCounts Refusal → Type 0
+VertexAdded c x y z o o' (Err f) = VertexFault c x y z (refused (number_of f) 0)
+VertexAdded c x y z o o' (Ok k) = VertexPut c x y z o o' k
 
-module _ (c : SceneCounts) (x y z : Hundredths) {j : Judged} (judged : VertexFault c x y z (judged_says j)) where
-  pub vertex_fault : {f : Refusal} (o o' : List ℤ) → j ≡ Judgements.TheVariants.Fault f → VertexAdded c x y z o o' (Fault f)
-  unfolding VertexAdded judged_says
+module _ (c : SceneCounts) (x y z : Hundredths) {j : Result (Unit {0}) Refusal} (judged : VertexFault c x y z (outcome_alone j)) where
+  pub vertex_fault : {f : Refusal} (o o' : List ℤ) → j ≡ Err f → VertexAdded c x y z o o' (Err f)
+  unfolding VertexAdded outcome_alone
   vertex_fault o o' e = rw e at judged
 
-  good : j ≡ Judgements.TheVariants.Good → VertexFault c x y z (given tt)
-  unfolding judged_says
+  good : j ≡ Ok tt → VertexFault c x y z (given tt)
+  unfolding outcome_alone
   good e = rw e at judged
 
-  pub vertex_near : j ≡ Judgements.TheVariants.Good → Near x y z
+  pub vertex_near : j ≡ Ok tt → Near x y z
   vertex_near e =
       let h : ltb coordinate_limit x.size || ltb coordinate_limit y.size || ltb coordinate_limit z.size ≡ false = (faultless (good e)).near in
       record {
@@ -61,12 +56,12 @@ module _ (c : SceneCounts) (x y z : Hundredths) {j : Judged} (judged : VertexFau
         third = ltb-false _ _ (search (or_left, or_rest));
       }
 
-  pub vertex_place : j ≡ Judgements.TheVariants.Good → c.vertices < vertex_limit
+  pub vertex_place : j ≡ Ok tt → c.vertices < vertex_limit
   vertex_place e = leb-false _ _ (faultless (good e)).room
 
-  pub vertex_put : {o o₁ o₂ : List ℤ} → j ≡ Judgements.TheVariants.Good → Wrote o (6 * c.vertices) (point_of x y z) o₁ (6 * c.vertices + 3)
+  pub vertex_put : {o o₁ o₂ : List ℤ} → j ≡ Ok tt → Wrote o (6 * c.vertices) (point_of x y z) o₁ (6 * c.vertices + 3)
       → Wrote o₁ (6 * c.vertices + 3) (point_of x y z) o₂ (6 * c.vertices + 3 + 3)
-      → VertexAdded c x y z o o₂ (Counts (record { vertices = c.vertices + 1; edges = c.edges; triangles = c.triangles; seams = c.seams }))
+      → VertexAdded c x y z o o₂ (Ok (record { vertices = c.vertices + 1; edges = c.edges; triangles = c.triangles; seams = c.seams }))
   unfolding VertexAdded
   vertex_put {o} {o₁} {o₂} e u v =
       let six : 6 * c.vertices + 3 + 3 ≡ 6 * (c.vertices + 1) = omega arith in
@@ -102,26 +97,26 @@ pub record FacePut (c : SceneCounts) (a b d : ℕ) (e t e' t' : List ℕ) (k : S
   pub put : Wrote t (3 * c.triangles) ((a - 1) ∷ (b - 1) ∷ (d - 1) ∷ []) t' (3 * (c.triangles + 1))
   pub counts : k ≡ record { vertices = c.vertices; edges = k.edges; triangles = c.triangles + 1; seams = c.seams }
 
-unfoldable pub FaceAdded : SceneCounts → ℕ → ℕ → ℕ → List ℕ → List ℕ → List ℕ → List ℕ → Added → Type 0
-FaceAdded c a b d e t e' t' (Fault f) =
+unfoldable pub FaceAdded : SceneCounts → ℕ → ℕ → ℕ → List ℕ → List ℕ → List ℕ → List ℕ → Result SceneCounts Refusal → Type 0
+FaceAdded c a b d e t e' t' (Err f) =
     FaceFault c (a - 1) (b - 1) (d - 1) (refused (number_of f) 0) ⊎ FaceOver c a b d e (number_of f)
-FaceAdded c a b d e t e' t' (Counts k) = FacePut c a b d e t e' t' k
+FaceAdded c a b d e t e' t' (Ok k) = FacePut c a b d e t e' t' k
 
-module _ (c : SceneCounts) (a b d : ℕ) {j : Judged} (judged : FaceFault c (a - 1) (b - 1) (d - 1) (judged_says j)) where
-  pub face_fault : {f : Refusal} (e t e' t' : List ℕ) → j ≡ Judgements.TheVariants.Fault f → FaceAdded c a b d e t e' t' (Fault f)
-  unfolding FaceAdded judged_says
+module _ (c : SceneCounts) (a b d : ℕ) {j : Result (Unit {0}) Refusal} (judged : FaceFault c (a - 1) (b - 1) (d - 1) (outcome_alone j)) where
+  pub face_fault : {f : Refusal} (e t e' t' : List ℕ) → j ≡ Err f → FaceAdded c a b d e t e' t' (Err f)
+  unfolding FaceAdded outcome_alone
   face_fault {f} e t e' t' q =
       let h : FaceFault c (a - 1) (b - 1) (d - 1) (refused (number_of f) 0) = rw q at judged in
       inl h
 
-  face_good : j ≡ Judgements.TheVariants.Good → FaceFault c (a - 1) (b - 1) (d - 1) (given tt)
-  unfolding judged_says
+  face_good : j ≡ Ok tt → FaceFault c (a - 1) (b - 1) (d - 1) (given tt)
+  unfolding outcome_alone
   face_good q = rw q at judged
 
-  pub face_place : j ≡ Judgements.TheVariants.Good → c.triangles < triangle_limit
+  pub face_place : j ≡ Ok tt → c.triangles < triangle_limit
   face_place q = leb-false _ _ (faultless (face_good q)).room
 
-  pub face_known : j ≡ Judgements.TheVariants.Good → (a - 1 < c.vertices) × (b - 1 < c.vertices) × (d - 1 < c.vertices)
+  pub face_known : j ≡ Ok tt → (a - 1 < c.vertices) × (b - 1 < c.vertices) × (d - 1 < c.vertices)
   face_known q =
       let h : leb c.vertices (a - 1) || leb c.vertices (b - 1) || leb c.vertices (d - 1) ≡ false = (faultless (face_good q)).known in (
         leb-false _ _ (search (or_left, or_rest)),
@@ -129,7 +124,7 @@ module _ (c : SceneCounts) (a b d : ℕ) {j : Judged} (judged : FaceFault c (a -
         leb-false _ _ (search (or_left, or_rest)),
       )
 
-  pub sides_ready : {e : List ℕ} → Bounded c → tabled ≤ length e → Knows e c.edges → j ≡ Judgements.TheVariants.Good
+  pub sides_ready : {e : List ℕ} → Bounded c → tabled ≤ length e → Knows e c.edges → j ≡ Ok tt
       → Tabled e c.edges edge_limit × ((a - 1 < vertex_limit) × (b - 1 < vertex_limit) × (d - 1 < vertex_limit))
   sides_ready bounded room known q =
       let (u, v, w) = face_known q in (
@@ -137,19 +132,19 @@ module _ (c : SceneCounts) (a b d : ℕ) {j : Judged} (judged : FaceFault c (a -
         (omega (arith, u, bounded.vertices), omega (arith, v, bounded.vertices), omega (arith, w, bounded.vertices)),
       )
 
-  module _ {e e' : List ℕ} {count : ℕ} (bounded : Bounded c) (room : tabled ≤ length e) (q : j ≡ Judgements.TheVariants.Good)
+  module _ {e e' : List ℕ} {count : ℕ} (bounded : Bounded c) (room : tabled ≤ length e) (q : j ≡ Ok tt)
       (sides : SidesAdded (a - 1) (b - 1) (d - 1) e c.edges e' count) where
     counted : length (sides_with c e a b d) ≡ 2 * count
     counted =
         ap (length {A = ℕ}) (sym sides.front)
         ∙ length-take-le (2 * count) e' (omega (arith, sides.more, sides.same, bounded.edges, room))
 
-    pub face_over : (t t' : List ℕ) → edge_limit < count → FaceAdded c a b d e t e' t' (Fault TooMany)
+    pub face_over : (t t' : List ℕ) → edge_limit < count → FaceAdded c a b d e t e' t' (Err TooMany)
     unfolding FaceAdded number_of
     face_over t t' h = inr (record { good = face_good q; number = refl; over = omega (arith, counted) })
 
     pub face_put : {t t' : List ℕ} → count ≤ edge_limit → Wrote t (3 * c.triangles) ((a - 1) ∷ (b - 1) ∷ (d - 1) ∷ []) t' (3 * c.triangles + 3)
-        → FaceAdded c a b d e t e' t' (Counts (record { vertices = c.vertices; edges = count; triangles = c.triangles + 1; seams = c.seams }))
+        → FaceAdded c a b d e t e' t' (Ok (record { vertices = c.vertices; edges = count; triangles = c.triangles + 1; seams = c.seams }))
     unfolding FaceAdded
     face_put {t} {t'} h w =
         let three : 3 * c.triangles + 3 ≡ 3 * (c.triangles + 1) = omega arith in

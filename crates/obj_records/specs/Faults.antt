@@ -1,10 +1,8 @@
 -- The checks of a vertex and of a face by their numbers and by counts, and that a record that is not at fault has none of them.
-use Rattle.std.specs.Prelude.{Bool, true, false, ◌||◌, List, [], ◌∷◌, ◌≡◌, refl, ℕ, ◌≤◌, ◌<◌, leb, ltb, eqb}
-use Rattle.std.proofs.Common.{sym, ap, ◌∙◌, arith, leb-false, ltb-false}
+use Rattle.std.specs.Prelude.{Bool, false, ◌||◌, ◌≡◌, ℕ, leb, ltb, eqb}
 use Rattle.answers.specs.Answering.{is_given}
-use Rattle.answers.specs.Below.{or_left, or_rest}
 use Rattle.meaning.specs.Limits.{coordinate_limit, vertex_limit, triangle_limit}
-use Rattle.meaning.specs.Refusals.{Outcome, given, refused}
+use Rattle.meaning.specs.Refusals.{Outcome, given}
 use Rattle.meaning.specs.declared.SceneCounts.{SceneCounts}
 use Rattle.meaning.specs.declared.Hundredths.{Hundredths}
 use Rattle.text_line.specs.Judging.{FaultIs}

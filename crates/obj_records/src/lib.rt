@@ -9,28 +9,21 @@ ghost use Rattle.meaning.specs.Limits.{coordinate_limit, vertex_limit};
 ghost use Rattle.meaning.specs.ObjFile.{signed};
 ghost use Rattle.text_line.specs.Above.{Bounded};
 ghost use Rattle.obj_edges.specs.Chains.{Knows};
-ghost use Rattle.text_line.specs.Judging.{judged_says};
 ghost use Rattle.obj_records.specs.Faults.{VertexFault, FaceFault};
 ghost use Rattle.obj_records.specs.Adding.{Near, point_of, VertexAdded, Positive, FaceRoom, FaceAdded};
+ghost use Rattle.meaning.specs.Refusals.{outcome_alone};
 
 use meaning::{
     COORDINATE_LIMIT, EDGE_LIMIT, Hundredths, Refusal, SceneCounts, TRIANGLE_LIMIT, VERTEX_LIMIT,
 };
 use obj_edges::add_sides;
-use text_line::{Judged, first_fault};
+use text_line::first_fault;
 
 // The largest size of a coordinate, as sizes are held.
 const LARGEST: u64 = COORDINATE_LIMIT as u64;
 
-// What a record gives: its fault, or the counts with it.
-#[derive(Clone, Copy)]
-pub enum Added {
-    Fault(Refusal),
-    Counts(SceneCounts),
-}
-
-fn judge_vertex(c: SceneCounts, x: Hundredths, y: Hundredths, z: Hundredths) -> Judged
-    ensures { VertexFault c x y z (judged_says result) }
+fn judge_vertex(c: SceneCounts, x: Hundredths, y: Hundredths, z: Hundredths) -> Result<(), Refusal>
+    ensures { VertexFault c x y z (outcome_alone result) }
 {
     first_fault(
         (0 < c.edges) | (0 < c.triangles) | (0 < c.seams),
@@ -42,8 +35,8 @@ fn judge_vertex(c: SceneCounts, x: Hundredths, y: Hundredths, z: Hundredths) -> 
 }
 
 // A face by vertices counted from 0.
-fn judge_face(c: SceneCounts, i: u64, j: u64, k: u64) -> Judged
-    ensures { FaceFault c i j k (judged_says result) }
+fn judge_face(c: SceneCounts, i: u64, j: u64, k: u64) -> Result<(), Refusal>
+    ensures { FaceFault c i j k (outcome_alone result) }
 {
     let n = c.vertices as u64;
     first_fault(
@@ -86,34 +79,28 @@ fn put_triangle(out: &mut [u16], at: usize, a: u16, b: u16, d: u16)
     out[at + 2] = d;
 }
 
-// A vertex: where it stands is where it starts and where it ends.
+// A vertex: where it stands is where it starts and where it ends. The counts with it, or its fault.
 pub fn add_vertex(
     c: SceneCounts,
     x: Hundredths,
     y: Hundredths,
     z: Hundredths,
     positions: &mut [i32],
-) -> Added
+) -> Result<SceneCounts, Refusal>
     requires { 6 * vertex_limit ≤ length positions.old }
     ensures { VertexAdded c x y z positions.old positions.new result }
 {
-    match judge_vertex(c, x, y, z) {
-        Judged::Fault(fault) => Added::Fault(fault),
-        Judged::Good => {
-            let at = 6 * c.vertices;
-            put_point(positions, at, x, y, z);
-            put_point(positions, at + 3, x, y, z);
-            Added::Counts(SceneCounts {
-                vertices: c.vertices + 1,
-                edges: c.edges,
-                triangles: c.triangles,
-                seams: c.seams,
-            })
-        }
-    }
+    judge_vertex(c, x, y, z)?;
+    let at = 6 * c.vertices;
+    put_point(positions, at, x, y, z);
+    put_point(positions, at + 3, x, y, z);
+    Ok(SceneCounts {
+        vertices: c.vertices + 1,
+        ..c
+    })
 }
 
-// A face by vertices counted from 1: its corners, and its sides where they are new, with the table that knows them.
+// A face by vertices counted from 1: its corners, and its sides where they are new, with the table that knows them. The counts with it, or its fault.
 pub fn add_face(
     c: SceneCounts,
     a: u64,
@@ -121,7 +108,7 @@ pub fn add_face(
     d: u64,
     edges: &mut [u16],
     triangles: &mut [u16],
-) -> Added
+) -> Result<SceneCounts, Refusal>
     requires positive { Positive a b d }
     requires bounded { Bounded c }
     requires face_room { FaceRoom edges.old triangles.old }
@@ -131,20 +118,15 @@ pub fn add_face(
     let i = a - 1;
     let j = b - 1;
     let k = d - 1;
-    match judge_face(c, i, j, k) {
-        Judged::Fault(fault) => Added::Fault(fault),
-        Judged::Good => {
-            let count = add_sides(edges, c.edges, i as u16, j as u16, k as u16);
-            put_triangle(triangles, 3 * c.triangles, i as u16, j as u16, k as u16);
-            if EDGE_LIMIT < count {
-                return Added::Fault(Refusal::TooMany);
-            }
-            Added::Counts(SceneCounts {
-                vertices: c.vertices,
-                edges: count,
-                triangles: c.triangles + 1,
-                seams: c.seams,
-            })
-        }
+    judge_face(c, i, j, k)?;
+    let count = add_sides(edges, c.edges, i as u16, j as u16, k as u16);
+    put_triangle(triangles, 3 * c.triangles, i as u16, j as u16, k as u16);
+    if EDGE_LIMIT < count {
+        return Err(Refusal::TooMany);
     }
+    Ok(SceneCounts {
+        edges: count,
+        triangles: c.triangles + 1,
+        ..c
+    })
 }

@@ -1,5 +1,5 @@
 -- From the calls to what is printed.
-use Rattle.std.specs.Prelude.{ℕ, ◌+◌, ◌≤◌, ◌<◌, Bool, ◌≡◌, length}
+use Rattle.std.specs.Prelude.{ℕ, ◌+◌, ◌≤◌, ◌<◌, Bool, ◌≡◌, length, Err, Ok, Result}
 use Rattle.std.proofs.Math.Bool.{true, false}
 use mathlib.Core.List.{List, [], ◌∷◌}
 use Rattle.std.proofs.Math.Path.{refl, subst}
@@ -12,21 +12,17 @@ use Rattle.answers.specs.Answering.{is_given, is_past}
 use Rattle.scene_checks.specs.Accepting.{past_accepted}
 use Rattle.meaning.specs.Limits.{text_limit}
 use Rattle.meaning.specs.Scene.{Scene, Accepted}
-use Rattle.meaning.specs.Refusals.{Outcome, given, refused, number_of, Check, Answers}
+use Rattle.meaning.specs.Refusals.{Outcome, given, refused, number_of, Check, Answers, carrying, outcome_of}
 use Rattle.meaning.specs.List.{leaves}
 use Rattle.meaning.specs.Text.{short_buffer}
 use Rattle.meaning.specs.Report.{refused_line}
-use Rattle.meaning.specs.Saved.{saved_text, save_says, save_checks, Saved}
+use Rattle.meaning.specs.Saved.{saved_text, save_checks, Saved}
 use Rattle.meaning.specs.ObjPair as Pair
 use Rattle.meaning.specs.ObjPair.{read, refused_in, PairOutcome, Imported}
 use Rattle.meaning.specs.ObjPrinted.{file_line, Prints, SceneText, PairPrinted}
 use Rattle.meaning.specs.declared.Refusal.{Refusal}
 use Rattle.meaning.specs.declared.SceneCounts.{SceneCounts}
 use Rattle.meaning.specs.declared.WhichFile.{WhichFile}
-use Rattle.meaning.specs.declared.SaveAnswer as Saves
-use Rattle.meaning.specs.declared.SaveAnswer.{SaveAnswer}
-use Rattle.meaning.specs.declared.ImportAnswer.{ImportAnswer}
-use Rattle.meaning.specs.declared.ImportAnswer.TheVariants.{Read, Refused, RefusedIn}
 use Rattle.text_scene.specs.Using.{front_of}
 use Rattle.pair_report.specs.Sizes.{report_length}
 use Rattle.scene_report.specs.Whole.{SceneReported}
@@ -34,6 +30,9 @@ use Rattle.obj_scene.specs.Using.{SceneImported, scene_imported, front_imported,
 use Rattle.obj_report.specs.declared.Asked.{Asked}
 use Rattle.obj_report.specs.declared.Asked.TheVariants.{Report, Text}
 use Rattle.obj_report.specs.Asking.{shown_for, Shown}
+use Rattle.meaning.specs.declared.Refused.{Refused}
+use Rattle.meaning.specs.declared.ImportRefusal.{ImportRefusal}
+use Rattle.meaning.specs.declared.ImportRefusal.TheVariants.{In, Of}
 
 -- ---- the text of a scene
 
@@ -76,24 +75,24 @@ module _ (s : Scene) (o : List ℕ) where
           le-ltb (length o) (length (saved_text s)) (omega (arith, room, ltb-false text_limit (length (saved_text s)) q)) in
           absurd (is_past IsLength seven [] (refused n c) fits more)
 
-  module _ (accepted : Accepted s) (room : length o ≡ report_length) {o' : List ℕ} {r : SaveAnswer} (w : Saved s o o' r) where
-    said : {x : SaveAnswer} → r ≡ x → Answers (eight ∷ seven ∷ []) IsLength (save_says x)
+  module _ (accepted : Accepted s) (room : length o ≡ report_length) {o' : List ℕ} {r : Result ℕ Refused} (w : Saved s o o' r) where
+    said : {x : Result ℕ Refused} → r ≡ x → Answers (eight ∷ seven ∷ []) IsLength (outcome_of x)
     said {x} e =
-        decided (save_says x) accepted (subst (λ (x : SaveAnswer). Answers (save_checks s (length o)) IsLength (save_says x)) e w.answer)
+        decided (outcome_of x) accepted (subst (λ (x : Result ℕ Refused). Answers (save_checks s (length o)) IsLength (outcome_of x)) e w.answer)
 
-    left : {x : SaveAnswer} → r ≡ x → o' ≡ leaves (save_says x) (saved_text s) o
-    left e = w.buffer ∙ ap (λ (x : SaveAnswer). leaves (save_says x) (saved_text s) o) e
+    left : {x : Result ℕ Refused} → r ≡ x → o' ≡ leaves (outcome_of x) (saved_text s) o
+    left e = w.buffer ∙ ap (λ (x : Result ℕ Refused). leaves (outcome_of x) (saved_text s) o) e
 
-    pub text_shown : {n : ℕ} → r ≡ Saves.TheVariants.Bytes n → Shown (SceneText s) o o' n
-    unfolding save_says leaves SceneText
+    pub text_shown : {n : ℕ} → r ≡ Ok n → Shown (SceneText s) o o' n
+    unfolding outcome_of leaves SceneText
     text_shown {n} e =
         let (short, fits, many) = short_text n (said e) in
         let buffer : o' ≡ written (saved_text s) o = left e in
         record { shown = saved_text s; right = rw short refl; wrote = rw (many, buffer) (wrote_written (saved_text s) o fits) }
 
-    pub eight_shown : {x : Refusal} {c : ℕ} → r ≡ Saves.TheVariants.Refused x c → {o'' : List ℕ} {n : ℕ} → Wrote o' 0 (refused_line 8 0) o'' n
+    pub eight_shown : {x : Refusal} {c : ℕ} → r ≡ Err (carrying x c) → {o'' : List ℕ} {n : ℕ} → Wrote o' 0 (refused_line 8 0) o'' n
         → Shown (SceneText s) o o'' n
-    unfolding save_says leaves SceneText
+    unfolding outcome_of leaves SceneText
     eight_shown {x} {c} e {o''} {n} v =
         let same : o' ≡ o = left e in
         record {
@@ -114,8 +113,8 @@ text_asked s e w = rw e (record { shown = w.shown; right = w.right; wrote = w.wr
 
 -- ---- from a scene to its two files
 
-module _ (Right : Scene → List ℕ → Type 0) {start end : List ℕ} {lent left : Scene} {r : ImportAnswer} (a : Imported start end lent left r) where
-  pub printed_scene : {c : SceneCounts} → r ≡ Read c → {o o' : List ℕ} {n : ℕ} → Shown (Right (front_of c left)) o o' n → PairPrinted Right start end o o' n
+module _ (Right : Scene → List ℕ → Type 0) {start end : List ℕ} {lent left : Scene} {r : Result SceneCounts ImportRefusal} (a : Imported start end lent left r) where
+  pub printed_scene : {c : SceneCounts} → r ≡ Ok c → {o o' : List ℕ} {n : ℕ} → Shown (Right (front_of c left)) o o' n → PairPrinted Right start end o o' n
   unfolding Prints
   printed_scene {c} e w =
       let i : SceneImported start end lent left a.outcome c = scene_imported a e in
@@ -131,7 +130,7 @@ module _ (Right : Scene → List ℕ → Type 0) {start end : List ℕ} {lent le
       }
 
   module _ (fits : short_buffer lent ≡ false) where
-    pub printed_refusal : {x : Refusal} → r ≡ Refused x → {o o' : List ℕ} {n : ℕ} → Wrote o 0 (refused_line (number_of x) 0) o' n → PairPrinted Right start end o o' n
+    pub printed_refusal : {x : Refusal} → r ≡ Err (Of x) → {o o' : List ℕ} {n : ℕ} → Wrote o 0 (refused_line (number_of x) 0) o' n → PairPrinted Right start end o o' n
     unfolding Prints
     printed_refusal {x} e w =
         let right : PairOutcome start end (Pair.refused (number_of x)) = rw fits at (import_refusal a e).1 in
@@ -142,14 +141,14 @@ module _ (Right : Scene → List ℕ → Type 0) {start end : List ℕ} {lent le
           buffer = wrote_front w;
         }
 
-    pub printed_refusal_in : {f : WhichFile} {x : Refusal} {line : ℕ} → r ≡ RefusedIn f x line → {o o' : List ℕ} {n : ℕ}
-        → Wrote o 0 (file_line f (number_of x) line) o' n → PairPrinted Right start end o o' n
+    pub printed_refusal_in : {f : WhichFile} {x : Refused} → r ≡ Err (In f x) → {o o' : List ℕ} {n : ℕ}
+        → Wrote o 0 (file_line f (number_of x.why) x.carries) o' n → PairPrinted Right start end o o' n
     unfolding Prints
-    printed_refusal_in {f} {x} {line} e w =
-        let right : PairOutcome start end (refused_in f (number_of x) line) = rw fits at (import_refusal_in a e).1 in
+    printed_refusal_in {f} {x} e w =
+        let right : PairOutcome start end (refused_in f (number_of x.why) x.carries) = rw fits at (import_refusal_in a e).1 in
         record {
-          report = file_line f (number_of x) line;
-          right = record { outcome = refused_in f (number_of x) line; right = right; prints = refl };
-          length_is = w.place ∙ zero-add (length (file_line f (number_of x) line));
+          report = file_line f (number_of x.why) x.carries;
+          right = record { outcome = refused_in f (number_of x.why) x.carries; right = right; prints = refl };
+          length_is = w.place ∙ zero-add (length (file_line f (number_of x.why) x.carries));
           buffer = wrote_front w;
         }

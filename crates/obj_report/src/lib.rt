@@ -13,16 +13,15 @@ ghost use Rattle.obj_report.specs.Asking.{shown_for, Shown};
 
 use answers::number_of;
 use meaning::{
-    EDGE_NUMBERS, ImportAnswer, POSITION_NUMBERS, READ_BYTES, REPORT_BYTES, SEAM_NUMBERS,
-    SaveAnswer, TRIANGLE_NUMBERS,
+    EDGE_NUMBERS, ImportRefusal, POSITION_NUMBERS, READ_BYTES, REPORT_BYTES, SEAM_NUMBERS,
+    TRIANGLE_NUMBERS,
 };
 use obj_scene::import_plain;
 use report_words::file_lines::file_line;
 use report_words::lines::refused_line;
-use scene_parts::asked::smaller;
 
 // What is asked for of the scene.
-#[derive(Clone, Copy)]
+#[derive(Clone, Copy, Debug, PartialEq, Eq)]
 enum Asked {
     Report,
     Text,
@@ -40,8 +39,8 @@ fn text_shown(
     ensures { Shown (SceneText (scene_of positions.now edges.now triangles.now seams.now)) out.old out.new result }
 {
     match saved_scene::save_scene(positions, edges, triangles, seams, out) {
-        SaveAnswer::Bytes(count) => count,
-        SaveAnswer::Refused(_, _) => refused_line(out, 0, 8, 0),
+        Ok(count) => count,
+        Err(_) => refused_line(out, 0, 8, 0),
     }
 }
 
@@ -77,7 +76,7 @@ fn pair_shown(asked: Asked, start: &[u8], end: &[u8], out: &mut [u8; REPORT_BYTE
         &mut triangles,
         &mut seams,
     ) {
-        ImportAnswer::Read(counts) => {
+        Ok(counts) => {
             let p = 6 * counts.vertices;
             let e = 2 * counts.edges;
             let t = 3 * counts.triangles;
@@ -91,9 +90,9 @@ fn pair_shown(asked: Asked, start: &[u8], end: &[u8], out: &mut [u8; REPORT_BYTE
                 out,
             )
         }
-        ImportAnswer::Refused(why) => refused_line(out, 0, number_of(why), 0),
-        ImportAnswer::RefusedIn(file, why, line) => {
-            file_line(out, 0, file, number_of(why), line as u64)
+        Err(ImportRefusal::Of(why)) => refused_line(out, 0, number_of(why), 0),
+        Err(ImportRefusal::In(file, refused)) => {
+            file_line(out, 0, file, number_of(refused.why), refused.carries as u64)
         }
     }
 }
@@ -126,8 +125,8 @@ fn front_shown(
     ensures { OfAllRead (λ (s : List ℕ). OfAllRead (λ (t : List ℕ). PairPrinted (shown_for asked) s t out.old
         out.new result) end.now behind) start.now count }
 {
-    let first = smaller(count, start.len());
-    let second = smaller(behind, end.len());
+    let first = count.min(start.len());
+    let second = behind.min(end.len());
     pair_shown(asked, &start[..first], &end[..second], out)
 }
 

@@ -1,5 +1,5 @@
 -- The scene that two OBJ files give is accepted by every other call.
-use Rattle.std.specs.Prelude.{Bool, true, not, ◌||◌, ◌≡◌, ℕ, ◌+◌, ◌-◌, ◌*◌, ◌/◌, ◌%◌, ◌≤◌, ◌<◌, leb, ltb, eqb, ℤ, pos, get_or}
+use Rattle.std.specs.Prelude.{Bool, not, ◌||◌, ◌≡◌, ℕ, ◌+◌, ◌-◌, ◌*◌, ◌/◌, ◌%◌, ◌≤◌, ◌<◌, leb, ltb, eqb, ℤ, pos, get_or}
 use Rattle.std.proofs.Math.Bool.{false}
 use mathlib.Core.List.{List, [], ◌∷◌, ◌++◌, append-nil}
 use Rattle.std.proofs.Math.Path.{refl, subst}
@@ -11,12 +11,12 @@ use Rattle.sequences.specs.Gather.{gather, gather_first, gather_none}
 use Rattle.sequences.specs.Range.{towards}
 use Rattle.answers.specs.Answering.{is_given}
 use Rattle.answers.specs.Below.{or_left, or_rest, none_passes}
-use Rattle.meaning.specs.Limits.{coordinate_limit, vertex_limit, edge_limit, triangle_limit, seam_limit}
+use Rattle.meaning.specs.Limits.{vertex_limit, edge_limit, triangle_limit}
 use Rattle.meaning.specs.Lines as Lines
 use Rattle.meaning.specs.Lines.{after_all}
-use Rattle.meaning.specs.Refusals.{Check, Outcome, given, Answers}
-use Rattle.meaning.specs.Scene.{Scene, scene_of, Accepted, some_below, vertex_count, edge_count, triangle_count, start_of, end_of, uneven, over_size, outside, unknown_in, unknown_vertex, twice_in_triangle, repeated_vertex}
-use Rattle.meaning.specs.Text.{none, vertex, triangle, scene_with, coordinates, coordinates_in, ends_in, corners_in, seam_in, entry_checks, EntryJudged}
+use Rattle.meaning.specs.Refusals.{Check, given, Answers}
+use Rattle.meaning.specs.Scene.{Scene, Accepted, some_below, vertex_count, start_of, end_of, over_size, outside, unknown_in, unknown_vertex, repeated_vertex}
+use Rattle.meaning.specs.Text.{none, vertex, triangle, scene_with, coordinates, coordinates_in, ends_in, seam_in, entry_checks, EntryJudged}
 use Rattle.meaning.specs.ObjLine.{says}
 use Rattle.meaning.specs.ObjFile.{place_at, with_sides, face_added, scene_after, line_checks, obj_lines}
 use Rattle.meaning.specs.ObjPair.{same_numbers, differing, positions_between, imported, FileRead, BothRead}

@@ -1,7 +1,7 @@
 -- Where each vertex starts, from one list, and where it ends, from another.
-use Rattle.std.specs.Prelude.{List, [], ◌∷◌, ◌++◌, ◌≡◌, refl, ℕ, ◌+◌, ◌*◌, ◌≤◌, ◌<◌, ℤ, pos, length, take, drop, get_or}
-use Rattle.std.proofs.Common.{sym, ap, ◌∙◌, add_assoc, arith, length-append}
-use Rattle.sequences.specs.Gather.{gather, gather_first, gather_none, gather_same}
+use Rattle.std.specs.Prelude.{List, [], ◌∷◌, ◌++◌, ◌≡◌, refl, ℕ, ◌+◌, ◌*◌, ◌≤◌, ◌<◌, ℤ, pos, length, get_or}
+use Rattle.std.proofs.Common.{ap, arith, length-append}
+use Rattle.sequences.specs.Gather.{gather, gather_first, gather_none}
 use Rattle.sequences.specs.Range.{towards}
 use Rattle.sequences.specs.Wrote.{Wrote, written, wrote_then}
 use Rattle.sequences.specs.Writing.{Writing, writing_starts_front, writing_steps, writing_as, writing_ends_front}

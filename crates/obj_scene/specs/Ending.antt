@@ -1,10 +1,10 @@
 -- What the second half of an import is given and gives: a draft of the start file, and the end file.
-use Rattle.std.specs.Prelude.{Bool, true, false, not, cond, ◌||◌, ◌≡◌, ℕ, ◌+◌, ◌*◌, ◌/◌, ◌≤◌, ◌<◌, eqb, ℤ, pos, length, take, get_or}
-use mathlib.Core.List.{List, [], ◌∷◌, ◌++◌}
+use Rattle.std.specs.Prelude.{Bool, true, false, not, ◌||◌, ◌≡◌, ℕ, ◌+◌, ◌*◌, ◌≤◌, ◌<◌, eqb, ℤ, pos, length, take, get_or, Err, Ok, Result}
+use mathlib.Core.List.{List}
 use Rattle.std.proofs.Math.Path.{refl, ap}
-use Rattle.std.proofs.Common.{sym, ◌∙◌, subst, arith, get_or-take}
+use Rattle.std.proofs.Common.{sym, ◌∙◌, arith, get_or-take}
 use borrow.Author.Tests.{eqb-true, not-false}
-use Rattle.answers.specs.Below.{or_left, or_rest}
+use Rattle.answers.specs.Below.{or_left}
 use Rattle.sequences.specs.Gather.{gather, gather_same}
 use Rattle.sequences.specs.Wrote.{written}
 use Rattle.meaning.specs.Limits.{vertex_limit, edge_limit, triangle_limit}
@@ -15,17 +15,15 @@ use Rattle.meaning.specs.Text.{none, coordinates}
 use Rattle.meaning.specs.ObjFile.{obj_lines}
 use Rattle.meaning.specs.ObjPair.{same_numbers, differing, positions_between, FileRead}
 use Rattle.meaning.specs.declared.SceneCounts.{SceneCounts}
-use Rattle.meaning.specs.declared.Refusal.{Refusal}
 use Rattle.meaning.specs.declared.Refusal.TheVariants.{FilesDiffer}
-use Rattle.meaning.specs.declared.TextAnswer as Texts
-use Rattle.meaning.specs.declared.TextAnswer.{TextAnswer}
 use Rattle.meaning.specs.declared.WhichFile.TheVariants.{Start, End}
-use Rattle.meaning.specs.declared.ImportAnswer.{ImportAnswer}
-use Rattle.meaning.specs.declared.ImportAnswer.TheVariants.{Read, Refused, RefusedIn}
 use Rattle.text_line.specs.Above.{Bounded}
 use Rattle.obj_draft.specs.Drafting.{Drafted}
 use Rattle.obj_draft.specs.Reading.{DraftRead, DraftIs}
 use Rattle.obj_scene.specs.Between.{between, vertex_from}
+use Rattle.meaning.specs.declared.Refused.{Refused}
+use Rattle.meaning.specs.declared.ImportRefusal.{ImportRefusal}
+use Rattle.meaning.specs.declared.ImportRefusal.TheVariants.{In, Of}
 
 -- room in the lent buffers, and in the drafts
 pub record Lent (positions : List ℤ) (edges triangles : List ℕ) : Type 0 where
@@ -72,13 +70,13 @@ pub record EndDiffers (s : Scene) (end : List ℕ) (n : ℕ) : Type 0 where
   pub other : differing s ends ≡ true
   pub number : n ≡ 14
 
-unfoldable pub EndIs : SceneCounts → Scene → List ℕ → List ℤ → List ℕ → List ℕ → List ℤ → List ℕ → List ℕ → ImportAnswer → Type 0
-EndIs c s end po eo to pl el tl (Read k) = EndRead c s end po eo to pl el tl k
-EndIs c s end po eo to pl el tl (Refused r) = EndDiffers s end (number_of r) × Untouched po eo to pl el tl
-EndIs c s end po eo to pl el tl (RefusedIn Start r line) = ⊥
-EndIs c s end po eo to pl el tl (RefusedIn End r line) = FaultyAt obj_lines none end (number_of r) line × Untouched po eo to pl el tl
+unfoldable pub EndIs : SceneCounts → Scene → List ℕ → List ℤ → List ℕ → List ℕ → List ℤ → List ℕ → List ℕ → Result SceneCounts ImportRefusal → Type 0
+EndIs c s end po eo to pl el tl (Ok k) = EndRead c s end po eo to pl el tl k
+EndIs c s end po eo to pl el tl (Err (Of r)) = EndDiffers s end (number_of r) × Untouched po eo to pl el tl
+EndIs c s end po eo to pl el tl (Err (In Start r)) = ⊥
+EndIs c s end po eo to pl el tl (Err (In End r)) = FaultyAt obj_lines none end (number_of r.why) r.carries × Untouched po eo to pl el tl
 
-abbrev pub EndImported : SceneCounts → List ℤ → List ℕ → List ℕ → List ℕ → List ℤ → List ℕ → List ℕ → List ℤ → List ℕ → List ℕ → ImportAnswer → Type 0
+abbrev pub EndImported : SceneCounts → List ℤ → List ℕ → List ℕ → List ℕ → List ℤ → List ℕ → List ℕ → List ℤ → List ℕ → List ℕ → Result SceneCounts ImportRefusal → Type 0
 EndImported c p e t end po eo to pl el tl r = (s : Scene) → Drafted p e t s c → EndIs c s end po eo to pl el tl r
 
 -- ---- the laws
@@ -113,15 +111,15 @@ alike_is {s = s} {s' = s'} {c = c} {d = d} x y e =
     let m : vertex_count s' ≡ d.vertices = omega (arith, y.above.lengths.positions) in
     cc (n, m, e, x.triangles, y.triangles)
 
-module _ (end : List ℕ) (q : List ℤ) (f u : List ℕ) {r : TextAnswer} (read : DraftIs end q f u r) where
-  pub end_faulty : {x : Refusal} {line : ℕ} (c : SceneCounts) (p : List ℤ) (e t : List ℕ) (po : List ℤ) (eo to : List ℕ) → r ≡ Texts.TheVariants.Refused x line
-      → EndImported c p e t end po eo to po eo to (RefusedIn End x line)
+module _ (end : List ℕ) (q : List ℤ) (f u : List ℕ) {r : Result SceneCounts Refused} (read : DraftIs end q f u r) where
+  pub end_faulty : {x : Refused} (c : SceneCounts) (p : List ℤ) (e t : List ℕ) (po : List ℤ) (eo to : List ℕ) → r ≡ Err x
+      → EndImported c p e t end po eo to po eo to (Err (In End x))
   unfolding EndIs DraftIs
   end_faulty c p e t po eo to g s d =
       let faulty : FaultyAt obj_lines none end _ _ = rw g at read in
       (faulty, record { positions = refl; edges = refl; triangles = refl })
 
-  module _ {k : SceneCounts} (g : r ≡ Texts.TheVariants.Read k) where
+  module _ {k : SceneCounts} (g : r ≡ Ok k) where
     held : DraftRead end q f u k
     unfolding DraftIs
     held = rw g at read
@@ -134,7 +132,7 @@ module _ (end : List ℕ) (q : List ℤ) (f u : List ℕ) {r : TextAnswer} (read
 
     module _ (c : SceneCounts) (p : List ℤ) (e t : List ℕ) {same : Bool} (tested : same ≡ same_numbers (take (3 * c.triangles) t) (take (3 * k.triangles) u))
         (po : List ℤ) (eo to : List ℕ) where
-      pub end_differs : not (eqb c.vertices k.vertices) || not same ≡ true → EndImported c p e t end po eo to po eo to (Refused FilesDiffer)
+      pub end_differs : not (eqb c.vertices k.vertices) || not same ≡ true → EndImported c p e t end po eo to po eo to (Err (Of FilesDiffer))
       unfolding EndIs number_of
       end_differs h s d = (
         record { ends = held.scene; file = file_is; other = alike_is d held.drafted tested ∙ h; number = refl },
@@ -142,7 +140,7 @@ module _ (end : List ℕ) (q : List ℤ) (f u : List ℕ) {r : TextAnswer} (read
       )
 
       pub end_read : {pl : List ℤ} {el tl : List ℕ} → not (eqb c.vertices k.vertices) || not same ≡ false → PairCopied c p q e t po eo to pl el tl
-          → EndImported c p e t end po eo to pl el tl (Read c)
+          → EndImported c p e t end po eo to pl el tl (Ok c)
       unfolding EndIs
       end_read h w s d =
           let same_count : c.vertices ≡ k.vertices = eqb-true c.vertices k.vertices (not-false _ (or_left _ (not same) h)) in

@@ -1,20 +1,21 @@
 -- Two results that meet the promise of an import are equal: the answer and every lent number.
-use Rattle.std.specs.Prelude.{Bool, true, false, cond, List, ◌≡◌, refl, ℕ}
-use Rattle.std.proofs.Common.{true≢false, ◌∙◌, subst}
+use Rattle.std.specs.Prelude.{Bool, true, false, cond, List, ◌≡◌, ℕ, Err, Ok, Result}
+use Rattle.std.proofs.Common.{true≢false, ◌∙◌}
 use Rattle.std.proofs.Math.Path.{sym, ap}
 use Rattle.answers.specs.Speaking.{one_number}
 use Rattle.meaning.specs.Scene.{Scene}
-use Rattle.meaning.specs.Refusals.{number_of}
+use Rattle.meaning.specs.Refusals.{carrying}
 use Rattle.meaning.specs.Lines.{after_all}
 use Rattle.meaning.specs.Text.{none, short_buffer, long_text}
 use Rattle.meaning.specs.ObjFile.{obj_lines}
-use Rattle.meaning.specs.ObjPair.{differing, imported, ImportOutcome, read, refused, refused_in, FileRead, BothRead, FilesAre, PairOutcome, ImportSaid, counts, number, number_in, import_says, import_told, import_left, Imported}
-use Rattle.meaning.specs.declared.WhichFile.{WhichFile}
+use Rattle.meaning.specs.ObjPair.{differing, imported, ImportOutcome, read, refused, refused_in, FileRead, BothRead, FilesAre, PairOutcome, import_says, import_told, import_left, Imported}
 use Rattle.meaning.specs.declared.WhichFile.TheVariants.{Start, End}
-use Rattle.meaning.specs.declared.ImportAnswer.{ImportAnswer}
-use Rattle.meaning.specs.declared.ImportAnswer.TheVariants.{Read, Refused, RefusedIn}
 use Rattle.text_laws.specs.Unique.{records_unique, sound_or_faulty, faulty_unique}
 use Rattle.obj_laws.specs.Ended.{obj_readable}
+use Rattle.meaning.specs.declared.ImportRefusal.TheVariants.{In, Of}
+use Rattle.meaning.specs.declared.ImportRefusal.{ImportRefusal}
+use Rattle.meaning.specs.declared.SceneCounts.{SceneCounts}
+use Rattle.meaning.specs.declared.Refusal.{Refusal}
 
 pub file_one : {text : List ℕ} {s s' : Scene} → FileRead text s → FileRead text s' → s ≡ s'
 file_one h k = h.scene ∙ ap (after_all obj_lines none) (records_unique obj_readable h.sound k.sound) ∙ sym k.scene
@@ -72,23 +73,23 @@ module _ (start end : List ℕ) where
   behind_twelve true o o' h k = h ∙ sym k
   behind_twelve false o o' h k = pair_one o o' h k
 
-  pub said_one : (r r' : ImportAnswer) → import_says r ≡ import_says r' → r ≡ r'
+  pub said_one : (r r' : Result SceneCounts ImportRefusal) → import_says r ≡ import_says r' → r ≡ r'
   unfolding import_says
-  said_one (Read c) (Read d) e = ap Read (cc)
-  said_one (Read c) (Refused y) e = cc
-  said_one (Read c) (RefusedIn g y m) e = cc
-  said_one (Refused x) (Read d) e = cc
-  said_one (Refused x) (Refused y) e = ap Refused (one_number x y (cc))
-  said_one (Refused x) (RefusedIn g y m) e = cc
-  said_one (RefusedIn f x n) (Read d) e = cc
-  said_one (RefusedIn f x n) (Refused y) e = cc
-  said_one (RefusedIn f x n) (RefusedIn g y m) e =
+  said_one (Ok c) (Ok d) e = ap Ok (cc)
+  said_one (Ok c) (Err (Of y)) e = cc
+  said_one (Ok c) (Err (In g y)) e = cc
+  said_one (Err (Of x)) (Ok d) e = cc
+  said_one (Err (Of x)) (Err (Of y)) e = ap (λ (z : Refusal). Err (Of z)) (one_number x y (cc))
+  said_one (Err (Of x)) (Err (In g y)) e = cc
+  said_one (Err (In f x)) (Ok d) e = cc
+  said_one (Err (In f x)) (Err (Of y)) e = cc
+  said_one (Err (In f x)) (Err (In g y)) e =
       let a : f ≡ g = cc in
-      let b : x ≡ y = one_number x y (cc) in
-      let c : n ≡ m = cc in
-      λ i. RefusedIn (a i) (b i) (c i)
+      let b : x.why ≡ y.why = one_number x.why y.why (cc) in
+      let c : x.carries ≡ y.carries = cc in
+      λ i. Err (In (a i) (carrying (b i) (c i)))
 
-  pub one_imported : (lent l l' : Scene) (r r' : ImportAnswer) → Imported start end lent l r → Imported start end lent l' r' → (r ≡ r') × (l ≡ l')
+  pub one_imported : (lent l l' : Scene) (r r' : Result SceneCounts ImportRefusal) → Imported start end lent l r → Imported start end lent l' r' → (r ≡ r') × (l ≡ l')
   one_imported lent l l' r r' h k =
       let same : h.outcome ≡ k.outcome = behind_twelve (short_buffer lent) h.outcome k.outcome h.right k.right in (
         said_one r r' (h.says ∙ ap import_told same ∙ sym k.says),

@@ -1,6 +1,6 @@
 -- What whoever calls the import has of its answer: after success the front of the buffers is the scene of the two files, and it is accepted; a
 -- refusal left them as they were.
-use Rattle.std.specs.Prelude.{Bool, true, false, List, ◌≡◌, refl, ℕ}
+use Rattle.std.specs.Prelude.{Bool, true, false, List, ◌≡◌, refl, ℕ, Err, Ok, Result}
 use Rattle.std.proofs.Math.Bool.{cond}
 use Rattle.std.proofs.Common.{sym, ◌∙◌, arith}
 use Rattle.std.proofs.Math.Path.{ap, subst}
@@ -12,10 +12,11 @@ use Rattle.meaning.specs.declared.Refusal.{Refusal}
 use Rattle.meaning.specs.declared.SceneCounts.{SceneCounts}
 use Rattle.meaning.specs.declared.WhichFile.{WhichFile}
 use Rattle.meaning.specs.declared.WhichFile.TheVariants.{Start, End}
-use Rattle.meaning.specs.declared.ImportAnswer.{ImportAnswer}
-use Rattle.meaning.specs.declared.ImportAnswer.TheVariants.{Read, Refused, RefusedIn}
 use Rattle.text_scene.specs.Using.{front_of, FewOf, Fronts, FilledWith, few_filled, fronts_filled, front_filled, accepted_filled}
 use Rattle.obj_scene.specs.AcceptedImport.{imports_accepted}
+use Rattle.meaning.specs.declared.ImportRefusal.TheVariants.{In, Of}
+use Rattle.meaning.specs.declared.ImportRefusal.{ImportRefusal}
+use Rattle.meaning.specs.declared.Refused.{Refused}
 
 -- ---- which outcome an answer tells
 
@@ -111,19 +112,19 @@ module _ {start end : List ℕ} {lent left : Scene} {o : ImportOutcome} {c : Sce
 
 -- ---- an answer that turned out so
 
-module _ {start end : List ℕ} {lent left : Scene} {r : ImportAnswer} (a : Imported start end lent left r) where
-  pub scene_imported : {c : SceneCounts} → r ≡ Read c → SceneImported start end lent left a.outcome c
+module _ {start end : List ℕ} {lent left : Scene} {r : Result SceneCounts ImportRefusal} (a : Imported start end lent left r) where
+  pub scene_imported : {c : SceneCounts} → r ≡ Ok c → SceneImported start end lent left a.outcome c
   unfolding import_says
   scene_imported e = scene_behind (short_buffer lent) a.right (ap import_says (sym e) ∙ a.says) a.leaves
 
-  pub import_refusal : {x : Refusal} → r ≡ Refused x → (left ≡ lent) × ImportIs start end lent (refused (number_of x))
+  pub import_refusal : {x : Refusal} → r ≡ Err (Of x) → (left ≡ lent) × ImportIs start end lent (refused (number_of x))
   unfolding import_says import_left
   import_refusal e =
       let is = outcome_refused a.outcome (ap import_says (sym e) ∙ a.says) in
       (a.leaves ∙ ap (λ (o : ImportOutcome). import_left o lent) is, subst (ImportIs start end lent) is a.right)
 
-  pub import_refusal_in : {f : WhichFile} {x : Refusal} {line : ℕ} → r ≡ RefusedIn f x line
-      → (left ≡ lent) × ImportIs start end lent (refused_in f (number_of x) line)
+  pub import_refusal_in : {f : WhichFile} {x : Refused} → r ≡ Err (In f x)
+      → (left ≡ lent) × ImportIs start end lent (refused_in f (number_of x.why) x.carries)
   unfolding import_says import_left
   import_refusal_in e =
       let is = outcome_refused_in a.outcome (ap import_says (sym e) ∙ a.says) in

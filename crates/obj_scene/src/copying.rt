@@ -13,20 +13,17 @@ fn copy_three(own: &[i32], lent: &mut [i32], at: usize)
     requires { (at + 3 ≤ length own.now) × (at + 3 ≤ length lent.old) }
     ensures { Wrote lent.old at (three_at own.now at) lent.new (at + 3) }
 {
-    lent[at] = own[at];
-    lent[at + 1] = own[at + 1];
-    lent[at + 2] = own[at + 2];
+    let end = at + 3;
+    lent[at..end].copy_from_slice(&own[at..end]);
 }
 
 fn copy_positions(p: &[i32], q: &[i32], lent: &mut [i32], count: usize)
     requires { (6 * count ≤ length p.now) × (6 * count ≤ length q.now) × (6 * count ≤ length lent.old) }
     ensures { lent.new ≡ written (between p.now q.now count) lent.old }
 {
-    let mut v = 0;
-    while v < count {
+    for v in 0..count {
         copy_three(p, lent, 6 * v);
         copy_three(q, lent, 6 * v + 3);
-        v += 1;
     }
 }
 

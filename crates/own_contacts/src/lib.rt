@@ -3,7 +3,7 @@
 #![tactic(auto)]
 
 ghost use Rattle.scene_seams.specs.Alone.{tabled};
-ghost use Rattle.std.specs.Prelude.{◌≤◌, min, ◌≡◌, length};
+ghost use Rattle.std.specs.Prelude.{◌≤◌, ◌≡◌, length};
 ghost use Rattle.meaning.specs.Scene.{scene_of, Accepted};
 ghost use Rattle.scene_seams.specs.Sewing.{Blank};
 ghost use Rattle.scene_checks.specs.Checking.{Stitched};
@@ -11,14 +11,8 @@ ghost use Rattle.list_words.specs.Listed.{AllThere};
 ghost use Rattle.meaning.specs.OwnList.{own_limit, OwnContacts};
 ghost use Rattle.own_contacts.specs.Answering.{SoundMet, AskedMet};
 
-use meaning::{ListAnswer, Made, ROW_NUMBERS, Refusal, SceneAnswer, VERTEX_LIMIT};
+use meaning::{ROW_NUMBERS, Refusal, Refused, VERTEX_LIMIT};
 use own_words::OWN_LIMIT;
-
-fn smaller(a: usize, b: usize) -> usize
-    ensures { result ≡ min a b }
-{
-    if a < b { a } else { b }
-}
 
 // Of entries that are not at fault: 16, then 7, else each is met.
 fn contact_sound(
@@ -29,23 +23,27 @@ fn contact_sound(
     list: &[u32],
     words: &mut [u8],
     contacts: &mut [u32],
-) -> ListAnswer
+) -> Result<usize, Refused>
     requires { Accepted (tabled positions.now edges.now triangles.now stands.now)
         × AllThere (tabled positions.now edges.now triangles.now stands.now) (length list.now) list.now }
     ensures { SoundMet (tabled positions.now edges.now triangles.now stands.now) list.now words.old
         words.new contacts.old contacts.new result }
 {
     if contact_pair::beyond_old_range(positions) {
-        return ListAnswer::Refused(Refusal::BeyondOldRange, 0);
+        return Err(Refused::from(Refusal::BeyondOldRange));
     }
     let count = list.len();
-    if smaller(words.len(), contacts.len() / ROW_NUMBERS) < count {
-        return ListAnswer::Refused(Refusal::NoRoom, count);
+    let room = words.len().min(contacts.len() / ROW_NUMBERS);
+    if room < count {
+        return Err(Refused {
+            why: Refusal::NoRoom,
+            carries: count,
+        });
     }
     contact_entries::contact_entries(
         positions, edges, triangles, stands, list, words, contacts, count,
     );
-    ListAnswer::Listed(Made { count })
+    Ok(count)
 }
 
 // For a scene that was checked already: nothing is written before it is known that no entry is at fault and that there is room.
@@ -57,16 +55,12 @@ fn contact_asked(
     list: &[u32],
     words: &mut [u8],
     contacts: &mut [u32],
-) -> ListAnswer
+) -> Result<usize, Refused>
     requires { Accepted (tabled positions.now edges.now triangles.now stands.now) }
     ensures { AskedMet (tabled positions.now edges.now triangles.now stands.now) list.now words.old
         words.new contacts.old contacts.new result }
 {
-    if let ListAnswer::Refused(refusal, number) = own_words::first_fault(
-        positions, edges, triangles, stands, list,
-    ) {
-        return ListAnswer::Refused(refusal, number);
-    }
+    own_words::first_fault(positions, edges, triangles, stands, list)?;
     contact_sound(positions, edges, triangles, stands, list, words, contacts)
 }
 
@@ -80,17 +74,13 @@ fn contact_into(
     list: &[u32],
     words: &mut [u8],
     contacts: &mut [u32],
-) -> ListAnswer
+) -> Result<usize, Refused>
     requires { Blank seams.now stands.old × (length list.now ≤ own_limit) }
     ensures { OwnContacts (scene_of positions.now edges.now triangles.now seams.now) list.now words.old
         words.new contacts.old contacts.new result
         × Stitched (scene_of positions.now edges.now triangles.now seams.now) stands.old stands.new }
 {
-    if let SceneAnswer::Refused(refusal) = scene_checks::check_into(
-        positions, edges, triangles, seams, stands,
-    ) {
-        return ListAnswer::Refused(refusal, 0);
-    }
+    scene_checks::check_into(positions, edges, triangles, seams, stands)?;
     contact_asked(positions, edges, triangles, stands, list, words, contacts)
 }
 
@@ -103,12 +93,12 @@ pub fn contact_list(
     list: &[u32],
     words: &mut [u8],
     contacts: &mut [u32],
-) -> ListAnswer
+) -> Result<usize, Refused>
     ensures { OwnContacts (scene_of positions.now edges.now triangles.now seams.now) list.now words.old
         words.new contacts.old contacts.new result }
 {
     if OWN_LIMIT < list.len() {
-        return ListAnswer::Refused(Refusal::Shape, 0);
+        return Err(Refused::from(Refusal::Shape));
     }
     if seams.len() == 0 {
         let mut none = [0u16; 0];

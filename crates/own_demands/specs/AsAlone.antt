@@ -1,6 +1,6 @@
 -- 'An entry that is no pair's number is 5': a pair's number asks for that pair. And the one call says of each pair what is said where it is
 -- asked for alone.
-use Rattle.std.specs.Prelude.{ℕ, ◌+◌, ◌*◌, ◌/◌, ◌%◌, ◌≤◌, ◌<◌, Bool, true, false, ◌≡◌, refl, ltb}
+use Rattle.std.specs.Prelude.{ℕ, ◌+◌, ◌*◌, ◌/◌, ◌%◌, ◌≤◌, ◌<◌, Bool, true, false, ◌≡◌, refl, ltb, Result}
 use mathlib.Core.List.{List, [], ◌∷◌, ◌++◌, map}
 use Rattle.std.proofs.Common.{⊎_elim, sym, ◌∙◌, subst, arith, ltb-true, ltb-false}
 use Rattle.std.proofs.Math.Path.{ap}
@@ -9,14 +9,12 @@ use Rattle.sequences.specs.Mapped.{map_at}
 use Rattle.sequences.specs.Pick.{pick}
 use Rattle.sequences.specs.Wrote.{written, written_in_front}
 use Rattle.meaning.specs.Scene.{Scene, Accepted}
-use Rattle.meaning.specs.Refusals.{Outcome, given, refused, Check, Answers, scene_checks, pair_checks, not_there, shares}
-use Rattle.meaning.specs.List.{Pair, place_step, kind_step, no_number, kind_part, number, list_says, leaves}
-use Rattle.meaning.specs.Resting.{PairSettled, settled_says, PairDecided}
+use Rattle.meaning.specs.Refusals.{Outcome, given, refused, Check, Answers, scene_checks, pair_checks, not_there, shares, outcome_alone, outcome_of}
+use Rattle.meaning.specs.List.{Pair, place_step, kind_step, no_number, kind_part, number, leaves}
+use Rattle.meaning.specs.Resting.{PairSettled, PairDecided}
 use Rattle.meaning.specs.SceneWords.{byte_of}
 use Rattle.meaning.specs.declared.Kind.TheVariants.{PointTriangle, EdgeEdge}
 use Rattle.meaning.specs.declared.Settled.{Settled}
-use Rattle.meaning.specs.declared.SettledAnswer.{SettledAnswer}
-use Rattle.meaning.specs.declared.ListAnswer.{ListAnswer}
 use Rattle.answers.specs.Answering.{is_given, is_past}
 use Rattle.scene_checks.specs.Accepting.{past_accepted}
 use Rattle.corner_search.specs.Decided.{pair_word_is}
@@ -25,6 +23,8 @@ use Rattle.list_words.specs.Listed.{no_pair, word_of_pair, words_of, bytes_of, a
 use Rattle.list_words.specs.OneResult.{all_judged_one}
 use Rattle.meaning.specs.OwnList.{asked_for, entry_faults, word_room, size_check, OwnSettled}
 use Rattle.own_words.specs.Faults.{Sound, entry_is_there, each_passed}
+use Rattle.meaning.specs.declared.Refusal.{Refusal}
+use Rattle.meaning.specs.declared.Refused.{Refused}
 
 -- ---- an entry and its pair
 
@@ -66,7 +66,7 @@ unfolding Answers
 word_given s x (given w) t = ap given ((pair_word_is s x.kind x.first x.second w).0 t ∙ sym (byte_back (word_of_pair s x)))
 word_given s x (refused m c) t = absurd t
 
-module _ {s : Scene} {es b b' : List ℕ} {r : ListAnswer} (p : OwnSettled s es b b' r) {n : ℕ} (e : list_says r ≡ given n) where
+module _ {s : Scene} {es b b' : List ℕ} {r : Result ℕ Refused} (p : OwnSettled s es b b' r) {n : ℕ} (e : outcome_of r ≡ given n) where
   answer_given : Answers (scene_checks s ++ (entry_faults s es ++ (word_room es (length b) ∷ []))) (λ m. m ≡ length es) (given n)
   answer_given = (is_given (λ m. m ≡ length es) (size_check es) _ n (rw e at p.answer)).1
 
@@ -93,12 +93,12 @@ module _ {s : Scene} {es b b' : List ℕ} {r : ListAnswer} (p : OwnSettled s es 
       ∙ ap (λ (q : Pair). byte_of (word_of_pair s q)) (map_at asked_for es k 0 no_pair h)
 
   -- asked for alone, the pair is given the same word
-  pub as_alone : (k : ℕ) → k < length es → (a : SettledAnswer)
+  pub as_alone : (k : ℕ) → k < length es → (a : Result Settled Refusal)
       → PairDecided s (asked_for (get_or es k 0)).kind (asked_for (get_or es k 0)).first (asked_for (get_or es k 0)).second a
-      → settled_says a ≡ given (word_of_byte (get_or b' k 0))
+      → outcome_alone a ≡ given (word_of_byte (get_or b' k 0))
   as_alone k h a q =
       let x : Pair = asked_for (get_or es k 0) in
       let sound = own_sound k h in
-      word_given s x (settled_says a)
-      (is_past _ _ _ _ sound.1 (is_past _ _ _ _ (entry_is_there s (get_or es k 0) sound.0) (past_accepted s _ _ (settled_says a) own_accepted q)))
+      word_given s x (outcome_alone a)
+      (is_past _ _ _ _ sound.1 (is_past _ _ _ _ (entry_is_there s (get_or es k 0) sound.0) (past_accepted s _ _ (outcome_alone a) own_accepted q)))
       ∙ ap (λ (m : ℕ). given (word_of_byte m)) (sym (own_byte k h))

@@ -1,20 +1,19 @@
 -- Demand 1 for a list of one's own: each number exactly when its condition holds and no check before it does, what it carries, when the words and
 -- contacts are given, and that a refusal changes no lent number. The first entry at fault is told by the checks of the entries, computed.
-use Rattle.std.specs.Prelude.{ℕ, ◌+◌, ◌/◌, min, Bool, ◌||◌, ◌↔◌, ◌≡◌, refl, eqb, ltb, length}
+use Rattle.std.specs.Prelude.{ℕ, ◌+◌, ◌/◌, min, Bool, ◌||◌, ◌↔◌, ◌≡◌, refl, eqb, ltb, length, Result}
 use Rattle.std.proofs.Math.Bool.{true, false, cond}
 use mathlib.Core.List.{List, [], ◌∷◌, ◌++◌, map, Memᴰ}
 use Rattle.std.proofs.Common.{sym, ◌∙◌}
 use Rattle.meaning.specs.Limits.{contact_limit}
 use Rattle.meaning.specs.Scene.{Scene, wrong_shape, out_of_range, unknown_vertex, broken_seam, repeated_vertex, reaches_beyond}
-use Rattle.meaning.specs.Refusals.{Outcome, given, refused, Check, Answers, scene_checks}
-use Rattle.meaning.specs.List.{list_says}
+use Rattle.meaning.specs.Refusals.{Outcome, given, refused, Check, Answers, scene_checks, outcome_of}
 use Rattle.meaning.specs.WholeContacts.{range_check, row_length}
 use Rattle.meaning.specs.OwnList.{entry_missing, entry_shared, faulty_from, entry_faults, own_limit, size_check, word_room, OwnSettled, OwnContacts}
 use Rattle.meaning.specs.shown.FirstFault.{first_held}
-use Rattle.meaning.specs.declared.ListAnswer.{ListAnswer}
 use Rattle.answers.specs.Deciding.{Refuses, carried_by, NoneHolds, absent, distinct, refused_exactly, carries_only, number_known, gives_exactly}
 use Rattle.own_words.specs.OneResult.{own_unchanged}
 use Rattle.own_contacts.specs.OneResult.{own_met_unchanged}
+use Rattle.meaning.specs.declared.Refused.{Refused}
 
 -- the first entry at fault: its number, counted from 1, and whether that is refused so
 abbrev pub first_entry : Scene → List ℕ → Outcome (Unit {0})
@@ -152,39 +151,39 @@ own_rows s es last o d p =
       entry6 = carries 6;
     }
 
-pub demand1_own_words : (s : Scene) (es b b' : List ℕ) (r : ListAnswer) → OwnSettled s es b b' r → OwnWordTable s es b b' (list_says r)
+pub demand1_own_words : (s : Scene) (es b b' : List ℕ) (r : Result ℕ Refused) → OwnSettled s es b b' r → OwnWordTable s es b b' (outcome_of r)
 unfolding Refuses carried_by NoneHolds absent distinct
 demand1_own_words s es b b' r p =
     let last : List Check = word_room es (length b) ∷ [] in
-    let told = own_told (Count es) s last (list_says r) es p.answer in
-    let row = refused_exactly (Count es) (own_checks s es last) (list_says r) refl told in
+    let told = own_told (Count es) s last (outcome_of r) es p.answer in
+    let row = refused_exactly (Count es) (own_checks s es last) (outcome_of r) refl told in
     record {
-      rows = own_rows s es last (list_says r) refl told;
+      rows = own_rows s es last (outcome_of r) refl told;
       no7 = row 7;
-      needed = λ n e. carries_only (Count es) (own_checks s es last) (list_says r) refl told 7 n e;
-      only = number_known (Count es) (own_checks s es last) (list_says r) told;
+      needed = λ n e. carries_only (Count es) (own_checks s es last) (outcome_of r) refl told 7 n e;
+      only = number_known (Count es) (own_checks s es last) (outcome_of r) told;
       settled = λ n.
-          let gives = gives_exactly (Count es) (λ x y h k. h ∙ sym k) (own_checks s es last) (list_says r) told n in (
+          let gives = gives_exactly (Count es) (λ x y h k. h ∙ sym k) (own_checks s es last) (outcome_of r) told n in (
             λ e. let (h, is) = gives.0 e in (sound_so s es (λ q. q.0) h, is),
             λ h. gives.1 (sound_so s es (λ q. (q, tt)) h.0, h.1),
           );
       unchanged = own_unchanged s es b b' r p;
     }
 
-pub demand1_own_contacts : (s : Scene) (es b b' c c' : List ℕ) (r : ListAnswer) → OwnContacts s es b b' c c' r → OwnContactTable s es b b' c c' (list_says r)
+pub demand1_own_contacts : (s : Scene) (es b b' c c' : List ℕ) (r : Result ℕ Refused) → OwnContacts s es b b' c c' r → OwnContactTable s es b b' c c' (outcome_of r)
 unfolding Refuses carried_by NoneHolds absent distinct
 demand1_own_contacts s es b b' c c' r p =
     let last : List Check = range_check s ∷ word_room es (min (length b) (length c / row_length)) ∷ [] in
-    let told = own_told (Count es) s last (list_says r) es p.answer in
-    let row = refused_exactly (Count es) (own_checks s es last) (list_says r) refl told in
+    let told = own_told (Count es) s last (outcome_of r) es p.answer in
+    let row = refused_exactly (Count es) (own_checks s es last) (outcome_of r) refl told in
     record {
-      rows = own_rows s es last (list_says r) refl told;
+      rows = own_rows s es last (outcome_of r) refl told;
       no16 = row 16;
       no7 = row 7;
-      needed = λ n e. carries_only (Count es) (own_checks s es last) (list_says r) refl told 7 n e;
-      only = number_known (Count es) (own_checks s es last) (list_says r) told;
+      needed = λ n e. carries_only (Count es) (own_checks s es last) (outcome_of r) refl told 7 n e;
+      only = number_known (Count es) (own_checks s es last) (outcome_of r) told;
       met = λ n.
-          let gives = gives_exactly (Count es) (λ x y h k. h ∙ sym k) (own_checks s es last) (list_says r) told n in (
+          let gives = gives_exactly (Count es) (λ x y h k. h ∙ sym k) (own_checks s es last) (outcome_of r) told n in (
             λ e. let (h, is) = gives.0 e in (sound_so s es (λ q. (q.0, q.1.0)) h, is),
             λ h. gives.1 (sound_so s es (λ q. (q.0, (q.1, tt))) h.0, h.1),
           );

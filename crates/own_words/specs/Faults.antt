@@ -1,21 +1,19 @@
 -- The faults of a list of one's own, entry by entry: what was looked at is not at fault, and what is left decides.
-use Rattle.std.specs.Prelude.{ℕ, zero, suc, ◌+◌, ◌≤◌, ◌<◌, Bool, true, false, ◌||◌, List, [], ◌∷◌, ◌≡◌, refl, leb, get_or, drop}
+use Rattle.std.specs.Prelude.{ℕ, zero, suc, ◌+◌, ◌≤◌, ◌<◌, Bool, true, false, ◌||◌, List, [], ◌∷◌, ◌≡◌, refl, leb, get_or, drop, Err, Ok, Result}
 use Rattle.std.proofs.Common.{sym, ap, ◌∙◌, subst, not-suc-le-zero, le_of_suc-le-suc, eq-or-lt_of_le, arith, drop_of_length-le}
 use Rattle.std.proofs.Math.Logic.{⊎_elim}
 use Rattle.std.proofs.Math.ListN.{length}
 use Rattle.sequences.specs.Parts.{drop_next}
 use Rattle.meaning.specs.Scene.{Scene}
-use Rattle.meaning.specs.Refusals.{Outcome, given, Answers, number_of, not_there, shares}
-use Rattle.meaning.specs.List.{Pair, no_number, list_says}
-use Rattle.meaning.specs.declared.Made.{Made}
+use Rattle.meaning.specs.Refusals.{Outcome, given, Answers, number_of, not_there, shares, carrying, outcome_of}
+use Rattle.meaning.specs.List.{Pair, no_number}
 use Rattle.meaning.specs.declared.Refusal.TheVariants.{NotThere, SharedVertex}
-use Rattle.meaning.specs.declared.ListAnswer as ListAnswers
-use Rattle.meaning.specs.declared.ListAnswer.{ListAnswer}
 use Rattle.answers.specs.Answering.{refuses, lets_pass, gives, is_given}
 use Rattle.answers.specs.Below.{or_rest}
 use Rattle.list_entries.specs.Entries.{kind_of, first_of, second_of}
 use Rattle.list_words.specs.Listed.{AllThere, entry_there}
 use Rattle.meaning.specs.OwnList.{entry_missing, entry_shared, missing_check, shared_check, faulty_from, entry_faults}
+use Rattle.meaning.specs.declared.Refused.{Refused}
 
 -- ---- one entry
 
@@ -36,8 +34,8 @@ module _ (s : Scene) (e : ℕ) (p : Pair) (kind : p.kind ≡ kind_of e) (first :
 -- ---- a list
 
 -- what was found of the entries: none is at fault, and they are so many, or the first that is
-pub record FaultFound (s : Scene) (es : List ℕ) (r : ListAnswer) : Type 0 where
-  pub says : Answers (entry_faults s es) (λ n. n ≡ length es) (list_says r)
+pub record FaultFound (s : Scene) (es : List ℕ) (r : Result ℕ Refused) : Type 0 where
+  pub says : Answers (entry_faults s es) (λ n. n ≡ length es) (outcome_of r)
 
 -- none of the first k is at fault: those behind decide
 pub record SoundUpTo (s : Scene) (es : List ℕ) (k : ℕ) : Type 0 where
@@ -56,13 +54,13 @@ module _ {s : Scene} {es : List ℕ} {k : ℕ} (h : k < length es) (sound : Soun
       sound.decides o
       (subst (λ (l : List ℕ). Answers (faulty_from s (k + 1) l) (λ n. n ≡ length es) o) (sym (drop_next es k 0 h)) a)
 
-  pub missing_found : entry_missing s (get_or es k 0) ≡ true → FaultFound s es (ListAnswers.TheVariants.Refused NotThere (k + 1))
-  unfolding list_says number_of faulty_from
+  pub missing_found : entry_missing s (get_or es k 0) ≡ true → FaultFound s es (Err (carrying NotThere (k + 1)))
+  unfolding outcome_of number_of faulty_from
   missing_found m = record { says = by_entry _ (refuses _ _ _ _ m refl) }
 
   pub shared_found : entry_missing s (get_or es k 0) ≡ false → entry_shared s (get_or es k 0) ≡ true
-      → FaultFound s es (ListAnswers.TheVariants.Refused SharedVertex (k + 1))
-  unfolding list_says number_of faulty_from
+      → FaultFound s es (Err (carrying SharedVertex (k + 1)))
+  unfolding outcome_of number_of faulty_from
   shared_found m p = record { says = by_entry _ (lets_pass _ _ _ _ m (refuses _ _ _ _ p refl)) }
 
   pub sound_more : entry_missing s (get_or es k 0) ≡ false → entry_shared s (get_or es k 0) ≡ false → SoundUpTo s es (k + 1)
@@ -77,8 +75,8 @@ module _ {s : Scene} {es : List ℕ} {k : ℕ} (h : k < length es) (sound : Soun
   }
 
 pub none_found : {s : Scene} {es : List ℕ} {k : ℕ} → length es ≤ k → SoundUpTo s es k
-    → FaultFound s es (ListAnswers.TheVariants.Listed (record { count = length es }))
-unfolding list_says faulty_from
+    → FaultFound s es (Ok (length es))
+unfolding outcome_of faulty_from
 none_found {s} {es} {k} h sound = record {
   says =
       sound.decides _
@@ -104,13 +102,13 @@ each_passed R s n (e ∷ es) a p =
     let (right, all) = each_passed R s (n + 1) es a more in
     (right, at_each (Sound s) e es (missing, shared) all)
 
-module _ {s : Scene} {es : List ℕ} {r : ListAnswer} {m : Made} (f : FaultFound s es r) (e : r ≡ ListAnswers.TheVariants.Listed m) where
-  passed : (m.count ≡ length es) × ((k : ℕ) → k < length es → Sound s (get_or es k 0))
-  unfolding list_says
-  passed = each_passed (λ n. n ≡ length es) s 1 es m.count (subst (FaultFound s es) e f).says
+module _ {s : Scene} {es : List ℕ} {r : Result ℕ Refused} {m : ℕ} (f : FaultFound s es r) (e : r ≡ Ok m) where
+  passed : (m ≡ length es) × ((k : ℕ) → k < length es → Sound s (get_or es k 0))
+  unfolding outcome_of
+  passed = each_passed (λ n. n ≡ length es) s 1 es m (subst (FaultFound s es) e f).says
 
-  pub so_many : m.count ≡ length es
+  pub so_many : m ≡ length es
   so_many = passed.0
 
-  pub all_there : AllThere s m.count es
+  pub all_there : AllThere s m es
   all_there k h = entry_is_there s (get_or es k 0) (passed.1 k (rw so_many at h)).0

@@ -11,7 +11,7 @@ ghost use Rattle.meaning.specs.OwnList.{entry_missing, entry_shared, own_limit, 
 ghost use Rattle.own_words.specs.Faults.{FaultFound};
 ghost use Rattle.own_words.specs.Answering.{OwnJudged};
 
-use meaning::{Kind, ListAnswer, Made, NO_NUMBER, Refusal, SceneAnswer, VERTEX_LIMIT};
+use meaning::{Kind, NO_NUMBER, Refusal, Refused, VERTEX_LIMIT};
 
 // 2^32 - 1: so many entries a list may have, so that an entry's number and a count needed cross to C in 32 bits.
 pub const OWN_LIMIT: usize = 4294967295;
@@ -58,20 +58,24 @@ pub fn first_fault(
     triangles: &[u16],
     stands: &[u16],
     list: &[u32],
-) -> ListAnswer
+) -> Result<usize, Refused>
     ensures { FaultFound (tabled positions.now edges.now triangles.now stands.now) list.now result }
 {
-    let mut k = 0;
-    while k < list.len() {
-        if entry_missing(positions, edges, triangles, list[k]) {
-            return ListAnswer::Refused(Refusal::NotThere, k + 1);
+    for (k, entry) in list.iter().enumerate() {
+        if entry_missing(positions, edges, triangles, *entry) {
+            return Err(Refused {
+                why: Refusal::NotThere,
+                carries: k + 1,
+            });
         }
-        if entry_shared(positions, edges, triangles, stands, list[k]) {
-            return ListAnswer::Refused(Refusal::SharedVertex, k + 1);
+        if entry_shared(positions, edges, triangles, stands, *entry) {
+            return Err(Refused {
+                why: Refusal::SharedVertex,
+                carries: k + 1,
+            });
         }
-        k += 1;
     }
-    ListAnswer::Listed(Made { count: list.len() })
+    Ok(list.len())
 }
 
 // For a scene that was checked already: nothing is written before it is known that no entry is at fault and that there is room.
@@ -82,23 +86,20 @@ fn settle_asked(
     stands: &[u16],
     list: &[u32],
     words: &mut [u8],
-) -> ListAnswer
+) -> Result<usize, Refused>
     requires { Accepted (tabled positions.now edges.now triangles.now stands.now) }
     ensures { OwnJudged (tabled positions.now edges.now triangles.now stands.now) list.now words.old
         words.new result }
 {
-    match first_fault(positions, edges, triangles, stands, list) {
-        ListAnswer::Refused(refusal, number) => ListAnswer::Refused(refusal, number),
-        ListAnswer::Listed(made) => {
-            if words.len() < made.count {
-                return ListAnswer::Refused(Refusal::NoRoom, made.count);
-            }
-            list_words::settle_entries(
-                positions, edges, triangles, stands, list, words, made.count,
-            );
-            ListAnswer::Listed(made)
-        }
+    let count = first_fault(positions, edges, triangles, stands, list)?;
+    if words.len() < count {
+        return Err(Refused {
+            why: Refusal::NoRoom,
+            carries: count,
+        });
     }
+    list_words::settle_entries(positions, edges, triangles, stands, list, words, count);
+    Ok(count)
 }
 
 // For a scene that may be anything and a list that is not too long, over a lent table without seams, which is that of the scene's seams afterwards.
@@ -110,16 +111,12 @@ fn settle_into(
     stands: &mut [u16],
     list: &[u32],
     words: &mut [u8],
-) -> ListAnswer
+) -> Result<usize, Refused>
     requires { Blank seams.now stands.old × (length list.now ≤ own_limit) }
     ensures { OwnSettled (scene_of positions.now edges.now triangles.now seams.now) list.now words.old
         words.new result × Stitched (scene_of positions.now edges.now triangles.now seams.now) stands.old stands.new }
 {
-    if let SceneAnswer::Refused(refusal) = scene_checks::check_into(
-        positions, edges, triangles, seams, stands,
-    ) {
-        return ListAnswer::Refused(refusal, 0);
-    }
+    scene_checks::check_into(positions, edges, triangles, seams, stands)?;
     settle_asked(positions, edges, triangles, stands, list, words)
 }
 
@@ -131,12 +128,12 @@ pub fn settle_list(
     seams: &[u16],
     list: &[u32],
     words: &mut [u8],
-) -> ListAnswer
+) -> Result<usize, Refused>
     ensures { OwnSettled (scene_of positions.now edges.now triangles.now seams.now) list.now words.old
         words.new result }
 {
     if OWN_LIMIT < list.len() {
-        return ListAnswer::Refused(Refusal::Shape, 0);
+        return Err(Refused::from(Refusal::Shape));
     }
     if seams.len() == 0 {
         let mut none = [0u16; 0];

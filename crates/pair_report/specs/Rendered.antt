@@ -1,8 +1,7 @@
 -- The report of a list that stands in a buffer, with its verdicts in another: line by line, and as the whole.
-use Rattle.std.specs.Prelude.{ℕ, zero, suc, ◌+◌, ◌-◌, ◌*◌, ◌≤◌, ◌<◌, ◌^◌, List, [], ◌∷◌, ◌++◌, ◌≡◌, refl, length, get_or, drop}
-use Rattle.std.proofs.Common.{append-nil, sym, ap, ◌∙◌, mul-one, arith, drop_of_length-le}
+use Rattle.std.specs.Prelude.{ℕ, ◌*◌, ◌≤◌, ◌<◌, List, [], ◌∷◌, ◌++◌, ◌≡◌, length, get_or, drop}
+use Rattle.std.proofs.Common.{sym, ap, ◌∙◌, mul-one, arith, drop_of_length-le}
 use Rattle.std.proofs.Math.Nat.{sub-zero}
-use Rattle.std.proofs.lemmas.List.{length-map}
 use Rattle.sequences.specs.Range.{towards}
 use Rattle.sequences.specs.Gather.{gather, gather_none, gather_first, gather_short}
 use Rattle.sequences.specs.Parts.{drop_next}

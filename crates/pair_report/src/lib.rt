@@ -13,7 +13,6 @@ ghost use Rattle.tally.specs.Counted.{TallyOf};
 ghost use Rattle.pair_report.specs.Rendered.{verdict_at, line_at, verdicts_in};
 ghost use Rattle.pair_report.specs.Sizes.{report_length, Words, Held};
 
-use list_words::ByteAnswer;
 use meaning::Settled;
 use report_words::lines::{pair_line, total_line};
 use tally::Tally;
@@ -23,7 +22,7 @@ fn verdict_at(verdicts: &[u8], k: usize) -> Settled
     requires { (k < length verdicts.now) × WordByte (get_or verdicts.now k 0) }
     ensures { result ≡ verdict_at verdicts.now k }
 {
-    let ByteAnswer::Word(word) = list_words::word_of(verdicts[k]) else {
+    let Some(word) = list_words::word_of(verdicts[k]) else {
         return Settled::Apart; // never: the byte stands for a word
     };
     word
@@ -50,10 +49,8 @@ fn pair_lines(list: &[u32], verdicts: &[u8], count: usize, out: &mut [u8]) -> us
         × (result ≤ 21 * report_room) }
 {
     let mut next = 0;
-    let mut k = 0;
-    while k < count {
+    for k in 0..count {
         next = entry_line(list, verdicts, k, out, next);
-        k += 1;
     }
     next
 }
@@ -70,10 +67,8 @@ fn tally_of(verdicts: &[u8], count: usize) -> Tally
         touches: 0,
         aparts: 0,
     };
-    let mut k = 0;
-    while k < count {
+    for k in 0..count {
         tally = tally.add(verdict_at(verdicts, k));
-        k += 1;
     }
     tally
 }

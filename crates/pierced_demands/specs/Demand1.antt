@@ -1,14 +1,14 @@
 -- Demand 1 for an edge and a triangle asked for: the rows of the table, 5 and then 6 after those of the scene; and when which word is given.
-use Rattle.std.specs.Prelude.{ℕ, Bool, true, false, ◌↔◌, ◌≡◌}
+use Rattle.std.specs.Prelude.{ℕ, Bool, true, false, ◌↔◌, ◌≡◌, Result}
 use mathlib.Core.List.{[], ◌∷◌, Memᴰ}
 use Rattle.std.proofs.Math.Path.{refl}
 use Rattle.meaning.specs.Scene.{Scene, Accepted, wrong_shape, out_of_range, unknown_vertex, broken_seam, repeated_vertex}
-use Rattle.meaning.specs.Refusals.{Outcome, given, refused, Answers}
-use Rattle.meaning.specs.Pierced.{no_edge_or_triangle, end_is_corner, pierced_checks, Pierced, PiercedIs, pierced_says, PiercedDecided}
+use Rattle.meaning.specs.Refusals.{Outcome, given, refused, Answers, outcome_alone}
+use Rattle.meaning.specs.Pierced.{no_edge_or_triangle, end_is_corner, pierced_checks, Pierced, PiercedIs, PiercedDecided}
 use Rattle.meaning.specs.declared.Frame.{Frame}
-use Rattle.meaning.specs.declared.PiercedAnswer.{PiercedAnswer}
 use Rattle.answers.specs.Deciding.{Refuses, carried_by, NoneHolds, absent, distinct, refused_exactly, number_known, gives_exactly}
 use Rattle.pierced_pair.specs.OneResult.{one_word_lem}
+use Rattle.meaning.specs.declared.Refusal.{Refusal}
 
 -- none of the scene's five, and then
 abbrev Then : Scene → Type 0 → Type 0
@@ -59,5 +59,5 @@ module _ (s : Scene) (f : Frame) (i j : ℕ) (o : Outcome Bool) (p : Answers (pi
         clear = word_given false;
       }
 
-pub demand1_pierced : (s : Scene) (f : Frame) (i j : ℕ) (r : PiercedAnswer) → PiercedDecided s f i j r → PiercedTable s f i j (pierced_says r)
-demand1_pierced s f i j r p = table s f i j (pierced_says r) p
+pub demand1_pierced : (s : Scene) (f : Frame) (i j : ℕ) (r : Result Bool Refusal) → PiercedDecided s f i j r → PiercedTable s f i j (outcome_alone r)
+demand1_pierced s f i j r p = table s f i j (outcome_alone r) p

@@ -1,6 +1,6 @@
 -- Demand 2 for rows of edges: an edge and a triangle without a shared vertex stand in the list of rows that are there exactly when the one is through the
 -- other at that time, whatever their boxes are; nothing else stands there, and the entries rise.
-use Rattle.std.specs.Prelude.{ℕ, ◌≤◌, ◌<◌, false, ◌↔◌, ◌≡◌}
+use Rattle.std.specs.Prelude.{ℕ, ◌≤◌, ◌<◌, false, ◌↔◌, ◌≡◌, Result}
 use Rattle.std.proofs.Common.{arith}
 use mathlib.Core.List.{List, map, Memᴰ}
 use Rattle.sequences.specs.Rising.{Rising}
@@ -9,13 +9,13 @@ use Rattle.meaning.specs.MeshRows.{Lent}
 use Rattle.meaning.specs.Pierced.{Pierced, end_is_corner}
 use Rattle.meaning.specs.PiercedRows.{Through, through_number, through_rows, yes_of, PiercedListed}
 use Rattle.meaning.specs.declared.Frame.{Frame}
-use Rattle.meaning.specs.declared.ListAnswer.{ListAnswer}
 use Rattle.mesh_checks.specs.Meshes.{AcceptedMesh}
 use Rattle.mesh_check_laws.specs.Facts.{mesh_sized}
 use Rattle.through_laws.specs.Listing.{entry_of}
 use Rattle.through_laws.specs.Members.{entry_exactly, listed_there, entries_rise}
+use Rattle.meaning.specs.declared.Refused.{Refused}
 
-module _ (f : Frame) (s : Scene) (l : Lent) (first end : ℕ) (o o' : List ℕ) (r : ListAnswer) (p : PiercedListed f s l first end o o' r) where
+module _ (f : Frame) (s : Scene) (l : Lent) (first end : ℕ) (o o' : List ℕ) (r : Result ℕ Refused) (p : PiercedListed f s l first end o o' r) where
   -- what is listed
   abbrev pub listed_through : List Through
   listed_through = yes_of p.answers (through_rows f s first end)

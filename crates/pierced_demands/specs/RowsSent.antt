@@ -1,6 +1,6 @@
 -- Demand 3 for rows of edges: of two meshes of which one is the other sent through a matrix and shifted, the same edges are through the same triangles, so
 -- that two calls that are not refused write the same list, though other boxes meet.
-use Rattle.std.specs.Prelude.{ℕ, ◌≤◌, ◌<◌, Bool, not, ◌&&◌, ◌↔◌, ◌≡◌}
+use Rattle.std.specs.Prelude.{ℕ, ◌≤◌, ◌<◌, Bool, not, ◌&&◌, ◌↔◌, ◌≡◌, Ok}
 use Rattle.std.proofs.Common.{arith, ap, ◌∙◌}
 use Rattle.std.proofs.Math.Bool.{true, false}
 use mathlib.Core.List.{List, []}
@@ -11,14 +11,12 @@ use Rattle.sequences.specs.Wrote.{written}
 use Rattle.whole.specs.Vector.{Vector}
 use Rattle.whole.specs.VectorLaws.{Matrix}
 use Rattle.meaning.specs.Scene.{Scene, scene_of, vertex_count, edge_count, triangle_count}
-use Rattle.meaning.specs.Refusals.{shares}
-use Rattle.meaning.specs.List.{list_says, leaves}
+use Rattle.meaning.specs.Refusals.{shares, outcome_of}
+use Rattle.meaning.specs.List.{leaves}
 use Rattle.meaning.specs.MeshRows.{Lent}
 use Rattle.meaning.specs.Pierced.{Pierced, PiercedIs, end_is_corner}
 use Rattle.meaning.specs.PiercedRows.{through_row, through_rows, PiercedListed}
 use Rattle.meaning.specs.declared.Frame.{Frame}
-use Rattle.meaning.specs.declared.ListAnswer as ListAnswers
-use Rattle.meaning.specs.declared.Made.{Made}
 use Rattle.theory.specs.Bounds.{Every}
 use Rattle.theory.specs.Moved.{Moves}
 use Rattle.theory.specs.Written.{ends_written, corners_written}
@@ -72,9 +70,9 @@ module _ {m : Matrix} {a b : Vector} {s t : Scene} (moves : Moves m a b s t) (so
 
 -- two calls that give a count write the same list
 pub demand3_pierced_rows : {m : Matrix} {a b : Vector} {s t : Scene} → Moves m a b s t → AcceptedMesh s → (f : Frame) (first end : ℕ) → end ≤ edge_count s
-    → (k l : Lent) (o o₁ o₂ : List ℕ) (x y : Made) → PiercedListed f s k first end o o₁ (ListAnswers.TheVariants.Listed x)
-    → PiercedListed f t l first end o o₂ (ListAnswers.TheVariants.Listed y) → o₁ ≡ o₂
-unfolding list_says leaves
+    → (k l : Lent) (o o₁ o₂ : List ℕ) (x y : ℕ) → PiercedListed f s k first end o o₁ (Ok x)
+    → PiercedListed f t l first end o o₂ (Ok y) → o₁ ≡ o₂
+unfolding outcome_of leaves
 demand3_pierced_rows {s = s} {t = t} moves accepted f first end h k l o o₁ o₂ x y p q =
     list_told f s k first end o p
     ∙ ap (λ (n : List ℕ). written n o) (sent_rows moves (mesh_sound accepted) f first end h)

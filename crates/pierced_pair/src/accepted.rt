@@ -2,13 +2,13 @@
 
 ghost use Rattle.std.specs.Prelude.{ℕ, ◌<◌, List, ◌≡◌, ℤ};
 ghost use Rattle.meaning.specs.Scene.{scene_of, Accepted, edge_count, triangle_count};
-ghost use Rattle.meaning.specs.Refusals.{Answers};
-ghost use Rattle.meaning.specs.Pierced.{end_is_corner, pierced_asked, PiercedIs, pierced_says};
+ghost use Rattle.meaning.specs.Refusals.{Answers, outcome_alone};
+ghost use Rattle.meaning.specs.Pierced.{end_is_corner, pierced_asked, PiercedIs};
 ghost use Rattle.scene_seams.specs.Alone.{only_edges, only_triangles, tabled};
 ghost use Rattle.pierced_pair.specs.Parts.{PartsIn};
 
 use super::places::vertices_in_common;
-use meaning::{Frame, PiercedAnswer, Refusal};
+use meaning::{Frame, Refusal};
 use scene_parts::shares_pt;
 use scene_parts::written::{corner, edge_end};
 
@@ -53,20 +53,16 @@ pub fn answer(
     frame: Frame,
     edge: usize,
     triangle: usize,
-) -> PiercedAnswer
+) -> Result<bool, Refusal>
     requires { Accepted (tabled positions.now edges.now triangles.now stands.now) }
     ensures { Answers (pierced_asked (tabled positions.now edges.now triangles.now stands.now) edge triangle)
-        (PiercedIs (tabled positions.now edges.now triangles.now stands.now) frame edge triangle) (pierced_says result) }
+        (PiercedIs (tabled positions.now edges.now triangles.now stands.now) frame edge triangle) (outcome_alone result) }
 {
     if (edges.len() / 2 <= edge) | (triangles.len() / 3 <= triangle) {
-        return PiercedAnswer::Refused(Refusal::NotThere);
+        return Err(Refusal::NotThere);
     }
     if end_is_corner(edges, triangles, stands, edge, triangle) {
-        return PiercedAnswer::Refused(Refusal::SharedVertex);
+        return Err(Refusal::SharedVertex);
     }
-    if pierced(positions, edges, triangles, frame, edge, triangle) {
-        PiercedAnswer::Pierced
-    } else {
-        PiercedAnswer::Clear
-    }
+    Ok(pierced(positions, edges, triangles, frame, edge, triangle))
 }

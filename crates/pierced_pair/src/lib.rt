@@ -10,7 +10,7 @@ ghost use Rattle.meaning.specs.Pierced.{PiercedDecided};
 ghost use Rattle.scene_seams.specs.Sewing.{Blank};
 ghost use Rattle.scene_checks.specs.Checking.{Stitched};
 
-use meaning::{Frame, PiercedAnswer, SceneAnswer, VERTEX_LIMIT};
+use meaning::{Frame, Refusal, VERTEX_LIMIT};
 
 // As `pierced_pair`, over a lent table without seams, which is that of the scene's seams afterwards.
 fn pierced_into(
@@ -22,16 +22,12 @@ fn pierced_into(
     frame: Frame,
     edge: usize,
     triangle: usize,
-) -> PiercedAnswer
+) -> Result<bool, Refusal>
     requires { Blank seams.now stands.old }
     ensures { PiercedDecided (scene_of positions.now edges.now triangles.now seams.now) frame edge triangle result
         × Stitched (scene_of positions.now edges.now triangles.now seams.now) stands.old stands.new }
 {
-    if let SceneAnswer::Refused(refusal) = scene_checks::check_into(
-        positions, edges, triangles, seams, stands,
-    ) {
-        return PiercedAnswer::Refused(refusal);
-    }
+    scene_checks::check_into(positions, edges, triangles, seams, stands)?;
     accepted::answer(positions, edges, triangles, stands, frame, edge, triangle)
 }
 
@@ -44,7 +40,7 @@ pub fn pierced_pair(
     frame: Frame,
     edge: usize,
     triangle: usize,
-) -> PiercedAnswer
+) -> Result<bool, Refusal>
     ensures { PiercedDecided (scene_of positions.now edges.now triangles.now seams.now) frame edge triangle result }
 {
     if seams.len() == 0 {

@@ -8,7 +8,7 @@ ghost use Rattle.meaning.specs.MeshRows.{lent_of};
 ghost use Rattle.meaning.specs.Scene.{scene_of};
 ghost use Rattle.meaning.specs.PiercedRows.{PiercedListed};
 
-use meaning::{Frame, ListAnswer, SceneAnswer};
+use meaning::{Frame, Refused};
 use mesh_asked::ask_rows;
 use mesh_parts::edge_count;
 use pierced_walk::stretch::list_through;
@@ -29,13 +29,13 @@ pub fn pierced_rows(
     first: usize,
     end: usize,
     list: &mut [u64],
-) -> ListAnswer
+) -> Result<usize, Refused>
     ensures { PiercedListed frame (scene_of positions.now edges.now triangles.now seams.now)
         (lent_of edge_order.now triangle_order.now (length table.old) (length places.old) (length boxes.old)) first end list.old list.new result }
 {
     let rows = edge_count(edges);
     let lent = boxes.len();
-    match ask_rows(
+    ask_rows(
         positions,
         edges,
         triangles,
@@ -48,13 +48,9 @@ pub fn pierced_rows(
         rows,
         first,
         end,
-    ) {
-        SceneAnswer::Refused(why) => ListAnswer::Refused(why, 0),
-        SceneAnswer::Accepted => {
-            let room = list.len();
-            list_through(
-                positions, edges, triangles, table, frame, boxes, first, end, list, room,
-            )
-        }
-    }
+    )?;
+    let room = list.len();
+    list_through(
+        positions, edges, triangles, table, frame, boxes, first, end, list, room,
+    )
 }

@@ -1,20 +1,19 @@
 -- The pierced ones of a stretch of rows, counted first, and entered where there is room for all of them.
-use Rattle.std.specs.Prelude.{ℕ, ◌≤◌, ◌<◌, ◌≡◌, refl, length}
+use Rattle.std.specs.Prelude.{ℕ, ◌≤◌, ◌<◌, ◌≡◌, refl, length, Err, Ok, Result}
 use mathlib.Core.List.{List, [], ◌∷◌}
 use Rattle.std.proofs.Math.Path.{ap}
 use Rattle.std.proofs.Common.{◌∙◌, arith, lt-ltb, le-ltb}
 use Rattle.sequences.specs.Wrote.{written, wrote_front}
 use Rattle.meaning.specs.Scene.{Scene}
-use Rattle.meaning.specs.Refusals.{given, refused, number_of, Check, room_check, Answers}
-use Rattle.meaning.specs.List.{list_says, leaves}
+use Rattle.meaning.specs.Refusals.{given, refused, number_of, Check, room_check, Answers, carrying, outcome_of}
+use Rattle.meaning.specs.List.{leaves}
 use Rattle.meaning.specs.PiercedRows.{through_rows}
 use Rattle.meaning.specs.declared.Frame.{Frame}
 use Rattle.meaning.specs.declared.Refusal.TheVariants.{NoRoom}
-use Rattle.meaning.specs.declared.ListAnswer as ListAnswers
-use Rattle.meaning.specs.declared.ListAnswer.{ListAnswer}
 use Rattle.answers.specs.Answering.{refuses, lets_pass, gives}
 use Rattle.mesh_entries.specs.Entering.{Entered, entered_none, entered_wrote}
 use Rattle.through_laws.specs.Listing.{entries_of, count_of, entries_count, rows_of, rows_entries}
+use Rattle.meaning.specs.declared.Refused.{Refused}
 
 -- how many of the rows' are pierced
 abbrev pub through_count : Frame → Scene → ℕ → ℕ → ℕ
@@ -28,9 +27,9 @@ abbrev pub room_asked : Frame → Scene → ℕ → ℕ → ℕ → List Check
 room_asked f s first end room = room_check room (through_count f s first end) ∷ []
 
 -- by some checks the entries are written in front of a list that held o and holds o'
-pub record ThroughListed (ks : List Check) (f : Frame) (s : Scene) (first end : ℕ) (o o' : List ℕ) (r : ListAnswer) : Type 0 where
-  pub answer : Answers ks (IsThroughCount f s first end) (list_says r)
-  pub list : o' ≡ leaves (list_says r) (entries_of f s (through_rows f s first end)) o
+pub record ThroughListed (ks : List Check) (f : Frame) (s : Scene) (first end : ℕ) (o o' : List ℕ) (r : Result ℕ Refused) : Type 0 where
+  pub answer : Answers ks (IsThroughCount f s first end) (outcome_of r)
+  pub list : o' ≡ leaves (outcome_of r) (entries_of f s (through_rows f s first end)) o
 
 module _ (f : Frame) (s : Scene) (first end : ℕ) where
   -- all that were walked are counted
@@ -39,8 +38,8 @@ module _ (f : Frame) (s : Scene) (first end : ℕ) where
       omega (arith, w.counts, entries_count f s (through_rows f s first end), ap length (rows_entries f s first end))
 
   module _ {n : ℕ} (counted : IsThroughCount f s first end n) (o : List ℕ) (room : ℕ) where
-    pub through_refused : room < n → ThroughListed (room_asked f s first end room) f s first end o o (ListAnswers.TheVariants.Refused NoRoom n)
-    unfolding list_says number_of leaves
+    pub through_refused : room < n → ThroughListed (room_asked f s first end room) f s first end o o (Err (carrying NoRoom n))
+    unfolding outcome_of number_of leaves
     through_refused h =
         record {
           answer =
@@ -50,8 +49,8 @@ module _ (f : Frame) (s : Scene) (first end : ℕ) where
 
     -- and entered where there is room for them
     pub through_listed : {o' : List ℕ} {m : ℕ} → n ≤ room → room ≤ length o → Entered room o 0 (rows_of f s first end) o' m
-        → ThroughListed (room_asked f s first end room) f s first end o o' (ListAnswers.TheVariants.Listed (record { count = n }))
-    unfolding list_says leaves
+        → ThroughListed (room_asked f s first end room) f s first end o o' (Ok n)
+    unfolding outcome_of leaves
     through_listed {o'} {m} h wide w =
         let same = walked_count w in
         record {
@@ -65,7 +64,7 @@ module _ (f : Frame) (s : Scene) (first end : ℕ) where
 
     -- where there is none, nothing is written
     pub through_none : n ≡ 0 → room ≤ length o
-        → ThroughListed (room_asked f s first end room) f s first end o o (ListAnswers.TheVariants.Listed (record { count = n }))
+        → ThroughListed (room_asked f s first end room) f s first end o o (Ok n)
     through_none e wide =
         let short : length (rows_of f s first end) ≡ 0 =
         omega (arith, counted, e, entries_count f s (through_rows f s first end), ap length (rows_entries f s first end)) in

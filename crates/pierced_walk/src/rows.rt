@@ -74,6 +74,7 @@ fn walk_edge(
     let mut level = start.level;
     let mut node = start.node;
     let mut k = at;
+    // A `while`, because each step says which node comes next: one under this one, or one behind it, at its level or further up.
     while node < levels[2 * level + 1] {
         let next = step(boxes, row, boxes, levels, parts, top, level, node);
         k = enter_through(
@@ -110,8 +111,7 @@ pub fn walk_edges(
     let vertices = vertex_count(positions);
     let parts = triangle_count(triangles);
     let mut k = 0;
-    let mut i = first;
-    while i < end {
+    for i in first..end {
         k = walk_edge(
             positions,
             edges,
@@ -128,7 +128,6 @@ pub fn walk_edges(
             most,
             k,
         );
-        i += 1;
     }
     k
 }

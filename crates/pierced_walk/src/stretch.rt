@@ -11,7 +11,7 @@ ghost use Rattle.pierced_walk.specs.Stretching.{IsThroughCount, room_asked, Thro
 
 use super::rows::walk_edges;
 use frame_boxes::plant_at;
-use meaning::{Frame, ListAnswer, Made, Refusal};
+use meaning::{Frame, Refusal, Refused};
 
 // Where a level of the tree begins and how many nodes it has, for each of its levels.
 const LEVEL_NUMBERS: usize = 34;
@@ -54,7 +54,7 @@ fn list_grown(
     end: usize,
     list: &mut [u64],
     room: usize,
-) -> ListAnswer
+) -> Result<usize, Refused>
     requires grove { Grove frame (tabled positions.now edges.now triangles.now stands.now) boxes.now levels.now top
         × Sound (tabled positions.now edges.now triangles.now stands.now) × (first ≤ end)
         × (end ≤ edge_count (tabled positions.now edges.now triangles.now stands.now)) }
@@ -66,15 +66,18 @@ fn list_grown(
         positions, edges, triangles, stands, frame, boxes, levels, top, first, end,
     );
     if room < count {
-        return ListAnswer::Refused(Refusal::NoRoom, count);
+        return Err(Refused {
+            why: Refusal::NoRoom,
+            carries: count,
+        });
     }
     if count == 0 {
-        return ListAnswer::Listed(Made { count });
+        return Ok(count);
     }
     walk_edges(
         positions, edges, triangles, stands, frame, boxes, levels, top, first, end, list, room,
     );
-    ListAnswer::Listed(Made { count })
+    Ok(count)
 }
 
 // The entries of a stretch of rows, in front of a lent list with so much room; 7 with their count where they are more.
@@ -89,7 +92,7 @@ pub fn list_through(
     end: usize,
     list: &mut [u64],
     room: usize,
-) -> ListAnswer
+) -> Result<usize, Refused>
     requires plantable { Plantable (tabled positions.now edges.now triangles.now stands.now) boxes.old
         × Sound (tabled positions.now edges.now triangles.now stands.now) × (first ≤ end)
         × (end ≤ edge_count (tabled positions.now edges.now triangles.now stands.now)) }

@@ -1,6 +1,6 @@
 -- After a yes of `check_edges` the list has the ee pairs of all sides, each in one place and no other.
 use Prim.Native.Nat.{ℕ, suc, ◌+◌, ◌%◌, min, max, ◌<◌}
-use Rattle.std.specs.Prelude.{true, ◌⊎◌, ◌≡◌, refl, get_or}
+use Rattle.std.specs.Prelude.{true, ◌⊎◌, ◌≡◌, refl, get_or, Ok}
 use Rattle.std.proofs.Math.Bool.{false}
 use mathlib.Core.List.Memᴰ
 use mathlib.Core.List.{List, [], ◌∷◌, Memᴰ}
@@ -17,7 +17,6 @@ use Rattle.meaning.specs.Refusals.{not_there, shares}
 use Rattle.meaning.specs.List.{Pair, pairs}
 use Rattle.meaning.specs.MeshEdges.{EdgesChecked}
 use Rattle.meaning.specs.MeshRows.{row_count, rows_in}
-use Rattle.meaning.specs.declared.EdgesAnswer as EdgesAnswers
 use Rattle.meaning.specs.declared.Kind.TheVariants.{EdgeEdge}
 use Rattle.meaning.specs.declared.RowPairs.TheVariants.{Listed}
 use Rattle.answers.specs.Below.{or_left, or_rest}
@@ -30,6 +29,7 @@ use Rattle.mesh_edges.specs.Saying.{whole_means}
 use Rattle.mesh_edges.specs.Sides.{Joins}
 use Rattle.demands.specs.Standing.{as_listed, stands_is}
 use Rattle.rows_demands.specs.AllSides.{sides_share, side_span, sides_meet_on, sides_meet, OfSides, StandsOnce}
+use Rattle.meaning.specs.declared.EdgesFound.TheVariants.{Whole}
 
 module _ (s : Scene) where
   edge_span_lem : (x : Axis) (e a b : ℕ) → Joins s e a b → edge_span s x e ≡ side_span s x a b
@@ -139,7 +139,7 @@ module _ (s : Scene) (none : NoneTwice s) (a b c d : ℕ) where
             (one_pair (get_or (pairs s) n no_pair) (get_or (pairs s) place no_pair) (asked n l) (asked place inside) so stands);
       }
 
-module _ (s : Scene) (sides order : List ℕ) (table places : ℕ) (said : EdgesChecked s sides order table places EdgesAnswers.TheVariants.Whole) where
+module _ (s : Scene) (sides order : List ℕ) (table places : ℕ) (said : EdgesChecked s sides order table places (Ok Whole)) where
   -- sides k of triangle t and m of triangle u, each from a corner to the next around its triangle
   pub all_sides_listed : (t k u m : ℕ) → t < triangle_count s → k < 3 → u < triangle_count s → m < 3
       → sides_share s (corner s t k) (corner s t ((k + 1) % 3)) (corner s u m) (corner s u ((m + 1) % 3)) ≡ false

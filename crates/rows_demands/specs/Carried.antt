@@ -1,24 +1,24 @@
 -- Two calls over stretches of rows that are the same, where what decides in the one decides in the other, have one result: the answer with its count, and
 -- every lent number but the scratch. So it is with orders that are taken (`AnyLent`), and with the parts of the rows' own kind alone (`OneKind`).
-use Rattle.std.specs.Prelude.{ℕ, min, Bool, true, false, ◌≡◌, length}
+use Rattle.std.specs.Prelude.{ℕ, min, Bool, true, false, ◌≡◌, length, Result}
 use mathlib.Core.List.Memᴰ
 use mathlib.Core.List.{List, [], ◌∷◌, Memᴰ}
 use Rattle.std.proofs.Common.{⊎_elim, sym, ap, ◌∙◌, subst}
 use Rattle.sequences.specs.Pick.{pick}
 use Rattle.meaning.specs.Scene.{Scene}
-use Rattle.meaning.specs.Refusals.{Outcome, Check, Answers, room_check}
-use Rattle.meaning.specs.List.{Pair, list_says, leaves}
+use Rattle.meaning.specs.Refusals.{Outcome, Check, Answers, room_check, outcome_of}
+use Rattle.meaning.specs.List.{Pair, leaves}
 use Rattle.meaning.specs.SceneWords.{AllSettled}
 use Rattle.meaning.specs.WholeContacts.{AllContacts, range_check, contact_room}
 use Rattle.meaning.specs.MeshRows.{Lent, row_count, rows_in, mesh_entries, row_checks}
-use Rattle.meaning.specs.MeshRows.{RowsCounted, RowsListed, RowsSettled, RowsContacts, wants_word, kept, kept_told, kept_says, RowsKept, ContactsKept}
-use Rattle.meaning.specs.declared.KeptAnswer.{KeptAnswer}
-use Rattle.meaning.specs.declared.ListAnswer.{ListAnswer}
+use Rattle.meaning.specs.MeshRows.{RowsCounted, RowsListed, RowsSettled, RowsContacts, wants_word, kept, kept_told, RowsKept, ContactsKept}
 use Rattle.meaning.specs.declared.RowPairs.{RowPairs}
 use Rattle.meaning.specs.declared.Settled.{Settled}
 use Rattle.meaning.specs.declared.Wanted.{Wanted}
 use Rattle.rows_demands.specs.OfKind.{turned, AllSame, same_words, same_contacts, SameRows}
 use Rattle.rows_demands.specs.OneResult.{one_counting, one_listing, one_settling, one_meeting, one_keeping, one_kept_meeting}
+use Rattle.meaning.specs.declared.Refused.{Refused}
+use Rattle.meaning.specs.declared.KeptRows.{KeptRows}
 
 -- whatever comes behind what every call asks first: where it decides in the one, it decides in the other
 pub record Carry (s s' : Scene) (l l' : Lent) (first end : ℕ) : Type 1 where
@@ -57,26 +57,26 @@ module _ {w : RowPairs} {s s' : Scene} {first end : ℕ} (same : SameRows w s s'
   judged ws h =
       same_words (rows_in w s first end) ws back (subst (λ (ps : List Pair). AllSettled s' ps ws) (sym same.pairs) h)
 
-  pub carried_counted : (r r' : ListAnswer) → RowsCounted w s l first end r → RowsCounted w s' l' first end r' → r ≡ r'
+  pub carried_counted : (r r' : Result ℕ Refused) → RowsCounted w s l first end r → RowsCounted w s' l' first end r' → r ≡ r'
   carried_counted r r' p q =
-      one_counting w s l first end r r' p (decided (λ ps. []) (λ ps n. n ≡ length ps) (list_says r') q)
+      one_counting w s l first end r r' p (decided (λ ps. []) (λ ps n. n ≡ length ps) (outcome_of r') q)
 
-  pub carried_listed : (o o' o'' : List ℕ) (r r' : ListAnswer) → RowsListed w s l first end o o' r → RowsListed w s' l' first end o o'' r'
+  pub carried_listed : (o o' o'' : List ℕ) (r r' : Result ℕ Refused) → RowsListed w s l first end o o' r → RowsListed w s' l' first end o o'' r'
       → (r ≡ r') × (o' ≡ o'')
   carried_listed o o' o'' r r' p q =
       one_listing w s l first end o o' o'' r r' p
       (record {
-        answer = decided (λ ps. room_check (length o) (length ps) ∷ []) (λ ps n. n ≡ length ps) (list_says r') q.answer;
-        list = left (list_says r') o o'' (λ ps. ps) q.list;
+        answer = decided (λ ps. room_check (length o) (length ps) ∷ []) (λ ps n. n ≡ length ps) (outcome_of r') q.answer;
+        list = left (outcome_of r') o o'' (λ ps. ps) q.list;
       })
 
-  pub carried_settled : (o o' o'' b b' b'' : List ℕ) (r r' : ListAnswer) → RowsSettled w s l first end o o' b b' r
+  pub carried_settled : (o o' o'' b b' b'' : List ℕ) (r r' : Result ℕ Refused) → RowsSettled w s l first end o o' b b' r
       → RowsSettled w s' l' first end o o'' b b'' r' → (r ≡ r') × (o' ≡ o'') × (b' ≡ b'')
   carried_settled o o' o'' b b' b'' r r' p q =
       one_settling w s l first end o o' o'' b b' b'' r r' p
       (record {
-        answer = decided (λ ps. room_check (min (length o) (length b)) (length ps) ∷ []) (λ ps n. n ≡ length ps) (list_says r') q.answer;
-        list = left (list_says r') o o'' (λ ps. ps) q.list;
+        answer = decided (λ ps. room_check (min (length o) (length b)) (length ps) ∷ []) (λ ps n. n ≡ length ps) (outcome_of r') q.answer;
+        list = left (outcome_of r') o o'' (λ ps. ps) q.list;
         words = q.words;
         right = judged q.words q.right;
         bytes = q.bytes;
@@ -86,7 +86,7 @@ module _ {w : RowPairs} {s s' : Scene} {first end : ℕ} (same : SameRows w s s'
   abbrev range : Bool → Check
   range b = record { number = 16; holds = b; carries = 0 }
 
-  pub carried_contacts : (o o' o'' b b' b'' c c' c'' : List ℕ) (r r' : ListAnswer) → RowsContacts w s l first end o o' b b' c c' r
+  pub carried_contacts : (o o' o'' b b' b'' c c' c'' : List ℕ) (r r' : Result ℕ Refused) → RowsContacts w s l first end o o' b b' c c' r
       → RowsContacts w s' l' first end o o'' b b'' c c'' r' → (r ≡ r') × (o' ≡ o'') × (b' ≡ b'') × (c' ≡ c'')
   carried_contacts o o' o'' b b' b'' c c' c'' r r' p q =
       one_meeting w s l first end o o' o'' b b' b'' c c' c'' r r' p
@@ -94,10 +94,10 @@ module _ {w : RowPairs} {s s' : Scene} {first end : ℕ} (same : SameRows w s s'
         answer =
             subst
             (λ (far : Bool). Answers (row_checks s l (row_count s) first end (range far ∷ room_check (contact_room o b c) (length (rows_in w s first end)) ∷ []))
-            (λ n. n ≡ length (rows_in w s first end)) (list_says r'))
+            (λ n. n ≡ length (rows_in w s first end)) (outcome_of r'))
             (sym same.reach)
-            (decided (λ ps. range_check s' ∷ room_check (contact_room o b c) (length ps) ∷ []) (λ ps n. n ≡ length ps) (list_says r') q.answer);
-        list = left (list_says r') o o'' (λ ps. ps) q.list;
+            (decided (λ ps. range_check s' ∷ room_check (contact_room o b c) (length ps) ∷ []) (λ ps n. n ≡ length ps) (outcome_of r') q.answer);
+        list = left (outcome_of r') o o'' (λ ps. ps) q.list;
         contacts = q.contacts;
         right =
             same_contacts (rows_in w s first end) q.contacts back
@@ -107,7 +107,7 @@ module _ {w : RowPairs} {s s' : Scene} {first end : ℕ} (same : SameRows w s s'
       })
 
   module _ (m : Wanted) where
-    pub carried_kept : (o o' o'' b b' b'' : List ℕ) (r r' : KeptAnswer) → RowsKept w m s l first end o o' b b' r
+    pub carried_kept : (o o' o'' b b' b'' : List ℕ) (r r' : Result KeptRows Refused) → RowsKept w m s l first end o o' b b' r
         → RowsKept w m s' l' first end o o'' b b'' r' → (r ≡ r') × (o' ≡ o'') × (b' ≡ b'')
     carried_kept o o' o'' b b' b'' r r' p q =
         one_keeping w m s l first end o o' o'' b b' b'' r r' p
@@ -115,13 +115,13 @@ module _ {w : RowPairs} {s s' : Scene} {first end : ℕ} (same : SameRows w s s'
           words = q.words;
           right = judged q.words q.right;
           answer =
-              decided (λ ps. room_check (min (length o) (length b)) (length (kept m q.words q.words)) ∷ []) (λ ps t. t ≡ kept_told m q.words) (kept_says r')
+              decided (λ ps. room_check (min (length o) (length b)) (length (kept m q.words q.words)) ∷ []) (λ ps t. t ≡ kept_told m q.words) (outcome_of r')
               q.answer;
-          list = left (kept_says r') o o'' (kept m q.words) q.list;
+          list = left (outcome_of r') o o'' (kept m q.words) q.list;
           bytes = q.bytes;
         })
 
-    pub carried_kept_contacts : (o o' o'' b b' b'' c c' c'' : List ℕ) (r r' : KeptAnswer) → ContactsKept w m s l first end o o' b b' c c' r
+    pub carried_kept_contacts : (o o' o'' b b' b'' c c' c'' : List ℕ) (r r' : Result KeptRows Refused) → ContactsKept w m s l first end o o' b b' c c' r
         → ContactsKept w m s' l' first end o o'' b b'' c c'' r' → (r ≡ r') × (o' ≡ o'') × (b' ≡ b'') × (c' ≡ c'')
     carried_kept_contacts o o' o'' b b' b'' c c' c'' r r' p q =
         let room = room_check (contact_room o b c) (length (kept m q.words q.words)) in
@@ -132,10 +132,10 @@ module _ {w : RowPairs} {s s' : Scene} {first end : ℕ} (same : SameRows w s s'
           right = judged q.words q.right;
           answer =
               subst
-              (λ (far : Bool). Answers (row_checks s l (row_count s) first end (range far ∷ room ∷ [])) (λ t. t ≡ kept_told m q.words) (kept_says r'))
+              (λ (far : Bool). Answers (row_checks s l (row_count s) first end (range far ∷ room ∷ [])) (λ t. t ≡ kept_told m q.words) (outcome_of r'))
               (sym same.reach)
-              (decided (λ ps. range_check s' ∷ room ∷ []) (λ ps t. t ≡ kept_told m q.words) (kept_says r') q.answer);
-          list = left (kept_says r') o o'' (kept m q.words) q.list;
+              (decided (λ ps. range_check s' ∷ room ∷ []) (λ ps t. t ≡ kept_told m q.words) (outcome_of r') q.answer);
+          list = left (outcome_of r') o o'' (kept m q.words) q.list;
           bytes = q.bytes;
           contacts = q.contacts;
           met =

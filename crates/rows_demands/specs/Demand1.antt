@@ -1,24 +1,20 @@
 -- Demand 1 of each call over a mesh: its table of refusals, when it gives a value and which, and that a refusal changes no lent number but the scratch.
 -- It is said of the promises, of whatever size the mesh is.
-use Rattle.std.specs.Prelude.{ℕ, min, Bool, true, false, not, ◌||◌, ◌↔◌, ◌≡◌, refl, eqb, ltb, length}
+use Rattle.std.specs.Prelude.{ℕ, min, Bool, true, false, not, ◌||◌, ◌↔◌, ◌≡◌, refl, eqb, ltb, length, Result}
 use mathlib.Core.List.{List, [], ◌∷◌, map, Memᴰ}
 use Rattle.std.proofs.Common.{sym, ◌∙◌}
 use Rattle.std.proofs.Math.Path.{ap}
 use Rattle.meaning.specs.Scene.{Scene, edge_count}
-use Rattle.meaning.specs.Refusals.{Outcome, given, refused, Check, scene_says}
-use Rattle.meaning.specs.List.{list_says, leaves}
+use Rattle.meaning.specs.Refusals.{Outcome, given, refused, Check, outcome_alone, outcome_of}
+use Rattle.meaning.specs.List.{leaves}
 use Rattle.meaning.specs.SceneWords.{byte_of, AllSettled}
 use Rattle.meaning.specs.WholeContacts.{contact_room, word_of, rows_after}
 use Rattle.meaning.specs.Mesh.{table_room, MeshAccepted}
 use Rattle.meaning.specs.MeshRows.{Lent, no_order, row_count, rows_in, mesh_entries, RowsCounted, RowsListed, RowsSettled, RowsContacts}
-use Rattle.meaning.specs.MeshRows.{kept, kept_told, kept_says, RowsKept, ContactsKept}
+use Rattle.meaning.specs.MeshRows.{kept, kept_told, RowsKept, ContactsKept}
 use Rattle.meaning.specs.MeshEdges.{EdgesTold, edges_say, EdgesAre, EdgesChecked, edges_checks}
-use Rattle.meaning.specs.declared.EdgesAnswer.{EdgesAnswer}
-use Rattle.meaning.specs.declared.KeptAnswer.{KeptAnswer}
 use Rattle.meaning.specs.declared.KeptRows.{KeptRows}
-use Rattle.meaning.specs.declared.ListAnswer.{ListAnswer}
 use Rattle.meaning.specs.declared.RowPairs.{RowPairs}
-use Rattle.meaning.specs.declared.SceneAnswer.{SceneAnswer}
 use Rattle.meaning.specs.declared.Settled.{Settled}
 use Rattle.meaning.specs.declared.Wanted.{Wanted}
 use Rattle.answers.specs.Deciding.{Refuses, carried_by, NoneHolds, absent, distinct, refused_exactly, number_known, gives_exactly}
@@ -27,6 +23,9 @@ use Rattle.mesh_checks.specs.Meshes.{AcceptedMesh}
 use Rattle.mesh_edges.specs.Saying.{one_told}
 use Rattle.rows_demands.specs.Refused.{MeshRefusals, lent_checks, mesh_refusals, then_mesh}
 use Rattle.rows_demands.specs.Refused.{CountTable, RoomTable, RangeTable, count_table, room_table, range_table}
+use Rattle.meaning.specs.declared.Refusal.{Refusal}
+use Rattle.meaning.specs.declared.Refused.{Refused}
+use Rattle.meaning.specs.declared.EdgesFound.{EdgesFound}
 
 -- a table, and what is the same after a refusal
 pub record AsDemanded {A : Type 0} (Table : Outcome A → Type 0) (Same : Type 0) (o : Outcome A) : Type 0 where
@@ -52,15 +51,15 @@ pub record MeshTable (s : Scene) (table : ℕ) (o : Outcome (Unit {0})) : Type 0
   pub only : (n c : ℕ) → o ≡ refused n c → Memᴰ n (12 ∷ 1 ∷ 2 ∷ 3 ∷ 15 ∷ 4 ∷ [])
   pub gives : (o ≡ given tt) ↔ ((ltb table (table_room s) ≡ false) × AcceptedMesh s)
 
-pub demand1_mesh : (s : Scene) (table : ℕ) (r : SceneAnswer) → MeshAccepted s table r → MeshTable s table (scene_says r)
+pub demand1_mesh : (s : Scene) (table : ℕ) (r : Result (Unit {0}) Refusal) → MeshAccepted s table r → MeshTable s table (outcome_alone r)
 unfolding absent distinct NoneHolds
 demand1_mesh s table r p =
     let Fine : Unit {0} → Type 0 = λ t. Unit {0} in
     let short = ltb table (table_room s) in
-    let told = gives_exactly Fine (λ a b h k. refl) (lent_checks short s []) (scene_says r) p tt in
+    let told = gives_exactly Fine (λ a b h k. refl) (lent_checks short s []) (outcome_alone r) p tt in
     record {
-      refusals = mesh_refusals Fine short s [] (scene_says r) refl p;
-      only = number_known Fine (lent_checks short s []) (scene_says r) p;
+      refusals = mesh_refusals Fine short s [] (outcome_alone r) refl p;
+      only = number_known Fine (lent_checks short s []) (outcome_alone r) p;
       gives = (
         λ e. let (h, (a, _)) = then_mesh.0 (told.0 e).0 in (h, a),
         λ h. told.1 (then_mesh.1 (h.0, (h.1, tt)), tt),
@@ -82,7 +81,7 @@ pub record EdgesTable (s : Scene) (sides order : List ℕ) (table places : ℕ) 
   pub gives : (t : EdgesTold) → (o ≡ given t)
       ↔ ((edges_short s table places ≡ false) × (AcceptedMesh s × ((no_certificate s sides order ≡ false) × EdgesAre s sides order t)))
 
-pub demand1_edges : (s : Scene) (sides order : List ℕ) (table places : ℕ) (r : EdgesAnswer) → EdgesChecked s sides order table places r
+pub demand1_edges : (s : Scene) (sides order : List ℕ) (table places : ℕ) (r : Result EdgesFound Refusal) → EdgesChecked s sides order table places r
     → EdgesTable s sides order table places (edges_say r)
 unfolding Refuses carried_by absent distinct NoneHolds
 demand1_edges s sides order table places r p =
@@ -107,31 +106,31 @@ module _ (w : RowPairs) (s : Scene) (l : Lent) (first end : ℕ) where
   abbrev Pairs : ℕ
   Pairs = length (rows_in w s first end)
 
-  pub demand1_count : (r : ListAnswer) → RowsCounted w s l first end r → CountTable (Equals Pairs) s l (row_count s) first end (list_says r)
-  demand1_count r p = count_table (Equals Pairs) (equals_one Pairs) s l (row_count s) first end (list_says r) p
+  pub demand1_count : (r : Result ℕ Refused) → RowsCounted w s l first end r → CountTable (Equals Pairs) s l (row_count s) first end (outcome_of r)
+  demand1_count r p = count_table (Equals Pairs) (equals_one Pairs) s l (row_count s) first end (outcome_of r) p
 
-  pub demand1_list : (o o' : List ℕ) (r : ListAnswer) → RowsListed w s l first end o o' r
-      → AsDemanded (RoomTable (Equals Pairs) s l (row_count s) first end (length o) Pairs) (o' ≡ o) (list_says r)
+  pub demand1_list : (o o' : List ℕ) (r : Result ℕ Refused) → RowsListed w s l first end o o' r
+      → AsDemanded (RoomTable (Equals Pairs) s l (row_count s) first end (length o) Pairs) (o' ≡ o) (outcome_of r)
   demand1_list o o' r p =
       record {
-        table = room_table (Equals Pairs) (equals_one Pairs) s l (row_count s) first end (list_says r) (length o) Pairs p.answer;
+        table = room_table (Equals Pairs) (equals_one Pairs) s l (row_count s) first end (outcome_of r) (length o) Pairs p.answer;
         unchanged = λ n c e. left_alone e (mesh_entries (rows_in w s first end)) p.list;
       }
 
-  pub demand1_settle : (o o' b b' : List ℕ) (r : ListAnswer) → RowsSettled w s l first end o o' b b' r
-      → AsDemanded (RoomTable (Equals Pairs) s l (row_count s) first end (min (length o) (length b)) Pairs) ((o' ≡ o) × (b' ≡ b)) (list_says r)
+  pub demand1_settle : (o o' b b' : List ℕ) (r : Result ℕ Refused) → RowsSettled w s l first end o o' b b' r
+      → AsDemanded (RoomTable (Equals Pairs) s l (row_count s) first end (min (length o) (length b)) Pairs) ((o' ≡ o) × (b' ≡ b)) (outcome_of r)
   demand1_settle o o' b b' r p =
       record {
-        table = room_table (Equals Pairs) (equals_one Pairs) s l (row_count s) first end (list_says r) (min (length o) (length b)) Pairs p.answer;
+        table = room_table (Equals Pairs) (equals_one Pairs) s l (row_count s) first end (outcome_of r) (min (length o) (length b)) Pairs p.answer;
         unchanged = λ n c e. (left_alone e (mesh_entries (rows_in w s first end)) p.list, left_alone e (map byte_of p.words) p.bytes);
       }
 
-  pub demand1_contacts : (o o' b b' c c' : List ℕ) (r : ListAnswer) → RowsContacts w s l first end o o' b b' c c' r
-      → AsDemanded (RangeTable (Equals Pairs) s l (row_count s) first end (contact_room o b c) Pairs) ((o' ≡ o) × (b' ≡ b) × (c' ≡ c)) (list_says r)
+  pub demand1_contacts : (o o' b b' c c' : List ℕ) (r : Result ℕ Refused) → RowsContacts w s l first end o o' b b' c c' r
+      → AsDemanded (RangeTable (Equals Pairs) s l (row_count s) first end (contact_room o b c) Pairs) ((o' ≡ o) × (b' ≡ b) × (c' ≡ c)) (outcome_of r)
   unfolding rows_after
   demand1_contacts o o' b b' c c' r p =
       record {
-        table = range_table (Equals Pairs) (equals_one Pairs) s l (row_count s) first end (list_says r) (contact_room o b c) Pairs p.answer;
+        table = range_table (Equals Pairs) (equals_one Pairs) s l (row_count s) first end (outcome_of r) (contact_room o b c) Pairs p.answer;
         unchanged = λ n d e. (
           left_alone e (mesh_entries (rows_in w s first end)) p.list,
           left_alone e (map (λ m. byte_of (word_of m)) p.contacts) p.bytes,
@@ -151,13 +150,13 @@ module _ (w : RowPairs) (m : Wanted) (s : Scene) (l : Lent) (first end : ℕ) (w
   abbrev Met : ℕ → Outcome KeptRows → Type 0
   Met room = RangeTable Wants s l (row_count s) first end room (length (kept m ws ws))
 
-  pub demand1_keep : (o o' b b' : List ℕ) (r : KeptAnswer) → RowsKept w m s l first end o o' b b' r
-      → AsDemanded (Fits (min (length o) (length b))) ((o' ≡ o) × (b' ≡ b)) (kept_says r)
+  pub demand1_keep : (o o' b b' : List ℕ) (r : Result KeptRows Refused) → RowsKept w m s l first end o o' b b' r
+      → AsDemanded (Fits (min (length o) (length b))) ((o' ≡ o) × (b' ≡ b)) (outcome_of r)
   demand1_keep o o' b b' r p =
       let same = all_judged_one s (rows_in w s first end) p.words ws p.right judged in
       record {
         table =
-            room_table Wants (equals_one (kept_told m ws)) s l (row_count s) first end (kept_says r) (min (length o) (length b)) (length (kept m ws ws))
+            room_table Wants (equals_one (kept_told m ws)) s l (row_count s) first end (outcome_of r) (min (length o) (length b)) (length (kept m ws ws))
             (rw same at p.answer);
         unchanged = λ n c e. (
           left_alone e (mesh_entries (kept m p.words (rows_in w s first end))) p.list,
@@ -165,14 +164,14 @@ module _ (w : RowPairs) (m : Wanted) (s : Scene) (l : Lent) (first end : ℕ) (w
         );
       }
 
-  pub demand1_keep_contacts : (o o' b b' c c' : List ℕ) (r : KeptAnswer) → ContactsKept w m s l first end o o' b b' c c' r
-      → AsDemanded (Met (contact_room o b c)) ((o' ≡ o) × (b' ≡ b) × (c' ≡ c)) (kept_says r)
+  pub demand1_keep_contacts : (o o' b b' c c' : List ℕ) (r : Result KeptRows Refused) → ContactsKept w m s l first end o o' b b' c c' r
+      → AsDemanded (Met (contact_room o b c)) ((o' ≡ o) × (b' ≡ b) × (c' ≡ c)) (outcome_of r)
   unfolding rows_after
   demand1_keep_contacts o o' b b' c c' r p =
       let same = all_judged_one s (rows_in w s first end) p.words ws p.right judged in
       record {
         table =
-            range_table Wants (equals_one (kept_told m ws)) s l (row_count s) first end (kept_says r) (contact_room o b c) (length (kept m ws ws))
+            range_table Wants (equals_one (kept_told m ws)) s l (row_count s) first end (outcome_of r) (contact_room o b c) (length (kept m ws ws))
             (rw same at p.answer);
         unchanged = λ n d e. (
           left_alone e (mesh_entries (kept m p.words (rows_in w s first end))) p.list,

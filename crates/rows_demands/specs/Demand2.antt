@@ -1,7 +1,7 @@
 -- Demand 2 of meshes, of whatever size: a stretch of rows holds exactly the pairs without a shared vertex whose swept boxes meet, in order, and near rows those
 -- that are not far; every verdict and word is as demanded; what rows leave out touches in no piece and at no time; and what a call leaves in lent lists is
 -- each pair's entry and word.
-use Rattle.std.specs.Prelude.{ℕ, ◌≤◌, ◌<◌, true, false, ◌↔◌, ◌≡◌, ltb, length}
+use Rattle.std.specs.Prelude.{ℕ, ◌≤◌, ◌<◌, true, false, ◌↔◌, ◌≡◌, ltb, length, Result}
 use Rattle.std.proofs.Common.{true≢false, ⊎_elim, sym, ◌∙◌, arith, ltb-false}
 use mathlib.Core.List.{List, map}
 use Rattle.std.proofs.Math.Path.{ap}
@@ -12,14 +12,13 @@ use Rattle.sequences.specs.Mapped.{map_at}
 use Rattle.sequences.specs.Pick.{either}
 use Rattle.sequences.specs.Wrote.{written_in_front}
 use Rattle.meaning.specs.Scene.{Scene}
-use Rattle.meaning.specs.Refusals.{Outcome, given, shares}
+use Rattle.meaning.specs.Refusals.{Outcome, given, shares, outcome_of}
 use Rattle.meaning.specs.Near.{far}
-use Rattle.meaning.specs.List.{Pair, list_says, leaves}
+use Rattle.meaning.specs.List.{Pair, leaves}
 use Rattle.meaning.specs.Resting.{PairSettled}
 use Rattle.meaning.specs.SceneWords.{byte_of}
 use Rattle.meaning.specs.MeshRows.{Lent, row_test, row_count, rows_in, mesh_number, mesh_entries, RowsSettled}
 use Rattle.meaning.specs.declared.Kind.{Kind}
-use Rattle.meaning.specs.declared.ListAnswer.{ListAnswer}
 use Rattle.meaning.specs.declared.RowPairs.{RowPairs}
 use Rattle.meaning.specs.declared.RowPairs.TheVariants.{Listed, Near}
 use Rattle.meaning.specs.declared.Settled.{Settled}
@@ -37,6 +36,7 @@ use Rattle.demands.specs.Demand2.{VerdictsAsDemanded, demand2_verdicts, ListAsDe
 use Rattle.rows_demands.specs.Refused.{RowsAsked}
 use Rattle.rows_demands.specs.Demand1.{demand1_settle}
 use Rattle.rows_demands.specs.Stretches.{InStretch, row_there, stretch_is, stretch_only, stretch_once, NearPair, near_asked}
+use Rattle.meaning.specs.declared.Refused.{Refused}
 
 -- ---- what rows leave out
 
@@ -124,13 +124,13 @@ byte_of_word s q n is v = (
   λ h. is ∙ ap byte_of (sym ((pair_word_is s q.kind q.first q.second v).0 h)),
 )
 
-pub demand2_settled : (w : RowPairs) (s : Scene) (l : Lent) (first end : ℕ) (o o' b b' : List ℕ) (r : ListAnswer) → RowsSettled w s l first end o o' b b' r
-    → (n : ℕ) → list_says r ≡ given n → SettledAsDemanded w s l first end o' b'
+pub demand2_settled : (w : RowPairs) (s : Scene) (l : Lent) (first end : ℕ) (o o' b b' : List ℕ) (r : Result ℕ Refused) → RowsSettled w s l first end o o' b b' r
+    → (n : ℕ) → outcome_of r ≡ given n → SettledAsDemanded w s l first end o' b'
 demand2_settled w s l first end o o' b b' r p n e =
     let stretch = rows_in w s first end in
     let asked = (((demand1_settle w s l first end o o' b b' r p).table.gives n).0 e).0 in
     let words = all_judged_one s stretch p.words (words_of s stretch) p.right (all_judged s stretch) in
-    let bytes : b' ≡ leaves (list_says r) (bytes_of s stretch) b = p.bytes ∙ ap (λ (ws : List Settled). leaves (list_says r) (map byte_of ws) b) words in
+    let bytes : b' ≡ leaves (outcome_of r) (bytes_of s stretch) b = p.bytes ∙ ap (λ (ws : List Settled). leaves (outcome_of r) (map byte_of ws) b) words in
     record {
       asked = asked;
       rows = demand2_rows w s first end (rows_there asked).1;

@@ -1,7 +1,7 @@
 -- Of a stretch of rows the pairs whose words are asked for: exactly these are kept, in the list's order, each with its entry and its word, and the totals are
 -- those of the whole stretch. What is kept of neighbouring stretches, joined, is what is kept of the whole, and the totals add up: so threads and farms take
 -- stretches.
-use Rattle.std.specs.Prelude.{ℕ, suc, ◌+◌, ◌≤◌, ◌<◌, Bool, true, false, ◌↔◌, ◌≡◌, refl, length, get_or}
+use Rattle.std.specs.Prelude.{ℕ, suc, ◌+◌, ◌≤◌, ◌<◌, Bool, true, false, ◌↔◌, ◌≡◌, refl, length, get_or, Result}
 use Rattle.std.proofs.Common.{true≢false, ⊎_elim, sym, ap, ◌∙◌, subst, arith, length-append}
 use mathlib.Core.List.Memᴰ
 use mathlib.Core.List.{List, [], ◌∷◌, ◌++◌, map, Memᴰ}
@@ -11,13 +11,12 @@ use Rattle.sequences.specs.Mapped.{map_at}
 use Rattle.sequences.specs.Pick.{pick}
 use Rattle.sequences.specs.Rising.{Rising}
 use Rattle.meaning.specs.Scene.{Scene}
-use Rattle.meaning.specs.Refusals.{given}
+use Rattle.meaning.specs.Refusals.{given, outcome_of}
 use Rattle.meaning.specs.List.{Pair, leaves}
 use Rattle.meaning.specs.Report.{how_many}
 use Rattle.meaning.specs.Resting.{PairSettled}
 use Rattle.meaning.specs.SceneWords.{byte_of, AllSettled}
-use Rattle.meaning.specs.MeshRows.{Lent, row_count, rows_in, mesh_number, mesh_entries, wants_word, kept, kept_told, kept_says, RowsKept}
-use Rattle.meaning.specs.declared.KeptAnswer.{KeptAnswer}
+use Rattle.meaning.specs.MeshRows.{Lent, row_count, rows_in, mesh_number, mesh_entries, wants_word, kept, kept_told, RowsKept}
 use Rattle.meaning.specs.declared.KeptRows.{KeptRows}
 use Rattle.meaning.specs.declared.RowPairs.{RowPairs}
 use Rattle.meaning.specs.declared.Settled.{Settled}
@@ -32,6 +31,7 @@ use Rattle.rows_demands.specs.Refused.{RowsAsked}
 use Rattle.rows_demands.specs.Demand1.{demand1_keep}
 use Rattle.rows_demands.specs.Demand2.{rows_there, stands_in_front, byte_of_word}
 use Rattle.rows_demands.specs.Stretches.{InStretch, stretch_is}
+use Rattle.meaning.specs.declared.Refused.{Refused}
 
 -- exactly those of a list whose word is asked for are kept
 pub kept_members : (s : Scene) (m : Wanted) (l : List Pair) (ws : List Settled) → AllSettled s l ws → (p : Pair)
@@ -124,18 +124,18 @@ pub record KeptAsDemanded (w : RowPairs) (m : Wanted) (s : Scene) (l : Lent) (fi
       (get_or (kept m ws (rows_in w s first end)) k no_pair).second v
 
 pub demand2_kept : (w : RowPairs) (m : Wanted) (s : Scene) (l : Lent) (first end : ℕ) (ws : List Settled) → AllSettled s (rows_in w s first end) ws
-    → (o o' b b' : List ℕ) (r : KeptAnswer) → RowsKept w m s l first end o o' b b' r → (t : KeptRows) → kept_says r ≡ given t
+    → (o o' b b' : List ℕ) (r : Result KeptRows Refused) → RowsKept w m s l first end o o' b b' r → (t : KeptRows) → outcome_of r ≡ given t
     → KeptAsDemanded w m s l first end ws o' b' t
 demand2_kept w m s l first end ws judged o o' b b' r p t e =
     let same = all_judged_one s (rows_in w s first end) p.words ws p.right judged in
     let (asked, (_, told)) = ((demand1_keep w m s l first end ws judged o o' b b' r p).table.gives t).0 e in
     let here = kept m ws (rows_in w s first end) in
-    let list : o' ≡ leaves (kept_says r) (mesh_entries here) o =
-    p.list ∙ ap (λ (vs : List Settled). leaves (kept_says r) (mesh_entries (kept m vs (rows_in w s first end))) o) same in
-    let bytes : b' ≡ leaves (kept_says r) (bytes_of s here) b =
+    let list : o' ≡ leaves (outcome_of r) (mesh_entries here) o =
+    p.list ∙ ap (λ (vs : List Settled). leaves (outcome_of r) (mesh_entries (kept m vs (rows_in w s first end))) o) same in
+    let bytes : b' ≡ leaves (outcome_of r) (bytes_of s here) b =
     p.bytes
-    ∙ ap (λ (vs : List Settled). leaves (kept_says r) (map byte_of (kept m vs vs)) b) same
-    ∙ ap (λ (vs : List Settled). leaves (kept_says r) (map byte_of vs) b) (kept_judged s m (rows_in w s first end) ws judged) in
+    ∙ ap (λ (vs : List Settled). leaves (outcome_of r) (map byte_of (kept m vs vs)) b) same
+    ∙ ap (λ (vs : List Settled). leaves (outcome_of r) (map byte_of vs) b) (kept_judged s m (rows_in w s first end) ws judged) in
     record {
       asked = asked;
       exactly = kept_is w m s first end (rows_there asked).1 ws judged;

@@ -1,14 +1,13 @@
 -- Whoever asks for hits and touches alone hears of near rows what is heard of all rows: the same entries and words and contacts are written, the same refusal
 -- is given, and as many are kept, are hits and are touches.
-use Rattle.std.specs.Prelude.{ℕ, min, false, List, [], ◌∷◌, map, ◌≡◌, refl, length}
+use Rattle.std.specs.Prelude.{ℕ, min, false, List, [], ◌∷◌, map, ◌≡◌, refl, length, Result}
 use Rattle.std.proofs.Common.{sym, ap, ◌∙◌, subst}
 use Rattle.meaning.specs.Scene.{Scene}
-use Rattle.meaning.specs.Refusals.{Outcome, given, refused, Check, Answers, room_check}
+use Rattle.meaning.specs.Refusals.{Outcome, given, refused, Check, Answers, room_check, outcome_of}
 use Rattle.meaning.specs.List.{Pair, leaves}
 use Rattle.meaning.specs.SceneWords.{byte_of}
 use Rattle.meaning.specs.WholeContacts.{range_check, contact_room, rows_after}
-use Rattle.meaning.specs.MeshRows.{Lent, row_count, row_checks, rows_in, mesh_entries, kept, kept_told, kept_says, RowsKept, ContactsKept}
-use Rattle.meaning.specs.declared.KeptAnswer.{KeptAnswer}
+use Rattle.meaning.specs.MeshRows.{Lent, row_count, row_checks, rows_in, mesh_entries, kept, kept_told, RowsKept, ContactsKept}
 use Rattle.meaning.specs.declared.KeptRows.{KeptRows}
 use Rattle.meaning.specs.declared.RowPairs.TheVariants.{Listed, Near}
 use Rattle.meaning.specs.declared.Settled.{Settled}
@@ -17,6 +16,7 @@ use Rattle.meaning.specs.declared.WholeContact.{WholeContact}
 use Rattle.answers.specs.Answering.{holds_or_not, is_refused, is_past}
 use Rattle.contact_entries.specs.Listed.{contacts_of, all_met_one}
 use Rattle.near_laws.specs.Rows.{SaysTheSame, near_says_the_same}
+use Rattle.meaning.specs.declared.Refused.{Refused}
 
 -- ---- two calls with the same checks are refused alike, or both give what is right
 
@@ -74,8 +74,8 @@ module _ (m : Wanted) (no_miss : m.miss ≡ false) (no_apart : m.apart ≡ false
       (subst (λ (n : ℕ). Answers (checks n) (λ t. t ≡ kept_told m ws) x) (ap length e.words) p)
       q
 
-  pub near_keeps_the_same : (o o' o'' b b' b'' : List ℕ) (r r' : KeptAnswer) → RowsKept Listed m s l first end o o' b b' r
-      → RowsKept Near m s l first end o o'' b b'' r' → HeardTheSame (kept_says r) (kept_says r') × (o' ≡ o'') × (b' ≡ b'')
+  pub near_keeps_the_same : (o o' o'' b b' b'' : List ℕ) (r r' : Result KeptRows Refused) → RowsKept Listed m s l first end o o' b b' r
+      → RowsKept Near m s l first end o o'' b b'' r' → HeardTheSame (outcome_of r) (outcome_of r') × (o' ≡ o'') × (b' ≡ b'')
   near_keeps_the_same o o' o'' b b' b'' r r' p q =
       let e = near_says_the_same s m first end no_miss no_apart p.right q.right in
       let alike =
@@ -83,16 +83,16 @@ module _ (m : Wanted) (no_miss : m.miss ≡ false) (no_apart : m.apart ≡ false
         heard e alike,
         p.list
             ∙ left_alike alike (mesh_entries (kept m p.words (rows_in Listed s first end))) o
-            ∙ ap (λ (ps : List Pair). leaves (kept_says r') (mesh_entries ps) o) e.pairs
+            ∙ ap (λ (ps : List Pair). leaves (outcome_of r') (mesh_entries ps) o) e.pairs
             ∙ sym q.list,
         p.bytes
             ∙ left_alike alike (map byte_of (kept m p.words p.words)) b
-            ∙ ap (λ (ws : List Settled). leaves (kept_says r') (map byte_of ws) b) e.words
+            ∙ ap (λ (ws : List Settled). leaves (outcome_of r') (map byte_of ws) b) e.words
             ∙ sym q.bytes,
       )
 
-  pub near_meets_the_same : (o o' o'' b b' b'' c c' c'' : List ℕ) (r r' : KeptAnswer) → ContactsKept Listed m s l first end o o' b b' c c' r
-      → ContactsKept Near m s l first end o o'' b b'' c c'' r' → HeardTheSame (kept_says r) (kept_says r') × (o' ≡ o'') × (b' ≡ b'') × (c' ≡ c'')
+  pub near_meets_the_same : (o o' o'' b b' b'' c c' c'' : List ℕ) (r r' : Result KeptRows Refused) → ContactsKept Listed m s l first end o o' b b' c c' r
+      → ContactsKept Near m s l first end o o'' b b'' c c'' r' → HeardTheSame (outcome_of r) (outcome_of r') × (o' ≡ o'') × (b' ≡ b'') × (c' ≡ c'')
   near_meets_the_same o o' o'' b b' b'' c c' c'' r r' p q =
       let e = near_says_the_same s m first end no_miss no_apart p.right q.right in
       let alike =
@@ -104,11 +104,11 @@ module _ (m : Wanted) (no_miss : m.miss ≡ false) (no_apart : m.apart ≡ false
         heard e alike,
         p.list
             ∙ left_alike alike (mesh_entries (kept m p.words (rows_in Listed s first end))) o
-            ∙ ap (λ (ps : List Pair). leaves (kept_says r') (mesh_entries ps) o) e.pairs
+            ∙ ap (λ (ps : List Pair). leaves (outcome_of r') (mesh_entries ps) o) e.pairs
             ∙ sym q.list,
         p.bytes
             ∙ left_alike alike (map byte_of (kept m p.words p.words)) b
-            ∙ ap (λ (ws : List Settled). leaves (kept_says r') (map byte_of ws) b) e.words
+            ∙ ap (λ (ws : List Settled). leaves (outcome_of r') (map byte_of ws) b) e.words
             ∙ sym q.bytes,
-        p.rows ∙ rows_alike alike p.contacts c ∙ ap (λ (ms : List WholeContact). rows_after (kept_says r') ms c) met ∙ sym q.rows,
+        p.rows ∙ rows_alike alike p.contacts c ∙ ap (λ (ms : List WholeContact). rows_after (outcome_of r') ms c) met ∙ sym q.rows,
       )

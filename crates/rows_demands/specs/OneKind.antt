@@ -1,14 +1,12 @@
 -- A call over rows of vertices that is lent the mesh without its edges, and one over rows of edges without its triangles, has the result of the call that is lent
 -- the whole mesh: the answer with its count, 7 and 16 too, and every lent number but the scratch. And the mesh without them is accepted where the whole is.
-use Rattle.std.specs.Prelude.{ℕ, ◌%◌, Bool, true, false, not, ◌||◌, List, [], ◌≡◌, refl, ltb, eqb, length}
+use Rattle.std.specs.Prelude.{ℕ, ◌%◌, Bool, true, false, not, ◌||◌, List, [], ◌≡◌, refl, ltb, eqb, length, Result}
 use Rattle.sequences.specs.Pick.{neither}
 use Rattle.meaning.specs.Limits.{part_limit}
 use Rattle.meaning.specs.Scene.{Scene, vertex_count, edge_count, triangle_count, seam_count, some_below, uneven, unknown_in, twice_in_edge, twice_in_triangle}
 use Rattle.meaning.specs.Refusals.{Outcome, Check, Answers}
 use Rattle.meaning.specs.Mesh.{over_mesh_size}
 use Rattle.meaning.specs.MeshRows.{Lent, row_count, row_checks, RowsCounted, RowsListed, RowsSettled, RowsContacts, RowsKept, ContactsKept}
-use Rattle.meaning.specs.declared.KeptAnswer.{KeptAnswer}
-use Rattle.meaning.specs.declared.ListAnswer.{ListAnswer}
 use Rattle.meaning.specs.declared.RowPairs.{RowPairs}
 use Rattle.meaning.specs.declared.Wanted.{Wanted}
 use Rattle.mesh_checks.specs.Meshes.{AcceptedMesh}
@@ -16,6 +14,8 @@ use Rattle.rows_demands.specs.OfKind.{with_edges, with_triangles, SameRows}
 use Rattle.rows_demands.specs.Carried.{Carry, carried_counted, carried_listed, carried_settled, carried_contacts, carried_kept, carried_kept_contacts}
 use Rattle.rows_demands.specs.Refused.{RowsAsked}
 use Rattle.rows_demands.specs.Shown.{asked_answers}
+use Rattle.meaning.specs.declared.KeptRows.{KeptRows}
+use Rattle.meaning.specs.declared.Refused.{Refused}
 
 -- ---- a mesh without the parts of a kind is accepted where the whole is
 
@@ -90,26 +90,26 @@ module _ {w : RowPairs} {s s' : Scene} {first end : ℕ} (same : SameRows w s s'
   carry : Carry s s' l l' first end
   carry = record { over = λ R more o p. asked_answers R more o here (asked_decided R more o there p) }
 
-  pub counted_of_kind : (r r' : ListAnswer) → RowsCounted w s l first end r → RowsCounted w s' l' first end r' → r ≡ r'
+  pub counted_of_kind : (r r' : Result ℕ Refused) → RowsCounted w s l first end r → RowsCounted w s' l' first end r' → r ≡ r'
   counted_of_kind = carried_counted same carry
 
-  pub listed_of_kind : (o o' o'' : List ℕ) (r r' : ListAnswer) → RowsListed w s l first end o o' r → RowsListed w s' l' first end o o'' r'
+  pub listed_of_kind : (o o' o'' : List ℕ) (r r' : Result ℕ Refused) → RowsListed w s l first end o o' r → RowsListed w s' l' first end o o'' r'
       → (r ≡ r') × (o' ≡ o'')
   listed_of_kind = carried_listed same carry
 
-  pub settled_of_kind : (o o' o'' b b' b'' : List ℕ) (r r' : ListAnswer) → RowsSettled w s l first end o o' b b' r
+  pub settled_of_kind : (o o' o'' b b' b'' : List ℕ) (r r' : Result ℕ Refused) → RowsSettled w s l first end o o' b b' r
       → RowsSettled w s' l' first end o o'' b b'' r' → (r ≡ r') × (o' ≡ o'') × (b' ≡ b'')
   settled_of_kind = carried_settled same carry
 
-  pub contacts_of_kind : (o o' o'' b b' b'' c c' c'' : List ℕ) (r r' : ListAnswer) → RowsContacts w s l first end o o' b b' c c' r
+  pub contacts_of_kind : (o o' o'' b b' b'' c c' c'' : List ℕ) (r r' : Result ℕ Refused) → RowsContacts w s l first end o o' b b' c c' r
       → RowsContacts w s' l' first end o o'' b b'' c c'' r' → (r ≡ r') × (o' ≡ o'') × (b' ≡ b'') × (c' ≡ c'')
   contacts_of_kind = carried_contacts same carry
 
   module _ (m : Wanted) where
-    pub kept_of_kind : (o o' o'' b b' b'' : List ℕ) (r r' : KeptAnswer) → RowsKept w m s l first end o o' b b' r
+    pub kept_of_kind : (o o' o'' b b' b'' : List ℕ) (r r' : Result KeptRows Refused) → RowsKept w m s l first end o o' b b' r
         → RowsKept w m s' l' first end o o'' b b'' r' → (r ≡ r') × (o' ≡ o'') × (b' ≡ b'')
     kept_of_kind = carried_kept same carry m
 
-    pub kept_contacts_of_kind : (o o' o'' b b' b'' c c' c'' : List ℕ) (r r' : KeptAnswer) → ContactsKept w m s l first end o o' b b' c c' r
+    pub kept_contacts_of_kind : (o o' o'' b b' b'' c c' c'' : List ℕ) (r r' : Result KeptRows Refused) → ContactsKept w m s l first end o o' b b' c c' r
         → ContactsKept w m s' l' first end o o'' b b'' c c'' r' → (r ≡ r') × (o' ≡ o'') × (b' ≡ b'') × (c' ≡ c'')
     kept_contacts_of_kind = carried_kept_contacts same carry m

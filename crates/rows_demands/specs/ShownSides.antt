@@ -1,15 +1,15 @@
 -- Edges that are whole, and orders that are taken, shown of two triangles that share an edge, all in one place: sides 0 1 and 3 2 share no vertex, and their ee
 -- pair stands in the list once; and of two orders of the edges, one the other backwards.
-use Rattle.std.specs.Prelude.{ℕ, zero, suc, ◌<◌, false, List, [], ◌∷◌, ◌≡◌, refl, ℤ, pos, replicate}
+use Rattle.std.specs.Prelude.{ℕ, zero, suc, ◌<◌, false, List, [], ◌∷◌, ◌≡◌, refl, ℤ, pos, replicate, Ok}
 use Rattle.std.proofs.Common.{arith}
 use Rattle.meaning.specs.Scene.{Scene, scene_of, stood_for, some_below}
 use Rattle.meaning.specs.Refusals.{given, Answers}
 use Rattle.meaning.specs.MeshEdges.{whole, edges_say, bare_side, ends_fall, EdgesAre, EdgesChecked}
 use Rattle.meaning.specs.MeshRows.{Lent}
-use Rattle.meaning.specs.declared.EdgesAnswer as EdgesAnswers
 use Rattle.mesh_checks.specs.Meshes.{AcceptedMesh}
 use Rattle.rows_demands.specs.AnyLent.{Taken}
 use Rattle.rows_demands.specs.Shown.{accepted_answers}
+use Rattle.meaning.specs.declared.EdgesFound.TheVariants.{Whole}
 
 -- triangles 0 1 2 and 2 1 3; two of the five edges are written from their higher end
 abbrev pub two_triangles : Scene
@@ -45,7 +45,7 @@ ends_rise (suc (suc zero)) h = refl
 ends_rise (suc (suc (suc zero))) h = refl
 ends_rise (suc (suc (suc (suc i)))) h = absurd (omega arith)
 
-pub triangles_whole : EdgesChecked two_triangles their_sides by_place 0 5 EdgesAnswers.TheVariants.Whole
+pub triangles_whole : EdgesChecked two_triangles their_sides by_place 0 5 (Ok Whole)
 unfolding Answers edges_say EdgesAre some_below
 triangles_whole =
     accepted_answers (EdgesAre two_triangles their_sides by_place) (record { number = 18; holds = false; carries = 0 } ∷ []) (given whole) refl triangles_accepted

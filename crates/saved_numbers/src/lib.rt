@@ -28,17 +28,10 @@ fn is_negative(positions: &[i32], i: usize) -> bool
 
 // A coordinate without its sign.
 fn size_of(positions: &[i32], i: usize) -> u64
-    requires { (i < length positions.now) × Coordinates positions.now }
+    requires { i < length positions.now }
     ensures { result ≡ nat_abs (get_or positions.now i (pos 0)) }
 {
-    let c = positions[i];
-    if c < 0 { (0 - c) as u64 } else { c as u64 }
-}
-
-fn wide(n: u16) -> u64
-    ensures { (result ≡ n) × (result < 65536) }
-{
-    n as u64
+    u64::from(positions[i].unsigned_abs())
 }
 
 // How many bytes the field of a coordinate has: its tab, its minus if it has one, its digits.
@@ -59,7 +52,7 @@ pub fn number_length(list: &[u16], i: usize) -> usize
     requires { i < length list.now }
     ensures { (result ≡ length (tab ∷ numeral (pos (get_or list.now i 0)))) × (result ≤ 6) }
 {
-    count_digits(wide(list[i])) + 1
+    count_digits(u64::from(list[i])) + 1
 }
 
 // One tab, and behind it the minus of a coordinate that has one.
@@ -93,5 +86,5 @@ pub fn put_number(out: &mut [u8], at: usize, list: &[u16], i: usize) -> usize
     ensures { Wrote out.old at (tab ∷ numeral (pos (get_or list.now i 0))) out.new result }
 {
     let next = put_byte(out, at, b'\t');
-    write_number(out, next, wide(list[i]))
+    write_number(out, next, u64::from(list[i]))
 }

@@ -1,9 +1,9 @@
 -- How long the text of a scene is: its fields, each with its tab, and a letter and an LF for each record.
 use Rattle.std.specs.Prelude.{ℕ, ◌+◌, ◌-◌, ◌*◌, ◌≤◌, ◌<◌, List, [], ◌∷◌, ◌++◌, map, ◌≡◌, refl, ℤ, pos, length, get_or, drop}
-use Rattle.std.proofs.Common.{sym, ap, ◌∙◌, arith, length-append, drop_of_length-le}
+use Rattle.std.proofs.Common.{ap, ◌∙◌, arith, length-append, drop_of_length-le}
 use Rattle.sequences.specs.Parts.{drop_next}
 use Rattle.sequences.specs.Flat.{flat_nil, flat_cons}
-use Rattle.meaning.specs.Text.{Entry, vertex, tab, line_feed, numeral, further, letter_of, numbers_of, line_of, text_of}
+use Rattle.meaning.specs.Text.{Entry, vertex, tab, line_feed, numeral, further, letter_of, numbers_of, line_of}
 use Rattle.meaning.specs.Saved.{vertices_in}
 use Rattle.saved_scene.specs.Rows.{field, three_fields, six_line, vertex_lines, two_line, three_line, pair_lines, triple_lines}
 

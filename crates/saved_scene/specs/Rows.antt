@@ -1,7 +1,7 @@
 -- The text of a scene, line by line as code writes it: the line of a record is its fields one behind the other, and the lines from a record
 -- on are its own and those from the next on.
-use Rattle.std.specs.Prelude.{ℕ, ◌+◌, ◌*◌, ◌/◌, ◌≤◌, ◌<◌, List, [], ◌∷◌, ◌++◌, map, ◌≡◌, refl, ℤ, pos, length, get_or, drop}
-use Rattle.std.proofs.Common.{append_assoc, append-nil, sym, ap, ◌∙◌, arith, length-append, drop_of_length-le}
+use Rattle.std.specs.Prelude.{ℕ, ◌+◌, ◌*◌, ◌/◌, ◌≤◌, ◌<◌, List, [], ◌∷◌, ◌++◌, map, ◌≡◌, ℤ, pos, length, get_or, drop}
+use Rattle.std.proofs.Common.{append_assoc, append-nil, sym, ap, ◌∙◌, arith, drop_of_length-le}
 use Rattle.sequences.specs.Parts.{drop_next}
 use Rattle.sequences.specs.Flat.{flat_nil, flat_cons, flat_append}
 use Rattle.meaning.specs.Scene.{vector_at}

@@ -1,6 +1,6 @@
 -- What an accepted scene has for its writer: even lists, no longer than their sizes, coordinates in their range; and how long its text is.
-use Rattle.std.specs.Prelude.{ℕ, ◌+◌, ◌*◌, ◌/◌, ◌≤◌, false, List, ◌++◌, ◌≡◌, length}
-use Rattle.std.proofs.Common.{ap, ◌∙◌, arith, length-append, ltb-false}
+use Rattle.std.specs.Prelude.{◌+◌, ◌*◌, ◌/◌, ◌≤◌, false, ◌++◌, ◌≡◌, length}
+use Rattle.std.proofs.Common.{ap, arith, length-append, ltb-false}
 use Rattle.meaning.specs.Limits.{vertex_limit, edge_limit, triangle_limit, seam_limit}
 use Rattle.meaning.specs.Scene.{Scene, Accepted, seam_count, wrong_shape}
 use Rattle.answers.specs.Below.{or_left, or_rest}

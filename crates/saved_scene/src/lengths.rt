@@ -14,10 +14,8 @@ fn coordinates_length(positions: &[i32]) -> usize
     ensures { (result ≡ fields_long positions.now) × (result ≤ 48 * vertex_limit) }
 {
     let mut total: usize = 0;
-    let mut i = 0;
-    while i < positions.len() {
+    for i in 0..positions.len() {
         total += coordinate_length(positions, i);
-        i += 1;
     }
     total
 }
@@ -27,10 +25,8 @@ fn numbers_length(list: &[u16]) -> usize
     ensures { (result ≡ numbers_long list.now) × (result ≤ 12 * edge_limit) }
 {
     let mut total: usize = 0;
-    let mut i = 0;
-    while i < list.len() {
+    for i in 0..list.len() {
         total += number_length(list, i);
-        i += 1;
     }
     total
 }

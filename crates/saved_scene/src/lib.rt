@@ -11,7 +11,7 @@ ghost use Rattle.sequences.specs.Wrote.{Wrote};
 ghost use Rattle.meaning.specs.Saved.{saved_text, Measured, Saved};
 
 use lengths::text_length;
-use meaning::{Refusal, SaveAnswer, SceneAnswer, TEXT_LIMIT};
+use meaning::{Refusal, Refused, TEXT_LIMIT};
 use rows::{put_pairs, put_triangles, put_vertices};
 
 // The text of an accepted scene, in front of a buffer that has room for it.
@@ -38,20 +38,15 @@ pub fn saved_length(
     edges: &[u16],
     triangles: &[u16],
     seams: &[u16],
-) -> SaveAnswer
+) -> Result<usize, Refused>
     ensures { Measured (scene_of positions.now edges.now triangles.now seams.now) result }
 {
-    match scene_checks::check_scene(positions, edges, triangles, seams) {
-        SceneAnswer::Refused(why) => SaveAnswer::Refused(why, 0),
-        SceneAnswer::Accepted => {
-            let length = text_length(positions, edges, triangles, seams);
-            if TEXT_LIMIT < length {
-                SaveAnswer::Refused(Refusal::LongText, 0)
-            } else {
-                SaveAnswer::Bytes(length)
-            }
-        }
+    scene_checks::check_scene(positions, edges, triangles, seams)?;
+    let length = text_length(positions, edges, triangles, seams);
+    if TEXT_LIMIT < length {
+        return Err(Refused::from(Refusal::LongText));
     }
+    Ok(length)
 }
 
 // The text, in front of a lent buffer: what the length is refused for, then 7.
@@ -61,18 +56,16 @@ pub fn save_scene(
     triangles: &[u16],
     seams: &[u16],
     text: &mut [u8],
-) -> SaveAnswer
+) -> Result<usize, Refused>
     ensures { Saved (scene_of positions.now edges.now triangles.now seams.now) text.old text.new result }
 {
-    match saved_length(positions, edges, triangles, seams) {
-        SaveAnswer::Refused(why, carried) => SaveAnswer::Refused(why, carried),
-        SaveAnswer::Bytes(length) => {
-            if text.len() < length {
-                SaveAnswer::Refused(Refusal::NoRoom, length)
-            } else {
-                write_text(text, positions, edges, triangles, seams);
-                SaveAnswer::Bytes(length)
-            }
-        }
+    let length = saved_length(positions, edges, triangles, seams)?;
+    if text.len() < length {
+        return Err(Refused {
+            why: Refusal::NoRoom,
+            carries: length,
+        });
     }
+    write_text(text, positions, edges, triangles, seams);
+    Ok(length)
 }

@@ -68,10 +68,8 @@ pub fn put_vertices(out: &mut [u8], at: usize, positions: &[i32]) -> usize
 {
     let count = positions.len() / 6;
     let mut next = at;
-    let mut k = 0;
-    while k < count {
+    for k in 0..count {
         next = put_vertex(out, next, positions, k);
-        k += 1;
     }
     next
 }
@@ -84,10 +82,8 @@ pub fn put_pairs(out: &mut [u8], at: usize, letter: u8, list: &[u16]) -> usize
 {
     let count = list.len() / 2;
     let mut next = at;
-    let mut k = 0;
-    while k < count {
+    for k in 0..count {
         next = put_pair(out, next, letter, list, k);
-        k += 1;
     }
     next
 }
@@ -100,10 +96,8 @@ pub fn put_triangles(out: &mut [u8], at: usize, list: &[u16]) -> usize
 {
     let count = list.len() / 3;
     let mut next = at;
-    let mut k = 0;
-    while k < count {
+    for k in 0..count {
         next = put_triangle(out, next, list, k);
-        k += 1;
     }
     next
 }

@@ -1,15 +1,15 @@
 -- The check of a scene makes the table of its seams: what each way out of it gives.
-use Rattle.std.specs.Prelude.{ℕ, false, List, ◌≡◌, length}
+use Rattle.std.specs.Prelude.{ℕ, false, List, ◌≡◌, length, Result}
 use Rattle.std.proofs.Common.{sym, ap, subst, arith, ltb-false}
 use Rattle.meaning.specs.Scene.{Scene, scene_of, Accepted, wrong_shape, unknown_vertex}
 use Rattle.meaning.specs.Refusals.{SceneChecked}
-use Rattle.meaning.specs.declared.SceneAnswer.{SceneAnswer}
 use Rattle.answers.specs.Below.{or_left, or_rest}
 use Rattle.scene_checks.specs.Facts.{none_over, known_inside}
 use Rattle.scene_seams.specs.Table.{seams_of}
 use Rattle.scene_seams.specs.Alone.{tabled}
 use Rattle.scene_seams.specs.Sewing.{Blank, Sewable}
 use Rattle.scene_checks.specs.Ways.{stitched_by, Way}
+use Rattle.meaning.specs.declared.Refusal.{Refusal}
 
 -- the seams are taken into the table once 1, 2 and 3 have passed
 abbrev pub stitched : Scene → List ℕ → List ℕ
@@ -32,7 +32,7 @@ pub from_table : {s : Scene} {t t' : List ℕ} (P : Scene → Type 0) → Stitch
 from_table P h a p = subst P (one_scene h a) p
 
 -- the answer is right, and the table is made
-pub record Checked (s : Scene) (t t' : List ℕ) (r : SceneAnswer) : Type 0 where
+pub record Checked (s : Scene) (t t' : List ℕ) (r : Result (Unit {0}) Refusal) : Type 0 where
   pub checked : SceneChecked s r
   pub into : Stitched s t t'
 
@@ -46,7 +46,7 @@ module _ (s : Scene) (t : List ℕ) where
   }
 
 -- each way out of the five checks (Ways)
-pub by_way : {s : Scene} {t t' : List ℕ} {r : SceneAnswer} → Way (wrong_shape s) s t t' r → Checked s t t' r
+pub by_way : {s : Scene} {t t' : List ℕ} {r : Result (Unit {0}) Refusal} → Way (wrong_shape s) s t t' r → Checked s t t' r
 by_way w = record {
   checked = w.checked;
   into = record { table = w.table; tells = λ a. w.tells a.shapely a.in_range a.known a.sewn_well };

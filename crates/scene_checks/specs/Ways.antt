@@ -1,15 +1,14 @@
 -- The ways out of the five checks that make the table of seams, whatever the first of them asks: a scene's size, or a mesh's. What each way gives.
-use Rattle.std.specs.Prelude.{ℕ, Bool, true, false, cond, ◌||◌, List, [], ◌∷◌, ◌≡◌, refl}
+use Rattle.std.specs.Prelude.{ℕ, Bool, true, false, cond, ◌||◌, List, [], ◌∷◌, ◌≡◌, refl, Err, Ok, Result}
 use Rattle.std.proofs.Common.{true≢false, sym, ◌∙◌, ap}
 use Rattle.meaning.specs.Scene.{Scene, scene_of, seam_count, out_of_range, unknown_vertex, broken_seam, repeated_vertex}
-use Rattle.meaning.specs.Refusals.{Check, Answers, scene_says, number_of}
+use Rattle.meaning.specs.Refusals.{Check, Answers, number_of, outcome_alone}
 use Rattle.meaning.specs.declared.Refusal.TheVariants.{Shape, Coordinate, UnknownVertex, RepeatedVertex, BrokenSeam}
-use Rattle.meaning.specs.declared.SceneAnswer as SceneAnswers
-use Rattle.meaning.specs.declared.SceneAnswer.{SceneAnswer}
 use Rattle.answers.specs.Answering.{refuses, lets_pass, gives}
 use Rattle.scene_seams.specs.Table.{seams_of}
 use Rattle.scene_seams.specs.Alone.{tabled}
 use Rattle.scene_seams.specs.Sewing.{Sewn, table_after}
+use Rattle.meaning.specs.declared.Refusal.{Refusal}
 
 -- 1, 2, 3, 15, 4, of which 1 is asked elsewhere
 abbrev pub checks_by : Bool → Scene → List Check
@@ -26,8 +25,8 @@ abbrev pub stitched_by : Bool → Scene → List ℕ → List ℕ
 stitched_by shape s t = cond (shape || out_of_range s || unknown_vertex s) t (table_after t s.seams (seam_count s))
 
 -- of an answer, and of a table that was t and is t': the answer is right, and the table has the seams where 1, 2, 3 and 15 pass
-pub record Way (shape : Bool) (s : Scene) (t t' : List ℕ) (r : SceneAnswer) : Type 0 where
-  pub checked : Answers (checks_by shape s) (λ u. Unit {0}) (scene_says r)
+pub record Way (shape : Bool) (s : Scene) (t t' : List ℕ) (r : Result (Unit {0}) Refusal) : Type 0 where
+  pub checked : Answers (checks_by shape s) (λ u. Unit {0}) (outcome_alone r)
   pub table : t' ≡ stitched_by shape s t
   pub tells : shape ≡ false → out_of_range s ≡ false → unknown_vertex s ≡ false → broken_seam s ≡ false → seams_of t' ≡ s.seams
 
@@ -39,8 +38,8 @@ module _ (shape : Bool) (s : Scene) (t : List ℕ) where
   early : shape || out_of_range s || unknown_vertex s ≡ true → t ≡ stitched_by shape s t
   early h = rw h
 
-  pub wrong_shape : shape ≡ true → Way shape s t t (SceneAnswers.TheVariants.Refused Shape)
-  unfolding scene_says number_of
+  pub wrong_shape : shape ≡ true → Way shape s t t (Err Shape)
+  unfolding outcome_alone number_of
   wrong_shape h = record {
     checked = refuses _ _ _ _ h refl;
     table = early (rw h);
@@ -48,8 +47,8 @@ module _ (shape : Bool) (s : Scene) (t : List ℕ) where
   }
 
   module _ (shapely : shape ≡ false) where
-    pub out_of_range_lem : out_of_range s ≡ true → Way shape s t t (SceneAnswers.TheVariants.Refused Coordinate)
-    unfolding scene_says number_of
+    pub out_of_range_lem : out_of_range s ≡ true → Way shape s t t (Err Coordinate)
+    unfolding outcome_alone number_of
     out_of_range_lem h = record {
       checked = lets_pass _ _ _ _ shapely (refuses _ _ _ _ h refl);
       table = early (rw (shapely, h));
@@ -57,8 +56,8 @@ module _ (shape : Bool) (s : Scene) (t : List ℕ) where
     }
 
     module _ (range : out_of_range s ≡ false) where
-      pub unknown_vertex_lem : unknown_vertex s ≡ true → Way shape s t t (SceneAnswers.TheVariants.Refused UnknownVertex)
-      unfolding scene_says number_of
+      pub unknown_vertex_lem : unknown_vertex s ≡ true → Way shape s t t (Err UnknownVertex)
+      unfolding outcome_alone number_of
       unknown_vertex_lem h = record {
         checked = lets_pass _ _ _ _ shapely (lets_pass _ _ _ _ range (refuses _ _ _ _ h refl));
         table = early (rw (shapely, range, h));
@@ -69,8 +68,8 @@ module _ (shape : Bool) (s : Scene) (t : List ℕ) where
         late : t' ≡ stitched_by shape s t
         late = rw (shapely, range, known) sewn.table
 
-        pub broken_seam_lem : broken ≡ true → Way shape s t t' (SceneAnswers.TheVariants.Refused BrokenSeam)
-        unfolding scene_says number_of
+        pub broken_seam_lem : broken ≡ true → Way shape s t t' (Err BrokenSeam)
+        unfolding outcome_alone number_of
         broken_seam_lem h = record {
           checked =
               lets_pass _ _ _ _ shapely
@@ -87,8 +86,8 @@ module _ (shape : Bool) (s : Scene) (t : List ℕ) where
           own : repeated_vertex s ≡ repeated
           own = sym (r ∙ ap (λ (w : List ℕ). repeated_vertex (scene_of [] s.edges s.triangles w)) (sewn.tells h))
 
-          pub repeated_vertex_lem : repeated ≡ true → Way shape s t t' (SceneAnswers.TheVariants.Refused RepeatedVertex)
-          unfolding scene_says number_of
+          pub repeated_vertex_lem : repeated ≡ true → Way shape s t t' (Err RepeatedVertex)
+          unfolding outcome_alone number_of
           repeated_vertex_lem q = record {
             checked =
                 lets_pass _ _ _ _ shapely
@@ -98,8 +97,8 @@ module _ (shape : Bool) (s : Scene) (t : List ℕ) where
             tells = λ a b c d. sewn.tells h;
           }
 
-          pub nothing_wrong : repeated ≡ false → Way shape s t t' SceneAnswers.TheVariants.Accepted
-          unfolding scene_says
+          pub nothing_wrong : repeated ≡ false → Way shape s t t' (Ok tt)
+          unfolding outcome_alone
           nothing_wrong q = record {
             checked =
                 lets_pass _ _ _ _ shapely

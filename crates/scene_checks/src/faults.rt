@@ -1,6 +1,6 @@
 // What the refusals 1, 2, 3 and 4 ask of the whole scene; 15 is decided as the table of seams is made.
 
-ghost use Rattle.std.specs.Prelude.{◌+◌, ◌-◌, ◌≤◌, ◌<◌, [], ◌≡◌, leb, pos, length, get_or};
+ghost use Rattle.std.specs.Prelude.{◌+◌, ◌-◌, ◌≤◌, ◌<◌, [], ◌≡◌, length};
 ghost use Rattle.meaning.specs.Scene.{scene_of, edge_count, triangle_count, some_below, wrong_shape, outside, out_of_range};
 ghost use Rattle.meaning.specs.Scene.{unknown_in, unknown_vertex, twice_in_edge, twice_in_triangle, repeated_vertex};
 ghost use Rattle.scene_seams.specs.Alone.{only_positions, only_edges, only_triangles, edges_sewn, triangles_sewn, tabled};
@@ -33,43 +33,32 @@ pub fn wrong_shape(positions: &[i32], edges: &[u16], triangles: &[u16], seams: &
 }
 
 // 2: a coordinate outside its range.
-fn outside(positions: &[i32], i: usize) -> bool
-    requires { i < length positions.now }
-    ensures { result ≡ outside (get_or positions.now i (pos 0)) }
+fn outside(coordinate: i32) -> bool
+    ensures { result ≡ outside coordinate }
 {
-    let c = positions[i];
-    (c < -COORDINATE_LIMIT) | (COORDINATE_LIMIT < c)
+    (coordinate < -COORDINATE_LIMIT) | (COORDINATE_LIMIT < coordinate)
 }
 
 // 2 of a whole scene. Every coordinate is looked at, whether one was found or not, so that the loop has one way out.
+#[tactic(auto, using(scene_seams::specs::Scanning::scans))]
 pub fn out_of_range(positions: &[i32]) -> bool
     ensures { result ≡ out_of_range (only_positions positions.now) }
 {
     let mut found = false;
-    let mut i = 0;
-    while i < positions.len() {
-        found = found | outside(positions, i);
-        i += 1;
+    for coordinate in positions {
+        found |= outside(*coordinate);
     }
     found
 }
 
 // 3: a vertex number that is not below the count.
-fn unknown(list: &[u16], i: usize, count: usize) -> bool
-    requires { i < length list.now }
-    ensures { result ≡ leb count (get_or list.now i 0) }
-{
-    count <= wide(list[i])
-}
-
+#[tactic(auto, using(scene_seams::specs::Scanning::scans))]
 fn unknown_in(list: &[u16], count: usize) -> bool
     ensures { result ≡ unknown_in count list.now }
 {
     let mut found = false;
-    let mut i = 0;
-    while i < list.len() {
-        found = found | unknown(list, i, count);
-        i += 1;
+    for number in list {
+        found |= count <= wide(*number);
     }
     found
 }
@@ -100,30 +89,26 @@ fn twice_in_triangle(triangles: &[u16], stands: &[u16], j: usize) -> bool
     (a == b) | (a == c) | (b == c)
 }
 
+#[tactic(auto, using(scene_seams::specs::Scanning::scans))]
 fn repeated_in_edges(edges: &[u16], stands: &[u16]) -> bool
     ensures { result ≡ some_below (edge_count (only_edges edges.now))
         (twice_in_edge (edges_sewn edges.now stands.now)) }
 {
-    let count = edges.len() / 2;
     let mut found = false;
-    let mut j = 0;
-    while j < count {
-        found = found | twice_in_edge(edges, stands, j);
-        j += 1;
+    for j in 0..edges.len() / 2 {
+        found |= twice_in_edge(edges, stands, j);
     }
     found
 }
 
+#[tactic(auto, using(scene_seams::specs::Scanning::scans))]
 fn repeated_in_triangles(triangles: &[u16], stands: &[u16]) -> bool
     ensures { result ≡ some_below (triangle_count (only_triangles triangles.now))
         (twice_in_triangle (triangles_sewn triangles.now stands.now)) }
 {
-    let count = triangles.len() / 3;
     let mut found = false;
-    let mut j = 0;
-    while j < count {
-        found = found | twice_in_triangle(triangles, stands, j);
-        j += 1;
+    for j in 0..triangles.len() / 3 {
+        found |= twice_in_triangle(triangles, stands, j);
     }
     found
 }
@@ -147,15 +132,13 @@ fn written_twice_in_triangle(triangles: &[u16], j: usize) -> bool
     first | (b == c)
 }
 
+#[tactic(auto, using(scene_seams::specs::Scanning::scans))]
 fn written_in_edges(edges: &[u16]) -> bool
     ensures { result ≡ some_below (edge_count (only_edges edges.now)) (written_twice_in_edge edges.now) }
 {
-    let count = edges.len() / 2;
     let mut found = false;
-    let mut j = 0;
-    while j < count {
-        found = found | written_twice_in_edge(edges, j);
-        j += 1;
+    for j in 0..edges.len() / 2 {
+        found |= written_twice_in_edge(edges, j);
     }
     found
 }
@@ -172,15 +155,14 @@ fn written_again(triangles: &[u16], from: usize, k: usize) -> bool
     next | after
 }
 
+#[tactic(auto, using(scene_seams::specs::Scanning::scans))]
 fn written_in_row(triangles: &[u16], from: usize) -> bool
     requires { from + row_numbers + 2 ≤ length triangles.now }
     ensures { result ≡ some_below row_numbers (written_again triangles.now from) }
 {
     let mut found = false;
-    let mut k = 0;
-    while k < ROW_NUMBERS {
-        found = found | written_again(triangles, from, k);
-        k += 1;
+    for k in 0..ROW_NUMBERS {
+        found |= written_again(triangles, from, k);
     }
     found
 }
@@ -190,12 +172,9 @@ fn written_behind(triangles: &[u16], first: usize) -> bool
     ensures { result ≡ some_below (triangle_count (only_triangles triangles.now) - first)
         (λ i. written_twice_in_triangle triangles.now (first + i)) }
 {
-    let count = triangles.len() / 3 - first;
     let mut found = false;
-    let mut i = 0;
-    while i < count {
-        found = found | written_twice_in_triangle(triangles, first + i);
-        i += 1;
+    for j in first..triangles.len() / 3 {
+        found |= written_twice_in_triangle(triangles, j);
     }
     found
 }
@@ -205,13 +184,12 @@ fn written_in_triangles(triangles: &[u16]) -> bool
     ensures { result ≡ some_below (triangle_count (only_triangles triangles.now))
         (written_twice_in_triangle triangles.now) }
 {
+    let rows = triangles.len().saturating_sub(2) / ROW_NUMBERS;
     let mut found = false;
-    let mut j = 0;
-    while ROW_NUMBERS + 2 <= triangles.len() - 3 * j {
-        found = found | written_in_row(triangles, 3 * j);
-        j += ROW_TRIANGLES;
+    for row in 0..rows {
+        found |= written_in_row(triangles, ROW_NUMBERS * row);
     }
-    found | written_behind(triangles, j)
+    found | written_behind(triangles, ROW_TRIANGLES * rows)
 }
 
 // 4 of a whole scene. Without seams a vertex counts as itself, so that the numbers are compared as they are written.

@@ -10,7 +10,7 @@ ghost use Rattle.scene_seams.specs.Sewing.{Blank};
 ghost use Rattle.scene_checks.specs.Checking.{Checked};
 
 use faults::{out_of_range, repeated_vertex, unknown_vertex, wrong_shape};
-use meaning::{Refusal, SceneAnswer, VERTEX_LIMIT};
+use meaning::{Refusal, VERTEX_LIMIT};
 use scene_seams::sew_all;
 
 // May this scene be used? The shape comes first, so that the other checks read no more than the sizes allow; the seams are taken into the table
@@ -21,30 +21,30 @@ pub fn check_into(
     triangles: &[u16],
     seams: &[u16],
     stands: &mut [u16],
-) -> SceneAnswer
+) -> Result<(), Refusal>
     requires { Blank seams.now stands.old }
     ensures { Checked (scene_of positions.now edges.now triangles.now seams.now) stands.old stands.new result }
 {
     if wrong_shape(positions, edges, triangles, seams) {
-        return SceneAnswer::Refused(Refusal::Shape);
+        return Err(Refusal::Shape);
     }
     let outside = out_of_range(positions);
     let unknown = unknown_vertex(positions, edges, triangles, seams);
     if outside {
-        return SceneAnswer::Refused(Refusal::Coordinate);
+        return Err(Refusal::Coordinate);
     }
     if unknown {
-        return SceneAnswer::Refused(Refusal::UnknownVertex);
+        return Err(Refusal::UnknownVertex);
     }
     let broken = sew_all(positions, seams, stands);
     let repeated = repeated_vertex(edges, triangles, stands);
     if broken {
-        return SceneAnswer::Refused(Refusal::BrokenSeam);
+        return Err(Refusal::BrokenSeam);
     }
     if repeated {
-        SceneAnswer::Refused(Refusal::RepeatedVertex)
+        Err(Refusal::RepeatedVertex)
     } else {
-        SceneAnswer::Accepted
+        Ok(())
     }
 }
 
@@ -54,7 +54,7 @@ pub fn check_scene(
     edges: &[u16],
     triangles: &[u16],
     seams: &[u16],
-) -> SceneAnswer
+) -> Result<(), Refusal>
     ensures { SceneChecked (scene_of positions.now edges.now triangles.now seams.now) result }
 {
     if seams.len() == 0 {

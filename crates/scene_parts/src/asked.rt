@@ -55,17 +55,3 @@ pub fn shares_vertex(
         Kind::EdgeEdge => shares_ee(edges, stands, i, j),
     }
 }
-
-// The lower of two places, and the higher.
-pub fn smaller(i: usize, j: usize) -> usize
-    ensures { result ≡ min i j }
-{
-    if i < j { i } else { j }
-}
-
-// The higher of two places: of two edges the list has the lower one first.
-pub fn larger(i: usize, j: usize) -> usize
-    ensures { result ≡ max i j }
-{
-    if i < j { j } else { i }
-}

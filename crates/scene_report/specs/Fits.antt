@@ -1,5 +1,5 @@
 -- Every report fits the array that it is written into: 3,072 lines of a pair, and the totals.
-use Rattle.std.specs.Prelude.{ℕ, ◌+◌, ◌*◌, ◌≤◌, ◌<◌, List, [], ◌∷◌, ◌++◌, ◌≡◌, refl, length}
+use Rattle.std.specs.Prelude.{ℕ, ◌*◌, ◌≤◌, List, [], ◌∷◌, ◌++◌, ◌≡◌, refl, length}
 use mathlib.Core.List.Memᴰ
 use Rattle.std.proofs.Common.{arith, length-append}
 use Rattle.decimals.specs.Digits.{digits}

@@ -1,6 +1,6 @@
 -- The whole report: of an accepted scene, and of a text.
-use Rattle.std.specs.Prelude.{ℕ, zero, suc, ◌+◌, ◌*◌, ◌≤◌, ◌<◌, List, [], ◌∷◌, ◌++◌, map, ◌≡◌, refl, ℤ, length, get_or}
-use Rattle.std.proofs.Common.{sym, ap, ◌∙◌, subst, arith, not-suc-le-zero, le_of_suc-le-suc, zero-add}
+use Rattle.std.specs.Prelude.{ℕ, zero, suc, ◌≤◌, ◌<◌, List, [], ◌∷◌, ◌++◌, ◌≡◌, refl, ℤ, length, get_or}
+use Rattle.std.proofs.Common.{sym, ap, ◌∙◌, subst, not-suc-le-zero, le_of_suc-le-suc, zero-add}
 use Rattle.std.proofs.lemmas.List.{length-map}
 use Rattle.sequences.specs.Gather.{gather}
 use Rattle.sequences.specs.Wrote.{Wrote, written, wrote_front}
@@ -8,12 +8,9 @@ use Rattle.meaning.specs.Limits.{report_room, text_limit}
 use Rattle.meaning.specs.Scene.{Scene, scene_of}
 use Rattle.meaning.specs.List.{Pair, pairs}
 use Rattle.meaning.specs.Text.{Holds}
-use Rattle.meaning.specs.SceneWords.{AllSettled}
 use Rattle.meaning.specs.Report.{pair_line, pair_lines, total_line, refused_line, ReportOf, Reported}
 use Rattle.meaning.specs.SceneLines.{SceneReport, no_room, judged}
-use Rattle.meaning.specs.declared.Settled.{Settled}
 use Rattle.meaning.specs.declared.Settled.TheVariants.{Hit}
-use Rattle.list_entries.specs.Entries.{pair_at}
 use Rattle.list_words.specs.Listed.{ListStands, word_of_pair, words_of, bytes_of, all_judged, no_pair, word_of_its_byte, byte_in_front}
 use Rattle.report_words.specs.Lines.{wrote_as}
 use Rattle.pair_report.specs.Rendered.{verdict_at, line_at, verdicts_in, gather_is, lines_are}

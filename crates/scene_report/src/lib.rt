@@ -12,8 +12,8 @@ ghost use Rattle.scene_report.specs.Whole.{SceneReported};
 
 use answers::number_of;
 use meaning::{
-    EDGE_NUMBERS, ListAnswer, POSITION_NUMBERS, READ_BYTES, REPORT_BYTES, REPORT_ROOM,
-    SEAM_NUMBERS, TEXT_LIMIT, TRIANGLE_NUMBERS, TextAnswer, VERTEX_LIMIT,
+    EDGE_NUMBERS, POSITION_NUMBERS, READ_BYTES, REPORT_BYTES, REPORT_ROOM, SEAM_NUMBERS,
+    TEXT_LIMIT, TRIANGLE_NUMBERS, VERTEX_LIMIT,
 };
 use pair_report::pairs_report;
 use report_words::lines::refused_line;
@@ -40,8 +40,8 @@ fn tabled_report(
         &mut list,
         &mut verdicts,
     ) {
-        ListAnswer::Listed(made) => pairs_report(&list, &verdicts, made.count, out),
-        ListAnswer::Refused(_, needed) => refused_line(out, 0, 7, needed as u64),
+        Ok(count) => pairs_report(&list, &verdicts, count, out),
+        Err(refused) => refused_line(out, 0, 7, refused.carries as u64),
     }
 }
 
@@ -70,7 +70,7 @@ pub fn write_report(text: &[u8], out: &mut [u8; REPORT_BYTES]) -> usize
     let mut triangles = [0u16; TRIANGLE_NUMBERS];
     let mut seams = [0u16; SEAM_NUMBERS];
     match text_scene::read_scene(text, &mut positions, &mut edges, &mut triangles, &mut seams) {
-        TextAnswer::Read(counts) => {
+        Ok(counts) => {
             let p = 6 * counts.vertices;
             let e = 2 * counts.edges;
             let t = 3 * counts.triangles;
@@ -83,7 +83,7 @@ pub fn write_report(text: &[u8], out: &mut [u8; REPORT_BYTES]) -> usize
                 out,
             )
         }
-        TextAnswer::Refused(refusal, line) => refused_line(out, 0, number_of(refusal), line as u64),
+        Err(refused) => refused_line(out, 0, number_of(refused.why), refused.carries as u64),
     }
 }
 

@@ -19,3 +19,11 @@ scan_goes {n} {test} {found} {i} s h now e =
 
 pub scan_ends : {n : ℕ} {test : ℕ → Bool} {found : Bool} {i : ℕ} → Scanned n test found i → n ≤ i → found ≡ some_below n test
 scan_ends {n} {test} {found} {i} s h = let e : i ≡ n = omega arith in rw e at s.finds
+
+-- the same by equations alone, for the check to use by itself at a loop over a range: nothing is found below 0, and below n + 1 what is found
+-- below n or at n
+pub none_yet : (test : ℕ → Bool) → some_below 0 test ≡ false
+unfolding some_below
+none_yet test = refl
+
+pub ruleset scans = (none_yet, some_more)

@@ -3,7 +3,7 @@
 
 #![tactic(auto)]
 
-ghost use Rattle.std.specs.Prelude.{◌-◌, ◌<◌, ◌/◌, not, ◌≡◌, eqb, pos, length, get_or};
+ghost use Rattle.std.specs.Prelude.{◌-◌, ◌<◌, not, ◌≡◌, eqb, pos, length, get_or};
 ghost use Rattle.meaning.specs.Scene.{vertex_count, stood_for, differ, comes_apart};
 ghost use Rattle.scene_seams.specs.Alone.{only_positions};
 ghost use Rattle.scene_seams.specs.Table.{seams_of, sewn_to};
@@ -16,19 +16,12 @@ pub fn wide(x: u16) -> usize
     x as usize
 }
 
-// So far below v.
-pub fn lowered(v: usize, down: usize) -> usize
-    ensures { result ≡ v - down }
-{
-    if down < v { v - down } else { 0 }
-}
-
 // The vertex stood for.
 pub fn counts_as(stands: &[u16], v: usize) -> usize
     ensures { result ≡ stood_for (seams_of stands.now) v }
 {
     if v < stands.len() {
-        lowered(v, wide(stands[v]))
+        v.saturating_sub(wide(stands[v]))
     } else {
         v
     }
@@ -56,16 +49,15 @@ fn unequal(positions: &[i32], a: usize, b: usize) -> bool
 }
 
 // Whether two vertices are not in one place, at the start or at the end.
+#[tactic(auto, using(crate::specs::Scanning::scans))]
 pub fn comes_apart(positions: &[i32], a: usize, b: usize) -> bool
     requires { (a < vertex_count (only_positions positions.now))
         × (b < vertex_count (only_positions positions.now)) }
     ensures { result ≡ comes_apart (only_positions positions.now) a b }
 {
     let mut found = false;
-    let mut k = 0;
-    while k < 6 {
-        found = found | unequal(positions, 6 * a + k, 6 * b + k);
-        k += 1;
+    for k in 0..6 {
+        found |= unequal(positions, 6 * a + k, 6 * b + k);
     }
     found
 }
@@ -79,18 +71,12 @@ fn breaks_rules(positions: &[i32], stands: &[u16], least: usize, i: usize, j: us
     (i < least) | (i <= j) | replaced(stands, j) | comes_apart(positions, i, j)
 }
 
-fn distance(i: u16, j: u16) -> u16
-    ensures { result ≡ i - j }
-{
-    if j < i { i - j } else { 0 }
-}
-
 fn sew(stands: &mut [u16], i: u16, j: u16)
     ensures { stands.new ≡ sewn_to stands.old i j }
 {
     let v = wide(i);
     if v < stands.len() {
-        stands[v] = distance(i, j);
+        stands[v] = i.saturating_sub(j);
     }
 }
 
@@ -113,11 +99,9 @@ pub fn sew_all(positions: &[i32], seams: &[u16], stands: &mut [u16]) -> bool
 {
     let mut broken = false;
     let mut least = 0;
-    let mut k = 0;
-    while k < seams.len() / 2 {
-        broken = broken | sew_next(positions, stands, least, seams[2 * k], seams[2 * k + 1]);
-        least = wide(seams[2 * k]) + 1;
-        k += 1;
+    for seam in seams.chunks_exact(2) {
+        broken |= sew_next(positions, stands, least, seam[0], seam[1]);
+        least = wide(seam[0]) + 1;
     }
     broken
 }

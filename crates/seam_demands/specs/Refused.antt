@@ -1,15 +1,15 @@
 -- Sewn scenes that are refused: 15 in each way that it arises, 4 where two corners stand for one vertex, 1 and 3 for the list of seams.
-use Rattle.std.specs.Prelude.{ℕ, true, false, List, [], ◌∷◌, ◌++◌, ◌≡◌, refl}
+use Rattle.std.specs.Prelude.{ℕ, true, false, List, [], ◌∷◌, ◌++◌, ◌≡◌, refl, Result}
 use Rattle.meaning.specs.Scene.{Scene, scene_of, stood_for, wrong_shape, out_of_range, unknown_vertex, broken_seam, repeated_vertex, some_below}
-use Rattle.meaning.specs.Refusals.{refused, scene_says, SceneChecked}
+use Rattle.meaning.specs.Refusals.{refused, SceneChecked, outcome_alone}
 use Rattle.meaning.specs.Text.{coordinates}
-use Rattle.meaning.specs.declared.SceneAnswer.{SceneAnswer}
 use Rattle.theory.specs.Bounds.{Every}
 use Rattle.demands.specs.Demand1.{demand1_scene}
 use Rattle.seam_demands.specs.Cloth.{resting, o, p, q, five, face}
+use Rattle.meaning.specs.declared.Refusal.{Refusal}
 
 abbrev pub RefusedWith : ℕ → Scene → Type 0
-RefusedWith n s = (r : SceneAnswer) → SceneChecked s r → scene_says r ≡ refused n 0
+RefusedWith n s = (r : Result (Unit {0}) Refusal) → SceneChecked s r → outcome_alone r ≡ refused n 0
 
 -- ---- 15: seams out of order, a vertex sewn twice, one that stands for a higher vertex or for itself, a chain, and two vertices that are apart at
 -- the start or at the end alone

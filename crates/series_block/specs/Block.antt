@@ -1,35 +1,34 @@
 -- A block part of the way: which series stands above, which step the block goes on from, and that the positions have gone as far as its lines.
-use Rattle.std.specs.Prelude.{ℕ, ◌+◌, ◌*◌, ◌/◌, ◌≤◌, ◌<◌, Bool, ◌||◌, ◌&&◌, ◌≡◌, ℤ, pos, nat_abs, get_or, drop, replicate}
+use Rattle.std.specs.Prelude.{ℕ, ◌+◌, ◌*◌, ◌/◌, ◌≤◌, ◌<◌, Bool, ◌||◌, ◌&&◌, ◌≡◌, ℤ, pos, get_or, replicate}
 use Rattle.std.proofs.Math.Bool.{true, false, cond, not}
 use mathlib.Core.List.{List, [], ◌∷◌, ◌++◌}
 use Rattle.std.proofs.Math.Path.{refl, sym, ap, subst}
 use Rattle.std.proofs.Common.{◌∙◌, ⊎_elim, arith, length-append}
 use Rattle.std.proofs.Math.Dec.{leb, ltb}
-use Rattle.std.proofs.Math.ListN.{length, get_or-eq_default}
+use Rattle.std.proofs.Math.ListN.{length}
 use borrow.Author.Tests.{le-leb, lt-leb, lt-ltb, le-ltb, leb-false}
 use Rattle.whole.specs.Vector.{Vector}
 use Rattle.sequences.specs.Range.{le_or_lt}
-use Rattle.sequences.specs.Stands.{Stands}
 use Rattle.sequences.specs.Wrote.{patched}
 use Rattle.text_fields.specs.Ended.{InFront}
 use Rattle.text_fields.specs.Tabbed.{sized_at}
 use Rattle.meaning.specs.Limits.{coordinate_limit, vertex_limit}
-use Rattle.meaning.specs.Scene.{Scene, vertex_count, end_of, some_below, broken_seam, Accepted}
-use Rattle.meaning.specs.Refusals.{Outcome, given, refused, Check, Answers}
-use Rattle.meaning.specs.Lines.{Fault, misplaced, nothing, RecordJudged}
+use Rattle.meaning.specs.Scene.{Scene, vertex_count, end_of, broken_seam, Accepted}
+use Rattle.meaning.specs.Refusals.{Outcome, Check, Answers}
+use Rattle.meaning.specs.Lines.{RecordJudged}
 use Rattle.meaning.specs.Text.{coordinates}
 use Rattle.answers.specs.Answering.{refuses, is_refused, is_past, is_given, lets_pass}
 use Rattle.answers.specs.Below.{or_left}
 use Rattle.scene_checks.specs.Checking.{sewable}
 use Rattle.scene_seams.specs.Sewing.{seams_alone, Sewable, blank_table}
-use Rattle.text_record.specs.Putting.{point_from, signed_at, signed_at_lem}
+use Rattle.text_record.specs.Putting.{point_from, signed_at_lem}
 use Rattle.meaning.specs.Series.{last_from, step_after, last_step}
-use Rattle.meaning.specs.SeriesText.{Item, ends, next, three_of, item_line, SoFar, blocks_so_far, series_so_far, with_item, ItemFormed, block_full, block_short, wrong_length, far_end, comes_apart_now, item_checks, series_lines}
+use Rattle.meaning.specs.SeriesText.{ends, three_of, SoFar, series_so_far, with_item, block_full, block_short, wrong_length, far_end, comes_apart_now, item_checks, series_lines}
 use Rattle.series_laws.specs.Longer.{last_append}
 use Rattle.series_laws.specs.Stepping.{AllNear, near_more}
 use Rattle.series_laws.specs.PartWay.{part_way, part_length, part_at, part_next, part_ends}
 use Rattle.series_block.specs.Moving.{three_at, moved_on, far_three, wrong_here, last_here, end_checks, end_says, EndReady, EndIs, sewable_as_long}
-use Rattle.series_block.specs.declared.moving.EndTaken.TheVariants.{Good}
+use Rattle.std.specs.Prelude.{Ok}
 
 pub record InBlock (x : SoFar) (s : Scene) (k : ℕ) (p : List ℤ) (w : List ℕ) : Type 0 where
   pub begun : x.begun ≡ true
@@ -190,7 +189,7 @@ module _ {x : SoFar} {s : Scene} {k : ℕ} {p : List ℤ} {w : List ℕ} (b : In
               (is_past (λ t. Unit {0}) _ _ o h a))
 
       -- a line that is not at fault: the block has gone one line further
-      pub end_goes : {last : Bool} {p' : List ℤ} → EndIs last k w sizes minus p p' Good → InBlock (with_item x (ends v)) s (k + 1) p' w
+      pub end_goes : {last : Bool} {p' : List ℤ} → EndIs last k w sizes minus p p' (Ok tt) → InBlock (with_item x (ends v)) s (k + 1) p' w
       unfolding with_item end_says
       end_goes {last} {p'} e =
           let U : Unit {0} → Type 0 = λ t. Unit {0} in

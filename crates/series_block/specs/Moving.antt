@@ -1,7 +1,7 @@
 -- What the code of one next end promises: the positions after it, and 13, 2 and 15 of its line.
-use Rattle.std.specs.Prelude.{ℕ, ◌+◌, ◌*◌, ◌/◌, ◌≤◌, ◌<◌, Bool, true, false, cond, ◌||◌, ◌&&◌, List, [], ◌∷◌, ◌++◌, ◌≡◌, leb, ltb, ℤ, pos, length, get_or, set, replicate}
+use Rattle.std.specs.Prelude.{Result, Ok, Err, ℕ, ◌+◌, ◌*◌, ◌/◌, ◌≤◌, ◌<◌, Bool, true, false, cond, ◌||◌, ◌&&◌, List, [], ◌∷◌, ◌++◌, ◌≡◌, leb, ltb, ℤ, pos, length, get_or, set, replicate}
 use Rattle.std.proofs.Math.Path.{refl}
-use Rattle.std.proofs.Common.{sym, ap, ◌∙◌, subst, arith, ltb-false, leb-false, get_or-set_other}
+use Rattle.std.proofs.Common.{ap, ◌∙◌, subst, arith, ltb-false, leb-false, get_or-set_other}
 use Rattle.sequences.specs.Wrote.{Wrote, wrote_three, patched, wrote_is, wrote_then, wrote_patched}
 use Rattle.answers.specs.Answering.{refuses, lets_pass, gives}
 use Rattle.answers.specs.Below.{or_left, or_rest}
@@ -10,8 +10,8 @@ use Rattle.meaning.specs.Scene.{broken_seam}
 use Rattle.meaning.specs.Refusals.{Outcome, given, refused, Check, Answers}
 use Rattle.scene_seams.specs.Sewing.{seams_alone, Sewable}
 use Rattle.text_record.specs.Putting.{point_from, Near}
-use Rattle.series_block.specs.declared.moving.EndTaken.{EndTaken}
-use Rattle.series_block.specs.declared.moving.EndTaken.TheVariants.{Good, Length, Far, Apart}
+use Rattle.series_block.specs.declared.BlockFault.{BlockFault}
+use Rattle.series_block.specs.declared.BlockFault.TheVariants.{Form, Late, Length, Far, Apart}
 
 abbrev pub three_at : List ℤ → ℕ → List ℤ
 three_at p i = get_or p i (pos 0) ∷ get_or p (i + 1) (pos 0) ∷ get_or p (i + 2) (pos 0) ∷ []
@@ -38,11 +38,16 @@ end_checks last k w sizes p p' =
     ∷ record { number = 15; holds = last_here p' w k; carries = 0 }
     ∷ []
 
-unfoldable pub end_says : EndTaken → Outcome (Unit {0})
-end_says Good = given tt
-end_says Length = refused 13 0
-end_says Far = refused 2 0
-end_says Apart = refused 15 0
+unfoldable pub fault_number : BlockFault → ℕ
+fault_number Form = 9
+fault_number Late = 10
+fault_number Length = 13
+fault_number Far = 2
+fault_number Apart = 15
+
+unfoldable pub end_says : Result (Unit {0}) BlockFault → Outcome (Unit {0})
+end_says (Ok t) = given tt
+end_says (Err f) = refused (fault_number f) 0
 
 pub record EndReady (k : ℕ) (p : List ℤ) (w sizes : List ℕ) (minus : List Bool) : Type 0 where
   pub within : k ≤ length p / 6
@@ -52,7 +57,7 @@ pub record EndReady (k : ℕ) (p : List ℤ) (w sizes : List ℕ) (minus : List 
   pub signed : 3 ≤ length minus
 
 -- the positions move only where neither 13 nor 2 refuses
-pub record EndIs (last : Bool) (k : ℕ) (w sizes : List ℕ) (minus : List Bool) (p p' : List ℤ) (r : EndTaken) : Type 0 where
+pub record EndIs (last : Bool) (k : ℕ) (w sizes : List ℕ) (minus : List Bool) (p p' : List ℤ) (r : Result (Unit {0}) BlockFault) : Type 0 where
   pub answer : Answers (end_checks last k w sizes p (moved_on p k sizes minus)) (λ t. Unit {0}) (end_says r)
   pub left : p' ≡ cond (wrong_here last (length p / 6) k || far_three sizes) p (moved_on p k sizes minus)
 
@@ -81,27 +86,27 @@ pub moved_by : {o o' o'' : List ℤ} (v : ℕ) (sizes : List ℕ) (minus : List 
 moved_by v sizes minus a b = wrote_is (wrote_then a b)
 
 module _ (last : Bool) (k : ℕ) (w sizes : List ℕ) (minus : List Bool) (p : List ℤ) where
-  pub end_wrong : wrong_here last (length p / 6) k ≡ true → EndIs last k w sizes minus p p Length
-  unfolding end_says
+  pub end_wrong : wrong_here last (length p / 6) k ≡ true → EndIs last k w sizes minus p p (Err Length)
+  unfolding end_says fault_number
   end_wrong h = record { answer = refuses (λ t. Unit {0}) _ _ (refused 13 0) h refl; left = rw h refl }
 
-  pub end_far : wrong_here last (length p / 6) k ≡ false → far_three sizes ≡ true → EndIs last k w sizes minus p p Far
-  unfolding end_says
+  pub end_far : wrong_here last (length p / 6) k ≡ false → far_three sizes ≡ true → EndIs last k w sizes minus p p (Err Far)
+  unfolding end_says fault_number
   end_far h far = record {
     answer = lets_pass (λ t. Unit {0}) _ _ (refused 2 0) h (refuses (λ t. Unit {0}) _ _ (refused 2 0) far refl);
     left = rw (h, far) refl;
   }
 
   module _ {p' : List ℤ} (h : wrong_here last (length p / 6) k ≡ false) (near : far_three sizes ≡ false) (e : p' ≡ moved_on p k sizes minus) where
-    pub end_apart : last_here p' w k ≡ true → EndIs last k w sizes minus p p' Apart
-    unfolding end_says
+    pub end_apart : last_here p' w k ≡ true → EndIs last k w sizes minus p p' (Err Apart)
+    unfolding end_says fault_number
     end_apart apart = record {
       answer = lets_pass (λ t. Unit {0}) _ _ (refused 15 0) h
           (lets_pass (λ t. Unit {0}) _ _ (refused 15 0) near (refuses (λ t. Unit {0}) _ _ (refused 15 0) (rw e at apart) refl));
       left = rw (h, near) e;
     }
 
-    pub end_good : last_here p' w k ≡ false → EndIs last k w sizes minus p p' Good
+    pub end_good : last_here p' w k ≡ false → EndIs last k w sizes minus p p' (Ok tt)
     unfolding end_says
     end_good together = record {
       answer = lets_pass (λ t. Unit {0}) _ _ (given tt) h

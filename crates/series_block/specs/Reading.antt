@@ -1,37 +1,38 @@
 -- A whole block: from a step that is whole, over an `n`, to the next step, or to the first fault.
-use Rattle.std.specs.Prelude.{ℕ, ◌+◌, ◌*◌, ◌/◌, ◌≤◌, ◌<◌, Bool, ◌||◌, ◌&&◌, ◌≡◌, refl, ◌⊎◌, ℤ, pos, drop}
+use Rattle.std.specs.Prelude.{ℕ, ◌+◌, ◌*◌, ◌/◌, ◌≤◌, ◌<◌, Bool, ◌||◌, ◌&&◌, ◌≡◌, refl, ◌⊎◌, ℤ, drop}
 use Rattle.std.proofs.Math.Bool.{true, false, cond, not}
 use mathlib.Core.List.{List, [], ◌∷◌, ◌++◌}
 use Rattle.std.proofs.Math.Path.{sym, ap, subst}
-use Rattle.std.proofs.Common.{◌∙◌, inl, inr, ⊎_elim, arith}
+use Rattle.std.proofs.Common.{◌∙◌, inl, inr, arith}
 use Rattle.std.proofs.Math.Dec.{leb, ltb}
 use Rattle.std.proofs.Math.ListN.{length}
-use borrow.Author.Tests.{le-leb, lt-leb, lt-ltb, le-ltb, ltb-false}
-use Rattle.sequences.specs.Range.{le_or_lt}
+use borrow.Author.Tests.{le-leb, le-ltb, ltb-false}
 use Rattle.sequences.specs.Stands.{Stands, stands_inside}
 use Rattle.meaning.specs.Limits.{vertex_limit}
 use Rattle.meaning.specs.Scene.{Scene, vertex_count, broken_seam, Accepted}
-use Rattle.meaning.specs.Refusals.{Outcome, given, refused, Check, Answers}
+use Rattle.meaning.specs.Refusals.{given, refused}
 use Rattle.meaning.specs.Lines.{Fault, misplaced, nothing, RecordJudged, FaultyAt}
 use Rattle.answers.specs.Answering.{refuses, lets_pass, gives, is_given}
-use Rattle.answers.specs.Below.{or_left, or_rest}
+use Rattle.answers.specs.Below.{or_rest}
 use Rattle.scene_seams.specs.Sewing.{seams_alone}
 use Rattle.text_laws.specs.Going.{Reached, reached_next, reached_longer, reached_fault}
 use Rattle.meaning.specs.Series.{last_from, step_after, last_step}
-use Rattle.meaning.specs.SeriesText.{Item, ends, next, three_of, item_line, SoFar, nothing_yet, blocks_so_far, series_so_far, with_item, ItemFormed, block_full, block_short, wrong_length, item_checks, series_lines}
+use Rattle.meaning.specs.SeriesText.{ends, next, item_line, SoFar, nothing_yet, blocks_so_far, series_so_far, with_item, ItemFormed, block_full, block_short, wrong_length, item_checks, series_lines}
 use Rattle.series_laws.specs.Longer.{last_append}
-use Rattle.series_laws.specs.Stepping.{AllNear, step_accepted, step_length, step_vertices, step_seams}
+use Rattle.series_laws.specs.Stepping.{step_accepted, step_length, step_vertices, step_seams}
 use Rattle.series_laws.specs.PartWay.{part_way, part_starts, part_ends}
 use Rattle.series_line.specs.Rendered.{series_readable}
 use Rattle.series_block.specs.Block.{InBlock, not_at_most, short_is, block_ready}
 use Rattle.series_block.specs.Moving.{EndReady}
-use Rattle.series_block.specs.Taking.{fault_number, TakenIs, MovedTo, ClosedAt, BlockTaken, last_is}
+use Rattle.series_block.specs.Moving.{fault_number}
+use Rattle.series_block.specs.Taking.{TakenIs, MovedTo, ClosedAt, BlockTaken, last_is}
 use Rattle.series_block.specs.declared.BlockFault as Faults
 use Rattle.series_block.specs.declared.BlockFault.{BlockFault}
 use Rattle.series_block.specs.declared.LineTaken as Takes
 use Rattle.series_block.specs.declared.LineTaken.{LineTaken}
-use Rattle.series_block.specs.declared.BlockAnswer as Answers'
-use Rattle.series_block.specs.declared.BlockAnswer.{BlockAnswer}
+use Rattle.series_block.specs.declared.Block.{Block}
+use Rattle.series_block.specs.declared.FaultyLine.{FaultyLine}
+use Rattle.std.specs.Prelude.{Result, Ok, Err}
 
 -- the lines down to a place come to a series whose last step is s, and these are its positions and its seams
 pub record StepHere (text : List ℕ) (at : ℕ) (x : SoFar) (s : Scene) (p : List ℤ) (w : List ℕ) : Type 0 where
@@ -73,11 +74,11 @@ pub record NextStep (text : List ℕ) (x : SoFar) (p' : List ℤ) (w : List ℕ)
   pub blocks : blocks_so_far series ≡ blocks_so_far x ++ (block ∷ [])
   pub ended : (length text ≤ after) ⊎ Stands text after (item_line next) (after + 2)
 
-unfoldable pub BlockIs : List ℕ → SoFar → List ℤ → List ℕ → BlockAnswer → Type 0
-BlockIs text x p' w (Answers'.TheVariants.Fault f line) = FaultyAt series_lines nothing_yet text (fault_number f) line
-BlockIs text x p' w (Answers'.TheVariants.Whole after line) = NextStep text x p' w after line
+unfoldable pub BlockIs : List ℕ → SoFar → List ℤ → List ℕ → Result Block FaultyLine → Type 0
+BlockIs text x p' w (Err f) = FaultyAt series_lines nothing_yet text (fault_number f.fault) f.line
+BlockIs text x p' w (Ok block) = NextStep text x p' w block.next block.last
 
-abbrev pub BlockRead : List ℕ → ℕ → ℕ → List ℤ → List ℤ → List ℕ → BlockAnswer → Type 0
+abbrev pub BlockRead : List ℕ → ℕ → ℕ → List ℤ → List ℤ → List ℕ → Result Block FaultyLine → Type 0
 BlockRead text at line p p' w r = (x : SoFar) (s : Scene) → AtStep text at line x s p w → BlockIs text x p' w r
 
 -- ---- while it is read
@@ -113,7 +114,7 @@ module _ {text : List ℕ} {at line : ℕ} {x : SoFar} {s : Scene} {p : List ℤ
       (λ i. a.here.whole i || last i && short_of_next i) ∙ (λ i. leb (length text) (at + 2) && ltb 0 (few i))
 
   -- the `n` is the last line, and vertices are still to come
-  pub ends_fault : ends_at_once text at p ≡ true → BlockIs text x p w (Answers'.TheVariants.Fault Faults.TheVariants.Length line)
+  pub ends_fault : ends_at_once text at p ≡ true → BlockIs text x p w (Err (record { fault = Faults.TheVariants.Length; line = line }))
   unfolding BlockIs fault_number ItemFormed item_checks
   ends_fault h =
       reached_fault a.here.reached
@@ -225,27 +226,27 @@ module _ {text : List ℕ} {x : SoFar} {s : Scene} {k after line : ℕ} {p : Lis
       }
 
   -- from what a line gives
-  module _ (p' : List ℤ) {t : LineTaken} (taken : BlockTaken text after k p p' w t) where
-    taken_here : {t' : LineTaken} → t ≡ t' → TakenIs text after g.series s k p p' w t'
+  module _ (p' : List ℤ) {t : Result LineTaken BlockFault} (taken : BlockTaken text after k p p' w t) where
+    taken_here : {t' : Result LineTaken BlockFault} → t ≡ t' → TakenIs text after g.series s k p p' w t'
     taken_here e = subst (TakenIs text after g.series s k p p' w) e (taken g.series s g.block)
 
-    pub read_fails : {f : BlockFault} → t ≡ Takes.TheVariants.Fault f → BlockIs text x p' w (Answers'.TheVariants.Fault f (line + 1))
+    pub read_fails : {f : BlockFault} → t ≡ Err f → BlockIs text x p' w (Err (record { fault = f; line = line + 1 }))
     unfolding BlockIs TakenIs
     read_fails e = block_fault (taken_here e)
 
-    pub read_closes : t ≡ Takes.TheVariants.Closed → BlockIs text x p' w (Answers'.TheVariants.Whole after line)
+    pub read_closes : t ≡ Ok Takes.TheVariants.Closed → BlockIs text x p' w (Ok (record { next = after; last = line }))
     unfolding BlockIs TakenIs
     read_closes e =
         let c : ClosedAt text after s k p p' = taken_here e in
         subst (λ (l : List ℤ). NextStep text x l w after line) (sym c.same) (block_whole c.whole (inr c.stands))
 
-    pub read_goes : {further : ℕ} → t ≡ Takes.TheVariants.Moved further → Going text x s (k + 1) further (line + 1) p' w × (after < further)
+    pub read_goes : {further : ℕ} → t ≡ Ok (Takes.TheVariants.Moved further) → Going text x s (k + 1) further (line + 1) p' w × (after < further)
     unfolding TakenIs
     read_goes {further} e =
         let m : MovedTo text after g.series s k p' w further = taken_here e in
         (block_goes m, (reached_next g.reached series_readable (ends m.place) m.formed m.judged m.stands).1)
 
-  pub read_ends : length text ≤ after → BlockIs text x p w (Answers'.TheVariants.Whole after line)
+  pub read_ends : length text ≤ after → BlockIs text x p w (Ok (record { next = after; last = line }))
   unfolding BlockIs
   read_ends h = block_whole (g.finished h) (inl h)
 

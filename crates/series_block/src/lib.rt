@@ -6,14 +6,14 @@
 mod moving; // moving.rt: a vertex goes on, and what may be wrong with its next end
 
 ghost use Rattle.std.specs.Prelude.{◌+◌, ◌≤◌, length, ◌≡◌};
-ghost use Rattle.series_block.specs.Taking.{end_taken, closed_or, LineAsked, BlockTaken};
+ghost use Rattle.series_block.specs.Taking.{fault_of, closed_or, LineAsked, BlockTaken};
 ghost use Rattle.series_block.specs.Reading.{AtSomeStep, ends_at_once, BlockRead};
 
-use moving::{EndTaken, take_end};
-use series_line::{BlockLine, block_line};
+use moving::take_end;
+use series_line::{BlockLine, LineFault, block_line};
 
 // What may be wrong with a line of a block: 9, 10, 13, 2, 15.
-#[derive(Clone, Copy)]
+#[derive(Clone, Copy, Debug, PartialEq, Eq)]
 pub enum BlockFault {
     Form,
     Late,
@@ -22,34 +22,33 @@ pub enum BlockFault {
     Apart,
 }
 
-// What a line gives: its fault; that it is an `n`, and the block above it is whole; or that the next vertex has gone on, and the place of the line
-// behind it.
-#[derive(Clone, Copy)]
+impl From<LineFault> for BlockFault {
+    ghost from_gives = { λ line fault. fault ≡ fault_of line };
+
+    fn from(line: LineFault) -> BlockFault {
+        match line {
+            LineFault::Late => BlockFault::Late,
+            LineFault::Bad => BlockFault::Form,
+        }
+    }
+}
+
+// What a line that is not at fault does: it is an `n`, and the block above it is whole; or the next vertex has gone on, and this is the place
+// of the line behind it. No `Option`, because both are good ends of a line: `None` would say that one of them is missing.
+#[derive(Clone, Copy, Debug, PartialEq, Eq)]
 pub enum LineTaken {
-    Fault(BlockFault),
     Closed,
     Moved(usize),
 }
 
-fn end_taken(taken: EndTaken, next: usize) -> LineTaken
-    ensures { result ≡ end_taken taken next }
-{
-    match taken {
-        EndTaken::Good => LineTaken::Moved(next),
-        EndTaken::Length => LineTaken::Fault(BlockFault::Length),
-        EndTaken::Far => LineTaken::Fault(BlockFault::Far),
-        EndTaken::Apart => LineTaken::Fault(BlockFault::Apart),
-    }
-}
-
 // An `n` behind so many lines of a block.
-fn closed_or(vertices: usize, k: usize) -> LineTaken
+fn closed_or(vertices: usize, k: usize) -> Result<LineTaken, BlockFault>
     ensures { result ≡ closed_or vertices k }
 {
     if vertices <= k {
-        LineTaken::Closed
+        Ok(LineTaken::Closed)
     } else {
-        LineTaken::Fault(BlockFault::Length)
+        Err(BlockFault::Length)
     }
 }
 
@@ -62,27 +61,31 @@ fn take_block_line(
     seams: &[u16],
     sizes: &mut [u64],
     minus: &mut [bool],
-) -> LineTaken
+) -> Result<LineTaken, BlockFault>
     requires { LineAsked text.now at k positions.old seams.now sizes.old minus.old }
     ensures { BlockTaken text.now at k positions.old positions.new seams.now result }
 {
-    match block_line(text, at, sizes, minus) {
-        BlockLine::Bad => LineTaken::Fault(BlockFault::Form),
-        BlockLine::Late => LineTaken::Fault(BlockFault::Late),
+    match block_line(text, at, sizes, minus)? {
         BlockLine::Next(_) => closed_or(positions.len() / 6, k),
-        BlockLine::Ends(next) => end_taken(
-            take_end(text.len() <= next, k, positions, seams, sizes, minus),
-            next,
-        ),
+        BlockLine::Ends(next) => {
+            take_end(text.len() <= next, k, positions, seams, sizes, minus)?;
+            Ok(LineTaken::Moved(next))
+        }
     }
 }
 
-// What a block gives: its fault with the number of its line; or the place behind it, where another `n` stands or the text ends, and the number of
-// its last line.
-#[derive(Clone, Copy)]
-pub enum BlockAnswer {
-    Fault(BlockFault, usize),
-    Whole(usize, usize),
+// A block that was read: the place behind it, where another `n` stands or the text ends, and the number of its last line.
+#[derive(Clone, Copy, Debug, PartialEq, Eq)]
+pub struct Block {
+    pub next: usize,
+    pub last: usize,
+}
+
+// What is wrong with a line of a block, and the number of the line.
+#[derive(Clone, Copy, Debug, PartialEq, Eq)]
+pub struct FaultyLine {
+    pub fault: BlockFault,
+    pub line: usize,
 }
 
 // Whether the text ends behind the `n` at a place, and vertices are still to come.
@@ -101,32 +104,39 @@ pub fn read_block(
     line: usize,
     positions: &mut [i32],
     seams: &[u16],
-) -> BlockAnswer
+) -> Result<Block, FaultyLine>
     requires { AtSomeStep text.now at line positions.old seams.now }
     ensures { BlockRead text.now at line positions.old positions.new seams.now result }
 {
     if ends_at_once(text, at, positions) {
-        return BlockAnswer::Fault(BlockFault::Length, line);
+        return Err(FaultyLine {
+            fault: BlockFault::Length,
+            line,
+        });
     }
     let mut sizes = [0u64; 6];
     let mut minus = [false; 6];
     let mut k = 0;
     let mut next = at + 2;
     let mut read = line;
+    // `while`, because each line says where the next one begins: there is no range to go over.
     while next < text.len() {
         match take_block_line(text, next, k, positions, seams, &mut sizes, &mut minus) {
-            LineTaken::Fault(fault) => {
-                return BlockAnswer::Fault(fault, read + 1);
+            Err(fault) => {
+                return Err(FaultyLine {
+                    fault,
+                    line: read + 1,
+                });
             }
-            LineTaken::Closed => {
-                return BlockAnswer::Whole(next, read);
+            Ok(LineTaken::Closed) => {
+                return Ok(Block { next, last: read });
             }
-            LineTaken::Moved(after) => {
+            Ok(LineTaken::Moved(after)) => {
                 k += 1;
                 next = after;
                 read += 1;
             }
         }
     }
-    BlockAnswer::Whole(next, read)
+    Ok(Block { next, last: read })
 }

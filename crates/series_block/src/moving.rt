@@ -8,21 +8,13 @@ ghost use Rattle.scene_seams.specs.Sewing.{seams_alone, Sewable};
 ghost use Rattle.text_record.specs.Putting.{Near};
 ghost use Rattle.series_block.specs.Moving.{three_at, moved_on, far_three, wrong_here, last_here, EndReady, EndIs};
 
+use crate::BlockFault;
 use meaning::{COORDINATE_LIMIT, VERTEX_LIMIT};
 use scene_seams::sew_all;
 use text_record::place::put_point;
 
 // The largest size of a coordinate, as sizes are held.
 const LARGEST: u64 = COORDINATE_LIMIT as u64;
-
-// What may be said of the next end of a vertex: it is taken, or 13, 2 or 15.
-#[derive(Clone, Copy)]
-pub enum EndTaken {
-    Good,
-    Length,
-    Far,
-    Apart,
-}
 
 // The three numbers behind a place of the positions, three further on, are put there too.
 fn start_from_end(out: &mut [i32], at: usize)
@@ -92,20 +84,20 @@ pub(crate) fn take_end(
     seams: &[u16],
     sizes: &[u64],
     minus: &[bool],
-) -> EndTaken
+) -> Result<(), BlockFault>
     requires { EndReady k positions.old seams.now sizes.now minus.now }
     ensures { EndIs last k seams.now sizes.now minus.now positions.old
         positions.new result }
 {
     if wrong_here(last, positions.len() / 6, k) {
-        return EndTaken::Length;
+        return Err(BlockFault::Length);
     }
     if far_end(sizes) {
-        return EndTaken::Far;
+        return Err(BlockFault::Far);
     }
     move_on(positions, k, sizes, minus);
     if apart_here(positions, seams, k) {
-        return EndTaken::Apart;
+        return Err(BlockFault::Apart);
     }
-    EndTaken::Good
+    Ok(())
 }

@@ -1,5 +1,5 @@
 -- How the answer of the call is shown right, whichever way it comes about.
-use Rattle.std.specs.Prelude.{ℕ, ◌*◌, ◌≤◌, ◌<◌, Bool, true, false, ◌||◌, List, [], ◌∷◌, ◌++◌, ◌≡◌, ℤ, ltb, take, drop}
+use Rattle.std.specs.Prelude.{ℕ, ◌*◌, ◌≤◌, ◌<◌, Bool, true, false, ◌||◌, List, [], ◌∷◌, ◌++◌, ◌≡◌, ℤ, ltb, take, drop, Err, Ok, Result}
 use Rattle.std.proofs.Math.Path.{refl, sym, ap, subst}
 use Rattle.std.proofs.Common.{◌∙◌, arith, length-take-le, take_at}
 use Rattle.std.proofs.Math.ListN.{length}
@@ -8,32 +8,29 @@ use Rattle.sequences.specs.Wrote.{written}
 use Rattle.answers.specs.Below.{or_left, or_rest}
 use Rattle.meaning.specs.Limits.{text_limit}
 use Rattle.meaning.specs.Scene.{Scene, scene_of, Accepted}
-use Rattle.meaning.specs.Refusals.{Outcome, given, refused, number_of}
+use Rattle.meaning.specs.Refusals.{Outcome, given, refused, number_of, carrying}
 use Rattle.meaning.specs.List.{pairs, entries, room_of}
 use Rattle.meaning.specs.Text.{short_buffer, counts_of}
 use Rattle.meaning.specs.StoredBoxes.{short_boxes, box_numbers, Filled}
-use Rattle.meaning.specs.Series.{Series, step_after, steps_of, steps_from, last_from, last_step, Told, ToldRight}
+use Rattle.meaning.specs.Series.{Series, step_after, steps_of, steps_from, last_from, last_step, ToldRight}
 use Rattle.meaning.specs.SeriesText.{Ended, SeriesIs, faulty, read, last_step_left, list_left}
 use Rattle.meaning.specs.declared.SceneCounts.{SceneCounts}
-use Rattle.meaning.specs.declared.Refusal.{Refusal}
 use Rattle.meaning.specs.declared.Refusal.TheVariants.{ShortBuffer, LongText}
 use Rattle.text_line.specs.Above.{Bounded, Lengths, lengths_count}
 use Rattle.text_record.specs.Putting.{Roomy}
 use Rattle.text_scene.specs.Answering.{roomy}
 use Rattle.series_front.specs.Fronts.{FrontRead, FrontIs}
-use Rattle.series_front.specs.declared.FrontAnswer as Fronts
-use Rattle.series_front.specs.declared.FrontAnswer.{FrontAnswer}
+use Rattle.text_draft.specs.declared.Lines.{Lines}
 use Rattle.meaning.specs.SeriesAnswers.{told_says, outcome_says}
-use Rattle.meaning.specs.declared.SeriesEnding as Outcomes
-use Rattle.meaning.specs.declared.SeriesEnding.{SeriesEnding}
 use Rattle.meaning.specs.declared.SeriesAnswer.{SeriesAnswer}
 use Rattle.meaning.specs.SeriesAnswers.{nothing_told}
 use Rattle.meaning.specs.declared.SeriesListed.{SeriesListed}
 use Rattle.series_walk.specs.Telling.{first_over, over_gives, refused_with}
 use Rattle.text_draft.specs.Reading.{total}
 use Rattle.series_walk.specs.Reading.{FirstStep, LastTold, StepsAre}
-use Rattle.meaning.specs.SeriesCall.{told_part, ToldWhole, counts_part, counts_said, FillsLast, last_count, SeriesCalled, SeriesCounted}
+use Rattle.meaning.specs.SeriesCall.{told_part, ToldWhole, counts_part, counts_said, FillsLast, last_count, SeriesCounted}
 use Rattle.series_leave.specs.Leaving.{front_of, LeaveReady, LastLeft}
+use Rattle.meaning.specs.declared.Refused.{Refused}
 
 -- the lent buffers are large enough, and the text is not too long
 pub record AllLent (text : List ℕ) (lent : Scene) (b : List ℤ) : Type 0 where
@@ -61,18 +58,18 @@ pub record TextTold (text : List ℕ) (lent left : Scene) (b b' : List ℤ) (l l
 -- ---- refused
 
 module _ (text : List ℕ) (lent : Scene) (b : List ℤ) (l : List ℕ) where
-  text_refused : (f : Refusal) (n : ℕ) → SeriesIs text (room_of l) (refused (number_of f) n) → TextTold text lent lent b b l l (refused_with f n) 0
+  text_refused : (f : Refused) → SeriesIs text (room_of l) (refused (number_of f.why) f.carries) → TextTold text lent lent b b l l (refused_with f) 0
   unfolding outcome_says told_part ToldWhole counts_part counts_said last_step_left list_left FillsLast last_count
-  text_refused f n right =
-      record { outcome = refused (number_of f) n; right = right; says = refl; whole = refl; counts = refl; leaves = refl; boxes = refl; list = refl; count = refl }
+  text_refused f right =
+      record { outcome = refused (number_of f.why) f.carries; right = right; says = refl; whole = refl; counts = refl; leaves = refl; boxes = refl; list = refl; count = refl }
 
-  pub front_refused : (own : Scene) (table : List ℕ) {r : FrontAnswer} {f : Refusal} {n : ℕ} → FrontIs text own table r
-      → r ≡ Fronts.TheVariants.Refused f n → TextTold text lent lent b b l l (refused_with f n) 0
+  pub front_refused : (own : Scene) (table : List ℕ) {r : Result Lines Refused} {f : Refused} → FrontIs text own table r
+      → r ≡ Err f → TextTold text lent lent b b l l (refused_with f) 0
   unfolding FrontIs
-  front_refused own table {r} {f} {n} d e =
-      text_refused f n (faulty (number_of f) n refl (rw e at d))
+  front_refused own table {r} {f} d e =
+      text_refused f (faulty (number_of f.why) f.carries refl (rw e at d))
 
-  pub called_short : short_boxes b || short_buffer lent ≡ true → SeriesCounted text lent lent b b l l (record { answer = refused_with ShortBuffer 0; count = 0 })
+  pub called_short : short_boxes b || short_buffer lent ≡ true → SeriesCounted text lent lent b b l l (record { answer = refused_with (carrying ShortBuffer 0); count = 0 })
   unfolding outcome_says told_part ToldWhole counts_part counts_said last_step_left list_left FillsLast last_count number_of
   called_short h =
       record {
@@ -81,7 +78,7 @@ module _ (text : List ℕ) (lent : Scene) (b : List ℤ) (l : List ℕ) where
       }
 
   module _ (wide : short_boxes b || short_buffer lent ≡ false) where
-    pub called_long : text_limit < length text → SeriesCounted text lent lent b b l l (record { answer = refused_with LongText 0; count = 0 })
+    pub called_long : text_limit < length text → SeriesCounted text lent lent b b l l (record { answer = refused_with (carrying LongText 0); count = 0 })
     unfolding outcome_says told_part ToldWhole counts_part counts_said last_step_left list_left FillsLast last_count number_of
     called_long h =
         record {
@@ -126,12 +123,12 @@ module _ (text : List ℕ) (lent : Scene) (b : List ℤ) (l : List ℕ) where
 -- ---- told
 
 module _ (text : List ℕ) (room : ℕ) (own : Scene) (c : SceneCounts) (r : SeriesAnswer) (d : DraftTold text room own c r) where
-  pub draft_refused : {f : Refusal} {n : ℕ} → r.outcome ≡ Outcomes.TheVariants.Refused f n
-      → SeriesIs text room (refused (number_of f) n) × (r.told ≡ nothing_told)
+  pub draft_refused : {f : Refused} → r.outcome ≡ Err f
+      → SeriesIs text room (refused (number_of f.why) f.carries) × (r.told ≡ nothing_told)
   unfolding StepsAre
   draft_refused e = rw e at d
 
-  pub draft_last : {c' : SceneCounts} → r.outcome ≡ Outcomes.TheVariants.Told c'
+  pub draft_last : {c' : SceneCounts} → r.outcome ≡ Ok c'
       → (c' ≡ c) × LastTold text room (front_of c own).positions (front_of c own).edges (front_of c own).triangles (front_of c own).seams r.told
   unfolding StepsAre
   draft_last e = rw e at d
@@ -152,8 +149,8 @@ first_step f brief =
       sewn = f.drafted.sewn;
     }
 
-pub front_is_read : (text : List ℕ) (own : Scene) (table : List ℕ) {r : FrontAnswer} {c : SceneCounts} {at : ℕ} → FrontIs text own table r
-    → r ≡ Fronts.TheVariants.Read c at → FrontRead text own table c at
+pub front_is_read : (text : List ℕ) (own : Scene) (table : List ℕ) {r : Result Lines Refused} {lines : Lines} → FrontIs text own table r
+    → r ≡ Ok lines → FrontRead text own table lines.counts lines.at
 unfolding FrontIs
 front_is_read text own table d e = rw e at d
 
@@ -194,7 +191,7 @@ front_lengths c own b room =
 -- what the front of a text gave, with the positions gone on
 module _ {text : List ℕ} {at : ℕ} {c : SceneCounts} {before own : Scene} {table : List ℕ} (f : FrontRead text before table c at)
     (same : own.seams ≡ before.seams) (room-own : Roomy own) {l : List ℕ} (r : SeriesAnswer) (d : DraftTold text (room_of l) own c r) where
-  pub leave_ready : {lent : Scene} {b : List ℤ} {c' : SceneCounts} → AllLent text lent b → r.outcome ≡ Outcomes.TheVariants.Told c'
+  pub leave_ready : {lent : Scene} {b : List ℤ} {c' : SceneCounts} → AllLent text lent b → r.outcome ≡ Ok c'
       → LeaveReady c own table lent b l
   leave_ready lent e =
       let h = (draft_last text (room_of l) own c r d e).1 in
@@ -208,7 +205,7 @@ module _ {text : List ℕ} {at : ℕ} {c : SceneCounts} {before own : Scene} {ta
         fits = subst (λ (s : Scene). length (pairs s) ≤ room_of l) h.last (last_fits (room_of l) h.series.scene h.series.blocks h.roomy);
       }
 
-  pub text_given : {lent left : Scene} {b b' : List ℤ} {l' : List ℕ} {n : ℕ} {c' : SceneCounts} → r.outcome ≡ Outcomes.TheVariants.Told c'
+  pub text_given : {lent left : Scene} {b b' : List ℤ} {l' : List ℕ} {n : ℕ} {c' : SceneCounts} → r.outcome ≡ Ok c'
       → LastLeft c own lent left b b' l l' n → TextTold text lent left b b' l l' r n
   unfolding outcome_says told_part ToldWhole counts_part counts_said last_step_left list_left FillsLast last_count
   text_given {lent} {left} {b} {b'} {l'} {n} {c'} e k =
@@ -222,8 +219,8 @@ module _ {text : List ℕ} {at : ℕ} {c : SceneCounts} {before own : Scene} {ta
       record {
         outcome = given ended;
         right = read x h.holds (over_gives (room_of l) (λ (z : Ended). (z.series ≡ x) × ToldRight x z.told) (steps_of x) ended h.roomy (refl, h.right));
-        says = ap (λ (o : SeriesEnding). outcome_says o (told_says r.told)) e;
-        whole = subst (λ (o : SeriesEnding). ToldWhole o r.told) (sym e) h.held;
+        says = ap (λ (o : Result SceneCounts Refused). outcome_says o (told_says r.told)) e;
+        whole = subst (λ (o : Result SceneCounts Refused). ToldWhole o r.told) (sym e) h.held;
         counts = ap counts_said e ∙ ap given (same-counts ∙ counts ∙ ap counts_of last);
         leaves = scene
             ∙ ap (λ (s : Scene). scene_of (written s.positions lent.positions) (written s.edges lent.edges) (written s.triangles lent.triangles) (written s.seams lent.seams)) last;
@@ -232,15 +229,15 @@ module _ {text : List ℕ} {at : ℕ} {c : SceneCounts} {before own : Scene} {ta
         count = k.counts ∙ ap (λ (s : Scene). length (pairs s)) last;
       }
 
-  pub text_not_given : (lent : Scene) (b : List ℤ) {g : Refusal} {n : ℕ} → r.outcome ≡ Outcomes.TheVariants.Refused g n → TextTold text lent lent b b l l r 0
+  pub text_not_given : (lent : Scene) (b : List ℤ) {g : Refused} → r.outcome ≡ Err g → TextTold text lent lent b b l l r 0
   unfolding outcome_says told_part ToldWhole counts_part counts_said last_step_left list_left FillsLast last_count
-  text_not_given lent b {g} {n} e =
+  text_not_given lent b {g} e =
       let (right, none) = draft_refused text (room_of l) own c r d e in
       record {
-        outcome = refused (number_of g) n;
+        outcome = refused (number_of g.why) g.carries;
         right = right;
-        says = ap (λ (o : SeriesEnding). outcome_says o (told_says r.told)) e;
-        whole = subst (λ (o : SeriesEnding). ToldWhole o r.told) (sym e) none;
+        says = ap (λ (o : Result SceneCounts Refused). outcome_says o (told_says r.told)) e;
+        whole = subst (λ (o : Result SceneCounts Refused). ToldWhole o r.told) (sym e) none;
         counts = ap counts_said e;
         leaves = refl;
         boxes = refl;

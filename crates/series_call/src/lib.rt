@@ -13,19 +13,19 @@ ghost use Rattle.series_walk.specs.Telling.{refused_with};
 ghost use Rattle.series_call.specs.Answering.{AllLent, DraftTold, TextTold};
 
 use meaning::{
-    BOX_NUMBERS, EDGE_NUMBERS, POSITION_NUMBERS, Refusal, SEAM_NUMBERS, SceneCounts, SeriesAnswer,
-    SeriesEnding, SeriesListed, TEXT_LIMIT, TRIANGLE_NUMBERS, VERTEX_LIMIT,
+    BOX_NUMBERS, EDGE_NUMBERS, POSITION_NUMBERS, Refusal, Refused, SEAM_NUMBERS, SceneCounts,
+    SeriesAnswer, SeriesListed, TEXT_LIMIT, TRIANGLE_NUMBERS, VERTEX_LIMIT,
 };
-use series_front::{FrontAnswer, draft_front};
+use series_front::draft_front;
 use series_leave::leave_last;
 use series_walk::tell_steps;
 
 // A refusal, with its line or count; nothing is told and nothing listed.
-fn refused(refusal: Refusal, number: usize) -> SeriesListed
-    ensures { result ≡ record { answer = refused_with refusal number; count = 0 } }
+fn refused(why: Refused) -> SeriesListed
+    ensures { result ≡ record { answer = refused_with why; count = 0 } }
 {
     SeriesListed {
-        answer: series_walk::refused(refusal, number),
+        answer: series_walk::refused(why),
         count: 0,
     }
 }
@@ -86,23 +86,19 @@ fn tell_text(
     let mut w = [0u16; SEAM_NUMBERS];
     let mut stands = [0u16; VERTEX_LIMIT];
     match draft_front(text, &mut p, &mut e, &mut t, &mut w, &mut stands) {
-        FrontAnswer::Refused(fault, line) => refused(fault, line),
-        FrontAnswer::Read(c, at) => {
+        Err(why) => refused(why),
+        Ok(lines) => {
+            let c = lines.counts;
             let room = list.len();
-            let answer = tell_draft(text, at, c, &mut p, &e, &t, &w, &stands, room);
-            let outcome = answer.outcome;
-            if let SeriesEnding::Refused(_, _) = outcome {
-                return SeriesListed {
-                    answer: answer,
-                    count: 0,
-                };
-            }
-            let count = leave_last(
-                c, &p, &e, &t, &w, &stands, positions, edges, triangles, seams, boxes, list,
-            );
-            SeriesListed {
-                answer: answer,
-                count: count,
+            let answer = tell_draft(text, lines.at, c, &mut p, &e, &t, &w, &stands, room);
+            match answer.outcome {
+                Err(_) => SeriesListed { answer, count: 0 },
+                Ok(_) => {
+                    let count = leave_last(
+                        c, &p, &e, &t, &w, &stands, positions, edges, triangles, seams, boxes, list,
+                    );
+                    SeriesListed { answer, count }
+                }
             }
         }
     }
@@ -125,10 +121,10 @@ pub fn tell_series(
     let few = (positions.len() < POSITION_NUMBERS) | (edges.len() < EDGE_NUMBERS);
     let short = few | (triangles.len() < TRIANGLE_NUMBERS) | (seams.len() < SEAM_NUMBERS);
     if (boxes.len() < BOX_NUMBERS) | short {
-        return refused(Refusal::ShortBuffer, 0);
+        return refused(Refused::from(Refusal::ShortBuffer));
     }
     if TEXT_LIMIT < text.len() {
-        return refused(Refusal::LongText, 0);
+        return refused(Refused::from(Refusal::LongText));
     }
     tell_text(text, positions, edges, triangles, seams, boxes, list)
 }

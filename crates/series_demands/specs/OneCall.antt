@@ -1,6 +1,6 @@
 -- Two results that meet the promise of the call for a series are one: what it answers, how many entries its log holds, the counts of the last
 -- step, and every lent number.
-use Rattle.std.specs.Prelude.{ℕ, Bool, true, false, cond, ◌||◌, List, ◌≡◌, ℤ, length}
+use Rattle.std.specs.Prelude.{ℕ, Bool, true, false, cond, ◌||◌, List, ◌≡◌, ℤ, length, Err, Ok, Result}
 use Rattle.std.proofs.Common.{sym, ap, ◌∙◌, subst, arith}
 use Rattle.meaning.specs.Scene.{Scene}
 use Rattle.meaning.specs.Refusals.{Outcome, given, refused}
@@ -13,10 +13,10 @@ use Rattle.list_boxes.specs.Once.{one_filling}
 use Rattle.series_demands.specs.OneSeries.{one_outcome}
 use Rattle.meaning.specs.SeriesAnswers.{told_says, outcome_says, answer_says}
 use Rattle.meaning.specs.declared.SeriesTold.{SeriesTold}
-use Rattle.meaning.specs.declared.SeriesEnding as Outcomes
-use Rattle.meaning.specs.declared.SeriesEnding.{SeriesEnding}
 use Rattle.meaning.specs.declared.SeriesAnswer.{SeriesAnswer}
 use Rattle.meaning.specs.SeriesCall.{BoxedSeries, told_part, ToldWhole, counts_part, counts_said, FillsLast, SeriesCalled}
+use Rattle.meaning.specs.declared.Refused.{Refused}
+use Rattle.meaning.specs.declared.SceneCounts.{SceneCounts}
 
 pub one_boxed : (text : List ℕ) (lent : Scene) (b : List ℤ) (room : ℕ) (o o' : Outcome Ended) → BoxedSeries text lent b room o → BoxedSeries text lent b room o'
     → o ≡ o'
@@ -38,15 +38,15 @@ pub told_refused : {A P : Type 0} {a : A} {n c : ℕ} → given a ≡ refused n 
 told_refused e = let bad : ◌≡◌ {A = ℕ} 0 1 = cc in absurd (omega arith)
 
 -- what is told, also after a refusal
-told_one : (q q' : SeriesEnding) (t t' : SeriesTold) → outcome_says q (told_says t) ≡ outcome_says q' (told_says t') → ToldWhole q t → ToldWhole q' t'
+told_one : (q q' : Result SceneCounts Refused) (t t' : SeriesTold) → outcome_says q (told_says t) ≡ outcome_says q' (told_says t') → ToldWhole q t → ToldWhole q' t'
     → (told_says t ≡ told_says t') × (t.log.held ≡ t'.log.held)
 unfolding outcome_says ToldWhole
-told_one (Outcomes.TheVariants.Told c) (Outcomes.TheVariants.Told c') t t' e h k =
+told_one (Ok c) (Ok c') t t' e h k =
     let same : told_says t ≡ told_says t' = cc in
     (same, h.held ∙ ap (λ (u : Told). length u.log) same ∙ sym k.held)
-told_one (Outcomes.TheVariants.Told c) (Outcomes.TheVariants.Refused f n) t t' e h k = told_refused e
-told_one (Outcomes.TheVariants.Refused f n) (Outcomes.TheVariants.Told c) t t' e h k = told_refused (sym e)
-told_one (Outcomes.TheVariants.Refused f n) (Outcomes.TheVariants.Refused g m) t t' e h k =
+told_one (Ok c) (Err f) t t' e h k = told_refused e
+told_one (Err f) (Ok c) t t' e h k = told_refused (sym e)
+told_one (Err f) (Err g) t t' e h k =
     let same : t ≡ t' = h ∙ sym k in
     (ap told_says same, ap (λ (u : SeriesTold). u.log.held) same)
 

@@ -1,13 +1,13 @@
 -- A scene's lines in front of a series: what a reader of scenes finds in them is what the grammar of series says.
-use Rattle.std.specs.Prelude.{ℕ, ◌+◌, ◌*◌, ◌≤◌, ◌<◌, Bool, true, false, ◌&&◌, ◌≡◌, refl, ◌⊎◌, take, drop}
-use Rattle.std.proofs.Common.{true≢false, ◌∙◌, subst, inl, inr, arith, length-append, length-drop}
+use Rattle.std.specs.Prelude.{Result, Ok, Err, ℕ, ◌+◌, ◌*◌, ◌≤◌, true, false, ◌≡◌, refl, ◌⊎◌, take, drop}
+use Rattle.std.proofs.Common.{true≢false, ◌∙◌, inl, inr, arith, length-append, length-drop}
 use mathlib.Core.List.{List, [], ◌∷◌, ◌++◌, map, flat_map, head-eq_of_cons-eq}
 use Rattle.std.proofs.Math.Path.{sym, ap}
 use Rattle.std.proofs.Math.ListN.{length}
 use Rattle.std.proofs.lemmas.List.{length-map}
 use Rattle.sequences.specs.Stands.{Stands}
-use Rattle.meaning.specs.Scene.{Scene, vertex_count}
-use Rattle.meaning.specs.Refusals.{given, refused, number_of}
+use Rattle.meaning.specs.Scene.{Scene}
+use Rattle.meaning.specs.Refusals.{given, refused, number_of, carrying}
 use Rattle.meaning.specs.Lines.{Fault, unformed, misplaced, lines_of, after_all, Sound, FaultyAt}
 use Rattle.meaning.specs.Text as Text
 use Rattle.meaning.specs.Text.{Entry, none, scene_with, scene_lines, line_feed}
@@ -24,8 +24,8 @@ use Rattle.text_line.specs.Rendered.{line_is}
 use Rattle.series_line.specs.Rendered.{series_readable, letter_not_next}
 use Rattle.series_line.specs.Reading.{next_here, next_stands, no_next}
 use Rattle.series_block.specs.Reading.{StepHere}
-use Rattle.series_front.specs.declared.FrontAnswer as Answers'
-use Rattle.series_front.specs.declared.FrontAnswer.{FrontAnswer}
+use Rattle.text_draft.specs.declared.Lines.{Lines}
+use Rattle.meaning.specs.declared.Refused.{Refused}
 
 -- a series that is a scene so far
 abbrev pub scene_alone : Scene → SoFar
@@ -42,9 +42,9 @@ pub record FrontRead (text : List ℕ) (b : Scene) (table : List ℕ) (c : Scene
   pub few : total c ≤ at
   pub ended : (length text ≤ at) ⊎ Stands text at (item_line next) (at + 2)
 
-unfoldable pub FrontIs : List ℕ → Scene → List ℕ → FrontAnswer → Type 0
-FrontIs text b table (Answers'.TheVariants.Refused f line) = FaultyAt series_lines nothing_yet text (number_of f) line
-FrontIs text b table (Answers'.TheVariants.Read c at) = FrontRead text b table c at
+unfoldable pub FrontIs : List ℕ → Scene → List ℕ → Result Lines Refused → Type 0
+FrontIs text b table (Err f) = FaultyAt series_lines nothing_yet text (number_of f.why) f.carries
+FrontIs text b table (Ok lines) = FrontRead text b table lines.counts lines.at
 
 -- ---- the lines of a scene are lines of a series
 
@@ -130,7 +130,7 @@ module _ {text : List ℕ} {b : Scene} {table : List ℕ} {c : SceneCounts} {at 
         ended = e;
       }
 
-  pub front_ends : length text ≤ at → FrontIs text b table (Answers'.TheVariants.Read c at)
+  pub front_ends : length text ≤ at → FrontIs text b table (Ok (record { counts = c; at = at }))
   unfolding FrontIs
   front_ends h = front_read (inl h)
 
@@ -145,7 +145,7 @@ next_is_nine text at s here (misplaced r rest formed eq j) =
     absurd (letter_not_next r (head-eq_of_cons-eq (sym (line_is r rest) ∙ sym eq ∙ next_first text at here)))
 
 module _ {text : List ℕ} {b : Scene} {table : List ℕ} {f : Refusal} {c : SceneCounts} {at : ℕ} (i : StoppedAt text b table f c at) where
-  pub front_next : next_here text at ≡ true → FrontIs text b table (Answers'.TheVariants.Read c at)
+  pub front_next : next_here text at ≡ true → FrontIs text b table (Ok (record { counts = c; at = at }))
   unfolding FrontIs
   front_next h =
       front_read (record {
@@ -155,7 +155,7 @@ module _ {text : List ℕ} {b : Scene} {table : List ℕ} {f : Refusal} {c : Sce
         lines = i.lines;
       }) (inr (next_stands text at h))
 
-  pub front_fails : {line : ℕ} → next_here text at ≡ false → line ≡ total c + 1 → FrontIs text b table (Answers'.TheVariants.Refused f line)
+  pub front_fails : {line : ℕ} → next_here text at ≡ false → line ≡ total c + 1 → FrontIs text b table (Err (carrying f line))
   unfolding FrontIs of_reached
   front_fails no_n l =
       let many : total c ≡ length (map of i.reached.above) = i.lines ∙ sym (length-map i.reached.above of) in

@@ -1,13 +1,12 @@
 -- A longer series has the steps of the shorter one in front, and so its words, its hits and its log.
 use Rattle.std.specs.Prelude.{ℕ, ◌+◌, ◌≤◌, Bool, true, false, cond, ◌≡◌, refl, ℤ, length}
 use mathlib.Core.List.{List, [], ◌∷◌, ◌++◌, append_assoc, Memᴰ}
-use Rattle.std.proofs.Common.{sym, ap, ◌∙◌, subst, arith, add-zero, add_assoc, length-append}
+use Rattle.std.proofs.Common.{sym, ap, ◌∙◌, subst, arith, add-zero, length-append}
 use Rattle.meaning.specs.Scene.{Scene}
 use Rattle.meaning.specs.Lines.{after_all}
 use Rattle.meaning.specs.List.{pairs}
-use Rattle.meaning.specs.SceneWords.{AllSettled}
 use Rattle.meaning.specs.declared.Settled.{Settled}
-use Rattle.meaning.specs.Series.{Series, step_after, steps_from, last_from, steps_of, last_step, HitAt, hits_in, hits_from, hits_of, StepsSettled, log_of, first_step, Told, told_of, ToldRight}
+use Rattle.meaning.specs.Series.{Series, step_after, steps_from, last_from, steps_of, last_step, HitAt, hits_in, hits_from, hits_of, StepsSettled, log_of, Told, told_of, ToldRight}
 use Rattle.meaning.specs.SeriesText.{Item, of, ends, next, three_of, SoFar, blocks_so_far, with_item, series_lines}
 use Rattle.series_laws.specs.Front.{log_kept}
 

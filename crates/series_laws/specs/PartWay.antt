@@ -1,8 +1,8 @@
 -- Part of the way to the next step: the first k vertices have gone on to their next ends, the others stand where they were.
-use Rattle.std.specs.Prelude.{ℕ, ◌+◌, ◌*◌, ◌-◌, ◌≤◌, ◌<◌, ◌≡◌, pos, length, take}
-use mathlib.Core.List.{List, [], ◌∷◌, ◌++◌, append_assoc, append-nil}
+use Rattle.std.specs.Prelude.{ℕ, ◌+◌, ◌*◌, ◌≤◌, ◌<◌, ◌≡◌, pos, length}
+use mathlib.Core.List.{List, [], ◌++◌, append_assoc, append-nil}
 use Rattle.std.proofs.Math.Path.{refl, sym, ap}
-use Rattle.std.proofs.Common.{◌∙◌, subst, drop_of_length-le, take_at, drop-drop}
+use Rattle.std.proofs.Common.{◌∙◌, drop_of_length-le, take_at, drop-drop}
 use native.Mathlib.Omega.{arith}
 use Rattle.std.proofs.Math.IntN.{ℤ}
 use Rattle.std.proofs.Math.ListN.{get_or, drop, length-append, length-drop, get_or-append}
@@ -10,7 +10,7 @@ use Rattle.std.proofs.Math.Seq.{drop-append-add, get_or-append-add, get_or-drop}
 use Rattle.whole.specs.Vector.{Vector}
 use Rattle.sequences.specs.Gather.{gather, gather_none, gather_last, gather_same}
 use Rattle.sequences.specs.Wrote.{patched}
-use Rattle.meaning.specs.Scene.{Scene, vertex_count, vector_at, end_of}
+use Rattle.meaning.specs.Scene.{Scene, vertex_count, end_of}
 use Rattle.meaning.specs.Text.{coordinates}
 use Rattle.sequences.specs.Blocks.{gather_wide}
 use Rattle.meaning.specs.Series.{goes_on, step_after}

@@ -1,15 +1,14 @@
 -- A step after an accepted one: as many vertices, each from its end to its next end. It is accepted where its ends are in range and no seam comes apart.
-use Rattle.std.specs.Prelude.{ℕ, zero, suc, ◌+◌, ◌*◌, ◌-◌, ◌/◌, ◌%◌, ◌≤◌, ◌<◌, Bool, true, ◌||◌, List, [], ◌∷◌, ◌++◌, ◌≡◌, ltb, leb, eqb, ℤ, pos, get_or}
+use Rattle.std.specs.Prelude.{ℕ, zero, suc, ◌+◌, ◌*◌, ◌-◌, ◌/◌, ◌%◌, ◌≤◌, ◌<◌, ◌||◌, List, [], ◌∷◌, ◌++◌, ◌≡◌, eqb, ℤ, pos, get_or}
 use Rattle.std.proofs.Math.Bool.{false, not}
 use Rattle.std.proofs.Math.Path.{refl, subst}
-use Rattle.std.proofs.Common.{sym, ap, ◌∙◌, ⊎_elim, get_or-append-add, eq-eqb}
+use Rattle.std.proofs.Common.{sym, ◌∙◌, ⊎_elim, get_or-append-add, eq-eqb}
 use native.Mathlib.Omega.{arith}
 use Rattle.std.proofs.Math.ListN.{length, get_or-append, get_or-eq_default}
 use Rattle.whole.specs.Vector.{Vector}
-use Rattle.sequences.specs.Gather.{gather}
 use Rattle.sequences.specs.Range.{le_or_lt}
 use Rattle.answers.specs.Below.{or_left, or_rest, none_passes, none_below}
-use Rattle.meaning.specs.Scene.{Scene, scene_of, vertex_count, some_below, uneven, over_size, wrong_shape, outside, out_of_range, unknown_in, unknown_vertex, broken_seam, repeated_vertex, Accepted}
+use Rattle.meaning.specs.Scene.{Scene, vertex_count, some_below, uneven, over_size, wrong_shape, outside, unknown_in, unknown_vertex, broken_seam, repeated_vertex, Accepted}
 use Rattle.sequences.specs.Blocks.{gather_wide, gather_at}
 use Rattle.meaning.specs.Series.{goes_on, step_after}
 use Rattle.meaning.specs.SeriesText.{three_of, far_end}

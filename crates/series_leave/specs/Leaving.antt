@@ -1,15 +1,13 @@
 -- The scene in front of a draft goes into lent buffers.
-use Rattle.std.specs.Prelude.{ℕ, ◌*◌, ◌≤◌, List, [], ◌≡◌, refl, ltb, ℤ, length, take}
-use Rattle.std.proofs.Common.{sym, ap, ◌∙◌, subst, arith, le-ltb}
+use Rattle.std.specs.Prelude.{ℕ, ◌*◌, ◌≤◌, List, [], ◌≡◌, ltb, ℤ, length, take, Err, Ok, Result}
+use Rattle.std.proofs.Common.{sym, ap, subst, arith, le-ltb}
 use Rattle.sequences.specs.Wrote.{written}
 use Rattle.meaning.specs.Scene.{Scene, scene_of, Accepted}
-use Rattle.meaning.specs.Refusals.{Outcome, given, refused, number_of, Answers}
-use Rattle.meaning.specs.List.{pairs, entries, room_of, list_says, leaves}
+use Rattle.meaning.specs.Refusals.{refused, number_of, Answers, outcome_of}
+use Rattle.meaning.specs.List.{pairs, entries, room_of, leaves}
 use Rattle.meaning.specs.Runs.{Tested}
 use Rattle.meaning.specs.StoredBoxes.{Filled, box_numbers}
 use Rattle.meaning.specs.declared.SceneCounts.{SceneCounts}
-use Rattle.meaning.specs.declared.ListAnswer as ListAnswers
-use Rattle.meaning.specs.declared.ListAnswer.{ListAnswer}
 use Rattle.scene_seams.specs.Alone.{tabled}
 use Rattle.scene_seams.specs.Table.{seams_of}
 use Rattle.answers.specs.Answering.{is_past, is_given}
@@ -18,6 +16,7 @@ use Rattle.list_pairs.specs.Answering.{room_checks, IsCount, ListedIn}
 use Rattle.text_line.specs.Above.{Bounded}
 use Rattle.text_record.specs.Putting.{Roomy}
 use Rattle.text_scene.specs.Answering.{Copied}
+use Rattle.meaning.specs.declared.Refused.{Refused}
 
 -- so many numbers of each list
 abbrev pub front_of : SceneCounts → Scene → Scene
@@ -32,9 +31,9 @@ pub record LeaveReady (c : SceneCounts) (own : Scene) (table : List ℕ) (lent :
   pub boxes : box_numbers ≤ length b
   pub fits : length (pairs (front_of c own)) ≤ room_of l
 
-unfoldable pub count_of : ListAnswer → ℕ
-count_of (ListAnswers.TheVariants.Listed m) = m.count
-count_of (ListAnswers.TheVariants.Refused x n) = n
+unfoldable pub count_of : Result ℕ Refused → ℕ
+count_of (Ok n) = n
+count_of (Err x) = x.carries
 
 -- n pairs are listed
 pub record LastLeft (c : SceneCounts) (own lent left : Scene) (b b' : List ℤ) (l l' : List ℕ) (n : ℕ) : Type 0 where
@@ -44,16 +43,16 @@ pub record LastLeft (c : SceneCounts) (own lent left : Scene) (b b' : List ℤ) 
   pub counts : n ≡ length (pairs (front_of c own))
 
 -- where there is room, the list is made
-made_where_room : {s : Scene} {room : ℕ} {o o' : List ℕ} {r : ListAnswer} → length (pairs s) ≤ room → ListedIn s room o o' r
+made_where_room : {s : Scene} {room : ℕ} {o o' : List ℕ} {r : Result ℕ Refused} → length (pairs s) ≤ room → ListedIn s room o o' r
     → (o' ≡ written (entries (pairs s)) o) × (count_of r ≡ length (pairs s))
-unfolding count_of list_says leaves Answers
+unfolding count_of outcome_of leaves Answers
 made_where_room {s} {room} {o} {o'} {r} h p = by_answer r p.answer p.buffer
   where
-    by_answer : (r : ListAnswer) → Answers (room_checks s room) (IsCount s) (list_says r) → o' ≡ leaves (list_says r) (entries (pairs s)) o
+    by_answer : (r : Result ℕ Refused) → Answers (room_checks s room) (IsCount s) (outcome_of r) → o' ≡ leaves (outcome_of r) (entries (pairs s)) o
         → (o' ≡ written (entries (pairs s)) o) × (count_of r ≡ length (pairs s))
-    by_answer (ListAnswers.TheVariants.Listed m) a e = (e, (is_given (IsCount s) (record { number = 7; holds = ltb room (length (pairs s)); carries = length (pairs s) }) [] m.count a).1)
-    by_answer (ListAnswers.TheVariants.Refused x n) a e =
-        absurd (is_past (IsCount s) (record { number = 7; holds = ltb room (length (pairs s)); carries = length (pairs s) }) [] (refused (number_of x) n) (le-ltb room (length (pairs s)) h) a)
+    by_answer (Ok m) a e = (e, (is_given (IsCount s) (record { number = 7; holds = ltb room (length (pairs s)); carries = length (pairs s) }) [] m a).1)
+    by_answer (Err x) a e =
+        absurd (is_past (IsCount s) (record { number = 7; holds = ltb room (length (pairs s)); carries = length (pairs s) }) [] (refused (number_of x.why) x.carries) (le-ltb room (length (pairs s)) h) a)
 
 module _ {c : SceneCounts} {own lent : Scene} {table : List ℕ} {b : List ℤ} {l : List ℕ} (d : LeaveReady c own table lent b l) where
   table_front : tabled (front_of c own).positions (front_of c own).edges (front_of c own).triangles table ≡ front_of c own
@@ -65,7 +64,7 @@ module _ {c : SceneCounts} {own lent : Scene} {table : List ℕ} {b : List ℤ} 
   pub front_accepted : Accepted (tabled (front_of c own).positions (front_of c own).edges (front_of c own).triangles table)
   front_accepted = subst Accepted (sym table_front) d.accepted
 
-  pub front_listed : {l' t t' : List ℕ} {r : ListAnswer} {room : ℕ} → room ≡ room_of l
+  pub front_listed : {l' t t' : List ℕ} {r : Result ℕ Refused} {room : ℕ} → room ≡ room_of l
       → Tested (tabled (front_of c own).positions (front_of c own).edges (front_of c own).triangles table) (ListedIn (tabled (front_of c own).positions (front_of c own).edges (front_of c own).triangles table) room l l') t t' r
       → (l' ≡ written (entries (pairs (front_of c own))) l) × (count_of r ≡ length (pairs (front_of c own)))
   front_listed {l'} {t} {t'} {r} {room} e p =

@@ -8,16 +8,16 @@ ghost use Rattle.series_leave.specs.Leaving.{count_of, LeaveReady, LastLeft};
 
 use list_boxes::filling::fill;
 use list_pairs::accepted::list_accepted;
-use meaning::{ListAnswer, SceneCounts};
+use meaning::{Refused, SceneCounts};
 use text_scene::copying::copy_scene;
 
 // How many pairs a list has that was made, or that had no room.
-fn count_of(listed: ListAnswer) -> usize
+fn count_of(listed: Result<usize, Refused>) -> usize
     ensures { result ≡ count_of listed }
 {
     match listed {
-        ListAnswer::Listed(made) => made.count,
-        ListAnswer::Refused(_, needed) => needed,
+        Ok(count) => count,
+        Err(refused) => refused.carries,
     }
 }
 

@@ -1,47 +1,45 @@
 -- What the reader of a block's line promises, and how the tests of the code are those of the definition.
-use Rattle.std.specs.Prelude.{Bool, true, ◌&&◌, ◌≡◌, ℕ, ◌+◌, ◌≤◌, ◌<◌, eqb, ℤ, pos, length}
+use Rattle.std.specs.Prelude.{Option, Some, None, Result, Ok, Err, Bool, true, ◌&&◌, ◌≡◌, ℕ, ◌+◌, ◌<◌, eqb, ℤ, length}
 use Rattle.std.proofs.Math.Bool.{false}
 use Rattle.std.proofs.Common.{true≢false, sym, ◌∙◌, subst, arith, eq-eqb, eqb-true}
-use mathlib.Core.List.{List, [], ◌∷◌, ◌++◌, head-eq_of_cons-eq}
+use mathlib.Core.List.{List, [], ◌∷◌, ◌++◌}
 use Rattle.std.proofs.Math.Path.{refl, ap}
 use Rattle.std.proofs.Math.ListN.{drop}
 use Rattle.whole.specs.Vector.{Vector}
 use Rattle.sequences.specs.Pick.{both}
 use Rattle.sequences.specs.Stands.{Stands, stands_one, stands_then, stands_apart, stands_from}
 use Rattle.sequences.specs.Parts.{none_of, some_left}
-use Rattle.decimals.specs.Byte.{IsDigit, byte_at, byte_inside}
+use Rattle.decimals.specs.Byte.{byte_at, byte_inside}
 use Rattle.text_fields.specs.Field.{front_byte}
 use Rattle.text_fields.specs.Rows.{row_of}
-use Rattle.text_fields.specs.Ended.{RowEnded, LineStands, InFront, row_ended, row_unended}
+use Rattle.text_fields.specs.Ended.{RowEnded, InFront, row_ended, row_unended}
 use Rattle.text_fields.specs.Tabbed.{tab_parts, line_ends, first_of}
-use Rattle.text_fields.specs.declared.Ending.{Ending}
-use Rattle.text_fields.specs.declared.Ending.TheVariants.{At, Nowhere}
 use Rattle.meaning.specs.Limits.{digit_limit}
 use Rattle.meaning.specs.Refusals.{refused}
 use Rattle.meaning.specs.Lines.{Fault, unformed, misplaced}
-use Rattle.meaning.specs.Text as Text
 use Rattle.meaning.specs.Text.{Entry, vertex, edge, triangle, seam, letter_of, numbers_of, line_of, line_feed, Short, entry_checks}
 use Rattle.answers.specs.Answering.{refuses}
 use Rattle.text_line.specs.Rendered.{coordinate_form, line_is}
 use Rattle.text_line.specs.Reading.{letter, many, form_of, line_ended, LineRead, line_got, line_other, short_signed, allowed_short}
 use Rattle.text_line.specs.declared.Sort.{Sort}
 use Rattle.meaning.specs.SeriesText.{Item, of, ends, next, three_of, item_line, SoFar, six_numbers, ItemFormed, item_checks, series_lines}
-use Rattle.series_line.specs.Rendered.{ends_line_is, letter_of_six, letter_not_next, six_not_here}
-use Rattle.series_line.specs.declared.BlockLine as Blocks
+use Rattle.series_line.specs.Rendered.{ends_line_is, letter_of_six, six_not_here}
 use Rattle.series_line.specs.declared.BlockLine.{BlockLine}
-use Rattle.series_line.specs.declared.BlockLine.TheVariants.{Ends, Next, Late, Bad}
+use Rattle.series_line.specs.declared.BlockLine.TheVariants.{Ends, Next}
+use Rattle.series_line.specs.declared.LineFault.{LineFault}
+use Rattle.series_line.specs.declared.LineFault.TheVariants.{Late, Bad}
 
 -- the line `n` stands here
 abbrev pub next_here : List ℕ → ℕ → Bool
 next_here text at = eqb (byte_at text at) 110 && eqb (byte_at text (at + 1)) line_feed
 
-unfoldable pub ends_found : Ending → BlockLine
-ends_found (At n) = Ends n
-ends_found Nowhere = Bad
+unfoldable pub ends_found : Option ℕ → Result BlockLine LineFault
+ends_found (Some n) = Ok (Ends n)
+ends_found None = Err Bad
 
-unfoldable pub part_found : Ending → BlockLine
-part_found (At n) = Late
-part_found Nowhere = Bad
+unfoldable pub part_found : Option ℕ → LineFault
+part_found (Some n) = Late
+part_found None = Bad
 
 -- a line that is no `v` line and no `n`
 pub record OtherHere (text : List ℕ) (at : ℕ) : Type 0 where
@@ -62,11 +60,11 @@ pub record EndsGot (text : List ℕ) (at : ℕ) (sizes : List ℕ) (minus : List
 abbrev pub BlockFault : List ℕ → ℕ → ℕ → Type 0
 BlockFault text at n = (x : SoFar) → x.begun ≡ true → Fault series_lines x (drop at text) n
 
-unfoldable pub BlockLineRead : List ℕ → ℕ → List ℕ → List Bool → BlockLine → Type 0
-BlockLineRead text at sizes minus (Ends after) = EndsGot text at sizes minus after
-BlockLineRead text at sizes minus (Next after) = Stands text at (item_line next) after
-BlockLineRead text at sizes minus Late = BlockFault text at 10
-BlockLineRead text at sizes minus Bad = BlockFault text at 9
+unfoldable pub BlockLineRead : List ℕ → ℕ → List ℕ → List Bool → Result BlockLine LineFault → Type 0
+BlockLineRead text at sizes minus (Ok (Ends after)) = EndsGot text at sizes minus after
+BlockLineRead text at sizes minus (Ok (Next after)) = Stands text at (item_line next) after
+BlockLineRead text at sizes minus (Err Late) = BlockFault text at 10
+BlockLineRead text at sizes minus (Err Bad) = BlockFault text at 9
 
 of_line : (r : Entry) → item_line (of r) ≡ line_of r
 unfolding item_line
@@ -109,8 +107,8 @@ first_byte : (text : List ℕ) (at : ℕ) {b : ℕ} (l : List ℕ) → drop at t
 first_byte text at {b} l e = front_byte (stands_from text at (b ∷ []) l e)
 
 -- a line of three numbers that is formed was read
-no_ends : {text : List ℕ} {at : ℕ} {sizes sizes' : List ℕ} {minus minus' : List Bool} {e : Ending} → at < length text
-    → RowEnded text (at + 1) coordinate_form 3 sizes sizes' minus minus' e → e ≡ Nowhere
+no_ends : {text : List ℕ} {at : ℕ} {sizes sizes' : List ℕ} {minus minus' : List Bool} {e : Option ℕ} → at < length text
+    → RowEnded text (at + 1) coordinate_form 3 sizes sizes' minus minus' e → e ≡ None
     → (p : Vector) (rest : List ℕ) → Short digit_limit (three_of p) → drop at text ≡ item_line (ends p) ++ rest → ⊥
 unfolding item_line
 no_ends {text} {at} h row q p rest short eq =
@@ -128,15 +126,15 @@ no_ends {text} {at} h row q p rest short eq =
       ended = ended;
     })
 
-pub ends_got : {text : List ℕ} {at : ℕ} {sizes sizes' : List ℕ} {minus minus' : List Bool} {e : Ending} {r : BlockLine}
+pub ends_got : {text : List ℕ} {at : ℕ} {sizes sizes' : List ℕ} {minus minus' : List Bool} {e : Option ℕ} {r : Result BlockLine LineFault}
     → at < length text → byte_at text at ≡ 118
     → RowEnded text (at + 1) coordinate_form 3 sizes sizes' minus minus' e → r ≡ ends_found e
     → BlockLineRead text at sizes' minus' r
 unfolding BlockLineRead ends_found item_line ItemFormed
 ends_got {text} {at} {sizes} {sizes'} {minus} {minus'} {e} {r} h b row is = rw is (by_ending e refl)
   where
-    by_ending : (x : Ending) → e ≡ x → BlockLineRead text at sizes' minus' (ends_found x)
-    by_ending (At after) q =
+    by_ending : (x : Option ℕ) → e ≡ x → BlockLineRead text at sizes' minus' (ends_found x)
+    by_ending (Some after) q =
         let (counted, line, front) = row_ended row q in
         let (p, numbers) = vector_of row.read.zs counted in
         let first : Stands text at (118 ∷ []) (at + 1) = rw b at (stands_one text at 0 h) in
@@ -146,7 +144,7 @@ ends_got {text} {at} {sizes} {sizes'} {minus} {minus'} {e} {r} h b row is = rw i
           stands = rw numbers at (stands_then first (stands_then line.row.stands line.ended));
           front = rw numbers at front;
         }
-    by_ending Nowhere q = λ x begun. unformed refl (some_left text at h) (never x begun)
+    by_ending None q = λ x begun. unformed refl (some_left text at h) (never x begun)
       where
         never : (x : SoFar) → x.begun ≡ true → (i : Item) (rest : List ℕ) → ItemFormed x i → drop at text ≡ item_line i ++ rest → ⊥
         never x begun (of a) rest f eq =
@@ -184,23 +182,23 @@ module _ (text : List ℕ) (at : ℕ) (h : OtherHere text at) where
       never next rest f eq = no_next text at h.no_n rest eq
 
   -- the letter of a kind stands here: what is read of the row behind it decides
-  pub part_got : (sort : Sort) {sizes sizes' : List ℕ} {minus minus' : List Bool} {e : Ending} {r : BlockLine} → byte_at text at ≡ letter sort
+  pub part_got : (sort : Sort) {sizes sizes' : List ℕ} {minus minus' : List Bool} {e : Option ℕ} {r : LineFault} → byte_at text at ≡ letter sort
       → RowEnded text (at + 1) (form_of sort) (many sort) sizes sizes' minus minus' e → r ≡ part_found e
-      → BlockLineRead text at sizes' minus' r
+      → BlockLineRead text at sizes' minus' (Err r)
   unfolding BlockLineRead part_found LineRead line_ended
   part_got sort {sizes} {sizes'} {minus} {minus'} {e} {r} b row is = rw is (by_ending e refl)
     where
-      by_ending : (x : Ending) → e ≡ x → BlockLineRead text at sizes' minus' (part_found x)
-      by_ending (At after) q =
-          let got : LineRead text at sizes' minus' (line_ended sort (At after)) = line_got sort h.inside b row (ap (line_ended sort) (sym q)) in
+      by_ending : (x : Option ℕ) → e ≡ x → BlockLineRead text at sizes' minus' (Err (part_found x))
+      by_ending (Some after) q =
+          let got : LineRead text at sizes' minus' (line_ended sort (Some after)) = line_got sort h.inside b row (ap (line_ended sort) (sym q)) in
           late_line got.entry _ got.short got.stands.here
-      by_ending Nowhere q =
-          let none_here : LineRead text at sizes' minus' (line_ended sort Nowhere) = line_got sort h.inside b row (ap (line_ended sort) (sym q)) in
+      by_ending None q =
+          let none_here : LineRead text at sizes' minus' (line_ended sort None) = line_got sort h.inside b row (ap (line_ended sort) (sym q)) in
           bad_line (λ r rest short eq. none_here r _ short (stands_from text at (line_of r) rest eq))
 
   -- no letter of a record stands here
   pub no_part : (sizes : List ℕ) (minus : List Bool) → (byte_at text at ≡ 101 → ⊥) → (byte_at text at ≡ 116 → ⊥) → (byte_at text at ≡ 119 → ⊥)
-      → BlockLineRead text at sizes minus Bad
+      → BlockLineRead text at sizes minus (Err Bad)
   unfolding BlockLineRead
   no_part sizes minus e t w =
       bad_line (λ r rest short eq. line_other text at h.no_v e t w r _ short (stands_from text at (line_of r) rest eq))

@@ -1,13 +1,13 @@
 -- A text of a series means one thing: it begins with the line of one record at most, since six numbers and three never stand in the same place.
-use Rattle.std.specs.Prelude.{Bool, true, false, ◌&&◌, ◌≡◌, refl, ℕ, ◌≤◌, ℤ, length}
+use Rattle.std.specs.Prelude.{true, ◌&&◌, ◌≡◌, refl, ℕ, ◌≤◌, length}
 use Rattle.std.proofs.Common.{true≢false, sym, ap, ◌∙◌, arith}
 use mathlib.Core.List.{List, [], ◌∷◌, ◌++◌, append_assoc, head-eq_of_cons-eq, tail-eq_of_cons-eq}
 use Rattle.whole.specs.Vector.{Vector}
 use Rattle.text_fields.specs.Tabbed.{tab_parts, line_ends}
 use Rattle.text_fields.specs.Rows.{row_of, row_cancel}
-use Rattle.meaning.specs.Text.{Entry, vertex, edge, triangle, seam, letter_of, numbers_of, line_of, line_feed}
+use Rattle.meaning.specs.Text.{Entry, vertex, edge, triangle, seam, letter_of, line_of, line_feed}
 use Rattle.text_laws.specs.Unique.{Readable}
-use Rattle.text_line.specs.Rendered.{coordinate_form, number_form, line_is, line_cancel}
+use Rattle.text_line.specs.Rendered.{coordinate_form, line_is, line_cancel}
 use Rattle.meaning.specs.SeriesText.{Item, of, ends, next, three_of, item_line, SoFar, six_numbers, ItemFormed, series_lines}
 
 -- the line of an end: the letter, the row of its three numbers, LF

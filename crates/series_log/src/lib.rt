@@ -12,7 +12,7 @@ use meaning::{Kind, LOG_ROOM, Log, StepHit};
 pub fn one_more(n: u64) -> u64
     ensures { result ≡ one_more n }
 {
-    if n < 18446744073709551615 { n + 1 } else { n }
+    n.saturating_add(1)
 }
 
 // A log that has taken no hit.

@@ -1,10 +1,10 @@
 -- From the answer that a call gives to what is printed for its text, and for what was read of it.
-use Rattle.std.specs.Prelude.{ℕ, ◌≤◌, ◌<◌, Bool, true, cond, List, ◌≡◌, length, take}
+use Rattle.std.specs.Prelude.{ℕ, ◌≤◌, ◌<◌, Bool, true, cond, List, ◌≡◌, length, take, Err, Ok, Result}
 use Rattle.std.proofs.Math.Path.{refl}
 use Rattle.std.proofs.Common.{sym, ◌∙◌, subst, zero-add, arith, lt-ltb}
 use Rattle.sequences.specs.Wrote.{Wrote, wrote_front}
 use Rattle.meaning.specs.Limits.{text_limit, report_room}
-use Rattle.meaning.specs.Refusals.{Outcome, given, refused, number_of}
+use Rattle.meaning.specs.Refusals.{Outcome, given, refused, number_of, carrying}
 use Rattle.meaning.specs.Text.{long_text}
 use Rattle.meaning.specs.Report.{refused_line}
 use Rattle.meaning.specs.Series.{Told}
@@ -12,22 +12,21 @@ use Rattle.meaning.specs.SeriesText.{Ended, SeriesIs}
 use Rattle.meaning.specs.declared.Refusal.{Refusal}
 use Rattle.meaning.specs.declared.SceneCounts.{SceneCounts}
 use Rattle.meaning.specs.SeriesAnswers.{outcome_says}
-use Rattle.meaning.specs.declared.SeriesEnding as Outcomes
-use Rattle.meaning.specs.declared.SeriesEnding.{SeriesEnding}
 use Rattle.text_scene.specs.ReadSoFar.{read_whole, read_full}
 use Rattle.meaning.specs.SeriesLines.{told_lines, outcome_lines, SeriesReported, SeriesRead}
+use Rattle.meaning.specs.declared.Refused.{Refused}
 
 -- what the answer of a call prints
 unfoldable pub answer_lines : Outcome Told → List ℕ
 answer_lines (given t) = told_lines t
 answer_lines (refused n third) = refused_line n third
 
-module _ {outcome : SeriesEnding} (t : Told) where
-  pub told_answer : {c : SceneCounts} → outcome ≡ Outcomes.TheVariants.Told c → told_lines t ≡ answer_lines (outcome_says outcome t)
+module _ {outcome : Result SceneCounts Refused} (t : Told) where
+  pub told_answer : {c : SceneCounts} → outcome ≡ Ok c → told_lines t ≡ answer_lines (outcome_says outcome t)
   unfolding answer_lines outcome_says
   told_answer e = rw e refl
 
-  pub refused_answer : {f : Refusal} {n : ℕ} → outcome ≡ Outcomes.TheVariants.Refused f n → refused_line (number_of f) n ≡ answer_lines (outcome_says outcome t)
+  pub refused_answer : {f : Refusal} {n : ℕ} → outcome ≡ Err (carrying f n) → refused_line (number_of f) n ≡ answer_lines (outcome_says outcome t)
   unfolding answer_lines outcome_says
   refused_answer e = rw e refl
 

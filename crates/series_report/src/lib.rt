@@ -5,7 +5,7 @@
 
 mod lines; // lines.rt: one line
 
-ghost use Rattle.std.specs.Prelude.{◌+◌, ◌*◌, ◌≤◌, ◌<◌, min, ◌≡◌, length};
+ghost use Rattle.std.specs.Prelude.{◌+◌, ◌*◌, ◌≤◌, ◌<◌, ◌≡◌, length};
 ghost use Rattle.sequences.specs.Wrote.{Wrote};
 ghost use Rattle.meaning.specs.Limits.{text_limit};
 ghost use Rattle.meaning.specs.Series.{log_limit};
@@ -18,8 +18,8 @@ ghost use Rattle.series_report.specs.Whole.{answer_lines};
 use answers::number_of;
 use lines::{hit_line, number_line};
 use meaning::{
-    BOX_NUMBERS, EDGE_NUMBERS, LOG_ROOM, Log, POSITION_NUMBERS, READ_BYTES, REPORT_ROOM,
-    SEAM_NUMBERS, SeriesEnding, SeriesTold, StepHit, TRIANGLE_NUMBERS,
+    BOX_NUMBERS, EDGE_NUMBERS, LOG_ROOM, Log, POSITION_NUMBERS, READ_BYTES, REPORT_ROOM, Refused,
+    SEAM_NUMBERS, SceneCounts, SeriesTold, StepHit, TRIANGLE_NUMBERS,
 };
 use report_words::lines::{refused_line, total_line};
 use series_call::tell_series;
@@ -43,25 +43,16 @@ fn entry_line(hit: StepHit, out: &mut [u8], at: usize) -> usize
     )
 }
 
-// How many entries there are: no more than a log has room for.
-fn entries_held(held: usize) -> usize
-    ensures { result ≡ min held log_limit }
-{
-    if held < LOG_ROOM { held } else { LOG_ROOM }
-}
-
-// A line for each entry of the log.
+// A line for each entry of the log: no more than a log has room for.
 fn log_lines(log: Log, out: &mut [u8]) -> usize
     requires { length out.old ≡ series_length }
     ensures { Wrote out.old 0 (hit_lines (entries_of log)) out.new result × (result ≤ 70 * log_limit) }
 {
-    let held = entries_held(log.held);
+    let held = log.held.min(LOG_ROOM);
     let mut next = 0;
-    let mut k = 0;
-    while k < held {
+    for k in 0..held {
         let hit = log.hits[k];
         next = entry_line(hit, out, next);
-        k += 1;
     }
     next
 }
@@ -87,15 +78,13 @@ fn told_lines(told: SeriesTold, out: &mut [u8]) -> usize
 }
 
 // The lines of an answer: what is told, or the one line of a refusal.
-fn answer_lines(outcome: SeriesEnding, told: SeriesTold, out: &mut [u8]) -> usize
+fn answer_lines(outcome: Result<SceneCounts, Refused>, told: SeriesTold, out: &mut [u8]) -> usize
     requires { length out.old ≡ series_length }
     ensures { Wrote out.old 0 (answer_lines (outcome_says outcome (told_says told))) out.new result }
 {
     match outcome {
-        SeriesEnding::Told(_) => told_lines(told, out),
-        SeriesEnding::Refused(refusal, third) => {
-            refused_line(out, 0, number_of(refusal), third as u64)
-        }
+        Ok(_) => told_lines(told, out),
+        Err(refused) => refused_line(out, 0, number_of(refused.why), refused.carries as u64),
     }
 }
 

@@ -1,37 +1,33 @@
 -- The pairs of a step, judged and told: those of a row, one row behind the other, and all of them.
-use Rattle.std.specs.Prelude.{ℕ, ◌+◌, ◌≤◌, ◌<◌, min, Bool, true, false, ◌≡◌, refl, ltb, take, drop, get_or}
+use Rattle.std.specs.Prelude.{ℕ, ◌≤◌, ◌<◌, min, Bool, true, false, ◌≡◌, refl, ltb, drop, get_or, Err, Ok, Result}
 use mathlib.Core.List.Memᴰ
 use mathlib.Core.List.{List, [], ◌∷◌, ◌++◌, map, Memᴰ}
 use Rattle.std.proofs.Common.{sym, ◌∙◌, subst, zero-add, arith, take_at}
 use Rattle.std.proofs.Math.Path.{ap}
 use Rattle.std.proofs.Math.ListN.{length}
-use Rattle.std.proofs.lemmas.List.{length-map}
-use Rattle.sequences.specs.Gather.{gather, gather_none, gather_last, gather_has}
+use Rattle.sequences.specs.Gather.{gather_has}
 use Rattle.sequences.specs.Mapped.{map_append}
 use Rattle.sequences.specs.Rising.{at_place}
 use Rattle.sequences.specs.Wrote.{written, written_length}
 use Rattle.meaning.specs.Scene.{Scene, Accepted}
-use Rattle.meaning.specs.Refusals.{Outcome, given, refused, number_of, not_there, Answers}
-use Rattle.meaning.specs.List.{Pair, pairs, number, entries, room_of, list_says, leaves}
+use Rattle.meaning.specs.Refusals.{Outcome, refused, number_of, not_there, Answers, outcome_of}
+use Rattle.meaning.specs.List.{Pair, pairs, number, entries, room_of, leaves}
 use Rattle.meaning.specs.SceneWords.{byte_of}
 use Rattle.meaning.specs.declared.Kind.{Kind}
 use Rattle.meaning.specs.declared.Kind.TheVariants.{PointTriangle, EdgeEdge}
-use Rattle.meaning.specs.declared.Made.{Made}
-use Rattle.meaning.specs.declared.Refusal.{Refusal}
 use Rattle.meaning.specs.declared.Settled.{Settled}
-use Rattle.meaning.specs.declared.ListAnswer as ListAnswers
-use Rattle.meaning.specs.declared.ListAnswer.{ListAnswer}
-use Rattle.list_entries.specs.Entries.{pair_of, Narrow, AllNarrow, number_back}
+use Rattle.list_entries.specs.Entries.{pair_of, AllNarrow, number_back}
 use Rattle.list_entries.specs.UpTo.{Walked}
 use Rattle.list_entries.proofs.UpTo.{walked_wrote, walked_length}
-use Rattle.list_candidates.specs.Rows.{first_count, second_count, row_of, rows_of, pairs_rows, row_short, few_seconds}
+use Rattle.list_candidates.specs.Rows.{first_count, row_of, rows_of, pairs_rows, row_short, few_seconds}
 use Rattle.list_pairs.specs.InOrder.{list_is}
 use Rattle.list_pairs.specs.Sizes.{pairs_narrow}
-use Rattle.list_pairs.specs.Answering.{IsCount, ListedIn}
+use Rattle.list_pairs.specs.Answering.{IsCount}
 use Rattle.list_words.specs.Listed.{word_of_pair, words_of, bytes_of, no_pair, pairs_in, AllThere, pairs_in_length, pairs_in_at, bytes_in_length, bytes_length, word_of_byte, byte_back}
 use Rattle.list_words.specs.Answering.{SettledIn, MadeList, made_list, made_within, made_pairs}
 use Rattle.meaning.specs.declared.SeriesTold.{SeriesTold}
 use Rattle.series_words.specs.Telling.{words_in, Further, further_none, further_then}
+use Rattle.meaning.specs.declared.Refused.{Refused}
 
 -- these pairs of step n are told behind what was told, with the words that they have
 pub record TellsPairs (s : Scene) (n : ℕ) (ps : List Pair) (t t' : SeriesTold) : Type 0 where
@@ -141,26 +137,26 @@ pub rows_all : {s : Scene} {n : ℕ} {t t₁ t₂ : SeriesTold} → TellsPairs s
     → TellsPairs s n (pairs s) t t₂
 rows_all {s} {n} {t} {t₁} {t₂} a b = subst (λ (ps : List Pair). TellsPairs s n ps t t₂) (sym (pairs_rows s)) (tells_then a b)
 
-module _ {s : Scene} {o o' b b' : List ℕ} {r : ListAnswer} (j : SettledIn s (min (room_of o) (length b)) o o' b b' r) where
+module _ {s : Scene} {o o' b b' : List ℕ} {r : Result ℕ Refused} (j : SettledIn s (min (room_of o) (length b)) o o' b b' r) where
   -- a list that was made has all pairs, and its bytes their words
-  pub settled_told : {m : Made} {n : ℕ} {t t' : SeriesTold} → Accepted s → r ≡ ListAnswers.TheVariants.Listed m
-      → Further n (pairs_in m.count o') (words_in m.count b') t t'
-      → TellsPairs s n (pairs s) t t' × (m.count ≡ length (pairs s))
-  unfolding list_says leaves
+  pub settled_told : {m : ℕ} {n : ℕ} {t t' : SeriesTold} → Accepted s → r ≡ Ok m
+      → Further n (pairs_in m o') (words_in m b') t t'
+      → TellsPairs s n (pairs s) t t' × (m ≡ length (pairs s))
+  unfolding outcome_of leaves
   settled_told {m} a e f =
-      let made : MadeList s (min (room_of o) (length b)) o o' m.count = made_list j.list e in
+      let made : MadeList s (min (room_of o) (length b)) o o' m = made_list j.list e in
       let bytes : b' ≡ written (bytes_of s (pairs s)) b = rw e at j.bytes in
       (told_pairs o' b b' made.counts (made_pairs a (omega arith) j.list e) bytes f, made.counts)
 
   -- one that had no room is as long as it says
-  pub needed_is : {x : Refusal} {n : ℕ} → r ≡ ListAnswers.TheVariants.Refused x n → n ≡ length (pairs s)
-  unfolding list_says
-  needed_is {x} {n} e = carried (ltb (min (room_of o) (length b)) (length (pairs s))) (IsCount s) (length (pairs s)) (number_of x) n (rw e at j.list.answer)
+  pub needed_is : {x : Refused} → r ≡ Err x → x.carries ≡ length (pairs s)
+  unfolding outcome_of
+  needed_is {x} e = carried (ltb (min (room_of o) (length b)) (length (pairs s))) (IsCount s) (length (pairs s)) (number_of x.why) x.carries (rw e at j.list.answer)
 
-  pub settled_room : {m : Made} → Accepted s → r ≡ ListAnswers.TheVariants.Listed m → (m.count ≤ length o') × (m.count ≤ length b')
-  unfolding list_says leaves
+  pub settled_room : {m : ℕ} → Accepted s → r ≡ Ok m → (m ≤ length o') × (m ≤ length b')
+  unfolding outcome_of leaves
   settled_room {m} a e =
-      let made : MadeList s (min (room_of o) (length b)) o o' m.count = made_list j.list e in
+      let made : MadeList s (min (room_of o) (length b)) o o' m = made_list j.list e in
       let bytes : b' ≡ written (bytes_of s (pairs s)) b = rw e at j.bytes in
       let long : length (bytes_of s (pairs s)) ≡ length (pairs s) = bytes_length s (pairs s) in
       let same : length b' ≡ length b = ap length bytes ∙ written_length (bytes_of s (pairs s)) b (omega (arith, made.fits)) in

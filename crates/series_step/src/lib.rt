@@ -15,7 +15,7 @@ use list_candidates::first_count;
 use list_walk::skipping::{WALK_NUMBERS, prepare};
 use list_walk::steps::walk_row;
 use list_words::{settle_entries, settle_prepared};
-use meaning::{Kind, ListAnswer, SeriesTold};
+use meaning::{Kind, SeriesTold};
 use series_words::tell_words;
 
 // The pairs that a step's own list has room for; a longer one is told row by row.
@@ -25,7 +25,7 @@ const OWN_PAIRS: usize = 8192;
 const ROW_PAIRS: usize = 1024;
 
 // What is told with a step, and how many pairs it lists.
-#[derive(Clone, Copy)]
+#[derive(Clone, Copy, Debug, PartialEq, Eq)]
 pub struct StepTold {
     pub told: SeriesTold,
     pub count: usize,
@@ -77,12 +77,10 @@ fn tell_rows(
 {
     let end = first_count(positions, edges, triangles, stands, kind);
     let mut next = told;
-    let mut i = 0;
-    while i < end {
+    for i in 0..end {
         next = tell_row(
             positions, edges, triangles, stands, boxes, kind, i, step, next,
         );
-        i += 1;
     }
     next
 }
@@ -143,18 +141,15 @@ fn tell_prepared(
     match settle_prepared(
         positions, edges, triangles, stands, boxes, &mut list, &mut bytes,
     ) {
-        ListAnswer::Listed(made) => {
-            let all = tell_words(&list, &bytes, made.count, step, told);
-            StepTold {
-                told: all,
-                count: made.count,
-            }
+        Ok(count) => {
+            let all = tell_words(&list, &bytes, count, step, told);
+            StepTold { told: all, count }
         }
-        ListAnswer::Refused(_, needed) => {
+        Err(refused) => {
             let all = tell_all(positions, edges, triangles, stands, boxes, step, told);
             StepTold {
                 told: all,
-                count: needed,
+                count: refused.carries,
             }
         }
     }

@@ -1,5 +1,5 @@
 -- The steps of a text, from its scene to its last block: which step the positions hold, and what is told of the steps so far.
-use Rattle.std.specs.Prelude.{ℕ, ◌+◌, ◌≤◌, ◌<◌, ◌≡◌, ◌⊎◌, ℤ, length}
+use Rattle.std.specs.Prelude.{Result, Ok, Err, ℕ, ◌+◌, ◌≤◌, ◌<◌, ◌≡◌, ◌⊎◌, ℤ, length}
 use mathlib.Core.List.{List, [], ◌∷◌, ◌++◌}
 use Rattle.std.proofs.Math.Path.{refl, sym, ap, subst}
 use Rattle.std.proofs.Common.{◌∙◌, ⊎_elim, arith, length-append, lt-ltb, le-ltb}
@@ -9,9 +9,9 @@ use Rattle.scene_seams.specs.Alone.{tabled}
 use Rattle.scene_seams.specs.Table.{seams_of}
 use Rattle.meaning.specs.Limits.{text_limit}
 use Rattle.meaning.specs.Scene.{Scene, scene_of, Accepted}
-use Rattle.meaning.specs.Refusals.{refused, Answers, number_of}
+use Rattle.meaning.specs.Refusals.{refused, Answers, number_of, carrying}
 use Rattle.meaning.specs.Lines.{FaultyAt}
-use Rattle.meaning.specs.Series.{Series, step_after, steps_from, steps_of, last_from, last_step, Told, ToldRight}
+use Rattle.meaning.specs.Series.{Series, step_after, steps_from, steps_of, last_from, last_step, ToldRight}
 use Rattle.meaning.specs.SeriesText.{next, item_line, SoFar, nothing_yet, blocks_so_far, series_so_far, series_lines, HoldsSeries, room_checks, Ended, SeriesIs, faulty, read}
 use Rattle.meaning.specs.declared.SceneCounts.{SceneCounts}
 use Rattle.meaning.specs.declared.Refusal.{Refusal}
@@ -19,22 +19,20 @@ use Rattle.meaning.specs.declared.Refusal.TheVariants.{NoRoom}
 use Rattle.text_laws.specs.Going.{reached_end}
 use Rattle.series_laws.specs.Longer.{next_steps, steps_append, last_append, steps_count, blocks_few}
 use Rattle.series_laws.specs.Stepping.{step_edges, step_triangles}
-use Rattle.series_block.specs.Taking.{fault_number}
+use Rattle.series_block.specs.Moving.{fault_number}
 use Rattle.series_block.specs.Reading.{StepHere, AtStep, AtSomeStep, NextStep, BlockIs, BlockRead}
-use Rattle.series_block.specs.declared.BlockAnswer as Blocks
-use Rattle.series_block.specs.declared.BlockAnswer.{BlockAnswer}
-use Rattle.series_block.specs.declared.BlockFault.{BlockFault}
+use Rattle.series_block.specs.declared.Block.{Block}
+use Rattle.series_block.specs.declared.FaultyLine.{FaultyLine}
 use Rattle.series_front.specs.Fronts.{scene_alone}
 use Rattle.meaning.specs.SeriesAnswers.{HeldRight}
 use Rattle.series_log.specs.Kept.{log_held}
 use Rattle.meaning.specs.SeriesAnswers.{told_says}
 use Rattle.meaning.specs.declared.SeriesTold.{SeriesTold}
-use Rattle.meaning.specs.declared.SeriesEnding as Outcomes
-use Rattle.meaning.specs.declared.SeriesEnding.{SeriesEnding}
 use Rattle.meaning.specs.declared.SeriesAnswer.{SeriesAnswer}
 use Rattle.meaning.specs.SeriesAnswers.{nothing_told}
 use Rattle.series_walk.specs.Telling.{first_over, over_refuses, told_right, TellsSteps, StepAdded, steps_start, RoomAnswer}
 use Rattle.series_walk.specs.declared.Telling.{Telling}
+use Rattle.meaning.specs.declared.Refused.{Refused}
 
 -- ---- what is asked and promised
 
@@ -60,10 +58,10 @@ pub record LastTold (text : List ℕ) (room : ℕ) (p : List ℤ) (e t w : List 
   pub last : last_step series ≡ scene_of p e t w
   pub accepted : Accepted (last_step series)
 
-unfoldable pub StepsAre : List ℕ → ℕ → List ℤ → List ℕ → List ℕ → List ℕ → SceneCounts → SeriesEnding → SeriesTold → Type 0
-StepsAre text room p e t w c (Outcomes.TheVariants.Told c') told = (c' ≡ c) × LastTold text room p e t w told
-StepsAre text room p e t w c (Outcomes.TheVariants.Refused f n) told =
-    SeriesIs text room (refused (number_of f) n) × (told ≡ nothing_told)
+unfoldable pub StepsAre : List ℕ → ℕ → List ℤ → List ℕ → List ℕ → List ℕ → SceneCounts → Result SceneCounts Refused → SeriesTold → Type 0
+StepsAre text room p e t w c (Ok c') told = (c' ≡ c) × LastTold text room p e t w told
+StepsAre text room p e t w c (Err f) told =
+    SeriesIs text room (refused (number_of f.why) f.carries) × (told ≡ nothing_told)
 
 -- ---- on the way
 
@@ -141,20 +139,20 @@ module _ {text : List ℕ} {room at line step : ℕ} {p : List ℤ} {e t w table
   some_step h = record { series = n.series; step = n.scene; at_step = at_next h }
 
   -- what the next block gives
-  module _ (inside : at < length text) (p' : List ℤ) {r : BlockAnswer} (b : BlockRead text at (line + 1) p p' w r) where
-    block_is : {r' : BlockAnswer} → r ≡ r' → BlockIs text n.series p' w r'
+  module _ (inside : at < length text) (p' : List ℤ) {r : Result Block FaultyLine} (b : BlockRead text at (line + 1) p p' w r) where
+    block_is : {r' : Result Block FaultyLine} → r ≡ r' → BlockIs text n.series p' w r'
     block_is q = subst (BlockIs text n.series p' w) q (b n.series n.scene (at_next inside))
 
-    pub block_faulty : {f : BlockFault} {k : ℕ} (x : Refusal) (c : SceneCounts) → r ≡ Blocks.TheVariants.Fault f k
-        → number_of x ≡ fault_number f → StepsAre text room p' e t w c (Outcomes.TheVariants.Refused x k) nothing_told
+    pub block_faulty : {f : FaultyLine} (x : Refusal) (c : SceneCounts) → r ≡ Err f
+        → number_of x ≡ fault_number f.fault → StepsAre text room p' e t w c (Err (carrying x f.line)) nothing_told
     unfolding StepsAre BlockIs
-    block_faulty {f} {k} x c q same = (
-      faulty (number_of x) k refl (subst (λ (m : ℕ). FaultyAt series_lines nothing_yet text m k) (sym same) (block_is q)),
+    block_faulty {f} x c q same = (
+      faulty (number_of x) f.line refl (subst (λ (m : ℕ). FaultyAt series_lines nothing_yet text m f.line) (sym same) (block_is q)),
       refl,
     )
 
-    module _ {after last : ℕ} (q : r ≡ Blocks.TheVariants.Whole after last) where
-      next_step : NextStep text n.series p' w after last
+    module _ {block : Block} (q : r ≡ Ok block) where
+      next_step : NextStep text n.series p' w block.next block.last
       unfolding BlockIs
       next_step = block_is q
 
@@ -195,7 +193,7 @@ module _ {text : List ℕ} {room at line step : ℕ} {p : List ℤ} {e t w table
       next_accepted = subst Accepted (sym next_is) next_step.here.accepted
 
       pub next_told : {all' : Telling} → StepAdded room (step + 1) (tabled p' e t table) all all'
-          → StepNow text room after last (step + 1) p' e t w table all'
+          → StepNow text room block.next block.last (step + 1) p' e t w table all'
       next_told {all'} a =
           let told : TellsSteps room (steps_of (series_so_far n.series) ++ (tabled p' e t table ∷ [])) all' =
           a.goes (steps_of (series_so_far n.series)) (ap (λ (k : ℕ). k + 1) n.number) n.telling in
@@ -231,7 +229,7 @@ module _ {text : List ℕ} {room at line step : ℕ} {p : List ℤ} {e t w table
         }
 
     pub ends_full : (c : SceneCounts) → 0 < all.needed
-        → StepsAre text room p e t w c (Outcomes.TheVariants.Refused NoRoom all.needed) nothing_told
+        → StepsAre text room p e t w c (Err (carrying NoRoom all.needed)) nothing_told
     unfolding StepsAre number_of
     ends_full c h =
         let over_all : 0 < first_over room (steps_of whole) = subst (λ (k : ℕ). 0 < k) n.telling.needed h in (
@@ -241,7 +239,7 @@ module _ {text : List ℕ} {room at line step : ℕ} {p : List ℤ} {e t w table
           refl,
         )
 
-    pub ends_told : (c : SceneCounts) → all.needed ≡ 0 → StepsAre text room p e t w c (Outcomes.TheVariants.Told c) all.told
+    pub ends_told : (c : SceneCounts) → all.needed ≡ 0 → StepsAre text room p e t w c (Ok c) all.told
     unfolding StepsAre
     ends_told c h = (
       refl,

@@ -1,5 +1,5 @@
 -- Steps told one behind the other: what is told of them, and the first step whose list has no room.
-use Rattle.std.specs.Prelude.{ℕ, ◌+◌, ◌≤◌, ◌<◌, Bool, ◌≡◌}
+use Rattle.std.specs.Prelude.{ℕ, ◌+◌, ◌≤◌, ◌<◌, Bool, ◌≡◌, Err, Ok}
 use Rattle.std.proofs.Math.Bool.{true, false, cond}
 use mathlib.Core.List.{List, [], ◌∷◌, ◌++◌, map, append_assoc, append-nil}
 use Rattle.std.proofs.Math.Path.{refl}
@@ -9,14 +9,14 @@ use Rattle.std.proofs.Math.ListN.{length}
 use borrow.Author.Tests.{lt-ltb, le-ltb, ltb-true}
 use Rattle.answers.specs.Answering.{refuses, lets_pass, gives}
 use Rattle.meaning.specs.Scene.{Scene}
-use Rattle.meaning.specs.Refusals.{given, refused, Answers}
+use Rattle.meaning.specs.Refusals.{given, refused, Answers, carrying}
 use Rattle.meaning.specs.List.{pairs}
 use Rattle.meaning.specs.SceneWords.{AllSettled}
 use Rattle.meaning.specs.Report.{how_many}
-use Rattle.meaning.specs.Series.{Series, HitAt, steps_of, hits_in, hits_from, StepsSettled, listed_in, total_of, counted, Told, ToldRight}
+use Rattle.meaning.specs.Series.{Series, HitAt, steps_of, hits_in, hits_from, StepsSettled, listed_in, total_of, counted, ToldRight}
 use Rattle.meaning.specs.SeriesText.{step_room}
 use Rattle.meaning.specs.declared.SceneCounts.{SceneCounts}
-use Rattle.meaning.specs.declared.Refusal.{Refusal}
+use Rattle.meaning.specs.declared.Refused.{Refused}
 use Rattle.meaning.specs.declared.Refusal.TheVariants.{NoRoom}
 use Rattle.meaning.specs.declared.Settled.{Settled}
 use Rattle.meaning.specs.declared.Settled.TheVariants.{Hit, Miss, Touch, Apart}
@@ -25,11 +25,9 @@ use Rattle.series_laws.specs.Longer.{hits_append}
 use Rattle.meaning.specs.SeriesAnswers.{told_says}
 use Rattle.meaning.specs.declared.SeriesTold.{SeriesTold}
 use Rattle.meaning.specs.declared.SeriesAnswer.{SeriesAnswer}
-use Rattle.meaning.specs.declared.SeriesEnding as Outcomes
 use Rattle.series_words.specs.Telling.{TellsOf, told_none, many_behind}
 use Rattle.meaning.specs.SeriesAnswers.{nothing_told}
 use Rattle.series_step.specs.Rows.{TellsPairs}
-use Rattle.series_walk.specs.declared.Telling as Tellings
 use Rattle.series_walk.specs.declared.Telling.{Telling}
 
 -- ---- all words, one behind the other
@@ -234,8 +232,8 @@ module _ {room n : ℕ} (s : Scene) {t : Telling} {u : SeriesTold} {count : ℕ}
 -- ---- the answer
 
 -- a refusal tells nothing
-abbrev pub refused_with : Refusal → ℕ → SeriesAnswer
-refused_with f n = record { outcome = Outcomes.TheVariants.Refused f n; told = nothing_told }
+abbrev pub refused_with : Refused → SeriesAnswer
+refused_with why = record { outcome = Err why; told = nothing_told }
 
 abbrev pub RoomAnswer : SceneCounts → Telling → SeriesAnswer
-RoomAnswer c t = cond (ltb 0 t.needed) (refused_with NoRoom t.needed) (record { outcome = Outcomes.TheVariants.Told c; told = t.told })
+RoomAnswer c t = cond (ltb 0 t.needed) (refused_with (carrying NoRoom t.needed)) (record { outcome = Ok c; told = t.told })

@@ -6,17 +6,17 @@ ghost use Rattle.scene_seams.specs.Alone.{tabled};
 ghost use Rattle.std.specs.Prelude.{◌≡◌};
 ghost use Rattle.meaning.specs.Scene.{Accepted};
 ghost use Rattle.meaning.specs.Refusals.{number_of};
-ghost use Rattle.series_block.specs.Taking.{fault_number};
+ghost use Rattle.series_block.specs.Moving.{fault_number};
 ghost use Rattle.series_walk.specs.Telling.{StepAdded, refused_with, RoomAnswer};
 ghost use Rattle.series_walk.specs.Reading.{FirstStep, StepsAre};
 
-use meaning::{Refusal, SceneCounts, SeriesAnswer, SeriesEnding, SeriesTold};
-use series_block::{BlockAnswer, BlockFault, read_block};
+use meaning::{Refusal, Refused, SceneCounts, SeriesAnswer, SeriesTold};
+use series_block::{BlockFault, read_block};
 use series_step::tell_step;
 use series_words::nothing_told;
 
 // What is told so far, and 0, or the count of the first step whose list has no room. Once there is such a step, nothing more is told.
-#[derive(Clone, Copy)]
+#[derive(Clone, Copy, Debug, PartialEq, Eq)]
 pub struct Telling {
     pub told: SeriesTold,
     pub needed: usize,
@@ -52,25 +52,24 @@ fn tell_next(
         return past;
     }
     let next = tell_step(positions, edges, triangles, stands, step, past.told);
-    let told = next.told;
     if room < next.count {
         return Telling {
-            told: told,
+            told: next.told,
             needed: next.count,
         };
     }
     Telling {
-        told: told,
+        told: next.told,
         needed: 0,
     }
 }
 
 // A refusal, with its line or count; nothing is told, whatever was told before it.
-pub fn refused(refusal: Refusal, number: usize) -> SeriesAnswer
-    ensures { result ≡ refused_with refusal number }
+pub fn refused(why: Refused) -> SeriesAnswer
+    ensures { result ≡ refused_with why }
 {
     SeriesAnswer {
-        outcome: SeriesEnding::Refused(refusal, number),
+        outcome: Err(why),
         told: nothing_told(),
     }
 }
@@ -80,12 +79,14 @@ fn room_answer(c: SceneCounts, all: Telling) -> SeriesAnswer
     ensures { result ≡ RoomAnswer c all }
 {
     if 0 < all.needed {
-        return refused(Refusal::NoRoom, all.needed);
+        return refused(Refused {
+            why: Refusal::NoRoom,
+            carries: all.needed,
+        });
     }
-    let told = all.told;
     SeriesAnswer {
-        outcome: SeriesEnding::Told(c),
-        told: told,
+        outcome: Ok(c),
+        told: all.told,
     }
 }
 
@@ -114,15 +115,19 @@ pub fn tell_steps(
     let mut step = 1;
     let mut next = at;
     let mut read = line;
+    // `while`, because each block says where the next one begins: there is no range to go over.
     while next < text.len() {
         match read_block(text, next, read + 1, positions, seams) {
-            BlockAnswer::Fault(fault, faulty) => {
-                return refused(refusal_of(fault), faulty);
+            Err(faulty) => {
+                return refused(Refused {
+                    why: refusal_of(faulty.fault),
+                    carries: faulty.line,
+                });
             }
-            BlockAnswer::Whole(after, last) => {
+            Ok(block) => {
                 step += 1;
-                next = after;
-                read = last;
+                next = block.next;
+                read = block.last;
                 past = tell_next(positions, edges, triangles, stands, step, room, past);
             }
         }

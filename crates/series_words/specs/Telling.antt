@@ -1,6 +1,6 @@
 -- What is told of a series so far, and of further pairs behind it: the hits of some pairs and of more are those of the first, then those of the
 -- others, and so are the totals.
-use Rattle.std.specs.Prelude.{ℕ, zero, suc, ◌+◌, ◌≤◌, ◌<◌, Bool, cond, ◌≡◌, eqb, length, take, get_or}
+use Rattle.std.specs.Prelude.{ℕ, zero, suc, ◌+◌, ◌≤◌, ◌<◌, Bool, cond, ◌≡◌, eqb, length, take, get_or, None, Option, Some, unwrap_or}
 use Rattle.std.proofs.Math.Bool.{true, false}
 use mathlib.Core.List.{List, [], ◌∷◌, ◌++◌, map, append_assoc, append-nil}
 use Rattle.std.proofs.Math.Path.{refl, ap, subst}
@@ -15,9 +15,7 @@ use Rattle.meaning.specs.Series.{HitAt, hit_at, hits_here, hits_in, counted, log
 use Rattle.meaning.specs.declared.Settled.{Settled}
 use Rattle.meaning.specs.declared.Settled.TheVariants.{Hit, Miss, Touch, Apart}
 use Rattle.list_entries.specs.Entries.{pair_of, pair_at}
-use Rattle.list_words.specs.Listed.{word_of_byte, pairs_in, WordByte, StandsFor}
-use Rattle.list_words.specs.declared.ByteAnswer.{ByteAnswer}
-use Rattle.list_words.specs.declared.ByteAnswer.TheVariants.{NoWord}
+use Rattle.list_words.specs.Listed.{word_of_byte, word_of_its_byte, pairs_in, WordByte, StandsFor}
 use Rattle.tally.specs.Tallied.{one_more, tallied}
 use Rattle.tally.specs.declared.Tally.{Tally}
 use Rattle.series_laws.specs.Front.{first_in_log}
@@ -43,9 +41,10 @@ no_word_last {b} none =
       ne_eqb b 3 (λ e. none (record { word = Touch; stands = sym e })),
     ) refl
 
-pub answered_last : (b : ℕ) {r : ByteAnswer} → r ≡ NoWord → StandsFor b r → Apart ≡ word_of_byte b
+pub word_or_last : (b : ℕ) (r : Option Settled) → StandsFor b r → unwrap_or r Apart ≡ word_of_byte b
 unfolding StandsFor
-answered_last b e h = sym (no_word_last (subst (StandsFor b) e h))
+word_or_last b (Some w) h = word_of_its_byte w h
+word_or_last b None none = sym (no_word_last none)
 
 module _ (n : ℕ) (l : List ℕ) (h : n < length l) where
   pub pairs_next : pairs_in (n + 1) l ≡ pairs_in n l ++ (pair_at l n ∷ [])

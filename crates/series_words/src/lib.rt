@@ -10,7 +10,7 @@ ghost use Rattle.meaning.specs.SeriesAnswers.{hit_of};
 ghost use Rattle.series_words.specs.Telling.{words_in, LogGoes, TallyGoes, FirstIs, Further};
 ghost use Rattle.meaning.specs.SeriesAnswers.{nothing_told};
 
-use list_words::{ByteAnswer, byte_of};
+use list_words::byte_of;
 use meaning::{LOG_ROOM, Log, SeriesTold, Settled, StepHit};
 use series_log::{add_hit, empty_log, one_more};
 use tally::Tally;
@@ -19,10 +19,7 @@ use tally::Tally;
 fn word_in(byte: u8) -> Settled
     ensures { result ≡ word_of_byte byte }
 {
-    match list_words::word_of(byte) {
-        ByteAnswer::Word(word) => word,
-        ByteAnswer::NoWord => Settled::Apart,
-    }
+    list_words::word_of(byte).unwrap_or(Settled::Apart)
 }
 
 // The pair of an entry, hit in a step.
@@ -44,13 +41,10 @@ fn log_hits(list: &[u32], bytes: &[u8], count: usize, step: usize, log: Log) -> 
 {
     let hit = byte_of(Settled::Hit);
     let mut next = log;
-    let mut k = 0;
-    while k < count {
-        let at = k;
-        k += 1;
-        if bytes[at] == hit {
+    for k in 0..count {
+        if bytes[k] == hit {
             if next.held < LOG_ROOM {
-                next = add_hit(next, hit_of(step, list[at]));
+                next = add_hit(next, hit_of(step, list[k]));
             } else {
                 next.later = one_more(next.later);
             }
@@ -65,10 +59,8 @@ fn tally_words(bytes: &[u8], count: usize, tally: Tally) -> Tally
     ensures { TallyGoes (words_in count bytes.now) tally result }
 {
     let mut next = tally;
-    let mut k = 0;
-    while k < count {
+    for k in 0..count {
         next = next.add(word_in(bytes[k]));
-        k += 1;
     }
     next
 }

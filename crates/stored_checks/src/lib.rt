@@ -11,12 +11,17 @@ ghost use Rattle.list_boxes.specs.Parts.{Drawn};
 ghost use Rattle.stored_checks.specs.Looked.{LookedAt};
 
 use answers_order::refused_if;
-use meaning::{BOX_NUMBERS, Refusal, SceneAnswer};
+use meaning::{BOX_NUMBERS, Refusal};
 use scene_checks::check_into;
 use stored_look::stale_box;
 
 // 17. A box looks at no seam, so this is told of the scene with any seams.
-fn look_over(positions: &[i32], edges: &[u16], triangles: &[u16], stored: &[i32]) -> SceneAnswer
+fn look_over(
+    positions: &[i32],
+    edges: &[u16],
+    triangles: &[u16],
+    stored: &[i32],
+) -> Result<(), Refusal>
     requires { Drawn (unsewn_of positions.now edges.now triangles.now) × (box_numbers ≤ length stored.now) }
     ensures { (w : List ℕ) → Checked (stale_checks (scene_of positions.now edges.now
         triangles.now w) stored.now) result }
@@ -33,17 +38,14 @@ pub fn look(
     seams: &[u16],
     stored: &[i32],
     stands: &mut [u16],
-) -> SceneAnswer
+) -> Result<(), Refusal>
     requires { Blank seams.now stands.old }
     ensures { LookedAt (scene_of positions.now edges.now triangles.now seams.now) stored.now stands.old
         stands.new result }
 {
     if stored.len() < BOX_NUMBERS {
-        return SceneAnswer::Refused(Refusal::ShortBuffer);
+        return Err(Refusal::ShortBuffer);
     }
-    let scene = check_into(positions, edges, triangles, seams, stands);
-    if let SceneAnswer::Refused(why) = scene {
-        return SceneAnswer::Refused(why);
-    }
+    check_into(positions, edges, triangles, seams, stands)?;
     look_over(positions, edges, triangles, stored)
 }

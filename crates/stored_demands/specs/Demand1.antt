@@ -1,20 +1,17 @@
 -- Demand 1 of the calls with stored boxes: '12 for a box buffer under 12,288 numbers, before 1; for the move 5, then 2 for the new
 -- coordinates, then 15 where a seam would come apart; for the list 17 where a stored box isn't the one worked out, before 7'. The rows of the
 -- table, one by one.
-use Rattle.std.specs.Prelude.{ℕ, min, ◌≤◌, ◌<◌, Bool, true, false, ◌↔◌, ◌⊎◌, ◌≡◌, refl, leb, ltb, ℤ, length}
+use Rattle.std.specs.Prelude.{ℕ, min, ◌≤◌, ◌<◌, Bool, true, false, ◌↔◌, ◌⊎◌, ◌≡◌, refl, leb, ltb, ℤ, length, Result}
 use mathlib.Core.List.{List, [], ◌∷◌, ◌++◌, map, Memᴰ}
 use mathlib.Core.Logic.Iff
 use Rattle.std.proofs.Common.{inl, inr, ⊎_elim, sym, ◌∙◌, ltb-true, ltb-false, lt-ltb, le-ltb}
 use Rattle.meaning.specs.Scene.{Scene, Accepted, vertex_count, wrong_shape, out_of_range, unknown_vertex, broken_seam, repeated_vertex}
-use Rattle.meaning.specs.Refusals.{Outcome, given, refused, Check, Answers, scene_says, scene_checks}
-use Rattle.meaning.specs.List.{pairs, room_of, list_says}
+use Rattle.meaning.specs.Refusals.{Outcome, given, refused, Check, Answers, scene_checks, outcome_alone, outcome_of}
+use Rattle.meaning.specs.List.{pairs, room_of}
 use Rattle.meaning.specs.StoredBoxes.{short_boxes, stale_box, box_checks, stale_checks, stored_checks, BoxesFilled, CountedStored, ListedStored, SettledStored, BoxedRead}
-use Rattle.meaning.specs.Text.{short_buffer, text_says}
+use Rattle.meaning.specs.Text.{short_buffer}
 use Rattle.meaning.specs.declared.SceneCounts.{SceneCounts}
-use Rattle.meaning.specs.declared.TextAnswer.{TextAnswer}
 use Rattle.meaning.specs.Dragging.{new_outside, tears_seam, move_checks, VertexMoved}
-use Rattle.meaning.specs.declared.SceneAnswer.{SceneAnswer}
-use Rattle.meaning.specs.declared.ListAnswer.{ListAnswer}
 use Rattle.answers.specs.Answering.{is_refused, is_past}
 use Rattle.list_pairs.specs.Answering.{IsCount}
 use Rattle.answers.specs.Deciding.{Refuses, carried_by, NoneHolds, absent, distinct, holds_or_not, never_given, refused_exactly, carries_only, number_known, gives_exactly}
@@ -22,6 +19,8 @@ use Rattle.demands.specs.Demand1.{SceneRows, SceneTable, then_accepted, scene_ro
 use Rattle.demands.specs.TextTable.{TextRows, demand1_text}
 use Rattle.stored_reading.specs.Using.{boxes_short, as_read}
 use Rattle.stored_demands.specs.InTwo.{two_rows}
+use Rattle.meaning.specs.declared.Refusal.{Refusal}
+use Rattle.meaning.specs.declared.Refused.{Refused}
 
 abbrev Fine : Unit {0} → Type 0
 Fine t = Unit {0}
@@ -48,15 +47,15 @@ box_rows Right s b more o none then p =
 
 -- ---- boxes filled in: 12, then the scene's
 
-pub demand1_filled : (s : Scene) (b b' : List ℤ) (r : SceneAnswer) → BoxesFilled s b b' r → BoxRows b (scene_says r) (SceneTable s (scene_says r))
+pub demand1_filled : (s : Scene) (b b' : List ℤ) (r : Result (Unit {0}) Refusal) → BoxesFilled s b b' r → BoxRows b (outcome_alone r) (SceneTable s (outcome_alone r))
 unfolding absent distinct NoneHolds
 demand1_filled s b b' r p =
-    box_rows Fine s b [] (scene_says r) refl
+    box_rows Fine s b [] (outcome_alone r) refl
     (λ q.
-    let gives = gives_exactly Fine (λ x y h k. refl) (scene_checks s) (scene_says r) q tt in
+    let gives = gives_exactly Fine (λ x y h k. refl) (scene_checks s) (outcome_alone r) q tt in
     record {
-      rows = scene_rows Fine s [] (scene_says r) refl q;
-      only = numbers_only Fine s [] (scene_says r) refl q;
+      rows = scene_rows Fine s [] (outcome_alone r) refl q;
+      only = numbers_only Fine s [] (outcome_alone r) refl q;
       accepted = (λ e. (then_accepted.0 (gives.0 e).0).0, λ a. gives.1 (then_accepted.1 (a, tt), tt));
     })
     p.answer
@@ -85,9 +84,9 @@ stale_table s b o p =
           );
     }
 
-pub demand1_stored_count : (s : Scene) (b : List ℤ) (r : ListAnswer) → CountedStored s b r → BoxRows b (list_says r) (StaleTable s b (list_says r))
+pub demand1_stored_count : (s : Scene) (b : List ℤ) (r : Result ℕ Refused) → CountedStored s b r → BoxRows b (outcome_of r) (StaleTable s b (outcome_of r))
 unfolding absent
-demand1_stored_count s b r p = box_rows (IsCount s) s b (stale_checks s b) (list_says r) refl (stale_table s b (list_says r)) p
+demand1_stored_count s b r p = box_rows (IsCount s) s b (stale_checks s b) (outcome_of r) refl (stale_table s b (outcome_of r)) p
 
 -- ---- listed and judged: 17 before 7
 
@@ -122,18 +121,18 @@ stored_table s b room o p =
           );
     }
 
-pub demand1_stored_list : (s : Scene) (b : List ℤ) (o o' : List ℕ) (r : ListAnswer) → ListedStored s b o o' r
-    → BoxRows b (list_says r) (StoredTable s b (room_of o) (list_says r))
+pub demand1_stored_list : (s : Scene) (b : List ℤ) (o o' : List ℕ) (r : Result ℕ Refused) → ListedStored s b o o' r
+    → BoxRows b (outcome_of r) (StoredTable s b (room_of o) (outcome_of r))
 unfolding absent
 demand1_stored_list s b o o' r p =
-    box_rows (IsCount s) s b (stored_checks s b (room_of o)) (list_says r) refl (stored_table s b (room_of o) (list_says r)) p.answer
+    box_rows (IsCount s) s b (stored_checks s b (room_of o)) (outcome_of r) refl (stored_table s b (room_of o) (outcome_of r)) p.answer
 
-pub demand1_stored_words : (s : Scene) (b : List ℤ) (o o' w w' : List ℕ) (r : ListAnswer) → SettledStored s b o o' w w' r
-    → BoxRows b (list_says r) (StoredTable s b (min (room_of o) (length w)) (list_says r))
+pub demand1_stored_words : (s : Scene) (b : List ℤ) (o o' w w' : List ℕ) (r : Result ℕ Refused) → SettledStored s b o o' w w' r
+    → BoxRows b (outcome_of r) (StoredTable s b (min (room_of o) (length w)) (outcome_of r))
 unfolding absent
 demand1_stored_words s b o o' w w' r p =
     let room : ℕ = min (room_of o) (length w) in
-    box_rows (IsCount s) s b (stored_checks s b room) (list_says r) refl (stored_table s b room (list_says r)) p.answer
+    box_rows (IsCount s) s b (stored_checks s b room) (outcome_of r) refl (stored_table s b room (outcome_of r)) p.answer
 
 -- ---- a vertex moved: 5, 2, 15 behind the scene's, which have 2 and 15 too
 
@@ -188,10 +187,10 @@ move_table s v c o p =
       );
     }
 
-pub demand1_move : (s : Scene) (v : ℕ) (c p' b b' : List ℤ) (r : SceneAnswer) → VertexMoved s v c p' b b' r
-    → BoxRows b (scene_says r) (MoveTable s v c (scene_says r))
+pub demand1_move : (s : Scene) (v : ℕ) (c p' b b' : List ℤ) (r : Result (Unit {0}) Refusal) → VertexMoved s v c p' b b' r
+    → BoxRows b (outcome_alone r) (MoveTable s v c (outcome_alone r))
 unfolding absent
-demand1_move s v c p' b b' r p = box_rows Fine s b (move_checks s v c) (scene_says r) refl (move_table s v c (scene_says r)) p.answer
+demand1_move s v c p' b b' r p = box_rows Fine s b (move_checks s v c) (outcome_alone r) refl (move_table s v c (outcome_alone r)) p.answer
 
 -- ---- a text read with its boxes: 12 for any of the five buffers, then as without boxes
 
@@ -199,8 +198,8 @@ pub record BoxedTextRows (text : List ℕ) (lent : Scene) (b : List ℤ) (o : Ou
   pub no12 : (o ≡ refused 12 0) ↔ ((short_boxes b ≡ true) ⊎ (short_buffer lent ≡ true))
   pub rest : short_boxes b ≡ false → TextRows text lent o
 
-pub demand1_boxed_text : (text : List ℕ) (lent left : Scene) (b b' : List ℤ) (r : TextAnswer) → BoxedRead text lent left b b' r
-    → BoxedTextRows text lent b (text_says r)
+pub demand1_boxed_text : (text : List ℕ) (lent left : Scene) (b b' : List ℤ) (r : Result SceneCounts Refused) → BoxedRead text lent left b b' r
+    → BoxedTextRows text lent b (outcome_of r)
 demand1_boxed_text text lent left b b' r p = record {
   no12 = (
     λ e. holds_or_not (short_boxes b) (λ h. inl h) (λ h. inr ((rows h).no12.0 e)),
@@ -212,5 +211,5 @@ demand1_boxed_text text lent left b b' r p = record {
   rest = rows;
 }
   where
-    rows : short_boxes b ≡ false → TextRows text lent (text_says r)
+    rows : short_boxes b ≡ false → TextRows text lent (outcome_of r)
     rows h = demand1_text text lent left r (as_read p h)

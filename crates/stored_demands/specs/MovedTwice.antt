@@ -1,15 +1,14 @@
 -- Moves one behind the other, shown of the small scenes: two vertices of an unsewn scene, and the two vertices of a seam with the seams left out.
-use Rattle.std.specs.Prelude.{ℕ, zero, suc, ◌+◌, ◌*◌, ◌≤◌, ◌<◌, false, cond, List, [], ◌∷◌, ◌++◌, ◌≡◌, ℤ, pos, neg_ℤ, length, get_or, replicate}
+use Rattle.std.specs.Prelude.{ℕ, zero, suc, ◌+◌, ◌*◌, ◌≤◌, ◌<◌, false, cond, List, [], ◌∷◌, ◌++◌, ◌≡◌, ℤ, pos, neg_ℤ, length, get_or, replicate, Ok}
 use Rattle.std.proofs.Math.Path.{refl}
 use Rattle.std.proofs.Common.{sym, ◌∙◌, arith, le-ltb}
 use Rattle.std.proofs.Math.Dec.{eqb}
 use Rattle.std.proofs.Math.ListN.{length-append}
 use Rattle.std.proofs.lemmas.List.{length-replicate}
 use Rattle.meaning.specs.Scene.{Scene, Accepted, stood_for, some_below}
-use Rattle.meaning.specs.Refusals.{Answers, given, scene_says}
+use Rattle.meaning.specs.Refusals.{Answers, given, outcome_alone}
 use Rattle.meaning.specs.StoredBoxes.{box_at, vertex_box, edge_box, triangle_box, edge_place, triangle_place, KeptBehind, short_boxes, box_numbers}
 use Rattle.meaning.specs.Dragging.{placed, moved_scene, move_checks, edge_has, triangle_has, BoxesMoved, MovesAfter, VertexMoved}
-use Rattle.meaning.specs.declared.SceneAnswer as SceneAnswers
 use Rattle.stored_laws.specs.Checks.{boxed_accepted}
 use Rattle.stored_demands.specs.Chain.{Move, Dragged, Right}
 use Rattle.stored_demands.specs.Shown.{six, scene, boxes, sewn}
@@ -36,8 +35,8 @@ Fine t = Unit {0}
 
 pub move_shown : (s : Scene) (v : ℕ) (c b b' : List ℤ) → short_boxes b ≡ false → Accepted s
     → Answers (move_checks s v c) Fine (given tt) → BoxesMoved (moved_scene s v c) v b b'
-    → VertexMoved s v c (placed s.positions v c) b b' SceneAnswers.TheVariants.Accepted
-unfolding scene_says MovesAfter
+    → VertexMoved s v c (placed s.positions v c) b b' (Ok tt)
+unfolding outcome_alone MovesAfter
 move_shown s v c b b' long accepted checks boxes = record {
   answer = boxed_accepted s b (move_checks s v c) Fine long (given tt) accepted checks;
   buffers = (refl, boxes);

@@ -1,6 +1,6 @@
 -- Dragging a seam. A sewn vertex cannot be moved alone, since the seam would come apart (15). With the seams left out each can be moved; and where
 -- of every seam both vertices were moved to one place, or neither was moved, the scene with its seams is accepted and its boxes are right.
-use Rattle.std.specs.Prelude.{ℕ, ◌+◌, ◌*◌, ◌%◌, ◌<◌, true, cond, ◌||◌, List, [], ◌∷◌, ◌≡◌, refl, leb, eqb, ℤ, pos, length, get_or}
+use Rattle.std.specs.Prelude.{ℕ, ◌+◌, ◌*◌, ◌%◌, ◌<◌, true, cond, ◌||◌, List, [], ◌∷◌, ◌≡◌, refl, leb, eqb, ℤ, pos, length, get_or, Ok, Result}
 use Rattle.std.proofs.Math.Bool.{Bool, false, not}
 use Rattle.std.proofs.Common.{true≢false, ⊎_elim, sym, ap, subst, ◌∙◌, arith, eqb-true, eq-eqb}
 use Rattle.std.proofs.Math.Dec.{ltb}
@@ -8,18 +8,17 @@ use Rattle.std.proofs.lemmas.Bool.{eqb-false, lt-leb}
 use Rattle.sequences.specs.Pick.{either, neither}
 use Rattle.meaning.specs.Limits.{coordinate_limit, vertex_limit, edge_limit, triangle_limit}
 use Rattle.meaning.specs.Scene.{Scene, scene_of, Accepted, vertex_count, edge_count, triangle_count, seam_count, edge_end, corner, sewn, onto, stood_for, counts_as, same, some_below, uneven, over_size, wrong_shape, unknown_in, reaches_beyond, differ, comes_apart, not_rising, replaced, wrong_seam, twice_in_edge, twice_in_triangle}
-use Rattle.meaning.specs.Refusals.{scene_says}
 use Rattle.meaning.specs.StoredBoxes.{Boxed, short_boxes}
 use Rattle.meaning.specs.Dragging.{placed, moved_scene, new_outside, tears_seam, VertexMoved}
-use Rattle.meaning.specs.declared.SceneAnswer as SceneAnswers
-use Rattle.meaning.specs.declared.SceneAnswer.{SceneAnswer}
 use Rattle.answers.specs.Below.{or_left, or_rest, none_passes, none_below}
-use Rattle.answers.specs.Speaking.{scene_says_one}
 use Rattle.stored_laws.specs.Placed.{placed_length, placed_here, placed_elsewhere}
 use Rattle.stored_laws.specs.Torn.{together}
 use Rattle.stored_demands.specs.Fresh.{no_other}
 use Rattle.stored_demands.specs.Chain.{Move, moved_all, Dragged, Right, moves_stay_right}
 use Rattle.stored_demands.specs.Demand1.{demand1_move}
+use Rattle.meaning.specs.declared.Refusal.{Refusal}
+use Rattle.meaning.specs.Refusals.{outcome_alone}
+use Rattle.answers.specs.Speaking.{one_alone}
 
 -- ---- the seams left out
 
@@ -175,11 +174,11 @@ seam_dragged s b vs c b' so whole d =
 
 -- ---- and once the first of them is accepted none of the others is refused: without seams a move has 5 and 2 alone to fear
 
-pub unsewn_moves : (p : List ℤ) (e t : List ℕ) (v : ℕ) (c p' b b' : List ℤ) (r : SceneAnswer) → Right (scene_of p e t []) b
+pub unsewn_moves : (p : List ℤ) (e t : List ℕ) (v : ℕ) (c p' b b' : List ℤ) (r : Result (Unit {0}) Refusal) → Right (scene_of p e t []) b
     → v < vertex_count (scene_of p e t []) → new_outside c ≡ false → VertexMoved (scene_of p e t []) v c p' b b' r
-    → r ≡ SceneAnswers.TheVariants.Accepted
-unfolding scene_says some_below
+    → r ≡ Ok tt
+unfolding outcome_alone some_below
 unsewn_moves p e t v c p' b b' r so there range m =
     let s : Scene = scene_of p e t [] in
-    scene_says_one r SceneAnswers.TheVariants.Accepted
+    one_alone r (Ok tt)
     (((demand1_move s v c p' b b' r m).rest so.long).moved.1 (so.accepted, (lt-leb (vertex_count s) v there, (range, refl))))

@@ -1,11 +1,9 @@
 -- 12 before the scene's own checks, and those that a call has behind them.
-use Rattle.std.specs.Prelude.{true, false, List, ◌++◌, ◌≡◌, refl, ℤ}
+use Rattle.std.specs.Prelude.{true, false, List, ◌++◌, ◌≡◌, refl, ℤ, Err, Result}
 use Rattle.meaning.specs.Scene.{Scene, Accepted}
 use Rattle.meaning.specs.Refusals.{Outcome, refused, number_of, Check, Answers, scene_checks, SceneChecked}
 use Rattle.meaning.specs.StoredBoxes.{short_boxes, box_checks}
 use Rattle.meaning.specs.declared.Refusal.{Refusal}
-use Rattle.meaning.specs.declared.SceneAnswer as SceneAnswers
-use Rattle.meaning.specs.declared.SceneAnswer.{SceneAnswer}
 use Rattle.answers.specs.Answering.{refuses, lets_pass, is_past}
 use Rattle.scene_checks.specs.Accepting.{after_accepted, after_refused, past_accepted}
 
@@ -16,7 +14,7 @@ module _ {A : Type 0} (s : Scene) (b : List ℤ) (more : List Check) (Right : A 
 
   module _ (long : short_boxes b ≡ false) where
     -- the scene's own
-    pub boxed_refused : {r : SceneAnswer} {x : Refusal} → r ≡ SceneAnswers.TheVariants.Refused x → SceneChecked s r
+    pub boxed_refused : {r : Result (Unit {0}) Refusal} {x : Refusal} → r ≡ Err x → SceneChecked s r
         → Answers (box_checks s b ++ more) Right (refused (number_of x) 0)
     boxed_refused {r} {x} e p = lets_pass Right _ (scene_checks s ++ more) (refused (number_of x) 0) long (after_refused s more Right e p)
 

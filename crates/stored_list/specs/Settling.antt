@@ -1,22 +1,20 @@
 -- From the look over the stored boxes, and from the list and its words, to the answer of the whole call.
-use Rattle.std.specs.Prelude.{ℕ, min, List, ◌≡◌, refl, ℤ, length}
+use Rattle.std.specs.Prelude.{ℕ, min, List, ◌≡◌, refl, ℤ, length, Err, Ok, Result}
 use Rattle.meaning.specs.Scene.{Scene}
-use Rattle.meaning.specs.List.{pairs, room_of, list_says, leaves}
+use Rattle.meaning.specs.List.{pairs, room_of, leaves}
 use Rattle.meaning.specs.StoredBoxes.{SettledStored}
 use Rattle.meaning.specs.declared.Refusal.{Refusal}
-use Rattle.meaning.specs.declared.SceneAnswer as SceneAnswers
-use Rattle.meaning.specs.declared.SceneAnswer.{SceneAnswer}
-use Rattle.meaning.specs.declared.ListAnswer as ListAnswers
-use Rattle.meaning.specs.declared.ListAnswer.{ListAnswer}
 use Rattle.list_pairs.specs.Answering.{IsCount, room_checks}
 use Rattle.stored_checks.specs.Looked.{LookedAt, refused_too, accepted_too}
 use Rattle.list_words.specs.Answering.{SettledIn}
 use Rattle.list_words.specs.Listed.{words_of, all_judged}
+use Rattle.meaning.specs.declared.Refused.{Refused}
+use Rattle.meaning.specs.Refusals.{carrying, outcome_of}
 
-module _ {s : Scene} {b : List ℤ} {t t' : List ℕ} {r : SceneAnswer} (p : LookedAt s b t t' r) where
-  pub settled_refused : (o w : List ℕ) (x : Refusal) → r ≡ SceneAnswers.TheVariants.Refused x
-      → SettledStored s b o o w w (ListAnswers.TheVariants.Refused x 0)
-  unfolding list_says leaves
+module _ {s : Scene} {b : List ℤ} {t t' : List ℕ} {r : Result (Unit {0}) Refusal} (p : LookedAt s b t t' r) where
+  pub settled_refused : (o w : List ℕ) (x : Refusal) → r ≡ Err x
+      → SettledStored s b o o w w (Err (carrying x 0))
+  unfolding outcome_of leaves
   settled_refused o w x e =
       record {
         answer = refused_too p (room_checks s (min (room_of o) (length w))) (IsCount s) x e;
@@ -26,11 +24,11 @@ module _ {s : Scene} {b : List ℤ} {t t' : List ℕ} {r : SceneAnswer} (p : Loo
         bytes = refl;
       }
 
-  pub settled_right : {o o' w w' : List ℕ} {a : ListAnswer} → r ≡ SceneAnswers.TheVariants.Accepted
+  pub settled_right : {o o' w w' : List ℕ} {a : Result ℕ Refused} → r ≡ Ok tt
       → SettledIn s (min (room_of o) (length w)) o o' w w' a → SettledStored s b o o' w w' a
   settled_right {o} {o'} {w} {w'} {a} e j =
       record {
-        answer = accepted_too p (room_checks s (min (room_of o) (length w))) (IsCount s) (list_says a) e j.list.answer;
+        answer = accepted_too p (room_checks s (min (room_of o) (length w))) (IsCount s) (outcome_of a) e j.list.answer;
         list = j.list.buffer;
         words = words_of s (pairs s);
         right = all_judged s (pairs s);

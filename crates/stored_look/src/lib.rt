@@ -33,12 +33,9 @@ fn stale_vertices(positions: &[i32], boxes: &[i32]) -> bool
     ensures { result ≡ some_below (vertex_count (only_positions positions.now))
         (stale_vertex (only_positions positions.now) boxes.now) }
 {
-    let count = vertex_count(positions);
     let mut found = false;
-    let mut v = 0;
-    while v < count {
-        found = found | stale_vertex(positions, boxes, v);
-        v += 1;
+    for v in 0..vertex_count(positions) {
+        found |= stale_vertex(positions, boxes, v);
     }
     found
 }
@@ -118,12 +115,9 @@ fn stale_edges(positions: &[i32], edges: &[u16], boxes: &[i32]) -> bool
     ensures { result ≡ some_below (edge_count (scene_of positions.now edges.now [] []))
         (stale_edge (scene_of positions.now edges.now [] []) boxes.now) }
 {
-    let count = edge_count(edges);
     let mut found = false;
-    let mut j = 0;
-    while j < count {
-        found = found | stale_edge(positions, edges, boxes, j);
-        j += 1;
+    for j in 0..edge_count(edges) {
+        found |= stale_edge(positions, edges, boxes, j);
     }
     found
 }
@@ -136,12 +130,9 @@ fn stale_triangles(positions: &[i32], edges: &[u16], triangles: &[u16], boxes: &
     ensures { result ≡ some_below (triangle_count (unsewn_of positions.now edges.now triangles.now))
         (stale_triangle (unsewn_of positions.now edges.now triangles.now) boxes.now) }
 {
-    let count = triangle_count(triangles);
     let mut found = false;
-    let mut j = 0;
-    while j < count {
-        found = found | stale_triangle(positions, edges, triangles, boxes, j);
-        j += 1;
+    for j in 0..triangle_count(triangles) {
+        found |= stale_triangle(positions, edges, triangles, boxes, j);
     }
     found
 }

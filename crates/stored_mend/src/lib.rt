@@ -34,10 +34,8 @@ fn missing(list: &[u16], from: usize, numbers: usize, v: usize) -> bool
     }
     let wanted = v as u16;
     let mut found = false;
-    let mut k = 0;
-    while k < numbers {
-        found = found | (list[from + k] == wanted);
-        k += 1;
+    for k in 0..numbers {
+        found |= list[from + k] == wanted;
     }
     !found
 }
@@ -48,6 +46,7 @@ fn passed(list: &[u16], from: usize, numbers: usize, v: usize) -> usize
     ensures { Passed list.now from v result }
 {
     let mut at = from;
+    // A `while`: a range would be no plainer, because the end is the place where `missing` first says no.
     while missing(list, at, numbers, v) {
         at += numbers;
     }
@@ -219,6 +218,7 @@ fn mend_edges(
 {
     let count = edge_count(edges);
     let mut j = next_edge(edges, 0, v);
+    // A `while`: a `for` would be no plainer, because `next_edge` tells which edge is next.
     while j < count {
         mend_edge(positions, edges, triangles, v, j, own, boxes);
         j = next_edge(edges, j + 1, v);
@@ -242,6 +242,7 @@ fn mend_triangles(
 {
     let count = triangle_count(triangles);
     let mut j = next_triangle(triangles, 0, v);
+    // A `while`: a `for` would be no plainer, because `next_triangle` tells which triangle is next.
     while j < count {
         mend_triangle(positions, edges, triangles, v, j, own, boxes);
         j = next_triangle(triangles, j + 1, v);

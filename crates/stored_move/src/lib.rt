@@ -12,9 +12,8 @@ ghost use Rattle.answers_order.specs.InOrder.{Checked};
 ghost use Rattle.scene_seams.specs.Alone.{only_positions};
 ghost use Rattle.stored_laws.specs.Placed.{three_placed};
 
-use answers_order::{first_of, refused_if};
 use list_boxes::filling::fill;
-use meaning::{BOX_NUMBERS, Refusal, SceneAnswer};
+use meaning::{BOX_NUMBERS, Refusal};
 use scene_checks::check_scene;
 use scene_checks::faults::out_of_range;
 use scene_parts::vertex_count;
@@ -28,12 +27,13 @@ fn check_boxed(
     triangles: &[u16],
     seams: &[u16],
     boxes: &[i32],
-) -> SceneAnswer
+) -> Result<(), Refusal>
     ensures { Checked (box_checks (scene_of positions.now edges.now triangles.now seams.now) boxes.now) result }
 {
-    let room = refused_if(boxes.len() < BOX_NUMBERS, Refusal::ShortBuffer);
-    let scene = check_scene(positions, edges, triangles, seams);
-    first_of(room, scene)
+    if boxes.len() < BOX_NUMBERS {
+        return Err(Refusal::ShortBuffer);
+    }
+    check_scene(positions, edges, triangles, seams)
 }
 
 // The boxes of a scene, in front of a lent buffer.
@@ -43,14 +43,12 @@ pub fn fill_boxes(
     triangles: &[u16],
     seams: &[u16],
     boxes: &mut [i32],
-) -> SceneAnswer
+) -> Result<(), Refusal>
     ensures { BoxesFilled (scene_of positions.now edges.now triangles.now seams.now) boxes.old boxes.new result }
 {
-    if let SceneAnswer::Refused(why) = check_boxed(positions, edges, triangles, seams, boxes) {
-        return SceneAnswer::Refused(why);
-    }
+    check_boxed(positions, edges, triangles, seams, boxes)?;
     fill(positions, edges, triangles, boxes);
-    SceneAnswer::Accepted
+    Ok(())
 }
 
 // 2 for the new coordinates.
@@ -92,26 +90,24 @@ pub fn move_vertex(
     boxes: &mut [i32],
     v: usize,
     coordinates: &[i32; 6],
-) -> SceneAnswer
+) -> Result<(), Refusal>
     ensures { VertexMoved (scene_of positions.old edges.now triangles.now seams.now) v coordinates.now
         positions.new boxes.old boxes.new result }
 {
-    if let SceneAnswer::Refused(why) = check_boxed(positions, edges, triangles, seams, boxes) {
-        return SceneAnswer::Refused(why);
-    }
+    check_boxed(positions, edges, triangles, seams, boxes)?;
     let absent = vertex_count(positions) <= v;
     let far = new_outside(coordinates);
     if absent {
-        return SceneAnswer::Refused(Refusal::NotThere);
+        return Err(Refusal::NotThere);
     }
     let torn = tears_seam(positions, seams, v, coordinates);
     if far {
-        return SceneAnswer::Refused(Refusal::Coordinate);
+        return Err(Refusal::Coordinate);
     }
     if torn {
-        return SceneAnswer::Refused(Refusal::BrokenSeam);
+        return Err(Refusal::BrokenSeam);
     }
     place(positions, v, coordinates);
     mend(positions, edges, triangles, v, boxes);
-    SceneAnswer::Accepted
+    Ok(())
 }

@@ -14,7 +14,7 @@ fn unequal(list: &[i32], i: usize, other: &[i32], j: usize) -> bool
     requires { (i < length list.now) × (j < length other.now) }
     ensures { result ≡ differ (get_or list.now i (pos 0)) (get_or other.now j (pos 0)) }
 {
-    (list[i] < other[j]) | (other[j] < list[i])
+    list[i] != other[j]
 }
 
 // Whether vertex u is not where v would be: six coordinates are compared.
@@ -23,10 +23,8 @@ fn apart_from(positions: &[i32], u: usize, coordinates: &[i32]) -> bool
     ensures { result ≡ apart_from positions.now u coordinates.now }
 {
     let mut found = false;
-    let mut k = 0;
-    while k < 6 {
-        found = found | unequal(positions, 6 * u + k, coordinates, k);
-        k += 1;
+    for k in 0..6 {
+        found |= unequal(positions, 6 * u + k, coordinates, k);
     }
     found
 }
@@ -56,12 +54,9 @@ pub(crate) fn tears_seam(positions: &[i32], seams: &[u16], v: usize, coordinates
         × (length coordinates.now ≡ 6) }
     ensures { result ≡ tears_seam (seams_alone positions.now seams.now) v coordinates.now }
 {
-    let count = seams.len() / 2;
     let mut found = false;
-    let mut k = 0;
-    while k < count {
-        found = found | tears(positions, seams, v, coordinates, k);
-        k += 1;
+    for k in 0..seams.len() / 2 {
+        found |= tears(positions, seams, v, coordinates, k);
     }
     found
 }

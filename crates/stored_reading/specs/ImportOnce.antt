@@ -1,6 +1,6 @@
 -- After an import each stored box is the one worked out from the positions, and its promise leaves nothing open: the answer, the scene's buffers
 -- and the box buffer.
-use Rattle.std.specs.Prelude.{◌||◌, List, ◌≡◌, refl, ℕ, ℤ}
+use Rattle.std.specs.Prelude.{◌||◌, List, ◌≡◌, ℕ, ℤ, Ok, Result}
 use Rattle.std.proofs.Common.{sym, ap, ◌∙◌, subst}
 use Rattle.meaning.specs.Scene.{Scene}
 use Rattle.meaning.specs.Text.{short_buffer}
@@ -8,15 +8,14 @@ use Rattle.meaning.specs.StoredBoxes.{Boxed, Filled, short_boxes}
 use Rattle.meaning.specs.ObjPair.{ImportOutcome, read, refused, refused_in, import_says, import_told, import_left}
 use Rattle.meaning.specs.ObjBoxes.{FillsImported, BoxedImport}
 use Rattle.meaning.specs.declared.SceneCounts.{SceneCounts}
-use Rattle.meaning.specs.declared.ImportAnswer.{ImportAnswer}
-use Rattle.meaning.specs.declared.ImportAnswer.TheVariants.{Read}
 use Rattle.list_boxes.specs.Once.{one_filling}
 use Rattle.text_scene.specs.Using.{front_of}
 use Rattle.obj_scene.specs.Using.{SceneImported, scene_behind, front_imported}
 use Rattle.obj_scene.specs.OneImport.{behind_twelve, said_one}
+use Rattle.meaning.specs.declared.ImportRefusal.{ImportRefusal}
 
 -- 'After .. import .. each stored box equals the one worked out from the positions'
-pub import_boxed : {start end : List ℕ} {lent left : Scene} {b b' : List ℤ} {c : SceneCounts} → BoxedImport start end lent left b b' (Read c)
+pub import_boxed : {start end : List ℕ} {lent left : Scene} {b b' : List ℤ} {c : SceneCounts} → BoxedImport start end lent left b b' (Ok c)
     → Boxed (front_of c left) b'
 unfolding import_says FillsImported
 import_boxed {start} {end} {lent} {left} {b} {b'} {c} h =
@@ -30,7 +29,7 @@ one_fill (read s) b b₁ b₂ p q = one_filling s p q
 one_fill (refused n) b b₁ b₂ p q = p ∙ sym q
 one_fill (refused_in f n line) b b₁ b₂ p q = p ∙ sym q
 
-pub one_boxed_import : (start end : List ℕ) (lent left left' : Scene) (b b₁ b₂ : List ℤ) (r r' : ImportAnswer)
+pub one_boxed_import : (start end : List ℕ) (lent left left' : Scene) (b b₁ b₂ : List ℤ) (r r' : Result SceneCounts ImportRefusal)
     → BoxedImport start end lent left b b₁ r → BoxedImport start end lent left' b b₂ r' → (r ≡ r') × (left ≡ left') × (b₁ ≡ b₂)
 one_boxed_import start end lent left left' b b₁ b₂ r r' h k =
     let same : h.outcome ≡ k.outcome =

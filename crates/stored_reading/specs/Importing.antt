@@ -1,27 +1,23 @@
 -- How the answer of an import with boxes is shown right: by that of an import, and by the boxes of the scene in front.
-use Rattle.std.specs.Prelude.{true, false, List, [], ◌≡◌, ℕ, ◌+◌, ◌*◌, ◌≤◌, ℤ, length, take}
+use Rattle.std.specs.Prelude.{true, false, List, [], ◌≡◌, ℕ, ◌*◌, ℤ, take, Err, Ok, Result}
 use Rattle.std.proofs.Math.Path.{refl, ap, subst}
-use Rattle.std.proofs.Common.{sym, ◌∙◌, arith, length-append, length-drop, ltb-false}
-use Rattle.answers.specs.Below.{or_left, or_rest}
+use Rattle.std.proofs.Common.{sym, ◌∙◌}
 use Rattle.meaning.specs.Scene.{Scene}
-use Rattle.meaning.specs.Refusals.{given, number_of}
-use Rattle.meaning.specs.Text.{short_buffer, counts_of, filled}
+use Rattle.meaning.specs.Refusals.{number_of}
 use Rattle.meaning.specs.StoredBoxes.{short_boxes, Filled}
-use Rattle.meaning.specs.ObjPair.{ImportOutcome, read, refused, refused_in, ImportIs, counts, import_says, import_told, import_left, Imported}
+use Rattle.meaning.specs.ObjPair.{ImportOutcome, refused, refused_in, ImportIs, import_says, import_told, import_left, Imported}
 use Rattle.meaning.specs.ObjBoxes.{BoxedImportIs, FillsImported, BoxedImport}
-use Rattle.meaning.specs.declared.Refusal.{Refusal}
 use Rattle.meaning.specs.declared.Refusal.TheVariants.{ShortBuffer}
 use Rattle.meaning.specs.declared.SceneCounts.{SceneCounts}
-use Rattle.meaning.specs.declared.WhichFile.{WhichFile}
-use Rattle.meaning.specs.declared.ImportAnswer.{ImportAnswer}
-use Rattle.meaning.specs.declared.ImportAnswer.TheVariants.{Read, Refused, RefusedIn}
 use Rattle.text_scene.specs.Using.{FewOf, Fronts}
 use Rattle.list_boxes.specs.Parts.{Drawn, accepted_drawn}
 use Rattle.stored_reading.specs.Front.{front_with, InFront}
 use Rattle.obj_scene.specs.Using.{SceneImported, scene_imported, fronts_imported, few_imported, front_imported, accepted_imported, import_refusal, import_refusal_in}
+use Rattle.meaning.specs.declared.ImportRefusal.TheVariants.{In, Of}
+use Rattle.meaning.specs.declared.ImportRefusal.{ImportRefusal}
 
 -- what filling in asks for
-module _ {start end : List ℕ} {lent left : Scene} {r : ImportAnswer} (a : Imported start end lent left r) {c : SceneCounts} (e : r ≡ Read c) where
+module _ {start end : List ℕ} {lent left : Scene} {r : Result SceneCounts ImportRefusal} (a : Imported start end lent left r) {c : SceneCounts} (e : r ≡ Ok c) where
   pub import_in_front : InFront c left.positions left.edges left.triangles
   import_in_front =
       let i : SceneImported start end lent left a.outcome c = scene_imported a e in
@@ -40,7 +36,7 @@ module _ {start end : List ℕ} {lent left : Scene} {r : ImportAnswer} (a : Impo
   import_drawn = accepted_drawn (accepted_imported (scene_imported a e))
 
 module _ (start end : List ℕ) (lent : Scene) (b : List ℤ) where
-  pub boxed_short : short_boxes b ≡ true → BoxedImport start end lent lent b b (Refused ShortBuffer)
+  pub boxed_short : short_boxes b ≡ true → BoxedImport start end lent lent b b (Err (Of ShortBuffer))
   unfolding import_says import_told import_left number_of FillsImported
   boxed_short q = record { outcome = refused 12; right = rw q refl; says = refl; leaves = refl; boxes = refl }
 
@@ -48,29 +44,26 @@ module _ (start end : List ℕ) (lent : Scene) (b : List ℤ) where
     behind : (o : ImportOutcome) → ImportIs start end lent o → BoxedImportIs start end lent b o
     behind o h = rw wide h
 
-    module _ {left : Scene} {r : ImportAnswer} (a : Imported start end lent left r) where
-      pub boxed_refused : {x : Refusal} → r ≡ Refused x → BoxedImport start end lent left b b (Refused x)
+    module _ {left : Scene} {r : Result SceneCounts ImportRefusal} (a : Imported start end lent left r) where
+      pub boxed_refused : {x : ImportRefusal} → r ≡ Err x → BoxedImport start end lent left b b (Err x)
       unfolding import_says import_told import_left FillsImported
-      boxed_refused {x} e =
+      boxed_refused {x = Of x} e =
           let (same, right) = import_refusal a e in
           record { outcome = refused (number_of x); right = behind (refused (number_of x)) right; says = refl; leaves = same; boxes = refl }
-
-      pub boxed_refused_in : {f : WhichFile} {x : Refusal} {line : ℕ} → r ≡ RefusedIn f x line → BoxedImport start end lent left b b (RefusedIn f x line)
-      unfolding import_says import_told import_left FillsImported
-      boxed_refused_in {f} {x} {line} e =
+      boxed_refused {x = In f x} e =
           let (same, right) = import_refusal_in a e in
           record {
-            outcome = refused_in f (number_of x) line;
-            right = behind (refused_in f (number_of x) line) right;
+            outcome = refused_in f (number_of x.why) x.carries;
+            right = behind (refused_in f (number_of x.why) x.carries) right;
             says = refl;
             leaves = same;
             boxes = refl;
           }
 
-      module _ {c : SceneCounts} (e : r ≡ Read c) where
+      module _ {c : SceneCounts} (e : r ≡ Ok c) where
         pub boxed_read : {b' : List ℤ}
             → ((w : List ℕ) → Filled (front_with c left.positions left.edges left.triangles w) b b')
-            → BoxedImport start end lent left b b' (Read c)
+            → BoxedImport start end lent left b b' (Ok c)
         unfolding import_says import_told import_left FillsImported
         boxed_read {b'} f =
             let i : SceneImported start end lent left a.outcome c = scene_imported a e in

@@ -1,25 +1,25 @@
 -- What whoever reads a text with its boxes has of the answer: it is that of the reader where the box buffer is long enough; after success each
 -- stored box of the scene in front is the one worked out; and only one answer meets the promise.
-use Rattle.std.specs.Prelude.{ℕ, true, false, ◌||◌, List, ◌≡◌, refl, ℤ}
+use Rattle.std.specs.Prelude.{ℕ, true, false, ◌||◌, List, ◌≡◌, refl, ℤ, Ok, Result}
 use Rattle.std.proofs.Common.{⊎_elim, sym, subst, ◌∙◌, arith}
 use Rattle.std.proofs.Math.Path.{ap}
 use Rattle.sequences.specs.Pick.{either}
 use Rattle.meaning.specs.Scene.{Scene, Accepted}
-use Rattle.meaning.specs.Refusals.{Outcome, given, refused}
-use Rattle.meaning.specs.Text.{Holds, short_buffer, long_text, counts_told, text_says, filled, TextRead}
+use Rattle.meaning.specs.Refusals.{Outcome, given, refused, outcome_of}
+use Rattle.meaning.specs.Text.{Holds, short_buffer, long_text, counts_told, filled, TextRead}
 use Rattle.meaning.specs.StoredBoxes.{short_boxes, Filled, BoxedOutcome, FillsRead, BoxedRead}
 use Rattle.meaning.specs.declared.SceneCounts.{SceneCounts}
-use Rattle.meaning.specs.declared.TextAnswer.{TextAnswer}
-use Rattle.meaning.specs.declared.TextAnswer.TheVariants.{Read}
 use Rattle.list_boxes.specs.Once.{one_filling}
 use Rattle.text_scene.specs.Unique.{text_unique}
-use Rattle.text_scene.specs.Using.{text_says_one, front_of, holds_read, accepted_read}
+use Rattle.text_scene.specs.Using.{front_of, holds_read, accepted_read}
 use Rattle.stored_reading.specs.Reading.{outcome_front}
+use Rattle.meaning.specs.declared.Refused.{Refused}
+use Rattle.answers.specs.Speaking.{one_carrying}
 
 -- ---- 12 for the boxes, or what the reader answers
 
-module _ {text : List ℕ} {lent left : Scene} {b b' : List ℤ} {r : TextAnswer} (p : BoxedRead text lent left b b' r) where
-  pub boxes_short : short_boxes b ≡ true → text_says r ≡ refused 12 0
+module _ {text : List ℕ} {lent left : Scene} {b b' : List ℤ} {r : Result SceneCounts Refused} (p : BoxedRead text lent left b b' r) where
+  pub boxes_short : short_boxes b ≡ true → outcome_of r ≡ refused 12 0
   unfolding counts_told
   boxes_short h = let e : p.outcome ≡ refused 12 0 = rw h at p.right in p.says ∙ ap counts_told e
 
@@ -36,9 +36,9 @@ pub record ReadRight (text : List ℕ) (s : Scene) (b b' : List ℤ) : Type 0 wh
 
 -- 'After reading each stored box equals the one worked out from the positions': the front of the buffers is the scene of the text, and the
 -- box buffer has its boxes
-pub read_right : {text : List ℕ} {lent left : Scene} {b b' : List ℤ} {c : SceneCounts} → BoxedRead text lent left b b' (Read c)
+pub read_right : {text : List ℕ} {lent left : Scene} {b b' : List ℤ} {c : SceneCounts} → BoxedRead text lent left b b' (Ok c)
     → ReadRight text (front_of c left) b b'
-unfolding text_says FillsRead as_read
+unfolding outcome_of FillsRead as_read
 read_right {text} {lent} {left} {b} {b'} {c} p = ⊎_elim short long (either (short_boxes b))
   where
     short : short_boxes b ≡ true → ReadRight text (front_of c left) b b'
@@ -49,7 +49,7 @@ read_right {text} {lent} {left} {b} {b'} {c} p = ⊎_elim short long (either (sh
 
     long : short_boxes b ≡ false → ReadRight text (front_of c left) b b'
     long h =
-        let a : TextRead text lent left (Read c) = as_read p h in
+        let a : TextRead text lent left (Ok c) = as_read p h in
         record {
           holds = holds_read a refl;
           accepted = accepted_read a refl;
@@ -79,11 +79,11 @@ unfolding FillsRead
 fills_one (given s) b b₁ b₂ p q = one_filling s p q
 fills_one (refused n line) b b₁ b₂ p q = p ∙ sym q
 
-pub one_boxed_reading : (text : List ℕ) (lent left left' : Scene) (b b₁ b₂ : List ℤ) (r r' : TextAnswer) → BoxedRead text lent left b b₁ r
+pub one_boxed_reading : (text : List ℕ) (lent left left' : Scene) (b b₁ b₂ : List ℤ) (r r' : Result SceneCounts Refused) → BoxedRead text lent left b b₁ r
     → BoxedRead text lent left' b b₂ r' → (r ≡ r') × (left ≡ left') × (b₁ ≡ b₂)
 one_boxed_reading text lent left left' b b₁ b₂ r r' p q =
     let same : p.outcome ≡ q.outcome = one_outcome text lent b p.outcome q.outcome p.right q.right in (
-      text_says_one r r' (p.says ∙ ap counts_told same ∙ sym q.says),
+      one_carrying r r' (p.says ∙ ap counts_told same ∙ sym q.says),
       p.leaves ∙ ap (λ (o : Outcome Scene). filled o lent) same ∙ sym q.leaves,
       fills_one q.outcome b b₁ b₂ (subst (λ (o : Outcome Scene). FillsRead o b b₁) same p.boxes) q.boxes,
     )

@@ -9,7 +9,7 @@ ghost use Rattle.meaning.specs.StoredBoxes.{BoxedRead};
 ghost use Rattle.meaning.specs.ObjBoxes.{BoxedImport};
 
 use front::fill_front;
-use meaning::{BOX_NUMBERS, ImportAnswer, Refusal, TextAnswer};
+use meaning::{BOX_NUMBERS, ImportRefusal, Refusal, Refused, SceneCounts};
 use obj_scene::import_plain;
 use text_scene::read_scene;
 
@@ -21,20 +21,16 @@ pub fn read_boxed(
     triangles: &mut [u16],
     seams: &mut [u16],
     boxes: &mut [i32],
-) -> TextAnswer
+) -> Result<SceneCounts, Refused>
     ensures { BoxedRead text.now (scene_of positions.old edges.old triangles.old seams.old)
         (scene_of positions.new edges.new triangles.new seams.new) boxes.old boxes.new result }
 {
     if boxes.len() < BOX_NUMBERS {
-        return TextAnswer::Refused(Refusal::ShortBuffer, 0);
+        return Err(Refused::from(Refusal::ShortBuffer));
     }
-    match read_scene(text, positions, edges, triangles, seams) {
-        TextAnswer::Refused(fault, line) => TextAnswer::Refused(fault, line),
-        TextAnswer::Read(c) => {
-            fill_front(c, positions, edges, triangles, boxes);
-            TextAnswer::Read(c)
-        }
-    }
+    let counts = read_scene(text, positions, edges, triangles, seams)?;
+    fill_front(counts, positions, edges, triangles, boxes);
+    Ok(counts)
 }
 
 // Brings two OBJ files in as one scene, into the lent buffers, with its boxes. The answer is the counts of the scene that then stands in front of
@@ -47,19 +43,14 @@ pub fn import_scene(
     triangles: &mut [u16],
     seams: &mut [u16],
     boxes: &mut [i32],
-) -> ImportAnswer
+) -> Result<SceneCounts, ImportRefusal>
     ensures { BoxedImport start.now end.now (scene_of positions.old edges.old triangles.old seams.old)
         (scene_of positions.new edges.new triangles.new seams.new) boxes.old boxes.new result }
 {
     if boxes.len() < BOX_NUMBERS {
-        return ImportAnswer::Refused(Refusal::ShortBuffer);
+        return Err(ImportRefusal::Of(Refusal::ShortBuffer));
     }
-    match import_plain(start, end, positions, edges, triangles, seams) {
-        ImportAnswer::Read(c) => {
-            fill_front(c, positions, edges, triangles, boxes);
-            ImportAnswer::Read(c)
-        }
-        ImportAnswer::Refused(why) => ImportAnswer::Refused(why),
-        ImportAnswer::RefusedIn(file, why, line) => ImportAnswer::RefusedIn(file, why, line),
-    }
+    let counts = import_plain(start, end, positions, edges, triangles, seams)?;
+    fill_front(counts, positions, edges, triangles, boxes);
+    Ok(counts)
 }

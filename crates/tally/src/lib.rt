@@ -7,7 +7,7 @@ ghost use Rattle.tally.specs.Tallied.{one_more, tallied};
 
 use meaning::Settled;
 
-#[derive(Clone, Copy)]
+#[derive(Clone, Copy, Debug, PartialEq, Eq)]
 pub struct Tally {
     pub listed: u64,
     pub hits: u64,
@@ -20,7 +20,7 @@ pub struct Tally {
 fn one_more(n: u64) -> u64
     ensures { result ≡ one_more n }
 {
-    if n < 18446744073709551615 { n + 1 } else { n }
+    n.saturating_add(1)
 }
 
 impl Tally {
@@ -28,35 +28,26 @@ impl Tally {
     pub fn add(self, w: Settled) -> Tally
         ensures { result ≡ tallied self w }
     {
-        let listed = one_more(self.listed);
+        let tally = Tally {
+            listed: one_more(self.listed),
+            ..self
+        };
         match w {
             Settled::Hit => Tally {
-                listed: listed,
                 hits: one_more(self.hits),
-                misses: self.misses,
-                touches: self.touches,
-                aparts: self.aparts,
+                ..tally
             },
             Settled::Miss => Tally {
-                listed: listed,
-                hits: self.hits,
                 misses: one_more(self.misses),
-                touches: self.touches,
-                aparts: self.aparts,
+                ..tally
             },
             Settled::Touch => Tally {
-                listed: listed,
-                hits: self.hits,
-                misses: self.misses,
                 touches: one_more(self.touches),
-                aparts: self.aparts,
+                ..tally
             },
             Settled::Apart => Tally {
-                listed: listed,
-                hits: self.hits,
-                misses: self.misses,
-                touches: self.touches,
                 aparts: one_more(self.aparts),
+                ..tally
             },
         }
     }

@@ -1,5 +1,5 @@
 -- What the reader of a draft promises, and how it goes on from line to line.
-use Rattle.std.specs.Prelude.{List, [], ◌≡◌, refl, ℕ, ◌+◌, ◌*◌, ◌≤◌, ◌<◌, ℤ, pos, length, drop, replicate}
+use Rattle.std.specs.Prelude.{Result, Ok, Err, List, [], ◌≡◌, refl, ℕ, ◌+◌, ◌*◌, ◌≤◌, ◌<◌, ℤ, pos, length, replicate}
 use Rattle.std.proofs.Math.Path.{sym, ap}
 use Rattle.std.proofs.Common.{◌∙◌, arith}
 use Rattle.std.proofs.lemmas.List.{length-replicate}
@@ -7,13 +7,11 @@ use Rattle.scene_seams.specs.Table.{seams_of, no_seams_from}
 use Rattle.scene_seams.specs.Sewing.{blank_table}
 use Rattle.meaning.specs.Limits.{vertex_limit, edge_limit, triangle_limit, seam_limit}
 use Rattle.meaning.specs.Scene.{Scene, scene_of}
-use Rattle.meaning.specs.Refusals.{number_of}
+use Rattle.meaning.specs.Refusals.{number_of, carrying}
 use Rattle.meaning.specs.Text as Text
 use Rattle.meaning.specs.Text.{Entry, none, scene_lines, Holds, SceneFaultyAt}
 use Rattle.meaning.specs.declared.Refusal.{Refusal}
 use Rattle.meaning.specs.declared.SceneCounts.{SceneCounts}
-use Rattle.meaning.specs.declared.TextAnswer.{TextAnswer}
-use Rattle.meaning.specs.declared.TextAnswer.TheVariants.{Read, Refused}
 use Rattle.text_laws.specs.Going.{Reached, reached_first, reached_none, reached_next, reached_longer, reached_fault, reached_end}
 use Rattle.text_line.specs.Rendered.{scene_readable}
 use Rattle.text_line.specs.Reading.{sort_of}
@@ -23,9 +21,9 @@ use Rattle.text_line.specs.declared.Sort.TheVariants.{Vertex, Edge, Triangle, Se
 use Rattle.text_record.specs.Putting.{Roomy}
 use Rattle.text_record.specs.Drafting.{Drafted, DraftOf, FaultHere, TakenAs, LineTaken, TookLine}
 use Rattle.text_record.specs.declared.Taken.{Taken}
-use Rattle.text_record.specs.declared.Taken.TheVariants.{Fault, Next}
-use Rattle.text_draft.specs.declared.LinesDrafted as Lines
-use Rattle.text_draft.specs.declared.LinesDrafted.{LinesDrafted}
+use Rattle.text_draft.specs.declared.Lines.{Lines}
+use Rattle.text_draft.specs.declared.Stopped.{Stopped}
+use Rattle.meaning.specs.declared.Refused.{Refused}
 
 -- a table of no seams, with a place for each vertex
 pub record BlankTable (table : List ℕ) : Type 0 where
@@ -57,9 +55,9 @@ pub record DraftRead (text : List ℕ) (b : Scene) (table : List ℕ) (c : Scene
   pub holds : Holds text scene
   pub drafted : Drafted b table scene c
 
-unfoldable pub DraftIs : List ℕ → Scene → List ℕ → TextAnswer → Type 0
-DraftIs text b table (Read c) = DraftRead text b table c
-DraftIs text b table (Refused f line) = SceneFaultyAt text (number_of f) line
+unfoldable pub DraftIs : List ℕ → Scene → List ℕ → Result SceneCounts Refused → Type 0
+DraftIs text b table (Ok c) = DraftRead text b table c
+DraftIs text b table (Err f) = SceneFaultyAt text (number_of f.why) f.carries
 
 -- ---- the loop
 
@@ -121,9 +119,9 @@ pub record StoppedAt (text : List ℕ) (b : Scene) (table : List ℕ) (f : Refus
   pub inside : at < length text
   pub here : FaultHere text at c scene b table f
 
-unfoldable pub LinesAre : List ℕ → Scene → List ℕ → LinesDrafted → Type 0
-LinesAre text b table (Lines.TheVariants.Fault f c at) = StoppedAt text b table f c at
-LinesAre text b table (Lines.TheVariants.All c at) = Drafting text b table c at × (length text ≤ at)
+unfoldable pub LinesAre : List ℕ → Scene → List ℕ → Result Lines Stopped → Type 0
+LinesAre text b table (Err stopped) = StoppedAt text b table stopped.why stopped.above.counts stopped.above.at
+LinesAre text b table (Ok lines) = Drafting text b table lines.counts lines.at × (length text ≤ lines.at)
 
 pub draft_starts : (text : List ℕ) (b : Scene) (table : List ℕ) → BlankTable table → Drafting text b table no_counts 0
 draft_starts text b table blank =
@@ -143,12 +141,12 @@ module _ {text : List ℕ} {b : Scene} {table : List ℕ} {c : SceneCounts} {at 
   pub draft_of : DraftOf c b table
   draft_of = record { scene = i.scene; drafted = i.drafted }
 
-  module _ (b' : Scene) (table' : List ℕ) {r : Taken} (taken : LineTaken text at c b table b' table' r) where
-    pub draft_goes : {after : SceneCounts} {next : ℕ} → r ≡ Next after next → Drafting text b' table' after next × (at < next)
+  module _ (b' : Scene) (table' : List ℕ) {r : Result Taken Refusal} (line : LineTaken text at c b table b' table' r) where
+    pub draft_goes : {taken : Taken} → r ≡ Ok taken → Drafting text b' table' taken.counts taken.next × (at < taken.next)
     unfolding TakenAs
-    draft_goes {after} {next} e =
-        let any : TakenAs text at c i.scene b' table' r = taken i.scene i.drafted in
-        let t : TookLine text at c i.scene b' table' after next = rw e at any in
+    draft_goes {taken} e =
+        let any : TakenAs text at c i.scene b' table' r = line i.scene i.drafted in
+        let t : TookLine text at c i.scene b' table' taken.counts taken.next = rw e at any in
         let q : Entry = t.entry in
         let (on, further) = reached_next i.reached scene_readable q t.short t.good t.stands in (
           record {
@@ -163,10 +161,10 @@ module _ {text : List ℕ} {b : Scene} {table : List ℕ} {c : SceneCounts} {at 
           further,
         )
 
-    pub draft_stops : {f : Refusal} → at < length text → r ≡ Fault f → LinesAre text b' table' (Lines.TheVariants.Fault f c at)
+    pub draft_stops : {f : Refusal} → at < length text → r ≡ Err f → LinesAre text b' table' (Err (record { why = f; above = record { counts = c; at = at } }))
     unfolding TakenAs LinesAre
     draft_stops {f} h e =
-        let any : TakenAs text at c i.scene b' table' r = taken i.scene i.drafted in
+        let any : TakenAs text at c i.scene b' table' r = line i.scene i.drafted in
         let here : FaultHere text at c i.scene b' table' f = rw e at any in
         record {
           scene = i.scene;
@@ -177,31 +175,31 @@ module _ {text : List ℕ} {b : Scene} {table : List ℕ} {c : SceneCounts} {at 
           here = here;
         }
 
-  pub draft_ends : length text ≤ at → LinesAre text b table (Lines.TheVariants.All c at)
+  pub draft_ends : length text ≤ at → LinesAre text b table (Ok (record { counts = c; at = at }))
   unfolding LinesAre
   draft_ends h = (i, h)
 
 -- ---- a scene's text, from its lines
 
-module _ (text : List ℕ) (b : Scene) (table : List ℕ) {r : LinesDrafted} (all : LinesAre text b table r) where
-  pub stopped_at : {f : Refusal} {c : SceneCounts} {at : ℕ} → r ≡ Lines.TheVariants.Fault f c at → StoppedAt text b table f c at
+module _ (text : List ℕ) (b : Scene) (table : List ℕ) {r : Result Lines Stopped} (all : LinesAre text b table r) where
+  pub stopped_at : {stopped : Stopped} → r ≡ Err stopped → StoppedAt text b table stopped.why stopped.above.counts stopped.above.at
   unfolding LinesAre
   stopped_at e = rw e at all
 
-  pub went_on : {c : SceneCounts} {at : ℕ} → r ≡ Lines.TheVariants.All c at → Drafting text b table c at × (length text ≤ at)
+  pub went_on : {lines : Lines} → r ≡ Ok lines → Drafting text b table lines.counts lines.at × (length text ≤ lines.at)
   unfolding LinesAre
   went_on e = rw e at all
 
-  pub text_refused : {f : Refusal} {c : SceneCounts} {at line : ℕ} → r ≡ Lines.TheVariants.Fault f c at → line ≡ total c + 1
-      → DraftIs text b table (Refused f line)
+  pub text_refused : {stopped : Stopped} {line : ℕ} → r ≡ Err stopped → line ≡ total stopped.above.counts + 1
+      → DraftIs text b table (Err (carrying stopped.why line))
   unfolding DraftIs
-  text_refused {f} {c} {at} e l =
-      let s : StoppedAt text b table f c at = stopped_at e in
+  text_refused {stopped} e l =
+      let s : StoppedAt text b table stopped.why stopped.above.counts stopped.above.at = stopped_at e in
       reached_fault s.reached s.here.fault (l ∙ ap (λ (k : ℕ). k + 1) s.lines)
 
-  pub text_read : {c : SceneCounts} {at : ℕ} → r ≡ Lines.TheVariants.All c at → DraftIs text b table (Read c)
+  pub text_read : {lines : Lines} → r ≡ Ok lines → DraftIs text b table (Ok lines.counts)
   unfolding DraftIs
-  text_read {c} {at} e =
+  text_read {lines} e =
       let (i, h) = went_on e in
       record {
         scene = i.scene;

@@ -8,8 +8,8 @@ ghost use Rattle.text_line.specs.Above.{Bounded};
 ghost use Rattle.text_record.specs.Putting.{Roomy};
 ghost use Rattle.text_draft.specs.Reading.{BlankTable, DraftIs, LinesAre, total};
 
-use meaning::{Refusal, SceneCounts, TextAnswer};
-use text_record::{Taken, take_line};
+use meaning::{Refusal, Refused, SceneCounts};
+use text_record::take_line;
 
 // The number of the line below so many records, counted from 1: each line above it holds one.
 pub fn line_number(c: SceneCounts) -> usize
@@ -19,12 +19,18 @@ pub fn line_number(c: SceneCounts) -> usize
     c.vertices + c.edges + c.triangles + c.seams + 1
 }
 
-// What the lines of a text give: the first fault, the counts of the scene of the lines above it, and the place of its line; or the counts of the
-// scene of all of them, and the place behind them.
-#[derive(Clone, Copy)]
-pub enum LinesDrafted {
-    Fault(Refusal, SceneCounts, usize),
-    All(SceneCounts, usize),
+// The lines of a text, or those that were taken: the counts of their scene, and the place behind them.
+#[derive(Clone, Copy, Debug, PartialEq, Eq)]
+pub struct Lines {
+    pub counts: SceneCounts,
+    pub at: usize,
+}
+
+// The first line at fault: why, and the lines above it.
+#[derive(Clone, Copy, Debug, PartialEq, Eq)]
+pub struct Stopped {
+    pub why: Refusal,
+    pub above: Lines,
 }
 
 // The lines of a text in one pass, down to the first at fault: the draft then holds the scene of those that were taken. A scene's text and the front of
@@ -36,7 +42,7 @@ pub fn draft_lines(
     triangles: &mut [u16],
     seams: &mut [u16],
     stands: &mut [u16],
-) -> LinesDrafted
+) -> Result<Lines, Stopped>
     requires roomy { Roomy (scene_of positions.old edges.old triangles.old seams.old) }
     requires blank_table { BlankTable stands.old }
     ensures { LinesAre text.now (scene_of positions.new edges.new triangles.new seams.new) stands.new result }
@@ -50,20 +56,24 @@ pub fn draft_lines(
         seams: 0,
     };
     let mut at = 0;
+    // `while`, because each line says where the next one begins: there is no range to go over.
     while at < text.len() {
         match take_line(
             text, at, c, &mut sizes, &mut minus, positions, edges, triangles, seams, stands,
         ) {
-            Taken::Fault(fault) => {
-                return LinesDrafted::Fault(fault, c, at);
+            Err(why) => {
+                return Err(Stopped {
+                    why,
+                    above: Lines { counts: c, at },
+                });
             }
-            Taken::Next(after, next) => {
-                c = after;
-                at = next;
+            Ok(taken) => {
+                c = taken.counts;
+                at = taken.next;
             }
         }
     }
-    LinesDrafted::All(c, at)
+    Ok(Lines { counts: c, at })
 }
 
 // The whole text of a scene: its counts, and the draft then holds it; or the first faulty line with its fault.
@@ -74,13 +84,17 @@ pub fn draft_text(
     triangles: &mut [u16],
     seams: &mut [u16],
     stands: &mut [u16],
-) -> TextAnswer
+) -> Result<SceneCounts, Refused>
     requires roomy { Roomy (scene_of positions.old edges.old triangles.old seams.old) }
     requires blank_table { BlankTable stands.old }
     ensures { DraftIs text.now (scene_of positions.new edges.new triangles.new seams.new) stands.new result }
 {
+    // `match`, because the number of the line is only counted where one is at fault.
     match draft_lines(text, positions, edges, triangles, seams, stands) {
-        LinesDrafted::Fault(fault, c, _) => TextAnswer::Refused(fault, line_number(c)),
-        LinesDrafted::All(c, _) => TextAnswer::Read(c),
+        Err(stopped) => Err(Refused {
+            why: stopped.why,
+            carries: line_number(stopped.above.counts),
+        }),
+        Ok(lines) => Ok(lines.counts),
     }
 }

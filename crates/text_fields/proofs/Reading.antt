@@ -1,7 +1,7 @@
 -- The loop of `read_fields`: so many fields are read, and their sizes and signs stand in front of the buffers.
 use mathlib.Core.Bool.{Bool}
 use mathlib.Core.List.{List, [], ◌∷◌, ◌++◌, map, map-append}
-use mathlib.Core.Path.{◌≡◌, refl, sym, ap, ◌∙◌}
+use mathlib.Core.Path.{◌≡◌, ◌∙◌}
 use Prim.Native.Nat.{ℕ, ◌+◌, ◌≤◌, ◌<◌}
 use native.Mathlib.Nat.{zero-add}
 use native.Mathlib.Omega.{arith}
@@ -12,7 +12,7 @@ use Rattle.text_fields.specs.Field.{Found, Got, FieldStands, negative}
 use Rattle.text_fields.specs.Rows.{RowStands, RowRead, row_none, row_more}
 use Rattle.text_fields.specs.declared.Form.{Form}
 use Rattle.text_fields.specs.declared.Field.{Field}
-use Rattle.text_fields.specs.declared.Field.TheVariants.{Number, Bad}
+use Rattle.std.specs.Prelude.{Option, Some, None}
 
 pub record RowReading (s : List ℕ) (at : ℕ) (f : Form) (count : ℕ) (sizes₀ sizes : List ℕ) (minus₀ minus : List Bool) (found next : ℕ) : Type 0 where
   pub zs : List ℤ
@@ -30,23 +30,23 @@ module _ {s : List ℕ} {at : ℕ} {f : Form} {count : ℕ} {sizes₀ sizes : Li
   read : (r : RowReading s at f count sizes₀ sizes minus₀ minus found next) → found ≡ length r.zs
   read r = r.sized.place ∙ zero-add _ ∙ length-map r.zs nat_abs
 
-  pub more : {r : Field} {sign : Bool} {size behind : ℕ} → RowReading s at f count sizes₀ sizes minus₀ minus found next
+  pub more : {r : Option Field} {field : Field} → RowReading s at f count sizes₀ sizes minus₀ minus found next
       → found < count → count ≤ length sizes₀ → count ≤ length minus₀
-      → Found (FieldStands s next f) r → r ≡ Number sign size behind
-      → RowReading s at f count sizes₀ (set sizes found size) minus₀ (set minus found sign) (found + 1) behind
+      → Found (FieldStands s next f) r → r ≡ Some field
+      → RowReading s at f count sizes₀ (set sizes found field.size) minus₀ (set minus found field.minus) (found + 1) field.next
   unfolding Found
-  more {sign} {size} {behind} r l u v g e =
-      let got : Got (FieldStands s next f) sign size behind = rw e at g in
+  more {field} r l u v g e =
+      let got : Got (FieldStands s next f) field.minus field.size field.next = rw e at g in
       record {
         zs = r.zs ++ (got.z ∷ []);
         row = row_more r.row got.there;
-        sized = rw (map-append, ← got.sized) (wrote_then r.sized (wrote_one sizes found size (omega (arith, r.sized.same))));
-        signed = rw (map-append, ← got.signed) (wrote_then r.signed (wrote_one minus found sign (omega (arith, r.signed.same))));
+        sized = rw (map-append, ← got.sized) (wrote_then r.sized (wrote_one sizes found field.size (omega (arith, r.sized.same))));
+        signed = rw (map-append, ← got.signed) (wrote_then r.signed (wrote_one minus found field.minus (omega (arith, r.signed.same))));
         within = omega arith;
       }
 
   -- the next field is none, or there are enough
-  pub stopped : {r : Field} → RowReading s at f count sizes₀ sizes minus₀ minus found next → Found (FieldStands s next f) r → r ≡ Bad
+  pub stopped : {r : Option Field} → RowReading s at f count sizes₀ sizes minus₀ minus found next → Found (FieldStands s next f) r → r ≡ None
       → RowRead s at f count sizes₀ sizes minus₀ minus (record { count = found; next = next })
   unfolding Found
   stopped r g e =

@@ -1,5 +1,5 @@
 -- A row that ends its line: as many fields as there should be, and LF behind them.
-use Rattle.std.specs.Prelude.{Bool, true, false, ◌&&◌, List, [], ◌∷◌, map, ◌≡◌, refl, ℕ, ◌+◌, ◌<◌, eqb, ℤ, nat_abs, length, take}
+use Rattle.std.specs.Prelude.{Option, Some, None, Bool, true, ◌&&◌, List, [], ◌∷◌, map, ◌≡◌, ℕ, ◌+◌, ◌<◌, eqb, ℤ, nat_abs, length, take}
 use Rattle.std.proofs.Common.{⊎_elim, sym, ap, ◌∙◌, zero-add, arith, eq-eqb, eqb-true}
 use Rattle.std.proofs.lemmas.List.{length-map}
 use Rattle.sequences.specs.Pick.{pick, pick_gave, both}
@@ -10,14 +10,12 @@ use Rattle.text_fields.specs.Field.{negative, front_byte}
 use Rattle.text_fields.specs.Rows.{RowStands, RowRead, row_unique}
 use Rattle.text_fields.specs.declared.Form.{Form}
 use Rattle.text_fields.specs.declared.Row.{Row}
-use Rattle.text_fields.specs.declared.Ending.{Ending}
-use Rattle.text_fields.specs.declared.Ending.TheVariants.{At, Nowhere}
 
 -- the fields were read, and the line ends behind as many as there should be, or not
-pub record RowEnded (s : List ℕ) (at : ℕ) (f : Form) (count : ℕ) (sizes sizes' : List ℕ) (minus minus' : List Bool) (r : Ending) : Type 0 where
+pub record RowEnded (s : List ℕ) (at : ℕ) (f : Form) (count : ℕ) (sizes sizes' : List ℕ) (minus minus' : List Bool) (r : Option ℕ) : Type 0 where
   pub row : Row
   pub read : RowRead s at f count sizes sizes' minus minus' row
-  pub ends : r ≡ pick (eqb row.count count && eqb (byte_at s row.next) line_feed) (At (row.next + 1)) Nowhere
+  pub ends : r ≡ pick (eqb row.count count && eqb (byte_at s row.next) line_feed) (Some (row.next + 1)) None
 
 -- numbers of a line, from a place behind its first field to the next line
 pub record LineStands (s : List ℕ) (at : ℕ) (f : Form) (zs : List ℤ) (next : ℕ) : Type 0 where
@@ -34,9 +32,9 @@ count_is : {s : List ℕ} {at : ℕ} {f : Form} {count : ℕ} {sizes sizes' : Li
     (e : RowRead s at f count sizes sizes' minus minus' r) → r.count ≡ length e.zs
 count_is e = e.sized.place ∙ zero-add _ ∙ length-map e.zs nat_abs
 
-module _ {s : List ℕ} {at : ℕ} {f : Form} {count : ℕ} {sizes sizes' : List ℕ} {minus minus' : List Bool} {r : Ending} where
+module _ {s : List ℕ} {at : ℕ} {f : Form} {count : ℕ} {sizes sizes' : List ℕ} {minus minus' : List Bool} {r : Option ℕ} where
   -- the line ends where it should: the numbers stand there, and they were read
-  pub row_ended : {next : ℕ} (e : RowEnded s at f count sizes sizes' minus minus' r) → r ≡ At next
+  pub row_ended : {next : ℕ} (e : RowEnded s at f count sizes sizes' minus minus' r) → r ≡ Some next
       → (length e.read.zs ≡ count) × LineStands s at f e.read.zs next × InFront e.read.zs sizes' minus'
   row_ended {next} e a =
       let n : ℕ = e.row.next in
@@ -55,10 +53,10 @@ module _ {s : List ℕ} {at : ℕ} {f : Form} {count : ℕ} {sizes sizes' : List
         },
       ))
       (λ g. let z : ◌≡◌ {A = ℕ} 0 1 = cc g.1 in absurd (omega arith))
-      (pick_gave (λ x. x ≡ At next) (eqb e.row.count count && eqb (byte_at s n) line_feed) (sym e.ends ∙ a))
+      (pick_gave (λ x. x ≡ Some next) (eqb e.row.count count && eqb (byte_at s n) line_feed) (sym e.ends ∙ a))
 
   -- the line does not end where it should: no such numbers stand there
-  pub row_unended : ¬ IsDigit f.separator → RowEnded s at f count sizes sizes' minus minus' r → r ≡ Nowhere
+  pub row_unended : ¬ IsDigit f.separator → RowEnded s at f count sizes sizes' minus minus' r → r ≡ None
       → (zs : List ℤ) (next : ℕ) → length zs ≡ count → LineStands s at f zs next → ⊥
   row_unended parts e a zs next n w =
       let (same, place) =
@@ -78,5 +76,5 @@ ended_inside s n {b} t e test =
 
 pub ended_by : {s : List ℕ} {at : ℕ} {f : Form} {count : ℕ} {sizes sizes' : List ℕ} {minus minus' : List Bool} {r : Row} {b : ℕ} (t : Bool)
     → RowRead s at f count sizes sizes' minus minus' r → b ≡ byte_at s r.next → eqb r.count count && eqb b line_feed ≡ t
-    → RowEnded s at f count sizes sizes' minus minus' (pick t (At (r.next + 1)) Nowhere)
+    → RowEnded s at f count sizes sizes' minus minus' (pick t (Some (r.next + 1)) None)
 ended_by {r} t read e test = record { row = r; read = read; ends = rw (← e, test) }

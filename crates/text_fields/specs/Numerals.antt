@@ -1,5 +1,5 @@
 -- Where a number in a text ends: what follows it is no digit. So a text begins with one number at most.
-use Rattle.std.specs.Prelude.{Bool, true, false, ◌≡◌, refl, ℕ, suc, ◌+◌, ◌<◌, ℤ, pos, negsuc, length, get_or, drop}
+use Rattle.std.specs.Prelude.{false, ◌≡◌, refl, ℕ, suc, ◌<◌, ℤ, pos, negsuc, length, get_or, drop}
 use Rattle.std.proofs.Common.{true≢false, ⊎_elim, sym, ap, ◌∙◌, subst, add-zero, arith, get_or-drop}
 use mathlib.Core.List.{List, [], ◌∷◌, ◌++◌, Memᴰ}
 use Rattle.std.proofs.Math.Nat.{suc_inj}

@@ -1,8 +1,8 @@
 -- Fields in a row, what a reader of them promises, and that only one answer meets the promise.
 use Rattle.std.specs.Prelude.{Bool, ◌≡◌, refl, ℤ, nat_abs, drop}
 use mathlib.Core.List.{List, [], ◌∷◌, ◌++◌, map, map-append, append_assoc, append-nil}
-use Rattle.std.proofs.Common.{sym, ap, ◌∙◌, subst, arith, length-append}
-use Prim.Native.Nat.{ℕ, zero, suc, ◌+◌, ◌-◌, ◌≤◌, ◌<◌}
+use Rattle.std.proofs.Common.{sym, arith}
+use Prim.Native.Nat.{ℕ, ◌+◌, ◌-◌, ◌≤◌, ◌<◌}
 use Rattle.std.proofs.Math.Nat.{suc_inj}
 use Rattle.std.proofs.Math.ListN.{length}
 use Rattle.sequences.specs.Stands.{Stands, stands_none, stands_then, stands_apart}
@@ -10,7 +10,7 @@ use Rattle.sequences.specs.Wrote.{Wrote}
 use Rattle.decimals.specs.Byte.{IsDigit}
 use Rattle.meaning.specs.Text.{numeral, further}
 use Rattle.text_fields.specs.Numerals.{Ends, numeral_cancel}
-use Rattle.text_fields.specs.Field.{Allowed, NumeralStands, FieldStands, negative, field_unique}
+use Rattle.text_fields.specs.Field.{Allowed, FieldStands, negative, field_unique}
 use Rattle.text_fields.specs.declared.Form.{Form}
 use Rattle.text_fields.specs.declared.Row.{Row}
 

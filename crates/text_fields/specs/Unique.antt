@@ -1,27 +1,25 @@
 -- Only one answer meets the promise of a reader of fields.
-use Rattle.std.specs.Prelude.{Bool, List, map, ◌≡◌, refl, ℕ, ℤ, nat_abs}
+use Rattle.std.specs.Prelude.{Option, Some, None, Bool, List, map, ◌≡◌, refl, ℕ, nat_abs}
 use Rattle.std.proofs.Common.{sym, ap, ◌∙◌}
 use Rattle.sequences.specs.Wrote.{Wrote, wrote_unique}
 use Rattle.decimals.specs.Byte.{IsDigit}
-use Rattle.text_fields.specs.Field.{Found, Got, FieldStands, negative, field_unique}
+use Rattle.text_fields.specs.Field.{Found, FieldStands, negative, field_unique}
 use Rattle.text_fields.specs.Rows.{RowRead, row_unique}
 use Rattle.text_fields.specs.Ended.{RowEnded}
 use Rattle.text_fields.specs.declared.Form.{Form}
 use Rattle.text_fields.specs.declared.Row.{Row}
-use Rattle.text_fields.specs.declared.Ending.{Ending}
 use Rattle.text_fields.specs.declared.Field.{Field}
-use Rattle.text_fields.specs.declared.Field.TheVariants.{Number, Bad}
 
-pub one_field : (s : List ℕ) (at : ℕ) (f : Form) (r r' : Field) → Found (FieldStands s at f) r → Found (FieldStands s at f) r' → r ≡ r'
+pub one_field : (s : List ℕ) (at : ℕ) (f : Form) (r r' : Option Field) → Found (FieldStands s at f) r → Found (FieldStands s at f) r' → r ≡ r'
 unfolding Found
-one_field s at f (Number m n next) (Number m' n' next') g h =
+one_field s at f (Some a) (Some b) g h =
     let (same, place) = field_unique g.there h.there in
-    let sign : m ≡ m' = g.signed ∙ ap negative same ∙ sym h.signed in
-    let size : n ≡ n' = g.sized ∙ ap nat_abs same ∙ sym h.sized in
-    cc
-one_field s at f (Number m n next) Bad g none = absurd (none g.z next g.there)
-one_field s at f Bad (Number m n next) none h = absurd (none h.z next h.there)
-one_field s at f Bad Bad none none' = refl
+    let sign : a.minus ≡ b.minus = g.signed ∙ ap negative same ∙ sym h.signed in
+    let size : a.size ≡ b.size = g.sized ∙ ap nat_abs same ∙ sym h.sized in
+    λ i. Some (record { minus = sign i; size = size i; next = place i })
+one_field s at f (Some a) None g none = absurd (none g.z a.next g.there)
+one_field s at f None (Some b) none h = absurd (none h.z b.next h.there)
+one_field s at f None None none none' = refl
 
 pub one_row : (s : List ℕ) (at : ℕ) (f : Form) → ¬ IsDigit f.separator → (count : ℕ) (sizes u v : List ℕ) (minus x y : List Bool) (r r' : Row)
     → RowRead s at f count sizes u minus x r → RowRead s at f count sizes v minus y r' → (r ≡ r') × (u ≡ v) × (x ≡ y)
@@ -33,7 +31,7 @@ one_row s at f parts count sizes u v minus x y r r' g h =
     let (buffer, count) = wrote_unique g.sized sized in
     (λ i. record { count = count i; next = place i }, buffer, (wrote_unique g.signed signed).0)
 
-pub one_ending : (s : List ℕ) (at : ℕ) (f : Form) → ¬ IsDigit f.separator → (count : ℕ) (sizes u v : List ℕ) (minus x y : List Bool) (r r' : Ending)
+pub one_ending : (s : List ℕ) (at : ℕ) (f : Form) → ¬ IsDigit f.separator → (count : ℕ) (sizes u v : List ℕ) (minus x y : List Bool) (r r' : Option ℕ)
     → RowEnded s at f count sizes u minus x r → RowEnded s at f count sizes v minus y r' → (r ≡ r') × (u ≡ v) × (x ≡ y)
 one_ending s at f parts count sizes u v minus x y r r' g h =
     let (same, buffer, signs) =

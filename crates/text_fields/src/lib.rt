@@ -12,88 +12,68 @@ ghost use Rattle.text_fields.specs.Field.{Found, PlainFound, NumeralStands, Fiel
 use decimals::NumberRead;
 
 // How fields are written.
-#[derive(Clone, Copy)]
+#[derive(Clone, Copy, Debug, PartialEq, Eq)]
 pub struct Form {
     pub separator: u8,
     pub signed: bool,
     pub most: usize,
 }
 
-// What stands at a place: a number and the place behind it, or no field of the form.
-#[derive(Clone, Copy)]
-pub enum Field {
-    Number { minus: bool, size: u64, next: usize },
-    Bad,
+// A number that stands at a place: its sign, its size, and the place behind it.
+#[derive(Clone, Copy, Debug, PartialEq, Eq)]
+pub struct Field {
+    pub minus: bool,
+    pub size: u64,
+    pub next: usize,
 }
 
 // How many fields stand in a row, and the place behind the last of them.
-#[derive(Clone, Copy)]
+#[derive(Clone, Copy, Debug, PartialEq, Eq)]
 pub struct Row {
     pub count: usize,
     pub next: usize,
 }
 
-// Where the line after a row begins, if the row has as many fields as it should and ends its line.
-#[derive(Clone, Copy)]
-pub enum Ending {
-    At(usize),
-    Nowhere,
-}
-
 // Digits that are a number, and no digit behind them.
-fn read_plain(s: &[u8], at: usize, most: usize) -> NumberRead
+fn read_plain(s: &[u8], at: usize, most: usize) -> Option<NumberRead>
     requires { most ≤ 19 }
     ensures { PlainFound s.now at most result }
 {
-    let read = decimals::read_number(s, at, most);
-    match read {
-        NumberRead::Number { value, next } => {
-            if decimals::is_digit(decimals::byte_at(s, next)) {
-                NumberRead::Bad
-            } else {
-                NumberRead::Number { value, next }
-            }
-        }
-        NumberRead::Bad => NumberRead::Bad,
+    let read = decimals::read_number(s, at, most)?;
+    if decimals::is_digit(decimals::byte_at(s, read.next)) {
+        return None;
     }
+    Some(read)
 }
 
 // A number, after a minus if the form takes one. There is no -0.
-fn read_numeral(s: &[u8], at: usize, form: Form) -> Field
+fn read_numeral(s: &[u8], at: usize, form: Form) -> Option<Field>
     requires { form.most ≤ 19 }
     ensures { Found (NumeralStands s.now at form) result }
 {
     let first = decimals::byte_at(s, at);
     let minus = form.signed & (first == b'-');
     if minus {
-        match read_plain(s, at + 1, form.most) {
-            NumberRead::Number { value, next } => {
-                if value == 0 {
-                    Field::Bad
-                } else {
-                    Field::Number {
-                        minus: true,
-                        size: value,
-                        next,
-                    }
-                }
-            }
-            NumberRead::Bad => Field::Bad,
+        let below = read_plain(s, at + 1, form.most)?;
+        if below.value == 0 {
+            return None;
         }
-    } else {
-        match read_plain(s, at, form.most) {
-            NumberRead::Number { value, next } => Field::Number {
-                minus: false,
-                size: value,
-                next,
-            },
-            NumberRead::Bad => Field::Bad,
-        }
+        return Some(Field {
+            minus: true,
+            size: below.value,
+            next: below.next,
+        });
     }
+    let plain = read_plain(s, at, form.most)?;
+    Some(Field {
+        minus: false,
+        size: plain.value,
+        next: plain.next,
+    })
 }
 
 // A separator, and a number behind it.
-pub fn read_field(s: &[u8], at: usize, form: Form) -> Field
+pub fn read_field(s: &[u8], at: usize, form: Form) -> Option<Field>
     requires { form.most ≤ 19 }
     ensures { Found (FieldStands s.now at form) result }
 {
@@ -102,7 +82,7 @@ pub fn read_field(s: &[u8], at: usize, form: Form) -> Field
             return read_numeral(s, at + 1, form);
         }
     }
-    Field::Bad
+    None
 }
 
 // Fields in a row, as many as stand there and not more than count. Their sizes and their signs are written to the front of the buffers.
@@ -121,29 +101,19 @@ pub fn read_fields(
     requires count_in_bounds_2 { count ≤ length minus.old }
     ensures { RowRead s.now at form count sizes.old sizes.new minus.old minus.new result }
 {
-    let mut found = 0;
     let mut next = at;
-    while found < count {
-        match read_field(s, next, form) {
-            Field::Number {
-                minus: sign,
-                size,
-                next: behind,
-            } => {
-                sizes[found] = size;
-                minus[found] = sign;
-                found += 1;
-                next = behind;
-            }
-            Field::Bad => {
-                return Row { count: found, next };
-            }
-        }
+    for found in 0..count {
+        let Some(field) = read_field(s, next, form) else {
+            return Row { count: found, next };
+        };
+        sizes[found] = field.size;
+        minus[found] = field.minus;
+        next = field.next;
     }
-    Row { count: found, next }
+    Row { count, next }
 }
 
-// A row of count fields, not more and not fewer, that ends its line: the place of the next line.
+// A row of count fields, not more and not fewer, that ends its line: the place where the next line begins.
 pub fn read_row(
     s: &[u8],
     at: usize,
@@ -151,7 +121,7 @@ pub fn read_row(
     count: usize,
     sizes: &mut [u64],
     minus: &mut [bool],
-) -> Ending
+) -> Option<usize>
     requires most_bound { form.most ≤ 19 }
     requires not_digit { ¬ IsDigit form.separator }
     requires count_in_bounds { count ≤ length sizes.old }
@@ -163,8 +133,8 @@ pub fn read_row(
     let next = row.next;
     let end = decimals::byte_at(s, next);
     if (found == count) & (end == b'\n') {
-        Ending::At(next + 1)
+        Some(next + 1)
     } else {
-        Ending::Nowhere
+        None
     }
 }

@@ -1,6 +1,6 @@
 -- The scene of the records above a line, with its counts: it passes the checks of a scene. One record more that is not at fault keeps it so.
-use Rattle.std.specs.Prelude.{Bool, true, false, not, ◌||◌, List, [], ◌∷◌, ◌++◌, ◌≡◌, refl, ℕ, ◌+◌, ◌*◌, ◌/◌, ◌%◌, ◌≤◌, ◌<◌, ltb, eqb, length}
-use Rattle.std.proofs.Common.{append-nil, sym, ap, ◌∙◌, arith, length-append, ltb-false, le-ltb, eq-eqb}
+use Rattle.std.specs.Prelude.{Bool, false, ◌||◌, List, ◌++◌, ◌≡◌, refl, ℕ, ◌+◌, ◌*◌, ◌%◌, ◌≤◌, length}
+use Rattle.std.proofs.Common.{ap, ◌∙◌, arith, length-append, ltb-false, eq-eqb}
 use Rattle.answers.specs.Answering.{is_given}
 use Rattle.answers.specs.Below.{or_left, or_rest}
 use Rattle.meaning.specs.Limits.{vertex_limit, edge_limit, triangle_limit, seam_limit}

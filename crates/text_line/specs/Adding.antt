@@ -1,12 +1,11 @@
 -- What each check says of a scene with one record more, where it did not hold of the scene above: what the record itself says.
-use Rattle.std.specs.Prelude.{Bool, false, ◌||◌, ◌≡◌, ℕ, ◌+◌, ◌*◌, ◌/◌, ◌<◌, leb, ltb, eqb, ℤ, pos, length, get_or}
+use Rattle.std.specs.Prelude.{Bool, false, ◌||◌, ◌≡◌, ℕ, ◌+◌, ◌*◌, ◌/◌, ◌<◌, eqb, length, get_or}
 use Rattle.std.proofs.Math.Bool.{or_assoc}
-use mathlib.Core.List.{List, [], ◌∷◌, ◌++◌, append-nil}
+use mathlib.Core.List.{List, [], ◌∷◌, ◌++◌}
 use Rattle.std.proofs.Math.Path.{refl, sym, ap}
 use Rattle.std.proofs.Common.{◌∙◌, arith, length-append, get_or-append-add}
 use Rattle.std.proofs.Math.ListN.{get_or-append}
-use Rattle.meaning.specs.Limits.{coordinate_limit}
-use Rattle.meaning.specs.Scene.{some_below, stood_for, outside, unknown_in}
+use Rattle.meaning.specs.Scene.{some_below, stood_for}
 use Rattle.answers.specs.Below.{some_more, some_first, some_alike}
 
 -- ---- tests over a list, element by element

@@ -1,6 +1,6 @@
 -- The checks of a record go by counts alone: below a scene that passes them, 10, 11, 2 and 3 of every record, and the rest of each but a
 -- seam, are what the record's own numbers say.
-use Rattle.std.specs.Prelude.{Bool, true, false, ◌||◌, ◌≡◌, ℕ, ◌+◌, ◌*◌, ◌/◌, ◌≤◌, ◌<◌, ltb, ℤ, pos, get_or}
+use Rattle.std.specs.Prelude.{Bool, true, false, ◌||◌, ◌≡◌, ℕ, ◌+◌, ◌/◌, ◌≤◌, ◌<◌, ltb, ℤ, pos, get_or}
 use mathlib.Core.List.{List, [], ◌∷◌, ◌++◌, append-nil}
 use Rattle.std.proofs.Common.{⊎_elim, sym, ◌∙◌, arith}
 use Rattle.std.proofs.Math.Path.{refl, ap}
@@ -11,13 +11,13 @@ use Rattle.whole.specs.Vector.{Vector}
 use Rattle.sequences.specs.Pick.{either}
 use Rattle.sequences.specs.Parts.{none_of}
 use Rattle.answers.specs.Below.{or_left, or_rest, none_passes, none_below}
-use Rattle.meaning.specs.Limits.{coordinate_limit, vertex_limit, edge_limit, triangle_limit, seam_limit}
+use Rattle.meaning.specs.Limits.{vertex_limit, edge_limit, triangle_limit, seam_limit}
 use Rattle.meaning.specs.Scene.{Scene, scene_of, some_below, stood_for, vertex_count, over_size, outside, out_of_range, unknown_in, unknown_vertex, broken_seam, twice_in_edge, twice_in_triangle, repeated_vertex}
 use Rattle.meaning.specs.Text as Text
 use Rattle.meaning.specs.Text.{Entry, vertex, edge, triangle, seam, coordinates, coordinates_in, ends_in, corners_in, seam_in, scene_with}
 use Rattle.meaning.specs.declared.SceneCounts.{SceneCounts}
 use Rattle.text_line.specs.Reading.{sort_of}
-use Rattle.text_line.specs.Above.{Above, Bounded, Lengths, counted_by, lengths_more}
+use Rattle.text_line.specs.Above.{Above, Lengths, counted_by, lengths_more}
 use Rattle.text_line.specs.Adding.{any_of, some_behind, one, edges_more, triangles_more}
 
 -- ---- a scene with a record of each kind

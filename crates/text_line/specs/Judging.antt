@@ -1,13 +1,13 @@
 -- What the judge of a record promises, and how the tests of the code are those of the definition.
-use Rattle.std.specs.Prelude.{Bool, true, false, ◌||◌, ◌≡◌, refl, ℕ, ◌<◌, ltb, eqb, nat_abs, get_or}
-use mathlib.Core.List.{List, [], ◌∷◌, map}
-use Rattle.std.proofs.Common.{sym, ap, ◌∙◌, arith}
+use Rattle.std.specs.Prelude.{Result, Ok, Err, Bool, true, false, ◌||◌, ◌≡◌, refl, ℕ, ltb, eqb, get_or}
+use mathlib.Core.List.{List, [], ◌∷◌}
+use Rattle.std.proofs.Common.{arith}
 use Rattle.std.proofs.Math.Dec.{leb}
 use Rattle.std.proofs.Math.IntN.{ℤ, pos}
 use Rattle.whole.specs.Vector.{Vector}
 use Rattle.meaning.specs.Limits.{coordinate_limit, vertex_limit, edge_limit, triangle_limit, seam_limit}
-use Rattle.meaning.specs.Scene.{Scene, outside, over_size, out_of_range, unknown_vertex, broken_seam, repeated_vertex}
-use Rattle.meaning.specs.Refusals.{Outcome, given, refused, Check, Answers, number_of}
+use Rattle.meaning.specs.Scene.{Scene, over_size, out_of_range, unknown_vertex, broken_seam, repeated_vertex}
+use Rattle.meaning.specs.Refusals.{Outcome, given, refused, Answers, number_of}
 use Rattle.meaning.specs.Text.{Entry, vertex, edge, triangle, seam, coordinates, numbers_of, late, scene_with, EntryJudged}
 use Rattle.meaning.specs.declared.SceneCounts.{SceneCounts}
 use Rattle.text_fields.specs.Tabbed.{SizedAs, sized_at}
@@ -16,12 +16,7 @@ use Rattle.text_line.specs.Above.{Above}
 use Rattle.text_line.specs.Checks.{Comes, comes_vertex, comes_edge, comes_triangle, SeamComes, comes_seam}
 use Rattle.text_line.specs.declared.Sort.{Sort}
 use Rattle.text_line.specs.declared.Sort.TheVariants.{Vertex, Edge, Triangle, Seam}
-use Rattle.text_line.specs.declared.Judged.{Judged}
-use Rattle.text_line.specs.declared.Judged.TheVariants.{Good, Fault}
-
-unfoldable pub judged_says : Judged → Outcome (Unit {0})
-judged_says Good = given tt
-judged_says (Fault r) = refused (number_of r) 0
+use Rattle.meaning.specs.declared.Refusal.{Refusal}
 
 -- the checks of a record but 15, by what they found; and with it
 abbrev pub FaultIs : Bool → Bool → Bool → Bool → Bool → Outcome (Unit {0}) → Type 0

@@ -1,25 +1,22 @@
 -- What the reader of a line promises: the record that stands there, with its numbers in front of two buffers, or that none does.
-use Rattle.std.specs.Prelude.{Bool, true, false, List, [], ◌∷◌, ◌++◌, ◌≡◌, refl, ℕ, zero, suc, ◌+◌, ◌≤◌, ◌<◌, ℤ, pos, negsuc, nat_abs, drop}
-use Rattle.std.proofs.Common.{true≢false, sym, ap, ◌∙◌, subst, arith}
+use Rattle.std.specs.Prelude.{Option, Some, None, Bool, List, [], ◌∷◌, ◌++◌, ◌≡◌, refl, ℕ, ◌+◌, ◌≤◌, ◌<◌, ℤ, pos, negsuc, nat_abs, drop}
+use Rattle.std.proofs.Common.{true≢false, sym, ap, ◌∙◌, arith}
 use Rattle.std.proofs.Math.ListN.{length}
 use Rattle.sequences.specs.Stands.{Stands, stands_one, stands_then, stands_apart}
 use Rattle.sequences.specs.Parts.{none_of}
 use Rattle.decimals.specs.Byte.{IsDigit, byte_at}
 use Rattle.decimals.specs.Digits.{digits}
 use Rattle.text_fields.specs.Field.{Allowed, front_byte}
-use Rattle.text_fields.specs.Rows.{EachAllowed, row_of, RowStands}
+use Rattle.text_fields.specs.Rows.{EachAllowed, row_of}
 use Rattle.text_fields.specs.Ended.{RowEnded, LineStands, InFront, row_ended, row_unended}
 use Rattle.text_fields.specs.declared.Form.{Form}
-use Rattle.text_fields.specs.declared.Ending.{Ending}
-use Rattle.text_fields.specs.declared.Ending.TheVariants.{At, Nowhere}
 use Rattle.meaning.specs.Limits.{digit_limit}
-use Rattle.meaning.specs.Text.{Entry, vertex, edge, triangle, seam, coordinates, letter_of, numbers_of, line_of, Short, tab, line_feed}
+use Rattle.meaning.specs.Text.{Entry, vertex, edge, triangle, seam, coordinates, letter_of, numbers_of, line_of, Short, line_feed}
 use Rattle.text_fields.specs.Tabbed.{tab_parts, line_ends, first_of}
 use Rattle.text_line.specs.Rendered.{coordinate_form, number_form}
 use Rattle.text_line.specs.declared.Sort.{Sort}
 use Rattle.text_line.specs.declared.Sort.TheVariants.{Vertex, Edge, Triangle, Seam}
 use Rattle.text_line.specs.declared.Line.{Line}
-use Rattle.text_line.specs.declared.Line.TheVariants.{Of, Bad}
 
 -- ---- the four kinds
 
@@ -47,9 +44,9 @@ form_of Edge = number_form
 form_of Triangle = number_form
 form_of Seam = number_form
 
-unfoldable pub line_ended : Sort → Ending → Line
-line_ended sort (At next) = Of sort next
-line_ended sort Nowhere = Bad
+unfoldable pub line_ended : Sort → Option ℕ → Option Line
+line_ended sort (Some next) = Some (record { sort = sort; next = next })
+line_ended sort None = None
 
 -- ---- the promise
 
@@ -64,9 +61,9 @@ pub record LineGot (text : List ℕ) (at : ℕ) (sizes : List ℕ) (minus : List
 abbrev pub NoLine : List ℕ → ℕ → Type 0
 NoLine text at = (r : Entry) (next : ℕ) → Short digit_limit (numbers_of r) → Stands text at (line_of r) next → ⊥
 
-unfoldable pub LineRead : List ℕ → ℕ → List ℕ → List Bool → Line → Type 0
-LineRead text at sizes minus (Of sort next) = LineGot text at sizes minus sort next
-LineRead text at sizes minus Bad = NoLine text at
+unfoldable pub LineRead : List ℕ → ℕ → List ℕ → List Bool → Option Line → Type 0
+LineRead text at sizes minus (Some line) = LineGot text at sizes minus line.sort line.next
+LineRead text at sizes minus None = NoLine text at
 
 -- ---- the numbers of a record, and of its form
 
@@ -233,15 +230,15 @@ letter_unique Seam Triangle e = absurd (omega arith)
 letter_unique Seam Seam e = refl
 
 -- the letter of a kind stands here: what is read of the row behind it decides
-pub line_got : (sort : Sort) {text : List ℕ} {at : ℕ} {sizes sizes' : List ℕ} {minus minus' : List Bool} {e : Ending} {l : Line}
+pub line_got : (sort : Sort) {text : List ℕ} {at : ℕ} {sizes sizes' : List ℕ} {minus minus' : List Bool} {e : Option ℕ} {l : Option Line}
     → at < length text → byte_at text at ≡ letter sort
     → RowEnded text (at + 1) (form_of sort) (many sort) sizes sizes' minus minus' e → l ≡ line_ended sort e
     → LineRead text at sizes' minus' l
 unfolding LineRead line_ended
 line_got sort {text} {at} {sizes} {sizes'} {minus} {minus'} {e} {l} h b row is = rw is (by_ending e refl)
   where
-    by_ending : (x : Ending) → e ≡ x → LineRead text at sizes' minus' (line_ended sort x)
-    by_ending (At next) q =
+    by_ending : (x : Option ℕ) → e ≡ x → LineRead text at sizes' minus' (line_ended sort x)
+    by_ending (Some next) q =
         let (counted, line, front) = row_ended row q in
         let zs : List ℤ = row.read.zs in
         let m : Made sort zs = made sort zs counted line.row.allowed in
@@ -253,7 +250,7 @@ line_got sort {text} {at} {sizes} {sizes'} {minus} {minus'} {e} {l} h b row is =
           stands = line_put text at m.entry sort h named (rw m.numbers line);
           front = rw m.numbers front;
         }
-    by_ending Nowhere q = λ r next short w.
+    by_ending None q = λ r next short w.
         let (named, line) = line_taken text at r short w in
         let same : sort_of r ≡ sort = letter_unique (sort_of r) sort (sym (entry_letter r) ∙ sym named ∙ b) in
         row_unended (parts sort) row q (numbers_of r) next (entry_many r ∙ ap many same) (rw same at line)

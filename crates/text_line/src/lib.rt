@@ -3,22 +3,23 @@
 #![tactic(auto)]
 
 ghost use Rattle.std.specs.Prelude.{◌≤◌, ◌<◌, length, ◌≡◌};
-ghost use Rattle.text_line.specs.Judging.{FaultIs, judged_says, far_in, Judging};
-ghost use Rattle.text_line.specs.Reading.{line_ended, LineRead};
+ghost use Rattle.text_line.specs.Judging.{FaultIs, far_in, Judging};
+ghost use Rattle.text_line.specs.Reading.{LineRead};
 ghost use Rattle.text_line.specs.Above.{Bounded, counted_by};
 ghost use Rattle.text_line.specs.Stepping.{LineStepped};
+ghost use Rattle.meaning.specs.Refusals.{outcome_alone};
 
 use meaning::{
     COORDINATE_LIMIT, DIGIT_LIMIT, EDGE_LIMIT, Refusal, SEAM_LIMIT, SceneCounts, TRIANGLE_LIMIT,
     VERTEX_LIMIT,
 };
-use text_fields::{Ending, Form};
+use text_fields::Form;
 
 // The largest size of a coordinate, as sizes are held.
 const LARGEST: u64 = COORDINATE_LIMIT as u64;
 
 // The four kinds of record.
-#[derive(Clone, Copy)]
+#[derive(Clone, Copy, Debug, PartialEq, Eq)]
 pub enum Sort {
     Vertex,
     Edge,
@@ -26,24 +27,15 @@ pub enum Sort {
     Seam,
 }
 
-// What stands at a line's place: a record, and the place of the next line; or no record.
-#[derive(Clone, Copy)]
-enum Line {
-    Of(Sort, usize),
-    Bad,
+// The record that stands in a line, and the place of the next line.
+#[derive(Clone, Copy, Debug, PartialEq, Eq)]
+struct Line {
+    sort: Sort,
+    next: usize,
 }
 
-fn line_ended(sort: Sort, ending: Ending) -> Line
-    ensures { result ≡ line_ended sort ending }
-{
-    match ending {
-        Ending::At(next) => Line::Of(sort, next),
-        Ending::Nowhere => Line::Bad,
-    }
-}
-
-// The record at a place of the text. Its numbers are then in front of the buffers.
-fn read_line(text: &[u8], at: usize, sizes: &mut [u64], minus: &mut [bool]) -> Line
+// The record at a place of the text, if one stands there. Its numbers are then in front of the buffers.
+fn read_line(text: &[u8], at: usize, sizes: &mut [u64], minus: &mut [bool]) -> Option<Line>
     requires at_in_bounds { at < length text.now }
     requires in_bounds { 6 ≤ length sizes.old }
     requires in_bounds_2 { 6 ≤ length minus.old }
@@ -56,10 +48,11 @@ fn read_line(text: &[u8], at: usize, sizes: &mut [u64], minus: &mut [bool]) -> L
             signed: true,
             most: DIGIT_LIMIT,
         };
-        return line_ended(
-            Sort::Vertex,
-            text_fields::read_row(text, at + 1, form, 6, sizes, minus),
-        );
+        let next = text_fields::read_row(text, at + 1, form, 6, sizes, minus)?;
+        return Some(Line {
+            sort: Sort::Vertex,
+            next,
+        });
     }
     let form = Form {
         separator: b'\t',
@@ -67,53 +60,55 @@ fn read_line(text: &[u8], at: usize, sizes: &mut [u64], minus: &mut [bool]) -> L
         most: DIGIT_LIMIT,
     };
     if letter == b'e' {
-        return line_ended(
-            Sort::Edge,
-            text_fields::read_row(text, at + 1, form, 2, sizes, minus),
-        );
+        let next = text_fields::read_row(text, at + 1, form, 2, sizes, minus)?;
+        return Some(Line {
+            sort: Sort::Edge,
+            next,
+        });
     }
     if letter == b't' {
-        return line_ended(
-            Sort::Triangle,
-            text_fields::read_row(text, at + 1, form, 3, sizes, minus),
-        );
+        let next = text_fields::read_row(text, at + 1, form, 3, sizes, minus)?;
+        return Some(Line {
+            sort: Sort::Triangle,
+            next,
+        });
     }
     if letter == b'w' {
-        return line_ended(
-            Sort::Seam,
-            text_fields::read_row(text, at + 1, form, 2, sizes, minus),
-        );
+        let next = text_fields::read_row(text, at + 1, form, 2, sizes, minus)?;
+        return Some(Line {
+            sort: Sort::Seam,
+            next,
+        });
     }
-    Line::Bad
+    None
 }
 
-// What a record is, below the records above it.
-#[derive(Clone, Copy)]
-pub enum Judged {
-    Good,
-    Fault(Refusal),
-}
-
-// The first check of a record that holds.
-pub fn first_fault(late: bool, excess: bool, far: bool, unknown: bool, twice: bool) -> Judged
-    ensures { FaultIs late excess far unknown twice (judged_says result) }
+// The fault that the first check of a record that holds finds, if one holds.
+pub fn first_fault(
+    late: bool,
+    excess: bool,
+    far: bool,
+    unknown: bool,
+    twice: bool,
+) -> Result<(), Refusal>
+    ensures { FaultIs late excess far unknown twice (outcome_alone result) }
 {
     if late {
-        return Judged::Fault(Refusal::LateRecord);
+        return Err(Refusal::LateRecord);
     }
     if excess {
-        return Judged::Fault(Refusal::TooMany);
+        return Err(Refusal::TooMany);
     }
     if far {
-        return Judged::Fault(Refusal::Coordinate);
+        return Err(Refusal::Coordinate);
     }
     if unknown {
-        return Judged::Fault(Refusal::UnknownVertex);
+        return Err(Refusal::UnknownVertex);
     }
     if twice {
-        return Judged::Fault(Refusal::RepeatedVertex);
+        return Err(Refusal::RepeatedVertex);
     }
-    Judged::Good
+    Ok(())
 }
 
 // Whether one of the first six sizes is outside the range of a coordinate.
@@ -130,9 +125,9 @@ fn far(sizes: &[u64]) -> bool
 }
 
 // The judgement of a record whose numbers have these sizes, below so many records: of a seam up to 3, for 15 and 4 go by the whole scene.
-fn judge(sort: Sort, c: SceneCounts, sizes: &[u64]) -> Judged
+fn judge(sort: Sort, c: SceneCounts, sizes: &[u64]) -> Result<(), Refusal>
     requires { 6 ≤ length sizes.now }
-    ensures { Judging sort c sizes.now (judged_says result) }
+    ensures { Judging sort c sizes.now (outcome_alone result) }
 {
     let n = c.vertices as u64;
     let i = sizes[0];
@@ -170,11 +165,12 @@ fn judge(sort: Sort, c: SceneCounts, sizes: &[u64]) -> Judged
     }
 }
 
-// What looking at a line gives: its fault; or its kind, the counts with it, and the place of the next line.
-#[derive(Clone, Copy)]
-pub enum Step {
-    Fault(Refusal),
-    Taken(Sort, SceneCounts, usize),
+// A record that was looked at and is not at fault: its kind, the counts with it, and the place of the next line.
+#[derive(Clone, Copy, Debug, PartialEq, Eq)]
+pub struct Step {
+    pub sort: Sort,
+    pub counts: SceneCounts,
+    pub next: usize,
 }
 
 fn counted(c: SceneCounts, sort: Sort) -> SceneCounts
@@ -184,27 +180,19 @@ fn counted(c: SceneCounts, sort: Sort) -> SceneCounts
     match sort {
         Sort::Vertex => SceneCounts {
             vertices: c.vertices + 1,
-            edges: c.edges,
-            triangles: c.triangles,
-            seams: c.seams,
+            ..c
         },
         Sort::Edge => SceneCounts {
-            vertices: c.vertices,
             edges: c.edges + 1,
-            triangles: c.triangles,
-            seams: c.seams,
+            ..c
         },
         Sort::Triangle => SceneCounts {
-            vertices: c.vertices,
-            edges: c.edges,
             triangles: c.triangles + 1,
-            seams: c.seams,
+            ..c
         },
         Sort::Seam => SceneCounts {
-            vertices: c.vertices,
-            edges: c.edges,
-            triangles: c.triangles,
             seams: c.seams + 1,
+            ..c
         },
     }
 }
@@ -216,18 +204,18 @@ pub fn next_line(
     c: SceneCounts,
     sizes: &mut [u64],
     minus: &mut [bool],
-) -> Step
+) -> Result<Step, Refusal>
     requires at_in_bounds { at < length text.now }
     requires in_bounds { 6 ≤ length sizes.old }
     requires in_bounds_2 { 6 ≤ length minus.old }
     requires bounded { Bounded c }
     ensures { LineStepped text.now at c sizes.new minus.new result }
 {
-    match read_line(text, at, sizes, minus) {
-        Line::Bad => Step::Fault(Refusal::BadLine),
-        Line::Of(sort, next) => match judge(sort, c, sizes) {
-            Judged::Fault(fault) => Step::Fault(fault),
-            Judged::Good => Step::Taken(sort, counted(c, sort), next),
-        },
-    }
+    let line = read_line(text, at, sizes, minus).ok_or(Refusal::BadLine)?;
+    judge(line.sort, c, sizes)?;
+    Ok(Step {
+        sort: line.sort,
+        counts: counted(c, line.sort),
+        next: line.next,
+    })
 }

@@ -1,18 +1,17 @@
 -- A draft holds a scene: its lists stand in front of the buffers, and its seams are those of the table. What one line does to it, and how
 -- it goes on from line to line.
-use Rattle.std.specs.Prelude.{Bool, true, false, ◌||◌, ◌≡◌, ◌⊎◌, ℕ, ◌+◌, ◌*◌, ◌≤◌, ◌<◌, leb, ℤ, length, take, drop, get_or}
+use Rattle.std.specs.Prelude.{Result, Ok, Err, Bool, true, false, ◌||◌, ◌≡◌, ◌⊎◌, ℕ, ◌+◌, ◌*◌, ◌≤◌, ◌<◌, leb, ℤ, length, take, drop, get_or}
 use mathlib.Core.List.{List, [], ◌∷◌, ◌++◌, append-nil}
 use Rattle.std.proofs.Math.Path.{refl, subst}
 use Rattle.std.proofs.Common.{sym, ap, ◌∙◌, inl, inr, ⊎_elim, arith, get_or-take, get_or-append-add, take_at, take-take, leb-false}
 use Rattle.sequences.specs.Stands.{Stands}
-use Rattle.sequences.specs.Wrote.{Wrote}
 use Rattle.answers.specs.Below.{or_left, or_rest}
 use Rattle.scene_seams.specs.Alone.{tabled}
 use Rattle.scene_seams.specs.Table.{seams_of, sewn_to}
 use Rattle.scene_seams.specs.Sewing.{seams_alone, least_after, breaks_rules, one_more_seam, seam_entered}
 use Rattle.meaning.specs.Limits.{vertex_limit, seam_limit, digit_limit}
 use Rattle.meaning.specs.Scene.{Scene, scene_of, over_size, out_of_range, unknown_vertex, broken_seam, repeated_vertex}
-use Rattle.meaning.specs.Refusals.{Outcome, given, refused, Check, Answers, number_of}
+use Rattle.meaning.specs.Refusals.{Outcome, given, refused, Check, Answers, number_of, outcome_alone}
 use Rattle.meaning.specs.Lines.{misplaced}
 use Rattle.meaning.specs.Text as Text
 use Rattle.meaning.specs.Text.{Entry, vertex, edge, triangle, seam, numbers_of, line_of, Short, coordinates_in, ends_in, corners_in, seam_in, scene_with, late, entry_checks, EntryJudged}
@@ -20,20 +19,15 @@ use Rattle.meaning.specs.declared.Refusal.{Refusal}
 use Rattle.meaning.specs.declared.SceneCounts.{SceneCounts}
 use Rattle.answers.specs.Answering.{is_refused, is_past}
 use Rattle.text_line.specs.Reading.{sort_of}
-use Rattle.text_line.specs.Above.{Above, Bounded, counted_by, above_more}
+use Rattle.text_line.specs.Above.{Above, counted_by, above_more}
 use Rattle.text_line.specs.Checks.{with_seam, SeamComes, comes_seam}
-use Rattle.text_line.specs.Judging.{Begun, SeamJudging, SeamBegun, SixAre, judged_says}
+use Rattle.text_line.specs.Judging.{Begun, SeamJudging, SeamBegun, SixAre}
 use Rattle.text_line.specs.Stepping.{Stepped, LineStepped, Took}
-use Rattle.text_line.specs.declared.Judged as Judgements
-use Rattle.text_line.specs.declared.Judged.{Judged}
 use Rattle.text_line.specs.declared.Sort.{Sort}
-use Rattle.text_line.specs.declared.Sort.TheVariants.{Vertex, Edge, Triangle, Seam}
-use Rattle.text_line.specs.declared.Step as Steps
 use Rattle.text_line.specs.declared.Step.{Step}
 use Rattle.text_record.specs.Putting.{Roomy, Ready, Put, PutEntry, put_entry, ready_entry}
 use Rattle.text_record.specs.Holding.{new_first, new_second, AtSeam, breaks, repeats, TwoAre, SeamHeld, HoldReady, Held}
 use Rattle.text_record.specs.declared.Taken.{Taken}
-use Rattle.text_record.specs.declared.Taken.TheVariants.{Fault, Next}
 
 -- ---- the scene in front
 
@@ -288,69 +282,69 @@ pub record FaultHere (text : List ℕ) (at : ℕ) (c : SceneCounts) (s b : Scene
   pub fault : Text.SceneFault s (drop at text) (number_of f)
   pub kept : number_of f ≡ 9 → Drafted b table s c
 
-unfoldable pub TakenAs : List ℕ → ℕ → SceneCounts → Scene → Scene → List ℕ → Taken → Type 0
-TakenAs text at c s b table (Fault f) = FaultHere text at c s b table f
-TakenAs text at c s b table (Next after next) = TookLine text at c s b table after next
+unfoldable pub TakenAs : List ℕ → ℕ → SceneCounts → Scene → Scene → List ℕ → Result Taken Refusal → Type 0
+TakenAs text at c s b table (Err f) = FaultHere text at c s b table f
+TakenAs text at c s b table (Ok taken) = TookLine text at c s b table taken.counts taken.next
 
 -- below any scene that the draft held
-abbrev pub LineTaken : List ℕ → ℕ → SceneCounts → Scene → List ℕ → Scene → List ℕ → Taken → Type 0
+abbrev pub LineTaken : List ℕ → ℕ → SceneCounts → Scene → List ℕ → Scene → List ℕ → Result Taken Refusal → Type 0
 LineTaken text at c b₀ table₀ b table r = (s : Scene) → Drafted b₀ table₀ s c → TakenAs text at c s b table r
 
-module _ (text : List ℕ) (at : ℕ) (c : SceneCounts) (sizes : List ℕ) (minus : List Bool) {r : Step} (step : LineStepped text at c sizes minus r) where
-  pub take_fault : {f : Refusal} (b : Scene) (table : List ℕ) → r ≡ Steps.TheVariants.Fault f → LineTaken text at c b table b table (Fault f)
+module _ (text : List ℕ) (at : ℕ) (c : SceneCounts) (sizes : List ℕ) (minus : List Bool) {r : Result Step Refusal} (stepped : LineStepped text at c sizes minus r) where
+  pub take_fault : {f : Refusal} (b : Scene) (table : List ℕ) → r ≡ Err f → LineTaken text at c b table b table (Err f)
   unfolding Stepped TakenAs
   take_fault {f} b table e s d =
-      let a : Stepped text at s c sizes minus r = step s d.above in
+      let a : Stepped text at s c sizes minus r = stepped s d.above in
       let fault : Text.SceneFault s (drop at text) (number_of f) = rw e at a in
       record { fault = fault; kept = λ nine. d }
 
-  module _ {sort : Sort} {after : SceneCounts} {next : ℕ} (e : r ≡ Steps.TheVariants.Taken sort after next) where
-    took : (s : Scene) → Above s c → Took text at s c sizes minus sort after next
+  module _ {step : Step} (e : r ≡ Ok step) where
+    took : (s : Scene) → Above s c → Took text at s c sizes minus step.sort step.counts step.next
     unfolding Stepped
-    took s a = let t : Stepped text at s c sizes minus r = step s a in rw e at t
+    took s a = let t : Stepped text at s c sizes minus r = stepped s a in rw e at t
 
-    pub take_ready : {b₀ : Scene} {table₀ : List ℕ} → DraftOf c b₀ table₀ → 6 ≤ length sizes → 6 ≤ length minus → Ready sort c sizes minus
+    pub take_ready : {b₀ : Scene} {table₀ : List ℕ} → DraftOf c b₀ table₀ → 6 ≤ length sizes → 6 ≤ length minus → Ready step.sort c sizes minus
     take_ready d u v =
-        let t : Took text at d.scene c sizes minus sort after next = took d.scene d.drafted.above in
+        let t : Took text at d.scene c sizes minus step.sort step.counts step.next = took d.scene d.drafted.above in
         record {
           sized = u;
           signed = v;
           fits = rw t.line.sorted at (ready_entry t.line.entry d.drafted.above t.begun t.line.front);
         }
 
-    module _ (b₀ b : Scene) (put : Put sort c sizes minus b₀ b) where
-      entered : (s : Scene) (t : Took text at s c sizes minus sort after next) → PutEntry c t.line.entry b₀ b
+    module _ (b₀ b : Scene) (put : Put step.sort c sizes minus b₀ b) where
+      entered : (s : Scene) (t : Took text at s c sizes minus step.sort step.counts step.next) → PutEntry c t.line.entry b₀ b
       entered s t = put_entry c sizes minus b₀ t.line.entry t.line.sorted t.line.front put
 
-      pub take_hold : {table₀ : List ℕ} → DraftOf c b₀ table₀ → Roomy b₀ → HoldReady sort c b
+      pub take_hold : {table₀ : List ℕ} → DraftOf c b₀ table₀ → Roomy b₀ → HoldReady step.sort c b
       take_hold d room =
-          let t : Took text at d.scene c sizes minus sort after next = took d.scene d.drafted.above in
+          let t : Took text at d.scene c sizes minus step.sort step.counts step.next = took d.scene d.drafted.above in
           let w : PutEntry c t.line.entry b₀ b = entered d.scene t in
           rw t.line.sorted at (hold_ready d.drafted t.line.entry t.begun w (roomy_put room w))
 
-      module _ (table₀ table : List ℕ) {j : Judged} (held : Held sort c b table₀ table (judged_says j)) where
-        pub take_refused : {f : Refusal} → j ≡ Judgements.TheVariants.Fault f → LineTaken text at c b₀ table₀ b table (Fault f)
-        unfolding TakenAs judged_says
+      module _ (table₀ table : List ℕ) {j : Result (Unit {0}) Refusal} (held : Held step.sort c b table₀ table (outcome_alone j)) where
+        pub take_refused : {f : Refusal} → j ≡ Err f → LineTaken text at c b₀ table₀ b table (Err f)
+        unfolding TakenAs outcome_alone
         take_refused {f} q s d =
-            let t : Took text at s c sizes minus sort after next = took s d.above in
+            let t : Took text at s c sizes minus step.sort step.counts step.next = took s d.above in
             let h : Held (sort_of t.line.entry) c b table₀ table (refused (number_of f) 0) =
             subst (λ (x : Sort). Held x c b table₀ table (refused (number_of f) 0)) (sym t.line.sorted)
-            (subst (λ (x : Judged). Held sort c b table₀ table (judged_says x)) q held) in
+            (subst (λ (x : Result (Unit {0}) Refusal). Held step.sort c b table₀ table (outcome_alone x)) q held) in
             let judged : EntryJudged s t.line.entry (refused (number_of f) 0) =
             held_judged d t.line.entry t.begun (entered s t) table (refused (number_of f) 0) h in
             record {
-              fault = misplaced t.line.entry (drop next text) t.line.short t.line.stands.here judged;
+              fault = misplaced t.line.entry (drop step.next text) t.line.short t.line.stands.here judged;
               kept = λ e. absurd (never_nine s t.line.entry (subst (λ (n : ℕ). EntryJudged s t.line.entry (refused n 0)) e judged));
             }
 
-        pub take_goes : j ≡ Judgements.TheVariants.Good → length table ≡ length table₀ → LineTaken text at c b₀ table₀ b table (Next after next)
-        unfolding TakenAs judged_says
+        pub take_goes : {u : Unit {0}} → j ≡ Ok u → length table ≡ length table₀ → LineTaken text at c b₀ table₀ b table (Ok (record { counts = step.counts; next = step.next }))
+        unfolding TakenAs outcome_alone
         take_goes q same s d =
-            let t : Took text at s c sizes minus sort after next = took s d.above in
+            let t : Took text at s c sizes minus step.sort step.counts step.next = took s d.above in
             let w : PutEntry c t.line.entry b₀ b = entered s t in
             let h : Held (sort_of t.line.entry) c b table₀ table (given tt) =
             subst (λ (x : Sort). Held x c b table₀ table (given tt)) (sym t.line.sorted)
-            (subst (λ (x : Judged). Held sort c b table₀ table (judged_says x)) q held) in
+            (subst (λ (x : Result (Unit {0}) Refusal). Held step.sort c b table₀ table (outcome_alone x)) q held) in
             record {
               entry = t.line.entry;
               short = t.line.short;

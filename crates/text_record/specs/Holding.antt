@@ -1,11 +1,9 @@
 -- A seam that was put behind others is held to 15 and 4, by the table of the seams before it.
-use Rattle.std.specs.Prelude.{Bool, true, false, List, [], ◌∷◌, ◌++◌, ◌≡◌, refl, ℕ, zero, suc, ◌+◌, ◌*◌, ◌-◌, ◌/◌, ◌≤◌, ◌<◌, length, take, get_or, ℤ}
+use Rattle.std.specs.Prelude.{Ok, Err, Bool, true, false, List, [], ◌∷◌, ◌≡◌, refl, ℕ, zero, suc, ◌+◌, ◌*◌, ◌-◌, ◌/◌, ◌≤◌, ◌<◌, length, take, get_or, ℤ}
 use Rattle.std.proofs.Common.{sym, ap, ◌∙◌, arith, get_or-take, length-take-le}
 use Rattle.meaning.specs.Scene.{Scene, repeated_vertex}
-use Rattle.meaning.specs.Refusals.{Outcome, given, refused, Check, Answers, number_of}
+use Rattle.meaning.specs.Refusals.{Outcome, given, Answers, number_of, outcome_alone}
 use Rattle.meaning.specs.declared.Refusal.TheVariants.{BrokenSeam, RepeatedVertex}
-use Rattle.text_line.specs.Judging.{judged_says}
-use Rattle.text_line.specs.declared.Judged.TheVariants.{Good, Fault}
 use Rattle.meaning.specs.declared.SceneCounts.{SceneCounts}
 use Rattle.scene_seams.specs.Alone.{tabled}
 use Rattle.scene_seams.specs.OneMore.{least_of}
@@ -98,8 +96,8 @@ module _ (c : SceneCounts) (b : Scene) (table table' : List ℕ) {least : ℕ} {
       sym (broken_is
       ∙ ap (λ (n : ℕ). breaks_rules (take (6 * c.vertices) b.positions) table n (new_first c b) (new_second c b)) least_is)
 
-  pub held_broken : r ≡ true → SeamHeld c b table table' (judged_says (Fault BrokenSeam))
-  unfolding Answers judged_says number_of
+  pub held_broken : r ≡ true → SeamHeld c b table table' (outcome_alone (Err BrokenSeam))
+  unfolding Answers outcome_alone number_of
   held_broken e = record { judged = rw (by_least ∙ e) refl; sewn = sewn }
 
   module _ (e : r ≡ false) {q : Bool}
@@ -109,25 +107,25 @@ module _ (c : SceneCounts) (b : Scene) (table table' : List ℕ) {least : ℕ} {
         ap (λ (l : List ℕ). repeated_vertex (tabled [] (take (2 * c.edges) b.edges) (take (3 * c.triangles) b.triangles) l)) (sym sewn)
         ∙ sym repeated_is
 
-    pub held_repeated : q ≡ true → SeamHeld c b table table' (judged_says (Fault RepeatedVertex))
-    unfolding Answers judged_says number_of
+    pub held_repeated : q ≡ true → SeamHeld c b table table' (outcome_alone (Err RepeatedVertex))
+    unfolding Answers outcome_alone number_of
     held_repeated f = record { judged = rw (by_least ∙ e, by_table ∙ f) refl; sewn = sewn }
 
-    pub held_good : q ≡ false → SeamHeld c b table table' (judged_says Good)
-    unfolding Answers judged_says number_of
+    pub held_good : q ≡ false → SeamHeld c b table table' (outcome_alone (Ok tt))
+    unfolding Answers outcome_alone number_of
     held_good f = record { judged = rw (by_least ∙ e, by_table ∙ f) tt; sewn = sewn }
 
 module _ {sort : Sort} (c : SceneCounts) (b : Scene) (table : List ℕ) where
-  pub held_vertex : sort ≡ Vertex → Held sort c b table table (judged_says Good)
-  unfolding Held judged_says
+  pub held_vertex : sort ≡ Vertex → Held sort c b table table (outcome_alone (Ok tt))
+  unfolding Held outcome_alone
   held_vertex e = rw e (refl, refl)
 
-  pub held_edge : sort ≡ Edge → Held sort c b table table (judged_says Good)
-  unfolding Held judged_says
+  pub held_edge : sort ≡ Edge → Held sort c b table table (outcome_alone (Ok tt))
+  unfolding Held outcome_alone
   held_edge e = rw e (refl, refl)
 
-  pub held_triangle : sort ≡ Triangle → Held sort c b table table (judged_says Good)
-  unfolding Held judged_says
+  pub held_triangle : sort ≡ Triangle → Held sort c b table table (outcome_alone (Ok tt))
+  unfolding Held outcome_alone
   held_triangle e = rw e (refl, refl)
 
   pub held_seam : (table' : List ℕ) (o : Outcome (Unit {0})) → sort ≡ Seam → SeamHeld c b table table' o → Held sort c b table table' o

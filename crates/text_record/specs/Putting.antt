@@ -1,5 +1,5 @@
 -- What is put into the buffers for a record, and when it can be.
-use Rattle.std.specs.Prelude.{Bool, true, false, ◌||◌, ◌≡◌, refl, ℕ, suc, ◌+◌, ◌*◌, ◌^◌, ◌≤◌, ◌<◌, leb, ltb, negsuc, neg_ℤ, nat_abs, length, take, get_or}
+use Rattle.std.specs.Prelude.{Bool, true, false, ◌||◌, ◌≡◌, refl, ℕ, ◌+◌, ◌*◌, ◌≤◌, ◌<◌, leb, negsuc, neg_ℤ, nat_abs, length, take, get_or}
 use mathlib.Core.List.{List, [], ◌∷◌, ◌++◌, map}
 use Rattle.std.proofs.Common.{sym, ap, ◌∙◌, get_or-take, leb-false, ltb-false}
 use native.Mathlib.Omega.{arith}
@@ -18,8 +18,8 @@ use Rattle.meaning.specs.declared.SceneCounts.{SceneCounts}
 use Rattle.text_line.specs.Reading.{sort_of}
 use Rattle.text_fields.specs.Tabbed.{sized_at}
 use Rattle.text_line.specs.Above.{Above, Bounded, counted_by, Faultless, faultless}
-use Rattle.text_line.specs.Checks.{Comes, comes_vertex, comes_edge, comes_triangle, SeamComes, comes_seam}
-use Rattle.text_line.specs.Judging.{Begun, SeamJudging, SeamBegun}
+use Rattle.text_line.specs.Checks.{comes_vertex, comes_edge, comes_triangle, SeamComes, comes_seam}
+use Rattle.text_line.specs.Judging.{Begun, SeamJudging}
 use Rattle.text_line.specs.declared.Sort.{Sort}
 use Rattle.text_line.specs.declared.Sort.TheVariants.{Vertex, Edge, Triangle, Seam}
 

@@ -12,13 +12,13 @@ mod sewing; // sewing.rt: a seam that was put there is held to 15 and 4
 use meaning::{Refusal, SceneCounts};
 use place::put;
 use sewing::hold;
-use text_line::{Judged, Step, next_line};
+use text_line::next_line;
 
-// What a line gives: its fault; or the counts of the scene with its record, which the draft then holds, and the place of the next line.
-#[derive(Clone, Copy)]
-pub enum Taken {
-    Fault(Refusal),
-    Next(SceneCounts, usize),
+// A line that was taken: the counts of the scene with its record, which the draft then holds, and the place of the next line.
+#[derive(Clone, Copy, Debug, PartialEq, Eq)]
+pub struct Taken {
+    pub counts: SceneCounts,
+    pub next: usize,
 }
 
 // One line: its record goes into the draft.
@@ -33,20 +33,19 @@ pub fn take_line(
     triangles: &mut [u16],
     seams: &mut [u16],
     stands: &mut [u16],
-) -> Taken
+) -> Result<Taken, Refusal>
     requires { LineReady text.now at c sizes.old minus.old (scene_of positions.old edges.old triangles.old seams.old)
         stands.old }
     ensures { LineTaken text.now at c (scene_of positions.old edges.old triangles.old seams.old) stands.old
         (scene_of positions.new edges.new triangles.new seams.new) stands.new result }
 {
-    match next_line(text, at, c, sizes, minus) {
-        Step::Fault(fault) => Taken::Fault(fault),
-        Step::Taken(sort, after, next) => {
-            put(sort, c, sizes, minus, positions, edges, triangles, seams);
-            match hold(sort, c, positions, edges, triangles, seams, stands) {
-                Judged::Fault(fault) => Taken::Fault(fault),
-                Judged::Good => Taken::Next(after, next),
-            }
-        }
-    }
+    let step = next_line(text, at, c, sizes, minus)?;
+    put(
+        step.sort, c, sizes, minus, positions, edges, triangles, seams,
+    );
+    hold(step.sort, c, positions, edges, triangles, seams, stands)?;
+    Ok(Taken {
+        counts: step.counts,
+        next: step.next,
+    })
 }

@@ -2,13 +2,13 @@
 ghost use Rattle.meaning.specs.Scene.{scene_of};
 ghost use Rattle.std.specs.Prelude.{◌+◌, ◌*◌, ◌≤◌, length, take, ◌≡◌};
 ghost use Rattle.scene_seams.specs.Sewing.{least_after};
-ghost use Rattle.text_line.specs.Judging.{judged_says};
 ghost use Rattle.text_record.specs.Holding.{AtSeam, SeamHeld, HoldReady, Held};
+ghost use Rattle.meaning.specs.Refusals.{outcome_alone};
 
 use meaning::{Refusal, SceneCounts};
 use scene_checks::faults::repeated_vertex;
 use scene_seams::sew_next;
-use text_line::{Judged, Sort};
+use text_line::Sort;
 
 fn above(v: u16) -> usize
     ensures { result ≡ v + 1 }
@@ -35,10 +35,10 @@ fn hold_seam(
     triangles: &[u16],
     seams: &[u16],
     stands: &mut [u16],
-) -> Judged
+) -> Result<(), Refusal>
     requires { AtSeam c (scene_of positions.now edges.now triangles.now seams.now) }
     ensures { SeamHeld c (scene_of positions.now edges.now triangles.now seams.now) stands.old stands.new
-        (judged_says result) }
+        (outcome_alone result) }
 {
     let p = 6 * c.vertices;
     let e = 2 * c.edges;
@@ -48,12 +48,12 @@ fn hold_seam(
     let broken = sew_next(&positions[..p], stands, least, seams[k], seams[k + 1]);
     let repeated = repeated_vertex(&edges[..e], &triangles[..t], stands);
     if broken {
-        return Judged::Fault(Refusal::BrokenSeam);
+        return Err(Refusal::BrokenSeam);
     }
     if repeated {
-        return Judged::Fault(Refusal::RepeatedVertex);
+        return Err(Refusal::RepeatedVertex);
     }
-    Judged::Good
+    Ok(())
 }
 
 // The record that was put last: only a seam is still to be held to something.
@@ -65,15 +65,15 @@ pub(crate) fn hold(
     triangles: &[u16],
     seams: &[u16],
     stands: &mut [u16],
-) -> Judged
+) -> Result<(), Refusal>
     requires { HoldReady sort c (scene_of positions.now edges.now triangles.now seams.now) }
     ensures { Held sort c (scene_of positions.now edges.now triangles.now seams.now) stands.old stands.new
-        (judged_says result) }
+        (outcome_alone result) }
 {
     match sort {
-        Sort::Vertex => Judged::Good,
-        Sort::Edge => Judged::Good,
-        Sort::Triangle => Judged::Good,
+        Sort::Vertex => Ok(()),
+        Sort::Edge => Ok(()),
+        Sort::Triangle => Ok(()),
         Sort::Seam => hold_seam(c, positions, edges, triangles, seams, stands),
     }
 }

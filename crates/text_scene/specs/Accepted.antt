@@ -1,9 +1,9 @@
 -- A scene that was read from a text is accepted: nobody checks it twice.
-use Rattle.std.specs.Prelude.{List, [], ◌∷◌, ◌≡◌, ℕ}
+use Rattle.std.specs.Prelude.{List, [], ◌∷◌, ℕ}
 use Rattle.meaning.specs.Scene.{Scene, Accepted}
 use Rattle.meaning.specs.Lines as Lines
 use Rattle.meaning.specs.Lines.{after_all}
-use Rattle.meaning.specs.Text.{Entry, none, scene_with, scene_lines, SceneSound, scene_from, Holds}
+use Rattle.meaning.specs.Text.{Entry, none, scene_with, scene_lines, SceneSound, Holds}
 use Rattle.meaning.specs.declared.SceneCounts.{SceneCounts}
 use Rattle.text_line.specs.Reading.{sort_of}
 use Rattle.text_line.specs.Above.{Above, above_none, above_more, counted_by, no_counts}

@@ -1,23 +1,21 @@
 -- How the reader's answer is shown right, whichever way it comes about.
-use Rattle.std.specs.Prelude.{Bool, true, false, cond, ◌||◌, List, ◌≡◌, ℕ, ◌*◌, ◌≤◌, ◌<◌, ltb, length, take}
+use Rattle.std.specs.Prelude.{true, false, List, ◌≡◌, ℕ, ◌*◌, ◌≤◌, ◌<◌, length, take, Err, Ok, Result}
 use Rattle.std.proofs.Math.Path.{refl, ap}
-use Rattle.std.proofs.Common.{sym, ◌∙◌, arith}
+use Rattle.std.proofs.Common.{◌∙◌}
 use borrow.Author.Tests.{lt-ltb, le-ltb, ltb-false}
 use Rattle.sequences.specs.Wrote.{written}
 use Rattle.answers.specs.Below.{or_left, or_rest}
 use Rattle.meaning.specs.Limits.{text_limit}
 use Rattle.meaning.specs.Scene.{Scene}
-use Rattle.meaning.specs.Refusals.{Outcome, given, refused, number_of}
-use Rattle.meaning.specs.Text.{SceneFaultyAt, TextIs, short_buffer, long_text, TextOutcome, counts_of, counts_told, text_says, filled, TextRead}
-use Rattle.meaning.specs.declared.Refusal.{Refusal}
+use Rattle.meaning.specs.Refusals.{Outcome, given, refused, number_of, carrying, outcome_of}
+use Rattle.meaning.specs.Text.{SceneFaultyAt, TextIs, short_buffer, TextOutcome, counts_told, filled, TextRead}
 use Rattle.meaning.specs.declared.Refusal.TheVariants.{ShortBuffer, LongText}
 use Rattle.meaning.specs.declared.SceneCounts.{SceneCounts}
-use Rattle.meaning.specs.declared.TextAnswer.{TextAnswer}
-use Rattle.meaning.specs.declared.TextAnswer.TheVariants.{Read, Refused}
 use Rattle.text_line.specs.Above.{Bounded, lengths_count}
 use Rattle.text_record.specs.Putting.{Roomy}
 use Rattle.text_record.specs.Drafting.{Fronts}
 use Rattle.text_draft.specs.Reading.{DraftRead, DraftIs}
+use Rattle.meaning.specs.declared.Refused.{Refused}
 
 pub roomy : (lent : Scene) → short_buffer lent ≡ false → Roomy lent
 roomy lent e =
@@ -48,26 +46,26 @@ copied_filled {lent} {left} {s} f k =
 
 -- ---- the answer
 
-module _ (text : List ℕ) (own : Scene) (table : List ℕ) {r : TextAnswer} (d : DraftIs text own table r) where
-  faulty : {x : Refusal} {line : ℕ} → r ≡ Refused x line → SceneFaultyAt text (number_of x) line
+module _ (text : List ℕ) (own : Scene) (table : List ℕ) {r : Result SceneCounts Refused} (d : DraftIs text own table r) where
+  faulty : {x : Refused} → r ≡ Err x → SceneFaultyAt text (number_of x.why) x.carries
   unfolding DraftIs
   faulty e = rw e at d
 
-  held : {c : SceneCounts} → r ≡ Read c → DraftRead text own table c
+  held : {c : SceneCounts} → r ≡ Ok c → DraftRead text own table c
   unfolding DraftIs
   held e = rw e at d
 
-  pub draft_bounded : {c : SceneCounts} → r ≡ Read c → Bounded c
+  pub draft_bounded : {c : SceneCounts} → r ≡ Ok c → Bounded c
   draft_bounded e = (held e).drafted.above.bounded
 
 module _ (text : List ℕ) (lent : Scene) where
-  pub read_short : short_buffer lent ≡ true → TextRead text lent lent (Refused ShortBuffer 0)
-  unfolding text_says counts_told filled number_of
+  pub read_short : short_buffer lent ≡ true → TextRead text lent lent (Err (carrying ShortBuffer 0))
+  unfolding outcome_of counts_told filled number_of
   read_short e = record { outcome = refused 12 0; right = rw e refl; says = refl; leaves = refl }
 
   module _ (wide : short_buffer lent ≡ false) where
-    pub read_long : text_limit < length text → TextRead text lent lent (Refused LongText 0)
-    unfolding text_says counts_told filled number_of
+    pub read_long : text_limit < length text → TextRead text lent lent (Err (carrying LongText 0))
+    unfolding outcome_of counts_told filled number_of
     read_long h = record { outcome = refused 8 0; right = rw (wide, lt-ltb text_limit (length text) h) refl; says = refl; leaves = refl }
 
     module _ (brief : length text ≤ text_limit) where
@@ -75,19 +73,19 @@ module _ (text : List ℕ) (lent : Scene) where
       outcome : (o : Outcome Scene) → TextIs text o → TextOutcome text lent o
       outcome o t = rw (wide, le-ltb text_limit (length text) brief) t
 
-      module _ (own : Scene) (table : List ℕ) {r : TextAnswer} (d : DraftIs text own table r) where
-        pub read_refused : {x : Refusal} {line : ℕ} → r ≡ Refused x line → TextRead text lent lent (Refused x line)
-        unfolding TextIs text_says counts_told filled
-        read_refused {x} {line} e =
+      module _ (own : Scene) (table : List ℕ) {r : Result SceneCounts Refused} (d : DraftIs text own table r) where
+        pub read_refused : {x : Refused} → r ≡ Err x → TextRead text lent lent (Err x)
+        unfolding TextIs outcome_of counts_told filled
+        read_refused {x} e =
             record {
-              outcome = refused (number_of x) line;
-              right = outcome (refused (number_of x) line) (faulty text own table d e);
+              outcome = refused (number_of x.why) x.carries;
+              right = outcome (refused (number_of x.why) x.carries) (faulty text own table d e);
               says = refl;
               leaves = refl;
             }
 
-        pub read_given : {c : SceneCounts} {left : Scene} → r ≡ Read c → Copied c own lent left → TextRead text lent left (Read c)
-        unfolding TextIs text_says counts_told
+        pub read_given : {c : SceneCounts} {left : Scene} → r ≡ Ok c → Copied c own lent left → TextRead text lent left (Ok c)
+        unfolding TextIs outcome_of counts_told
         read_given e k =
             let h : DraftRead text own table _ = held text own table d e in
             record {

@@ -1,15 +1,16 @@
 -- A text means one scene or one fault, and two results that meet the promise of its reader are equal, lent buffers too.
-use Rattle.std.specs.Prelude.{ℕ, List, ◌≡◌}
+use Rattle.std.specs.Prelude.{ℕ, List, ◌≡◌, Result}
 use Rattle.std.proofs.Common.{arith}
 use Rattle.meaning.specs.Scene.{Scene}
 use Rattle.meaning.specs.Refusals.{given, refused}
 use Rattle.meaning.specs.Text.{Holds, SceneFaultyAt, TextIs, TextRead}
 use Rattle.meaning.specs.Report.{refused_line}
-use Rattle.meaning.specs.declared.TextAnswer.{TextAnswer}
 use Rattle.text_scene.specs.Unique.{text_unique}
 use Rattle.text_scene.specs.Using.{one_text_answer}
+use Rattle.meaning.specs.declared.Refused.{Refused}
+use Rattle.meaning.specs.declared.SceneCounts.{SceneCounts}
 
-pub one_reading : (text : List ℕ) (lent left left' : Scene) (r r' : TextAnswer) → TextRead text lent left r → TextRead text lent left' r' → (r ≡ r') × (left ≡ left')
+pub one_reading : (text : List ℕ) (lent left left' : Scene) (r r' : Result SceneCounts Refused) → TextRead text lent left r → TextRead text lent left' r' → (r ≡ r') × (left ≡ left')
 one_reading text lent left left' r r' p q = one_text_answer p q
 
 pub same_scene : {text : List ℕ} {s t : Scene} → Holds text s → Holds text t → s ≡ t

@@ -1,10 +1,10 @@
 -- A text is one scene, or has one first faulty line with one fault; and records that are not at fault are not, whatever stands below them.
-use Rattle.std.specs.Prelude.{List, [], ◌∷◌, ◌≡◌, refl, ℕ}
+use Rattle.std.specs.Prelude.{List, [], ◌∷◌, ◌≡◌, ℕ}
 use Rattle.std.proofs.Common.{sym, ap, ◌∙◌}
 use Rattle.meaning.specs.Scene.{Scene}
 use Rattle.meaning.specs.Refusals.{Outcome, given, refused}
 use Rattle.meaning.specs.Lines as Lines
-use Rattle.meaning.specs.Text.{Entry, scene_with, scene_lines, SceneSound, scene_from, Holds, SceneFaultyAt, TextIs}
+use Rattle.meaning.specs.Text.{Entry, scene_with, scene_lines, scene_from, TextIs}
 use Rattle.text_laws.specs.Unique.{records_unique, sound_or_faulty, faulty_unique}
 use Rattle.text_line.specs.Rendered.{scene_readable}
 

@@ -1,36 +1,24 @@
 -- What whoever calls the reader has of its answer: only one meets the promise; after success the front of the buffers is the text's
 -- scene, and it is accepted; a refusal left them as they were and says what is wrong.
-use Rattle.std.specs.Prelude.{Bool, true, false, cond, List, ◌++◌, ◌⊎◌, ◌≡◌, refl, ℕ, ◌*◌, ◌≤◌, length, take, drop}
-use Rattle.std.proofs.Common.{inl, inr, ⊎_elim, ap, ◌∙◌, arith, ltb-false, length-append, length-take-le, Fits}
+use Rattle.std.specs.Prelude.{true, false, List, ◌++◌, ◌≡◌, refl, ℕ, ◌*◌, ◌≤◌, length, take, drop, Err, Ok, Result}
+use Rattle.std.proofs.Common.{⊎_elim, ap, ◌∙◌, arith, ltb-false, length-append, length-take-le, Fits}
 use Rattle.std.proofs.Math.Path.{sym, subst}
 use Rattle.meaning.specs.Limits.{vertex_limit, edge_limit, triangle_limit, seam_limit, text_limit}
 use Rattle.std.proofs.Math.Seq.{take-append_seam}
 use Rattle.std.specs.Int.{w64}
 use Rattle.sequences.specs.Pick.{either}
 use Rattle.scene_checks.specs.Facts.{Sized, accepted_sized}
-use Rattle.answers.specs.Speaking.{one_number}
 use Rattle.meaning.specs.Scene.{Scene, scene_of, Accepted, seam_count, wrong_shape}
 use Rattle.answers.specs.Below.{or_left, or_rest}
-use Rattle.meaning.specs.Refusals.{Outcome, given, refused, number_of}
-use Rattle.meaning.specs.Text.{Holds, SceneFaultyAt, TextIs, short_buffer, long_text, TextOutcome, counts_of, counts_told, text_says, filled, TextRead}
-use Rattle.meaning.specs.declared.Refusal.{Refusal}
+use Rattle.meaning.specs.Refusals.{Outcome, given, refused, number_of, outcome_of}
+use Rattle.meaning.specs.Text.{Holds, TextIs, short_buffer, long_text, TextOutcome, counts_of, counts_told, filled, TextRead}
 use Rattle.meaning.specs.declared.SceneCounts.{SceneCounts}
-use Rattle.meaning.specs.declared.TextAnswer.{TextAnswer}
-use Rattle.meaning.specs.declared.TextAnswer.TheVariants.{Read, Refused}
 use Rattle.text_scene.specs.Unique.{text_unique}
 use Rattle.text_scene.specs.Accepted.{text_accepted}
+use Rattle.meaning.specs.declared.Refused.{Refused}
+use Rattle.answers.specs.Speaking.{one_carrying}
 
 -- ---- one answer
-
-pub text_says_one : (r r' : TextAnswer) → text_says r ≡ text_says r' → r ≡ r'
-unfolding text_says
-text_says_one (Read c) (Read d) e = ap Read (cc)
-text_says_one (Read c) (Refused y k) e = cc
-text_says_one (Refused x l) (Read d) e = cc
-text_says_one (Refused x l) (Refused y k) e =
-    let same : x ≡ y = one_number x y (cc) in
-    let line : l ≡ k = cc in
-    cc
 
 -- which of the three said it: 12, 8, or the lines
 pub data Came (text : List ℕ) (lent : Scene) (o : Outcome Scene) : Type 0 where
@@ -52,11 +40,11 @@ one_outcome text lent o o' t t' = by_way (came text lent o t)
     by_way (by_length e d p) = p ∙ sym (rw (e, d) at t')
     by_way (by_lines e d p) = text_unique text o o' p (rw (e, d) at t')
 
-pub one_text_answer : {text : List ℕ} {lent left left' : Scene} {r r' : TextAnswer} → TextRead text lent left r → TextRead text lent left' r'
+pub one_text_answer : {text : List ℕ} {lent left left' : Scene} {r r' : Result SceneCounts Refused} → TextRead text lent left r → TextRead text lent left' r'
     → (r ≡ r') × (left ≡ left')
 one_text_answer {text} {lent} {left} {left'} {r} {r'} a b =
     let same : a.outcome ≡ b.outcome = one_outcome text lent a.outcome b.outcome a.right b.right in
-    (text_says_one r r' (a.says ∙ ap counts_told same ∙ sym b.says), a.leaves ∙ ap (λ o. filled o lent) same ∙ sym b.leaves)
+    (one_carrying r r' (a.says ∙ ap counts_told same ∙ sym b.says), a.leaves ∙ ap (λ o. filled o lent) same ∙ sym b.leaves)
 
 -- ---- a scene in front of buffers
 
@@ -177,8 +165,8 @@ record SceneRead (text : List ℕ) (lent left : Scene) (c : SceneCounts) : Type 
   filled : FilledWith lent left c
   holds : Holds text filled.scene
 
-scene_read : {text : List ℕ} {lent left : Scene} {c : SceneCounts} → TextRead text lent left (Read c) → SceneRead text lent left c
-unfolding text_says
+scene_read : {text : List ℕ} {lent left : Scene} {c : SceneCounts} → TextRead text lent left (Ok c) → SceneRead text lent left c
+unfolding outcome_of
 scene_read {text} {lent} {left} {c} a =
     let (s, is, counts) = outcome_read a.outcome a.says in
     let holds : Holds text s = given_holds s (came text lent a.outcome a.right) is in
@@ -194,16 +182,16 @@ unfolding counts_told
 outcome_refused (given s) e = let z : ◌≡◌ {A = ℕ} 0 1 = cc in absurd (omega arith)
 outcome_refused (refused m k) e = cc
 
-pub read_refusal_of : {text : List ℕ} {lent left : Scene} {x : Refusal} {line : ℕ} → TextRead text lent left (Refused x line)
-    → (left ≡ lent) × Came text lent (refused (number_of x) line)
-unfolding text_says filled
-read_refusal_of {text} {lent} {left} {x} {line} a =
-    let is : a.outcome ≡ refused (number_of x) line = outcome_refused a.outcome a.says in
+pub read_refusal_of : {text : List ℕ} {lent left : Scene} {x : Refused} → TextRead text lent left (Err x)
+    → (left ≡ lent) × Came text lent (refused (number_of x.why) x.carries)
+unfolding outcome_of filled
+read_refusal_of {text} {lent} {left} {x} a =
+    let is : a.outcome ≡ refused (number_of x.why) x.carries = outcome_refused a.outcome a.says in
     (a.leaves ∙ ap (λ o. filled o lent) is, subst (Came text lent) is (came text lent a.outcome a.right))
 
 -- ---- an answer that turned out so
 
-module _ {text : List ℕ} {lent left : Scene} {r : TextAnswer} {c : SceneCounts} (a : TextRead text lent left r) (e : r ≡ Read c) where
+module _ {text : List ℕ} {lent left : Scene} {r : Result SceneCounts Refused} {c : SceneCounts} (a : TextRead text lent left r) (e : r ≡ Ok c) where
   in_front : SceneRead text lent left c
   in_front = scene_read (subst (TextRead text lent left) e a)
 
@@ -221,11 +209,11 @@ module _ {text : List ℕ} {lent left : Scene} {r : TextAnswer} {c : SceneCounts
 
   -- such a text is not over its limit
   pub short_read : length text ≤ text_limit
-  unfolding text_says counts_told
+  unfolding outcome_of counts_told
   short_read = by_way (came text lent a.outcome a.right)
     where
       says : given c ≡ counts_told a.outcome
-      says = subst (λ (q : TextAnswer). text_says q ≡ counts_told a.outcome) e a.says
+      says = subst (λ (q : Result SceneCounts Refused). outcome_of q ≡ counts_told a.outcome) e a.says
 
       not_refused : {n line : ℕ} → a.outcome ≡ refused n line → ⊥
       not_refused p =

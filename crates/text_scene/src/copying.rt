@@ -12,11 +12,7 @@ fn copy_positions(own: &[i32], lent: &mut [i32], count: usize)
     requires { (count ≤ length own.now) × (count ≤ length lent.old) }
     ensures { lent.new ≡ written (take count own.now) lent.old }
 {
-    let mut k = 0;
-    while k < count {
-        lent[k] = own[k];
-        k += 1;
-    }
+    lent[..count].copy_from_slice(&own[..count]);
 }
 
 // The front of one buffer goes to the front of another.
@@ -24,11 +20,7 @@ pub fn copy_numbers(own: &[u16], lent: &mut [u16], count: usize)
     requires { (count ≤ length own.now) × (count ≤ length lent.old) }
     ensures { lent.new ≡ written (take count own.now) lent.old }
 {
-    let mut k = 0;
-    while k < count {
-        lent[k] = own[k];
-        k += 1;
-    }
+    lent[..count].copy_from_slice(&own[..count]);
 }
 
 // The scene with these counts, from the four buffers of a draft to the four that are lent.

@@ -11,8 +11,8 @@ pub mod copying; // copying.rt: from the draft to the lent buffers
 
 use copying::copy_scene;
 use meaning::{
-    EDGE_NUMBERS, POSITION_NUMBERS, Refusal, SEAM_NUMBERS, TEXT_LIMIT, TRIANGLE_NUMBERS,
-    TextAnswer, VERTEX_LIMIT,
+    EDGE_NUMBERS, POSITION_NUMBERS, Refusal, Refused, SEAM_NUMBERS, SceneCounts, TEXT_LIMIT,
+    TRIANGLE_NUMBERS, VERTEX_LIMIT,
 };
 use text_draft::draft_text;
 
@@ -24,27 +24,23 @@ pub fn read_scene(
     edges: &mut [u16],
     triangles: &mut [u16],
     seams: &mut [u16],
-) -> TextAnswer
+) -> Result<SceneCounts, Refused>
     ensures { TextRead text.now (scene_of positions.old edges.old triangles.old seams.old)
         (scene_of positions.new edges.new triangles.new seams.new) result }
 {
     let few = (positions.len() < POSITION_NUMBERS) | (edges.len() < EDGE_NUMBERS);
     if few | (triangles.len() < TRIANGLE_NUMBERS) | (seams.len() < SEAM_NUMBERS) {
-        return TextAnswer::Refused(Refusal::ShortBuffer, 0);
+        return Err(Refused::from(Refusal::ShortBuffer));
     }
     if TEXT_LIMIT < text.len() {
-        return TextAnswer::Refused(Refusal::LongText, 0);
+        return Err(Refused::from(Refusal::LongText));
     }
     let mut p = [0i32; POSITION_NUMBERS];
     let mut e = [0u16; EDGE_NUMBERS];
     let mut t = [0u16; TRIANGLE_NUMBERS];
     let mut w = [0u16; SEAM_NUMBERS];
     let mut stands = [0u16; VERTEX_LIMIT];
-    match draft_text(text, &mut p, &mut e, &mut t, &mut w, &mut stands) {
-        TextAnswer::Refused(fault, line) => TextAnswer::Refused(fault, line),
-        TextAnswer::Read(c) => {
-            copy_scene(c, &p, &e, &t, &w, positions, edges, triangles, seams);
-            TextAnswer::Read(c)
-        }
-    }
+    let counts = draft_text(text, &mut p, &mut e, &mut t, &mut w, &mut stands)?;
+    copy_scene(counts, &p, &e, &t, &w, positions, edges, triangles, seams);
+    Ok(counts)
 }

@@ -1,5 +1,5 @@
 -- An ee pair may be asked for in either order, with the same answer.
-use Rattle.std.specs.Prelude.{◌≡◌, refl, ◌↔◌, Bool, true, false, cond, ◌||◌, List, [], ◌∷◌, ℕ, leb}
+use Rattle.std.specs.Prelude.{◌≡◌, refl, ◌↔◌, Bool, true, false, cond, ◌||◌, List, [], ◌∷◌, ℕ, leb, Result}
 use Rattle.std.proofs.Common.{ap}
 use Rattle.std.proofs.Math.Bool.{or_comm, and_comm}
 use Rattle.std.proofs.Math.Nat.{min_comm, max_comm}
@@ -7,16 +7,15 @@ use Rattle.std.specs.Int.Signed.{le_z}
 use Rattle.meaning.specs.Scene.{Scene, edge_count, edge_end, same}
 use Rattle.meaning.specs.Pieces.{piece_of}
 use Rattle.meaning.specs.Verdicts.{PairIs}
-use Rattle.meaning.specs.Refusals.{Outcome, given, refused, Check, Answers, not_there, shares, pair_checks, PairJudged, PieceJudged, pair_says}
-use Rattle.meaning.specs.Resting.{PairSettled, PairDecided, PieceDecided, settled_says}
+use Rattle.meaning.specs.Refusals.{Outcome, given, refused, Check, Answers, not_there, shares, pair_checks, PairJudged, PieceJudged, outcome_alone}
+use Rattle.meaning.specs.Resting.{PairSettled, PairDecided, PieceDecided}
 use Rattle.meaning.specs.Boxes.{Axis, x_axis, y_axis, z_axis, edge_span, meet_on, listed, culled}
 use Rattle.meaning.specs.declared.Kind.TheVariants.{EdgeEdge}
-use Rattle.meaning.specs.declared.PairAnswer.{PairAnswer}
 use Rattle.meaning.specs.declared.Verdict.{Verdict}
 use Rattle.meaning.specs.declared.Settled.{Settled}
-use Rattle.meaning.specs.declared.SettledAnswer.{SettledAnswer}
 use Rattle.theory.specs.Alike.{alike_same, piece_for_piece, alike_pair, alike_pair_word}
 use Rattle.theory.specs.Written.{same_either_way}
+use Rattle.meaning.specs.declared.Refusal.{Refusal}
 
 -- an answer stays right where what is right of a value follows
 pub answers_imp : {A : Type 0} (ks : List Check) (R S : A → Type 0) → ((a : A) → R a → S a) → (o : Outcome A) → Answers ks R o → Answers ks S o
@@ -61,21 +60,21 @@ module _ (s : Scene) (i j : ℕ) where
   pub culled_either_order : culled s EdgeEdge i j ≡ culled s EdgeEdge j i
   culled_either_order = rw (shares_either_order, meet_either_order x_axis, meet_either_order y_axis, meet_either_order z_axis)
 
-  pub answer_either_order : (r : PairAnswer) → PairJudged s EdgeEdge i j r → PairJudged s EdgeEdge j i r
+  pub answer_either_order : (r : Result Verdict Refusal) → PairJudged s EdgeEdge i j r → PairJudged s EdgeEdge j i r
   answer_either_order r h =
       rw (← not_there_either_order, ← shares_either_order)
-      (answers_imp (pair_checks s EdgeEdge i j) (PairIs s EdgeEdge i j) (PairIs s EdgeEdge j i) (λ v. (pair_either_order v).0) (pair_says r) h)
+      (answers_imp (pair_checks s EdgeEdge i j) (PairIs s EdgeEdge i j) (PairIs s EdgeEdge j i) (λ v. (pair_either_order v).0) (outcome_alone r) h)
 
-  pub piece_answer_either_order : (k : ℕ) (r : PairAnswer) → PieceJudged s EdgeEdge i j k r → PieceJudged s EdgeEdge j i k r
+  pub piece_answer_either_order : (k : ℕ) (r : Result Verdict Refusal) → PieceJudged s EdgeEdge i j k r → PieceJudged s EdgeEdge j i k r
   piece_answer_either_order k r h = rw (← not_there_either_order, ← shares_either_order, ← piece_either_order k) h
 
   pub word_either_order : (w : Settled) → PairSettled s EdgeEdge i j w ↔ PairSettled s EdgeEdge j i w
   word_either_order w = alike_pair_word EdgeEdge s s i j j i (piece_for_piece (λ k h. alike_same (piece_either_order k))) w
 
-  pub settled_either_order : (r : SettledAnswer) → PairDecided s EdgeEdge i j r → PairDecided s EdgeEdge j i r
+  pub settled_either_order : (r : Result Settled Refusal) → PairDecided s EdgeEdge i j r → PairDecided s EdgeEdge j i r
   settled_either_order r h =
       rw (← not_there_either_order, ← shares_either_order)
-      (answers_imp (pair_checks s EdgeEdge i j) (PairSettled s EdgeEdge i j) (PairSettled s EdgeEdge j i) (λ w. (word_either_order w).0) (settled_says r) h)
+      (answers_imp (pair_checks s EdgeEdge i j) (PairSettled s EdgeEdge i j) (PairSettled s EdgeEdge j i) (λ w. (word_either_order w).0) (outcome_alone r) h)
 
-  pub piece_settled_either_order : (k : ℕ) (r : SettledAnswer) → PieceDecided s EdgeEdge i j k r → PieceDecided s EdgeEdge j i k r
+  pub piece_settled_either_order : (k : ℕ) (r : Result Settled Refusal) → PieceDecided s EdgeEdge i j k r → PieceDecided s EdgeEdge j i k r
   piece_settled_either_order k r h = rw (← not_there_either_order, ← shares_either_order, ← piece_either_order k) h

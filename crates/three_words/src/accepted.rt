@@ -39,8 +39,8 @@ pub fn piece(
             )
         }
         Kind::EdgeEdge => {
-            let first = scene_parts::ends_of(edges, stands, scene_parts::asked::smaller(i, j));
-            let second = scene_parts::ends_of(edges, stands, scene_parts::asked::larger(i, j));
+            let first = scene_parts::ends_of(edges, stands, i.min(j));
+            let second = scene_parts::ends_of(edges, stands, i.max(j));
             crate::pieces::edges_piece(positions, first, k / 2, second, k % 2)
         }
     }
@@ -115,8 +115,8 @@ pub fn pair(
             point_pair(positions, i, scene_parts::corners_of(triangles, stands, j))
         }
         Kind::EdgeEdge => {
-            let first = scene_parts::ends_of(edges, stands, scene_parts::asked::smaller(i, j));
-            let second = scene_parts::ends_of(edges, stands, scene_parts::asked::larger(i, j));
+            let first = scene_parts::ends_of(edges, stands, i.min(j));
+            let second = scene_parts::ends_of(edges, stands, i.max(j));
             edges_pair(positions, first, second)
         }
     }

@@ -6,24 +6,24 @@ mod pieces; // pieces.rt: the verdict of one piece, from the positions of its co
 pub mod accepted; // accepted.rt: pieces and pairs of a scene that was checked already
 
 ghost use Rattle.meaning.specs.Scene.{scene_of};
-ghost use Rattle.meaning.specs.Refusals.{Answers, scene_says, PairJudged, PieceJudged};
+ghost use Rattle.meaning.specs.Refusals.{Answers, outcome_alone, PairJudged, PieceJudged};
 ghost use Rattle.scene_seams.specs.Sewing.{Blank};
 ghost use Rattle.scene_checks.specs.Checking.{Stitched};
 ghost use Rattle.three_words.specs.Asked.{Passes, asked_checks, PairAsked};
 
-use meaning::{Kind, PairAnswer, Refusal, SceneAnswer, VERTEX_LIMIT};
+use meaning::{Kind, Refusal, VERTEX_LIMIT, Verdict};
 
 // The first of 5 and 6 that holds.
-fn first_of(missing: bool, shared: bool) -> SceneAnswer
-    ensures { Answers (asked_checks missing shared) Passes (scene_says result) }
+fn first_of(missing: bool, shared: bool) -> Result<(), Refusal>
+    ensures { Answers (asked_checks missing shared) Passes (outcome_alone result) }
 {
     if missing {
-        return SceneAnswer::Refused(Refusal::NotThere);
+        return Err(Refusal::NotThere);
     }
     if shared {
-        return SceneAnswer::Refused(Refusal::SharedVertex);
+        return Err(Refusal::SharedVertex);
     }
-    SceneAnswer::Accepted
+    Ok(())
 }
 
 // The refusals of a pair that is asked for, in the table's order: those of the scene, then 5, then 6. `missing`: what is asked for of the pair
@@ -38,16 +38,12 @@ fn asked(
     first: usize,
     second: usize,
     missing: bool,
-) -> SceneAnswer
+) -> Result<(), Refusal>
     requires { Blank seams.now stands.old }
     ensures { PairAsked (scene_of positions.now edges.now triangles.now seams.now) kind first second missing result
         × Stitched (scene_of positions.now edges.now triangles.now seams.now) stands.old stands.new }
 {
-    if let SceneAnswer::Refused(refusal) = scene_checks::check_into(
-        positions, edges, triangles, seams, stands,
-    ) {
-        return SceneAnswer::Refused(refusal);
-    }
+    scene_checks::check_into(positions, edges, triangles, seams, stands)?;
     if scene_parts::asked::not_there(positions, edges, triangles, kind, first, second) {
         return first_of(true, false);
     }
@@ -67,19 +63,15 @@ pub fn pair_into(
     kind: Kind,
     first: usize,
     second: usize,
-) -> PairAnswer
+) -> Result<Verdict, Refusal>
     requires { Blank seams.now stands.old }
     ensures { PairJudged (scene_of positions.now edges.now triangles.now seams.now) kind first second result
         × Stitched (scene_of positions.now edges.now triangles.now seams.now) stands.old stands.new }
 {
-    match asked(
+    asked(
         positions, edges, triangles, seams, stands, kind, first, second, false,
-    ) {
-        SceneAnswer::Refused(refusal) => PairAnswer::Refused(refusal),
-        SceneAnswer::Accepted => PairAnswer::Judged(accepted::pair(
-            positions, edges, triangles, stands, kind, first, second,
-        )),
-    }
+    )?;
+    Ok(accepted::pair(positions, edges, triangles, stands, kind, first, second))
 }
 
 // The verdict of a pair: hit, miss or degenerate, or a refusal. A scene without seams gets by without a table of them.
@@ -91,7 +83,7 @@ pub fn judge_pair(
     kind: Kind,
     first: usize,
     second: usize,
-) -> PairAnswer
+) -> Result<Verdict, Refusal>
     ensures { PairJudged (scene_of positions.now edges.now triangles.now seams.now) kind first second result }
 {
     if seams.len() == 0 {
@@ -124,20 +116,18 @@ pub fn piece_into(
     first: usize,
     second: usize,
     piece: usize,
-) -> PairAnswer
+) -> Result<Verdict, Refusal>
     requires { Blank seams.now stands.old }
     ensures { PieceJudged (scene_of positions.now edges.now triangles.now seams.now) kind first second piece result
         × Stitched (scene_of positions.now edges.now triangles.now seams.now) stands.old stands.new }
 {
     let missing = scene_parts::asked::piece_count(kind) <= piece;
-    match asked(
+    asked(
         positions, edges, triangles, seams, stands, kind, first, second, missing,
-    ) {
-        SceneAnswer::Refused(refusal) => PairAnswer::Refused(refusal),
-        SceneAnswer::Accepted => PairAnswer::Judged(accepted::piece(
-            positions, edges, triangles, stands, kind, first, second, piece,
-        )),
-    }
+    )?;
+    Ok(accepted::piece(
+        positions, edges, triangles, stands, kind, first, second, piece,
+    ))
 }
 
 // The verdict of one piece of a pair, or a refusal; `judge_pair` gives that of all of its pieces together.
@@ -150,7 +140,7 @@ pub fn judge_piece(
     first: usize,
     second: usize,
     piece: usize,
-) -> PairAnswer
+) -> Result<Verdict, Refusal>
     ensures { PieceJudged (scene_of positions.now edges.now triangles.now seams.now) kind first second piece result }
 {
     if seams.len() == 0 {

@@ -1,13 +1,11 @@
 -- The three lists turned round are the scene turned round. It has no seams before and none after.
-use Rattle.std.specs.Prelude.{ℕ, ◌*◌, ◌/◌, ◌≤◌, List, map, ◌≡◌, refl, ℤ, pos, length}
+use Rattle.std.specs.Prelude.{ℕ, ◌*◌, ◌/◌, ◌≤◌, List, map, ◌≡◌, refl, ℤ, pos, length, Err, Ok, Result}
 use Rattle.std.proofs.Common.{sym, ◌∙◌, arith, ext_get_or}
 use Rattle.meaning.specs.Limits.{vertex_limit}
 use Rattle.meaning.specs.Scene.{Scene, scene_of, Accepted, vertex_count}
-use Rattle.meaning.specs.Refusals.{scene_says, SceneChecked}
+use Rattle.meaning.specs.Refusals.{SceneChecked, outcome_alone}
 use Rattle.meaning.specs.Backwards.{from_last, turned_round, turned_left, Turning}
 use Rattle.meaning.specs.declared.Refusal.{Refusal}
-use Rattle.meaning.specs.declared.SceneAnswer as Answer
-use Rattle.meaning.specs.declared.SceneAnswer.{SceneAnswer}
 use Rattle.scene_seams.specs.Alone.{only_positions}
 use Rattle.scene_checks.specs.Accepting.{accepted_checked}
 use Rattle.answers.specs.Below.{or_left, or_rest}
@@ -41,11 +39,11 @@ few_positions a = let z = accepted_sized a in omega arith
 -- the call's promise, accepted and refused
 pub turned_scene : (s : Scene) → Accepted s → {p : List ℤ} {e k : List ℕ} → p ≡ positions_turned s.positions
     → e ≡ map (from_last (vertex_count s)) s.edges
-    → k ≡ map (from_last (vertex_count s)) s.triangles → Turning s (scene_of p e k s.seams) Answer.TheVariants.Accepted
-unfolding scene_says turned_left turned_round
+    → k ≡ map (from_last (vertex_count s)) s.triangles → Turning s (scene_of p e k s.seams) (Ok tt)
+unfolding outcome_alone turned_left turned_round
 turned_scene s a h i j = record { answer = accepted_checked s a; scene = λ x. record { positions = h x; edges = i x; triangles = j x; seams = s.seams } }
 
-pub scene_refused : (s : Scene) {r : SceneAnswer} (why : Refusal) → r ≡ Answer.TheVariants.Refused why
-    → SceneChecked s r → Turning s s (Answer.TheVariants.Refused why)
-unfolding scene_says turned_left
+pub scene_refused : (s : Scene) {r : Result (Unit {0}) Refusal} (why : Refusal) → r ≡ Err why
+    → SceneChecked s r → Turning s s (Err why)
+unfolding outcome_alone turned_left
 scene_refused s why e p = record { answer = rw e at p; scene = refl }

@@ -1,12 +1,18 @@
-use borrow.Author.Rules.{rules}
-use Rattle.c_meshes.specs.Telling.{pierced_yes, pierced_no, pierced_refused}
+-- Yes is 1 and no is 0, as code numbers them too.
+use mathlib.Core.Path.{◌≡◌, refl, ◌∙◌}
+use mathlib.Core.Bool.{Bool, true, false}
+use mir.Val.{bool_byte}
+use Rattle.meaning.specs.Claims.{answer_byte}
+use Rattle.c_meshes.specs.Telling.{pierced_told, pierced_refused}
 use Rattle.c_meshes.proofs.pierced_number.Goals as goal
 
-pub returns-in-Pierced : goal.returns-in-Pierced
-returns-in-Pierced c = pierced_yes c.in-Pierced.is
+its_byte : (through : Bool) → bool_byte through ≡ answer_byte through
+unfolding answer_byte
+its_byte true = refl
+its_byte false = refl
 
-pub returns-in-Clear : goal.returns-in-Clear
-returns-in-Clear c = pierced_no c.in-Clear.is
+pub returns-in-Ok : goal.returns-in-Ok
+returns-in-Ok c = its_byte c.in-Ok.through ∙ pierced_told c.in-Ok.is
 
-pub returns-in-Refused : goal.returns-in-Refused
-returns-in-Refused c = pierced_refused c.in-Refused.is c.refused.ensures
+pub returns-in-Err : goal.returns-in-Err
+returns-in-Err c = pierced_refused c.in-Err.is c.refused.ensures

@@ -1,4 +1,3 @@
-use borrow.Author.Rules.{rules}
 use Rattle.c_meshes.specs.Telling.{one_written}
 use Rattle.c_meshes.proofs.put_count.Goals as goal
 

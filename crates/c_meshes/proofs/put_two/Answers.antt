@@ -1,4 +1,3 @@
-use borrow.Author.Rules.{rules}
 use Rattle.c_meshes.specs.Telling.{two_written}
 use Rattle.c_meshes.proofs.put_two.Goals as goal
 

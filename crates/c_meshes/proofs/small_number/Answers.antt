@@ -1,5 +1,4 @@
 -- A number of the table is small, so that nothing is cut.
-use borrow.Author.Rules.{rules}
 use native.Mathlib.Omega.{arith}
 use Rattle.answers.specs.Speaking.{number_in_table}
 use Rattle.c_meshes.proofs.small_number.Goals as goal

@@ -1,4 +1,3 @@
-use borrow.Author.Rules.{rules}
 use Rattle.meaning.specs.ImportNumbers.{file_bit}
 use Rattle.c_numbers.proofs.file_bit.Goals as goal
 

@@ -1,5 +1,4 @@
 -- A refusal's number is small, so nothing wraps.
-use borrow.Author.Rules.{rules}
 use native.Mathlib.Omega.{arith}
 use Rattle.answers.specs.Speaking.{number_in_table}
 use Rattle.c_numbers.proofs.refused.Goals as goal

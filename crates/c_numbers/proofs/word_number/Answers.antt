@@ -1,4 +1,3 @@
-use borrow.Author.Rules.{rules}
 use mathlib.Core.Path.{ap, ◌∙◌}
 use Rattle.meaning.specs.SceneWords.{byte_of}
 use Rattle.c_numbers.proofs.word_number.Goals as goal

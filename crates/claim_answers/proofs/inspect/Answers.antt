@@ -13,10 +13,10 @@ next_claim-requires c = let i = c.loop-at.invariant in record { at_in_bounds = c
 pub overflow_add-result : goal.overflow_add-result
 overflow_add-result c = omega (arith, c.loop-at.invariant.0.few)
 
-pub returns-in-Fault : goal.returns-in-Fault
-returns-in-Fault c =
+pub returns-in-Err : goal.returns-in-Err
+returns-in-Err c =
     let line = c in
-    inspect_fails line.loop-at.invariant.0 _ _ line.next_claim.ensures c.in-Fault.is
+    inspect_fails line.loop-at.invariant.0 _ _ line.next_claim.ensures c.in-Err.is
 
 pub overflow_add-count : goal.overflow_add-count
 overflow_add-count c = omega (arith, c.loop-at.invariant.0.few)
@@ -25,14 +25,14 @@ pub loop-at-smaller : goal.loop-at-smaller
 loop-at-smaller c =
     let line = c in
     let i = line.loop-at.invariant.0 in
-    let on = inspect_goes i line.next_claim.new.sizes line.next_claim.new.minus line.next_claim.ensures c.in-Taken.is in
+    let on = inspect_goes i line.next_claim.new.sizes line.next_claim.new.minus line.next_claim.ensures c.in-Ok.is in
     omega (arith, on.1, i.reached.within, on.0.reached.within)
 
 pub loop-at-preserved : goal.loop-at-preserved
 loop-at-preserved c =
     let line = c in
     let i = line.loop-at.invariant in (
-      (inspect_goes i.0 _ _ line.next_claim.ensures c.in-Taken.is).0,
+      (inspect_goes i.0 _ _ line.next_claim.ensures c.in-Ok.is).0,
       line.next_claim.auto.sizes ∙ i.1,
       line.next_claim.auto.minus ∙ i.2,
     )

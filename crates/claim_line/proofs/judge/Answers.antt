@@ -1,5 +1,4 @@
 -- 5 for a place or a piece that isn't there, then 6.
-use borrow.Author.Rules.{rules}
 use mathlib.Core.Bool.{true, false}
 use mathlib.Core.Path.{◌≡◌, sym, ◌∙◌, subst}
 use lib.Dec.{leb}

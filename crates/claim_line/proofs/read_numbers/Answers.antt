@@ -1,7 +1,5 @@
 -- A row of nine numbers is read as weights are; the first three are held to nine digits.
-use borrow.Author.Rules.{rules}
 use mathlib.Core.Path.{sym, ◌∙◌}
-use native.Mathlib.Omega.{arith}
 use Rattle.claim_line.specs.Reading.{numbers_wide, numbers_read}
 use Rattle.claim_line.proofs.read_numbers.Goals as goal
 

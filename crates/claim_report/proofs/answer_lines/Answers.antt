@@ -1,16 +1,14 @@
-use Prim.Native.Nat.{◌-◌, ◌*◌, ◌≤◌}
 use native.Mathlib.Omega.{arith}
 use lib.Dec.{eqb}
 use lib.ListN.{get_or}
-use Rattle.sequences.specs.Gather.{gather, gather_first, gather_none}
-use Rattle.sequences.specs.Writing.{Writing, writing_starts_front, writing_as, writing_steps, writing_ends}
+use Rattle.sequences.specs.Gather.{gather_first, gather_none}
+use Rattle.sequences.specs.Writing.{writing_starts_front, writing_as, writing_steps, writing_ends}
 use Rattle.claim_report.specs.Printed.{line_at, line_short, lines_short}
 use Rattle.claim_report.proofs.answer_lines.Goals as goal
 
 pub loop-k-init : goal.loop-k-init
 loop-k-init c =
     let start = c in (
-      omega arith,
       omega arith,
       writing_starts_front _ _ (omega (arith, start.requires.1, start.requires.2, lines_short start.args.answers.now start.args.count)),
     )
@@ -19,7 +17,7 @@ pub answer_line-next-requires : goal.answer_line-next-requires
 answer_line-next-requires c =
     let i = c.loop-k.invariant in
     let p = c.requires in
-    omega (arith, i.1, i.2.same, p.1, p.2)
+    omega (arith, i.0, i.1.same, p.1, p.2)
 
 pub loop-k-preserved : goal.loop-k-preserved
 loop-k-preserved c =
@@ -28,26 +26,16 @@ loop-k-preserved c =
     let i = turn.loop-k.invariant in
     let a = turn.args in
     let answers = a.answers.now in (
-      omega arith,
-      omega (arith, line.answer_line-next.ensures.place, i.1, line_short (eqb (get_or answers turn.loop-k.k 0) 1)),
-      writing_steps (writing_as (gather_first (line_at answers) turn.loop-k.k a.count line.loop-k-test.true) i.2)
+      omega (arith, line.answer_line-next.ensures.place, i.0, line_short (eqb (get_or answers turn.loop-k.k 0) 1)),
+      writing_steps (writing_as (gather_first (line_at answers) turn.loop-k.k a.count line.loop-k-test.true) i.1)
           line.answer_line-next.ensures,
     )
 
-pub bounds-answers-k : goal.bounds-answers-k
-bounds-answers-k c = omega arith
-
-pub overflow_add-k : goal.overflow_add-k
-overflow_add-k c = omega arith
-
-pub loop-k-smaller : goal.loop-k-smaller
-loop-k-smaller c = omega arith
-
 pub shape_of-out : goal.shape_of-out
-shape_of-out c = c.loop-k.invariant.2.same
+shape_of-out c = c.loop-k.invariant.1.same
 
 pub returns : goal.returns
 returns c =
     let i = c.loop-k.invariant in
     let a = c.args in
-    writing_ends (omega arith) (writing_as (gather_none (line_at a.answers.now) c.loop-k.k a.count c.loop-k-test.false) i.2)
+    writing_ends (omega arith) (writing_as (gather_none (line_at a.answers.now) c.loop-k.k a.count c.loop-k-test.false) i.1)

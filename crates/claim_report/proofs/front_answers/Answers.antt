@@ -2,17 +2,16 @@
 use mathlib.Core.Path.{sym}
 use native.Mathlib.Omega.{arith}
 use lib.Seq.{length-take-le}
-use borrow.Author.Rules.{rules}
 use Rattle.claim_report.specs.ReadSoFar.{answers_of_read}
 use Rattle.claim_report.proofs.front_answers.Goals as goal
 
 pub slice_bounds-write_answers-end : goal.slice_bounds-write_answers-end
-slice_bounds-write_answers-end c = sym (length-take-le _ _ (omega (arith, c.smaller-first.ensures)))
+slice_bounds-write_answers-end c = sym (length-take-le _ _ (omega (arith, c.min-first.ensures)))
 
 pub slice_bounds-write_answers-end-2 : goal.slice_bounds-write_answers-end-2
-slice_bounds-write_answers-end-2 c = sym (length-take-le _ _ (omega (arith, c.smaller-second.ensures)))
+slice_bounds-write_answers-end-2 c = sym (length-take-le _ _ (omega (arith, c.min-second.ensures)))
 
 pub returns : goal.returns
 returns c =
     let start = c in
-    answers_of_read start.requires.0 start.requires.1 (rw (c.smaller-first.ensures, c.smaller-second.ensures) at c.write_answers.ensures)
+    answers_of_read start.requires.0 start.requires.1 (rw (c.min-first.ensures, c.min-second.ensures) at c.write_answers.ensures)

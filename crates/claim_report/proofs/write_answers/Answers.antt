@@ -1,8 +1,6 @@
 -- The scene is read and the claims beside it answered; a text that is no scene is refused.
 use Prim.Native.Nat.{ℕ}
 use mathlib.Core.Path.{refl, ap}
-use borrow.Author.Rules.{rules}
-use Rattle.meaning.specs.Refusals.{number_of}
 use Rattle.meaning.specs.Report.{refused_line}
 use Rattle.report_words.specs.Lines.{wrote_as}
 use Rattle.text_scene.specs.Using.{fronts_read, holds_read, short_read}
@@ -10,49 +8,48 @@ use Rattle.claim_report.specs.Printed.{scene_to_text, refused_scene}
 use Rattle.claim_report.proofs.write_answers.Goals as goal
 
 pub overflow_mul-p : goal.overflow_mul-p
-overflow_mul-p c = (fronts_read c.read_scene.ensures c.in-Read.is).points_fit
+overflow_mul-p c = (fronts_read c.read_scene.ensures c.in-Ok.is).points_fit
 
 pub overflow_mul-e : goal.overflow_mul-e
-overflow_mul-e c = (fronts_read c.read_scene.ensures c.in-Read.is).sides_fit
+overflow_mul-e c = (fronts_read c.read_scene.ensures c.in-Ok.is).sides_fit
 
 pub overflow_mul-t : goal.overflow_mul-t
-overflow_mul-t c = (fronts_read c.read_scene.ensures c.in-Read.is).corners_fit
+overflow_mul-t c = (fronts_read c.read_scene.ensures c.in-Ok.is).corners_fit
 
 pub overflow_mul-w : goal.overflow_mul-w
-overflow_mul-w c = (fronts_read c.read_scene.ensures c.in-Read.is).sewn_fit
+overflow_mul-w c = (fronts_read c.read_scene.ensures c.in-Ok.is).sewn_fit
 
 pub slice_bounds-positions-end : goal.slice_bounds-positions-end
-slice_bounds-positions-end c = (fronts_read c.read_scene.ensures c.in-Read.is).points
+slice_bounds-positions-end c = (fronts_read c.read_scene.ensures c.in-Ok.is).points
 
 pub slice_bounds-scene_answers-end : goal.slice_bounds-scene_answers-end
-slice_bounds-scene_answers-end c = (fronts_read c.read_scene.ensures c.in-Read.is).points_long
+slice_bounds-scene_answers-end c = (fronts_read c.read_scene.ensures c.in-Ok.is).points_long
 
 pub slice_bounds-edges-end : goal.slice_bounds-edges-end
-slice_bounds-edges-end c = (fronts_read c.read_scene.ensures c.in-Read.is).sides
+slice_bounds-edges-end c = (fronts_read c.read_scene.ensures c.in-Ok.is).sides
 
-pub slice_bounds-scene_answers-end-in-Read : goal.slice_bounds-scene_answers-end-in-Read
-slice_bounds-scene_answers-end-in-Read c = (fronts_read c.read_scene.ensures c.in-Read.is).sides_long
+pub slice_bounds-scene_answers-end-in-Ok : goal.slice_bounds-scene_answers-end-in-Ok
+slice_bounds-scene_answers-end-in-Ok c = (fronts_read c.read_scene.ensures c.in-Ok.is).sides_long
 
 pub slice_bounds-triangles-end : goal.slice_bounds-triangles-end
-slice_bounds-triangles-end c = (fronts_read c.read_scene.ensures c.in-Read.is).corners
+slice_bounds-triangles-end c = (fronts_read c.read_scene.ensures c.in-Ok.is).corners
 
-pub slice_bounds-scene_answers-end-in-Read-2 : goal.slice_bounds-scene_answers-end-in-Read-2
-slice_bounds-scene_answers-end-in-Read-2 c = (fronts_read c.read_scene.ensures c.in-Read.is).corners_long
+pub slice_bounds-scene_answers-end-in-Ok-2 : goal.slice_bounds-scene_answers-end-in-Ok-2
+slice_bounds-scene_answers-end-in-Ok-2 c = (fronts_read c.read_scene.ensures c.in-Ok.is).corners_long
 
 pub slice_bounds-seams-end : goal.slice_bounds-seams-end
-slice_bounds-seams-end c = (fronts_read c.read_scene.ensures c.in-Read.is).sewn
+slice_bounds-seams-end c = (fronts_read c.read_scene.ensures c.in-Ok.is).sewn
 
-pub slice_bounds-scene_answers-end-in-Read-3 : goal.slice_bounds-scene_answers-end-in-Read-3
-slice_bounds-scene_answers-end-in-Read-3 c = (fronts_read c.read_scene.ensures c.in-Read.is).sewn_long
+pub slice_bounds-scene_answers-end-in-Ok-3 : goal.slice_bounds-scene_answers-end-in-Ok-3
+slice_bounds-scene_answers-end-in-Ok-3 c = (fronts_read c.read_scene.ensures c.in-Ok.is).sewn_long
 
-pub returns-in-Read : goal.returns-in-Read
-returns-in-Read c =
+pub returns-in-Ok : goal.returns-in-Ok
+returns-in-Ok c =
     let a = c.read_scene.ensures in
-    scene_to_text _ (short_read a c.in-Read.is) (holds_read a c.in-Read.is) c.scene_answers.ensures
+    scene_to_text _ (short_read a c.in-Ok.is) (holds_read a c.in-Ok.is) c.scene_answers.ensures
 
-pub returns-in-Refused : goal.returns-in-Refused
-returns-in-Refused c =
-    let x = c.in-Refused.refusal in
-    let line = c.in-Refused.line in
-    refused_scene _ {x = x} {line = line} refl c.read_scene.ensures (search)
+pub returns-in-Err : goal.returns-in-Err
+returns-in-Err c =
+    let line = c.in-Err.refused.carries in
+    refused_scene _ refl c.read_scene.ensures c.in-Err.is
     (wrote_as (ap (λ (n : ℕ). refused_line n line) c.number_of.ensures) c.refused_line.ensures)

@@ -37,22 +37,16 @@ module _ {ps : List ℤ} {six : SixPoints} {ws : List ℕ} {from row i : ℕ} wh
       rw same at (is_wider s.sums small)
 
 pub loop-i-init : goal.loop-i-init
-loop-i-init c = (c.requires.2, start refl)
+loop-i-init c = start refl
 
 pub share-sum-requires : goal.share-sum-requires
 share-sum-requires c = let p = c.requires in (p.0, p.1, omega (arith, p.3))
 
 pub overflow_add-sum : goal.overflow_add-sum
-overflow_add-sum c = fits w64 (next_small c.loop-i.invariant.1 (omega arith) c.share-sum.ensures) tt
-
-pub overflow_add-i : goal.overflow_add-i
-overflow_add-i c = omega arith
-
-pub loop-i-smaller : goal.loop-i-smaller
-loop-i-smaller c = omega arith
+overflow_add-sum c = fits w64 (next_small c.loop-i.invariant (omega arith) c.share-sum.ensures) tt
 
 pub loop-i-preserved : goal.loop-i-preserved
-loop-i-preserved c = (omega arith, step c.loop-i.invariant.1 (omega arith) c.share-sum.ensures)
+loop-i-preserved c = step c.loop-i.invariant (omega arith) c.share-sum.ensures
 
 pub returns : goal.returns
-returns c = finish c.loop-i.invariant.0 c.loop-i-test.false c.requires.3 c.loop-i.invariant.1
+returns c = finish (omega (arith, c.requires.2, c.loop-i.auto)) c.loop-i-test.false c.requires.3 c.loop-i.invariant

@@ -1,5 +1,5 @@
 -- The sum so far is that of the points so far. It is at most so many products in size, and six of them fit 64 bits.
-use Prim.Native.Nat.{ℕ, ◌*◌, ◌-◌, ◌≤◌}
+use Prim.Native.Nat.{ℕ, ◌*◌, ◌≤◌}
 use mathlib.Core.List.{List}
 use lib.IntN.{ℤ}
 use Rattle.whole.specs.Sizes.{Is}
@@ -13,7 +13,4 @@ pub record SoFar (ps : List ℤ) (six : SixPoints) (ws : List ℕ) (from i row :
   pub sums : Is (i * share_limit) sum (side ps six ws from i row)
 
 abbrev pub invariant-loop-i : goal.invariant-loop-i
-invariant-loop-i l = (l.i ≤ l.to) × SoFar l.positions l.six l.weights l.from l.i l.row l.sum
-
-abbrev pub decreases-loop-i : goal.decreases-loop-i
-decreases-loop-i l = l.to - l.i
+invariant-loop-i l = SoFar l.positions l.six l.weights l.from l.i l.row l.sum

@@ -1,5 +1,4 @@
 -- The entry is taken apart, and its pair is met.
-use borrow.Author.Rules.{rules}
 use lib.ListN.{get_or}
 use Rattle.meaning.specs.List.{pair}
 use Rattle.list_words.specs.Listed.{entry_there}

@@ -1,7 +1,6 @@
 use native.Mathlib.Omega.{arith}
 use mathlib.Core.Path.{sym}
 use lib.Seq.{length-take-le}
-use borrow.Author.Rules.{rules}
 use Rattle.contact_report.specs.ReadSoFar.{contacts_of_whole, contacts_of_full}
 use Rattle.contact_report.proofs.front_contacts.Goals as goal
 

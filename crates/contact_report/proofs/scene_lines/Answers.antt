@@ -6,7 +6,6 @@ use Rattle.meaning.specs.Scene.{scene_of, AcceptedWithin}
 use Rattle.scene_report.specs.FromCalls.{accepted_sewable, accepted_tabled}
 use Rattle.contact_pair.specs.Ready.{within_old}
 use Rattle.hit_report.specs.Told.{beyond_refused, told_as}
-use borrow.Author.Rules.{rules}
 use Rattle.contact_report.proofs.scene_lines.Goals as goal
 
 pub returns-then-beyond_old_range : goal.returns-then-beyond_old_range

@@ -11,52 +11,52 @@ use Rattle.contact_report.specs.Whole.{scene_to_text, refused_text}
 use Rattle.contact_report.proofs.write_contacts.Goals as goal
 
 pub scene_lines-requires : goal.scene_lines-requires
-scene_lines-requires c = (accepted_read c.read_scene.ensures c.in-Read.is, search rules)
+scene_lines-requires c = (accepted_read c.read_scene.ensures c.in-Ok.is, search rules)
 
-pub returns-in-Read : goal.returns-in-Read
-returns-in-Read c =
+pub returns-in-Ok : goal.returns-in-Ok
+returns-in-Ok c =
     let a = c.read_scene.ensures in
-    scene_to_text _ (short_read a c.in-Read.is) (holds_read a c.in-Read.is) c.scene_lines.ensures
+    scene_to_text _ (short_read a c.in-Ok.is) (holds_read a c.in-Ok.is) c.scene_lines.ensures
 
-pub returns-in-Refused : goal.returns-in-Refused
-returns-in-Refused c =
-    let x = c.in-Refused.refusal in
-    let line = c.in-Refused.line in
-    refused_text (number_of x) line (refused_read {x = x} {line = line} refl c.read_scene.ensures (search))
+pub returns-in-Err : goal.returns-in-Err
+returns-in-Err c =
+    let why = c.in-Err.refused.why in
+    let line = c.in-Err.refused.carries in
+    refused_text (number_of why) line (refused_read refl c.read_scene.ensures c.in-Err.is)
     (wrote_as (ap (λ (n : ℕ). refused_line n line) c.number_of.ensures) c.refused_line.ensures)
 
 pub overflow_mul-p : goal.overflow_mul-p
-overflow_mul-p c = (fronts_read c.read_scene.ensures c.in-Read.is).points_fit
+overflow_mul-p c = (fronts_read c.read_scene.ensures c.in-Ok.is).points_fit
 
 pub overflow_mul-e : goal.overflow_mul-e
-overflow_mul-e c = (fronts_read c.read_scene.ensures c.in-Read.is).sides_fit
+overflow_mul-e c = (fronts_read c.read_scene.ensures c.in-Ok.is).sides_fit
 
 pub overflow_mul-t : goal.overflow_mul-t
-overflow_mul-t c = (fronts_read c.read_scene.ensures c.in-Read.is).corners_fit
+overflow_mul-t c = (fronts_read c.read_scene.ensures c.in-Ok.is).corners_fit
 
 pub overflow_mul-w : goal.overflow_mul-w
-overflow_mul-w c = (fronts_read c.read_scene.ensures c.in-Read.is).sewn_fit
+overflow_mul-w c = (fronts_read c.read_scene.ensures c.in-Ok.is).sewn_fit
 
 pub slice_bounds-positions-end : goal.slice_bounds-positions-end
-slice_bounds-positions-end c = (fronts_read c.read_scene.ensures c.in-Read.is).points
+slice_bounds-positions-end c = (fronts_read c.read_scene.ensures c.in-Ok.is).points
 
 pub slice_bounds-scene_lines-end : goal.slice_bounds-scene_lines-end
-slice_bounds-scene_lines-end c = (fronts_read c.read_scene.ensures c.in-Read.is).points_long
+slice_bounds-scene_lines-end c = (fronts_read c.read_scene.ensures c.in-Ok.is).points_long
 
 pub slice_bounds-edges-end : goal.slice_bounds-edges-end
-slice_bounds-edges-end c = (fronts_read c.read_scene.ensures c.in-Read.is).sides
+slice_bounds-edges-end c = (fronts_read c.read_scene.ensures c.in-Ok.is).sides
 
-pub slice_bounds-scene_lines-end-in-Read : goal.slice_bounds-scene_lines-end-in-Read
-slice_bounds-scene_lines-end-in-Read c = (fronts_read c.read_scene.ensures c.in-Read.is).sides_long
+pub slice_bounds-scene_lines-end-in-Ok : goal.slice_bounds-scene_lines-end-in-Ok
+slice_bounds-scene_lines-end-in-Ok c = (fronts_read c.read_scene.ensures c.in-Ok.is).sides_long
 
 pub slice_bounds-triangles-end : goal.slice_bounds-triangles-end
-slice_bounds-triangles-end c = (fronts_read c.read_scene.ensures c.in-Read.is).corners
+slice_bounds-triangles-end c = (fronts_read c.read_scene.ensures c.in-Ok.is).corners
 
-pub slice_bounds-scene_lines-end-in-Read-2 : goal.slice_bounds-scene_lines-end-in-Read-2
-slice_bounds-scene_lines-end-in-Read-2 c = (fronts_read c.read_scene.ensures c.in-Read.is).corners_long
+pub slice_bounds-scene_lines-end-in-Ok-2 : goal.slice_bounds-scene_lines-end-in-Ok-2
+slice_bounds-scene_lines-end-in-Ok-2 c = (fronts_read c.read_scene.ensures c.in-Ok.is).corners_long
 
 pub slice_bounds-seams-end : goal.slice_bounds-seams-end
-slice_bounds-seams-end c = (fronts_read c.read_scene.ensures c.in-Read.is).sewn
+slice_bounds-seams-end c = (fronts_read c.read_scene.ensures c.in-Ok.is).sewn
 
-pub slice_bounds-scene_lines-end-in-Read-3 : goal.slice_bounds-scene_lines-end-in-Read-3
-slice_bounds-scene_lines-end-in-Read-3 c = (fronts_read c.read_scene.ensures c.in-Read.is).sewn_long
+pub slice_bounds-scene_lines-end-in-Ok-3 : goal.slice_bounds-scene_lines-end-in-Ok-3
+slice_bounds-scene_lines-end-in-Ok-3 c = (fronts_read c.read_scene.ensures c.in-Ok.is).sewn_long

@@ -1,4 +1,3 @@
-use borrow.Author.Rules.{rules}
 use Rattle.scene_seams.specs.Sewing.{blank_table}
 use Rattle.contact_scene.proofs.contact_scene.Goals as goal
 

@@ -1,5 +1,4 @@
 -- The piece that is hit first: its volumes are the two edges', and its numbers are cut from their sums, the first turned round in piece A.
-use borrow.Author.Rules.{rules}
 use mathlib.Core.Path.{◌≡◌}
 use mathlib.Core.Bool.{true, false}
 use native.Mathlib.Omega.{arith}

@@ -1,12 +1,6 @@
 -- The first that stands: what is found from i on is what is found from 0 on.
-use borrow.Author.Rules.{rules}
-use mathlib.Core.Path.{◌≡◌, refl, ◌∙◌, sym, ap}
-use mathlib.Core.Bool.{Bool, true, false, cond, ◌&&◌}
-use mathlib.Core.List.{List}
-use Prim.Native.Nat.{ℕ, ◌-◌, ◌≤◌}
-use lib.ListN.{get_or}
-use native.Mathlib.Omega.{arith}
-use Rattle.corner_leaf.specs.First.{first_of, first_here, first_next, first_none}
+use Rattle.std.proofs.Common.{◌≡◌, ℕ, ◌-◌, Bool, false, cond, ◌&&◌, List, get_or}
+use Rattle.corner_leaf.specs.First.{first_of}
 use Rattle.corner_leaf.specs.Points.{is_left}
 use Rattle.corner_leaf.specs.Answer.{same_bool, base_in}
 use Rattle.corner_leaf.proofs.base.Given as goal
@@ -15,7 +9,4 @@ abbrev pub test : List Bool → List Bool → Bool → ℕ → Bool
 test ends left end i = is_left left i && same_bool (get_or ends i false) end
 
 abbrev pub invariant-loop-i : goal.invariant-loop-i
-invariant-loop-i l = (l.i ≤ 6) × (first_of (test l.ends l.left l.end) l.i (6 - l.i) (cond l.end 5 0) ≡ base_in l.ends l.left l.end)
-
-abbrev pub decreases-loop-i : goal.decreases-loop-i
-decreases-loop-i l = 6 - l.i
+invariant-loop-i l = first_of (test l.ends l.left l.end) l.i (6 - l.i) (cond l.end 5 0) ≡ base_in l.ends l.left l.end

@@ -22,18 +22,18 @@ point_rests-requires c =
 pub ends_of-first-requires : goal.ends_of-first-requires
 ends_of-first-requires c =
     let a = c.args in
-    rw c.smaller.ensures (ee_smaller_there (tabled a.positions.now a.edges.now a.triangles.now a.stands.now) a.i a.j (rw c.in-EdgeEdge.is at c.requires.1))
+    rw c.min.ensures (ee_smaller_there (tabled a.positions.now a.edges.now a.triangles.now a.stands.now) a.i a.j (rw c.in-EdgeEdge.is at c.requires.1))
 
 pub ends_of-second-requires : goal.ends_of-second-requires
 ends_of-second-requires c =
     let a = c.args in
-    rw c.larger.ensures (ee_larger_there (tabled a.positions.now a.edges.now a.triangles.now a.stands.now) a.i a.j (rw c.in-EdgeEdge.is at c.requires.1))
+    rw c.max.ensures (ee_larger_there (tabled a.positions.now a.edges.now a.triangles.now a.stands.now) a.i a.j (rw c.in-EdgeEdge.is at c.requires.1))
 
 pub edges_rest-requires : goal.edges_rest-requires
 edges_rest-requires c =
     let a = c.args in
     let p = c.requires in
-    rw (c.ends_of-second.ensures, c.ends_of-first.ensures, c.larger.ensures, c.smaller.ensures)
+    rw (c.ends_of-second.ensures, c.ends_of-first.ensures, c.max.ensures, c.min.ensures)
     (ee_ready (tabled a.positions.now a.edges.now a.triangles.now a.stands.now) a.i a.j (accepted_sound p.0) (rw c.in-EdgeEdge.is at p.1))
 
 pub returns-in-PointTriangle : goal.returns-in-PointTriangle
@@ -47,4 +47,4 @@ returns-in-EdgeEdge c =
     let m = c in
     let a = m.args in
     let s : Scene = tabled a.positions.now a.edges.now a.triangles.now a.stands.now in
-    ee_rests s a.i a.j m.in-EdgeEdge.is c.smaller.ensures c.ends_of-first.ensures c.larger.ensures c.ends_of-second.ensures c.edges_rest.ensures
+    ee_rests s a.i a.j m.in-EdgeEdge.is c.min.ensures c.ends_of-first.ensures c.max.ensures c.ends_of-second.ensures c.edges_rest.ensures

@@ -1,4 +1,3 @@
-use borrow.Author.Rules.{rules}
 use mathlib.Core.Path.{sym}
 use Rattle.decimals.specs.Byte.{byte_past}
 use Rattle.decimals.proofs.byte_at.Goals as goal

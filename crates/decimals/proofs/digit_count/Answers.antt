@@ -1,8 +1,4 @@
-use mathlib.Core.Path.{◌≡◌}
-use Prim.Native.Nat.{◌+◌}
 use native.Mathlib.Omega.{arith}
-use lib.ListN.{length}
-use Rattle.decimals.specs.Digits.{digits}
 use Rattle.decimals.specs.Value.{digits_length_u64}
 use Rattle.decimals.proofs.Put.{length_small, length_large}
 use Rattle.decimals.proofs.digit_count.Goals as goal

@@ -1,11 +1,8 @@
 -- `decimals::digit_count` meets its contract. The loop's invariant: the digits counted and those of the rest, whose first is counted twice, are all.
 use mathlib.Core.Path.{◌≡◌}
 use Prim.Native.Nat.{◌+◌}
-use native.Mathlib.Omega.{arith}
 use lib.ListN.{length}
 use Rattle.decimals.specs.Digits.{digits}
-use Rattle.decimals.specs.Value.{digits_length_u64}
-use Rattle.decimals.proofs.Put.{length_small, length_large}
 use Rattle.decimals.proofs.digit_count.Given as goal
 
 abbrev pub invariant-loop-rest : goal.invariant-loop-rest

@@ -1,5 +1,4 @@
 use mathlib.Core.Path.{sym, ◌∙◌}
-use borrow.Author.Rules.{rules}
 use Rattle.sequences.specs.Pick.{pick_true, pick_false}
 use Rattle.decimals.specs.Number.{number_of_run}
 use Rattle.decimals.proofs.read_number.Goals as goal

@@ -1,5 +1,4 @@
 -- A share: both sums are of volumes in range, so the part and the whole are their sizes.
-use borrow.Author.Rules.{rules}
 use mathlib.Core.Path.{◌≡◌, ap, ◌∙◌}
 use Prim.Native.Nat.{ℕ}
 use lib.IntN.{ℤ, nat_abs}

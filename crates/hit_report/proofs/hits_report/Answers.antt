@@ -1,7 +1,6 @@
 use Rattle.meaning.specs.Scene.{Scene}
 use Rattle.scene_seams.specs.Alone.{tabled}
 use Rattle.hit_report.specs.Lines.{whole_told}
-use borrow.Author.Rules.{rules}
 use Rattle.hit_report.proofs.hits_report.Goals as goal
 
 pub returns : goal.returns

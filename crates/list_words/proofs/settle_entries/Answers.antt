@@ -1,47 +1,27 @@
-use Prim.Native.Nat.{◌-◌, ◌≤◌}
-use mathlib.Core.Path.{sym, ◌∙◌}
-use native.Mathlib.Omega.{arith}
-use lib.ListN.{length, drop, drop_of_length-le}
-use Rattle.sequences.specs.Parts.{drop_next}
-use Rattle.sequences.specs.Writing.{Writing, writing_starts_front, writing_as, writing_room, writing_step, writing_ends_front}
+use Rattle.std.proofs.Common.{drop_of_length-le, arith}
+use Rattle.sequences.specs.Writing.{writing_starts_front, writing_as, writing_step, writing_ends_front}
 use Rattle.scene_seams.specs.Alone.{tabled}
-use Rattle.list_words.specs.Listed.{bytes_of, pairs_in, bytes_in_length, bytes_in_at, left_in}
+use Rattle.list_words.specs.Listed.{bytes_of, pairs_in, bytes_in_length, left_in}
 use Rattle.list_words.proofs.settle_entries.Goals as goal
 
 pub loop-k-init : goal.loop-k-init
 loop-k-init c =
-    let start = c in
-    let l = bytes_in_length start.args.count start.args.list.now start.requires.1 (tabled start.args.positions.now start.args.edges.now start.args.triangles.now start.args.stands.now) in
-    (omega arith, writing_starts_front _ _ (rw l start.requires.3))
+    let a = c.args in
+    let long = bytes_in_length a.count a.list.now c.requires.1 (tabled a.positions.now a.edges.now a.triangles.now a.stands.now) in
+    writing_starts_front _ _ (rw long c.requires.3)
 
 pub settle_entry-requires : goal.settle_entry-requires
-settle_entry-requires c =
-    let p = c.requires in
-    (p.0, omega (arith, p.1), p.2 c.loop-k.k (omega arith))
+settle_entry-requires c = (c.requires.0, omega (arith, c.requires.1), c.requires.2 c.loop-k.k (omega arith))
 
 -- what is left begins with the byte of the entry
-pub bounds-out-k : goal.bounds-out-k
-bounds-out-k c =
-    let start = c in
-    writing_room (writing_as (left_in start.args.count start.args.list.now start.requires.1 _ c.loop-k.k (omega arith)) c.loop-k.invariant.1)
-
-pub overflow_add-k : goal.overflow_add-k
-overflow_add-k c = omega arith
-
-pub loop-k-smaller : goal.loop-k-smaller
-loop-k-smaller c = omega arith
-
 pub loop-k-preserved : goal.loop-k-preserved
 loop-k-preserved c =
-    let start = c in
-    (omega arith, rw c.settle_entry.ensures (writing_step (writing_as (left_in start.args.count start.args.list.now start.requires.1 _ c.loop-k.k (omega arith)) c.loop-k.invariant.1)))
-
-pub shape_of-out : goal.shape_of-out
-shape_of-out c = c.loop-k.invariant.1.same
+    let left = left_in c.args.count c.args.list.now c.requires.1 _ c.loop-k.k (omega arith) in
+    rw c.settle_entry.ensures (writing_step (writing_as left c.loop-k.invariant))
 
 pub returns : goal.returns
 returns c =
-    let start = c in
-    let s = tabled start.args.positions.now start.args.edges.now start.args.triangles.now start.args.stands.now in
-    writing_ends_front
-    (writing_as (drop_of_length-le (bytes_of s (pairs_in start.args.count start.args.list.now)) {i = c.loop-k.k} (rw (bytes_in_length start.args.count start.args.list.now start.requires.1 s) (omega arith))) c.loop-k.invariant.1)
+    let a = c.args in
+    let s = tabled a.positions.now a.edges.now a.triangles.now a.stands.now in
+    let none = drop_of_length-le (bytes_of s (pairs_in a.count a.list.now)) {i = c.loop-k.k} (rw (bytes_in_length a.count a.list.now c.requires.1 s) (omega arith)) in
+    writing_ends_front (writing_as none c.loop-k.invariant)

@@ -1,15 +1,9 @@
-use Prim.Native.Nat.{◌-◌, ◌≤◌}
-use mathlib.Core.Path.{sym, ◌∙◌}
-use native.Mathlib.Omega.{arith}
-use lib.ListN.{length, drop, drop_of_length-le}
-use Rattle.sequences.specs.Parts.{drop_next}
-use Rattle.sequences.specs.Writing.{Writing, writing_starts_front, writing_as, writing_room, writing_step, writing_ends_front}
+-- The bytes of the entries passed stand in front, and those of the others are left.
+use Rattle.std.proofs.Common.{drop}
+use Rattle.sequences.specs.Writing.{Writing}
 use Rattle.scene_seams.specs.Alone.{tabled}
-use Rattle.list_words.specs.Listed.{bytes_of, pairs_in, bytes_in_length, bytes_in_at, left_in}
+use Rattle.list_words.specs.Listed.{bytes_of, pairs_in}
 use Rattle.list_words.proofs.settle_entries.Given as goal
 
 abbrev pub invariant-loop-k : goal.invariant-loop-k
-invariant-loop-k l = (l.k ≤ l.count) × Writing l.initial.out (bytes_of (tabled l.positions l.edges l.triangles l.stands) (pairs_in l.count l.list)) l.out l.k (drop l.k (bytes_of (tabled l.positions l.edges l.triangles l.stands) (pairs_in l.count l.list)))
-
-abbrev pub decreases-loop-k : goal.decreases-loop-k
-decreases-loop-k l = l.count - l.k
+invariant-loop-k l = Writing l.initial.out (bytes_of (tabled l.positions l.edges l.triangles l.stands) (pairs_in l.count l.list)) l.out l.k (drop l.k (bytes_of (tabled l.positions l.edges l.triangles l.stands) (pairs_in l.count l.list)))

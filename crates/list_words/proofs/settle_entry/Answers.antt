@@ -1,5 +1,4 @@
 -- `settle_entry`: the entry is taken apart, and its pair is judged.
-use borrow.Author.Rules.{rules}
 use mathlib.Core.Path.{◌∙◌}
 use lib.ListN.{get_or}
 use Rattle.meaning.specs.List.{pair}

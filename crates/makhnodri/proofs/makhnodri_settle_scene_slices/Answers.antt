@@ -1,5 +1,5 @@
 use Rattle.c_numbers.specs.Small.{judging_small}
 use Rattle.makhnodri.proofs.makhnodri_settle_scene_slices.Goals as goal
 
-pub list_number-requires : goal.list_number-requires
-list_number-requires c = judging_small c.settle_scene.ensures
+pub count_number-requires : goal.count_number-requires
+count_number-requires c = judging_small c.settle_scene.ensures

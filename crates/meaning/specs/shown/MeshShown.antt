@@ -1,13 +1,13 @@
 -- Meshes, shown: a listed pair that is far and one that is near, rows and entries, orders, sides that are edges, the pierced of a row, and answers
 -- of the calls, each by computing.
-use Rattle.std.specs.Prelude.{ℕ, zero, suc, ◌+◌, ◌*◌, ◌^◌, ◌<◌, true, false, List, [], ◌∷◌, ◌≡◌, refl, eqb, ℤ, pos, neg_ℤ, nat_abs}
+use Rattle.std.specs.Prelude.{ℕ, zero, suc, ◌+◌, ◌*◌, ◌^◌, ◌<◌, true, false, List, [], ◌∷◌, ◌≡◌, refl, eqb, ℤ, pos, neg_ℤ, nat_abs, Err, Ok}
 use Rattle.std.proofs.Common.{true≢false, sym, ap, arith}
 use Rattle.sequences.specs.Range.{over}
 use Rattle.sequences.specs.Gather.{gather}
 use Rattle.meaning.specs.Scene.{Scene, scene_of, stood_for, some_below}
-use Rattle.meaning.specs.Refusals.{Answers, shares, number_of, scene_says}
+use Rattle.meaning.specs.Refusals.{Answers, shares, number_of, carrying, outcome_alone, outcome_of}
 use Rattle.meaning.specs.Boxes.{meet_on, listed}
-use Rattle.meaning.specs.List.{pair, list_says, leaves}
+use Rattle.meaning.specs.List.{pair, leaves}
 use Rattle.meaning.specs.Report.{is_one, how_many}
 use Rattle.meaning.specs.SceneWords.{byte_of, AllSettled}
 use Rattle.meaning.specs.Pieces.{moving_triangle, piece_of, piece_count}
@@ -18,7 +18,7 @@ use Rattle.meaning.specs.Pierced.{PiercedIs}
 use Rattle.meaning.specs.WholeContacts.{rows_left, rows_after, AllContacts}
 use Rattle.meaning.specs.Mesh.{MeshChecked, MeshAccepted}
 use Rattle.meaning.specs.Near.{where_at, first_span_at, second_span_at, far, near}
-use Rattle.meaning.specs.MeshRows.{row_test, mesh_row, mesh_kind_part, mesh_number, no_order, Lent, RowsCounted, RowsListed, RowsSettled, RowsContacts, wants_word, kept, kept_told, kept_says, RowsKept, ContactsKept}
+use Rattle.meaning.specs.MeshRows.{row_test, mesh_row, mesh_kind_part, mesh_number, no_order, Lent, RowsCounted, RowsListed, RowsSettled, RowsContacts, wants_word, kept, kept_told, RowsKept, ContactsKept}
 use Rattle.meaning.specs.MeshEdges.{bare, EdgesAre, bare_side}
 use Rattle.meaning.specs.PiercedRows.{Through, through_row, AllPierced, through_number, yes_of, PiercedListed}
 use Rattle.meaning.specs.MeshNumbers.{wanted_by}
@@ -30,9 +30,6 @@ use Rattle.meaning.specs.declared.RowPairs.TheVariants.{Listed, Near}
 use Rattle.meaning.specs.declared.Settled.{Settled}
 use Rattle.meaning.specs.declared.Settled.TheVariants.{Hit, Miss, Touch, Apart}
 use Rattle.meaning.specs.declared.Refusal.TheVariants.{NoRoom}
-use Rattle.meaning.specs.declared.ListAnswer as ListAnswers
-use Rattle.meaning.specs.declared.SceneAnswer as SceneAnswers
-use Rattle.meaning.specs.declared.KeptAnswer as KeptAnswers
 
 -- ---- far and near: the triangle of case 1 goes ten to the right, and a point goes along from one place to another
 
@@ -89,21 +86,21 @@ is_none = (refl, refl, refl)
 abbrev pub plenty : Lent
 plenty = record { edge_order = []; triangle_order = []; table = 4; places = 8; boxes = 1_000 }
 
-pub mesh_is_sound : MeshChecked chased SceneAnswers.TheVariants.Accepted × MeshAccepted chased 0 SceneAnswers.TheVariants.Accepted
-unfolding Answers scene_says some_below stood_for
+pub mesh_is_sound : MeshChecked chased (Ok tt) × MeshAccepted chased 0 (Ok tt)
+unfolding Answers outcome_alone some_below stood_for
 mesh_is_sound = (tt, tt)
 
-pub one_in_a_row : RowsCounted Listed chased plenty 3 4 (ListAnswers.TheVariants.Listed (record { count = 1 }))
-    × RowsCounted Near chased plenty 3 4 (ListAnswers.TheVariants.Listed (record { count = 0 }))
-unfolding Answers list_says row_test gather over where_at first_span_at second_span_at some_below stood_for shares meet_on
+pub one_in_a_row : RowsCounted Listed chased plenty 3 4 (Ok 1)
+    × RowsCounted Near chased plenty 3 4 (Ok 0)
+unfolding Answers outcome_of row_test gather over where_at first_span_at second_span_at some_below stood_for shares meet_on
 one_in_a_row = (refl, refl)
 
-pub one_listed : RowsListed Listed chased plenty 3 4 (7 ∷ 7 ∷ []) (3 * 2 ^ 32 ∷ 7 ∷ []) (ListAnswers.TheVariants.Listed (record { count = 1 }))
-unfolding Answers list_says leaves row_test gather over where_at first_span_at second_span_at some_below stood_for shares meet_on mesh_number mesh_kind_part
+pub one_listed : RowsListed Listed chased plenty 3 4 (7 ∷ 7 ∷ []) (3 * 2 ^ 32 ∷ 7 ∷ []) (Ok 1)
+unfolding Answers outcome_of leaves row_test gather over where_at first_span_at second_span_at some_below stood_for shares meet_on mesh_number mesh_kind_part
 one_listed = record { answer = refl; list = refl }
 
-pub one_without_room : RowsListed Listed chased plenty 3 4 [] [] (ListAnswers.TheVariants.Refused NoRoom 1)
-unfolding Answers list_says leaves number_of row_test gather over where_at first_span_at second_span_at some_below stood_for shares meet_on mesh_number mesh_kind_part
+pub one_without_room : RowsListed Listed chased plenty 3 4 [] [] (Err (carrying NoRoom 1))
+unfolding Answers outcome_of leaves number_of row_test gather over where_at first_span_at second_span_at some_below stood_for shares meet_on mesh_number mesh_kind_part
 one_without_room = record { answer = refl; list = refl }
 
 -- ---- words asked for: hits and touches of four words, one of each
@@ -126,23 +123,23 @@ unfolding PairSettled PieceSettled PieceIs piece_of piece_count moving_triangle 
 fall_hits = record { which = 1; there = omega arith; has = (λ e. true≢false (sym (ap (λ (z : ℤ). eqb (nat_abs z) 0) e)), point_touches) }
 
 pub hit_settled : RowsSettled Near (fall_from (pos 1)) plenty 3 4 (7 ∷ []) (3 * 2 ^ 32 ∷ []) (7 ∷ 7 ∷ []) (0 ∷ 7 ∷ [])
-    (ListAnswers.TheVariants.Listed (record { count = 1 }))
-unfolding Answers list_says leaves AllSettled byte_of row_test gather over where_at first_span_at second_span_at some_below stood_for shares meet_on mesh_number mesh_kind_part
+    (Ok 1)
+unfolding Answers outcome_of leaves AllSettled byte_of row_test gather over where_at first_span_at second_span_at some_below stood_for shares meet_on mesh_number mesh_kind_part
 hit_settled = record { answer = refl; list = refl; words = Hit ∷ []; right = (fall_hits, tt); bytes = refl }
 
 pub hit_kept : RowsKept Listed (wanted_by 1) (fall_from (pos 1)) plenty 3 4 (7 ∷ []) (3 * 2 ^ 32 ∷ []) (7 ∷ []) (0 ∷ [])
-    (KeptAnswers.TheVariants.Kept (record { count = 1; listed = 1; hits = 1; misses = 0; touches = 0; aparts = 0 }))
-unfolding Answers kept_says leaves AllSettled kept wants_word how_many is_one byte_of row_test gather over where_at first_span_at second_span_at some_below stood_for shares meet_on mesh_number mesh_kind_part
+    (Ok (record { count = 1; listed = 1; hits = 1; misses = 0; touches = 0; aparts = 0 }))
+unfolding Answers outcome_of leaves AllSettled kept wants_word how_many is_one byte_of row_test gather over where_at first_span_at second_span_at some_below stood_for shares meet_on mesh_number mesh_kind_part
 hit_kept = record { words = Hit ∷ []; right = (fall_hits, tt); answer = refl; list = refl; bytes = refl }
 
 -- row 0 is that of a corner, which shares it with the triangle: no pair, and no contact
-pub none_met : RowsContacts Listed (fall_from (pos 1)) plenty 0 1 [] [] [] [] [] [] (ListAnswers.TheVariants.Listed (record { count = 0 }))
-unfolding Answers list_says leaves rows_after rows_left AllContacts row_test gather over some_below stood_for shares
+pub none_met : RowsContacts Listed (fall_from (pos 1)) plenty 0 1 [] [] [] [] [] [] (Ok 0)
+unfolding Answers outcome_of leaves rows_after rows_left AllContacts row_test gather over some_below stood_for shares
 none_met = record { answer = refl; list = refl; contacts = []; right = tt; bytes = refl; rows = refl }
 
 pub none_met_kept : ContactsKept Listed (wanted_by 1) (fall_from (pos 1)) plenty 0 1 [] [] [] [] [] []
-    (KeptAnswers.TheVariants.Kept (record { count = 0; listed = 0; hits = 0; misses = 0; touches = 0; aparts = 0 }))
-unfolding Answers kept_says leaves rows_after rows_left AllSettled AllContacts kept how_many row_test gather over some_below stood_for shares
+    (Ok (record { count = 0; listed = 0; hits = 0; misses = 0; touches = 0; aparts = 0 }))
+unfolding Answers outcome_of leaves rows_after rows_left AllSettled AllContacts kept how_many row_test gather over some_below stood_for shares
 none_met_kept = record { words = []; right = tt; answer = refl; list = refl; bytes = refl; contacts = []; met = tt; rows = refl }
 
 -- ---- edges: a triangle with its three sides, one of them written from its higher end
@@ -184,8 +181,8 @@ pub pierced_in_a_row : AllPierced Start (pulled_out []) (through_row Start (pull
 unfolding where_at gather over some_below stood_for shares meet_on AllPierced PiercedIs
 pierced_in_a_row = (pierced_at_start [], tt)
 
-pub pierced_listed : PiercedListed Start (pulled_out []) plenty 0 1 (7 ∷ 7 ∷ []) (0 ∷ 7 ∷ []) (ListAnswers.TheVariants.Listed (record { count = 1 }))
-unfolding Answers list_says leaves yes_of AllPierced PiercedIs where_at gather over some_below stood_for shares
+pub pierced_listed : PiercedListed Start (pulled_out []) plenty 0 1 (7 ∷ 7 ∷ []) (0 ∷ 7 ∷ []) (Ok 1)
+unfolding Answers outcome_of leaves yes_of AllPierced PiercedIs where_at gather over some_below stood_for shares
 pierced_listed = record { answers = true ∷ []; right = (pierced_at_start [], tt); answer = refl; list = refl }
 
 pub through_number_lem : through_number (record { edge = 3; triangle = 5 }) ≡ 3 * 2 ^ 32 + 5

@@ -1,5 +1,5 @@
 -- OBJ files, shown: what a line says, how it is read and what is not, and where two files differ.
-use Rattle.std.specs.Prelude.{true, false, List, [], ◌∷◌, ◌≡◌, refl, ℕ, pos}
+use Rattle.std.specs.Prelude.{true, false, List, [], ◌∷◌, ◌≡◌, refl, ℕ, pos, None, Some}
 use Rattle.decimals.specs.Value.{value, value_on}
 use Rattle.meaning.specs.ObjLine.{place_of, digits_alone, with_part, on_whole, signed_as, decimal_of, says, vertex_with, face_with}
 use Rattle.meaning.specs.ObjFile.{joined, edges_from, edges_of, signed, face_added}
@@ -7,8 +7,6 @@ use Rattle.meaning.specs.Text.{none, coordinates_in, ends_in, corners_in, seam_i
 use Rattle.meaning.specs.ObjPair.{same_numbers, differing}
 use Rattle.meaning.specs.Scene.{Scene, scene_of}
 use Rattle.meaning.specs.declared.Hundredths.{Hundredths}
-use Rattle.meaning.specs.declared.Decimal as Decimals
-use Rattle.meaning.specs.declared.Decimal.TheVariants.{Of}
 use Rattle.meaning.specs.declared.ObjLine.TheVariants.{Skipped, Vertex, Face, Bad}
 
 abbrev plus : ℕ → Hundredths
@@ -19,23 +17,23 @@ less n = record { minus = true; size = n }
 
 -- decimals: zeros in front and behind are fine, one digit behind the point is tenths, and -0.00 is 0 (`minus_nothing`)
 pub decimals_shown :
-    (decimal_of (49 ∷ []) ≡ Of (plus 100))
-    × (decimal_of (49 ∷ 46 ∷ 48 ∷ []) ≡ Of (plus 100))
-    × (decimal_of (48 ∷ 49 ∷ 46 ∷ 48 ∷ 48 ∷ []) ≡ Of (plus 100))
-    × (decimal_of (49 ∷ 46 ∷ 53 ∷ []) ≡ Of (plus 150))
-    × (decimal_of (49 ∷ 46 ∷ 48 ∷ 53 ∷ []) ≡ Of (plus 105))
-    × (decimal_of (45 ∷ 48 ∷ 46 ∷ 53 ∷ []) ≡ Of (less 50))
-    × (decimal_of (45 ∷ 48 ∷ 46 ∷ 48 ∷ 48 ∷ []) ≡ Of (less 0))
-    × (decimal_of (57 ∷ 57 ∷ 57 ∷ 57 ∷ 57 ∷ 57 ∷ 57 ∷ 57 ∷ 57 ∷ 46 ∷ 57 ∷ 57 ∷ []) ≡ Of (plus 99_999_999_999))
-    × (decimal_of (49 ∷ 46 ∷ []) ≡ Decimals.TheVariants.Bad)
-    × (decimal_of (46 ∷ 53 ∷ []) ≡ Decimals.TheVariants.Bad)
-    × (decimal_of (43 ∷ 49 ∷ []) ≡ Decimals.TheVariants.Bad)
-    × (decimal_of (48 ∷ 46 ∷ 48 ∷ 48 ∷ 48 ∷ []) ≡ Decimals.TheVariants.Bad)
-    × (decimal_of (49 ∷ 48 ∷ 48 ∷ 48 ∷ 48 ∷ 48 ∷ 48 ∷ 48 ∷ 48 ∷ 48 ∷ []) ≡ Decimals.TheVariants.Bad)
-    × (decimal_of (49 ∷ 101 ∷ 51 ∷ []) ≡ Decimals.TheVariants.Bad)
-    × (decimal_of (45 ∷ []) ≡ Decimals.TheVariants.Bad)
-    × (decimal_of [] ≡ Decimals.TheVariants.Bad)
-    × (decimal_of (49 ∷ 46 ∷ 53 ∷ 46 ∷ []) ≡ Decimals.TheVariants.Bad)
+    (decimal_of (49 ∷ []) ≡ Some (plus 100))
+    × (decimal_of (49 ∷ 46 ∷ 48 ∷ []) ≡ Some (plus 100))
+    × (decimal_of (48 ∷ 49 ∷ 46 ∷ 48 ∷ 48 ∷ []) ≡ Some (plus 100))
+    × (decimal_of (49 ∷ 46 ∷ 53 ∷ []) ≡ Some (plus 150))
+    × (decimal_of (49 ∷ 46 ∷ 48 ∷ 53 ∷ []) ≡ Some (plus 105))
+    × (decimal_of (45 ∷ 48 ∷ 46 ∷ 53 ∷ []) ≡ Some (less 50))
+    × (decimal_of (45 ∷ 48 ∷ 46 ∷ 48 ∷ 48 ∷ []) ≡ Some (less 0))
+    × (decimal_of (57 ∷ 57 ∷ 57 ∷ 57 ∷ 57 ∷ 57 ∷ 57 ∷ 57 ∷ 57 ∷ 46 ∷ 57 ∷ 57 ∷ []) ≡ Some (plus 99_999_999_999))
+    × (decimal_of (49 ∷ 46 ∷ []) ≡ None)
+    × (decimal_of (46 ∷ 53 ∷ []) ≡ None)
+    × (decimal_of (43 ∷ 49 ∷ []) ≡ None)
+    × (decimal_of (48 ∷ 46 ∷ 48 ∷ 48 ∷ 48 ∷ []) ≡ None)
+    × (decimal_of (49 ∷ 48 ∷ 48 ∷ 48 ∷ 48 ∷ 48 ∷ 48 ∷ 48 ∷ 48 ∷ 48 ∷ []) ≡ None)
+    × (decimal_of (49 ∷ 101 ∷ 51 ∷ []) ≡ None)
+    × (decimal_of (45 ∷ []) ≡ None)
+    × (decimal_of [] ≡ None)
+    × (decimal_of (49 ∷ 46 ∷ 53 ∷ 46 ∷ []) ≡ None)
 unfolding place_of digits_alone with_part on_whole signed_as value value_on
 decimals_shown = (refl, refl, refl, refl, refl, refl, refl, refl, refl, refl, refl, refl, refl, refl, refl, refl, refl)
 

@@ -1,6 +1,7 @@
 -- `ask_rows`: each return is right by the tests that led to it.
 use mathlib.Core.Path.{sym, ◌∙◌}
 use lib.ListN.{length}
+use Rattle.std.proofs.lemmas.Result.{err_from_is_err_and}
 use Rattle.meaning.specs.MeshRows.{lent_of}
 use Rattle.meaning.specs.Scene.{scene_of}
 use Rattle.mesh_asked.specs.Asking.{too_short, table_room_lem, orders_room, few_parts, mesh_refused, mesh_passed}
@@ -26,19 +27,21 @@ ask_there-requires c =
     let s = scene_of a.positions.now a.edges.now a.triangles.now a.seams.now in
     let rooms =
     orders_room s (lent_of a.edge_order.now a.triangle_order.now (length a.table.now) (length a.places.now) a.boxes)
-    (sym c.lent_short.ensures ∙ c.if-lent_short.false) in record { edge_order_in_bounds = rooms; triangles_bound = few_parts {s = s} (c.check_over.ensures.accepted c.in-Accepted.is) }
+    (sym c.lent_short.ensures ∙ c.if-lent_short.false) in record { edge_order_in_bounds = rooms; triangles_bound = few_parts {s = s} (c.check_over.ensures.accepted c.in_ok-check_over.was) }
 
-pub returns-in-Refused : goal.returns-in-Refused
-returns-in-Refused c =
+pub returns-in_err-check_over : goal.returns-in_err-check_over
+returns-in_err-check_over c =
     let a = c.args in
-    mesh_refused (scene_of a.positions.now a.edges.now a.triangles.now a.seams.now)
+    let (y, is, same) = err_from_is_err_and c.from_residual.result c.from_residual.ensures.1 in
+    rw (is, same)
+    (mesh_refused (scene_of a.positions.now a.edges.now a.triangles.now a.seams.now)
     (lent_of a.edge_order.now a.triangle_order.now (length a.table.now) (length a.places.now) a.boxes)
-    a.rows a.first a.end (sym c.lent_short.ensures ∙ c.if-lent_short.false) c.check_over.ensures _ c.in-Refused.is
+    a.rows a.first a.end (sym c.lent_short.ensures ∙ c.if-lent_short.false) c.check_over.ensures _ c.in_err-check_over.was)
 
-pub returns-in-Accepted : goal.returns-in-Accepted
-returns-in-Accepted c =
+pub returns : goal.returns
+returns c =
     let a = c.args in
     mesh_passed (scene_of a.positions.now a.edges.now a.triangles.now a.seams.now)
     (lent_of a.edge_order.now a.triangle_order.now (length a.table.now) (length a.places.now) a.boxes)
-    a.rows a.first a.end (sym c.lent_short.ensures ∙ c.if-lent_short.false) c.check_over.ensures c.in-Accepted.is c.ask_there.result
+    a.rows a.first a.end (sym c.lent_short.ensures ∙ c.if-lent_short.false) c.check_over.ensures c.in_ok-check_over.was c.ask_there.result
     c.ask_there.ensures

@@ -1,5 +1,4 @@
 -- `check_mesh_into`: each return is right by the tests that led to it.
-use borrow.Author.Rules.{rules}
 use Rattle.meaning.specs.Scene.{scene_of}
 use Rattle.scene_checks.specs.Ways.{shown, wrong_shape, out_of_range_lem, unknown_vertex_lem, broken_seam_lem, repeated_vertex_lem, nothing_wrong}
 use Rattle.mesh_checks.specs.Checking.{sewable, by_way}

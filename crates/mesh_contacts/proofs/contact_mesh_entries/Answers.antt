@@ -1,5 +1,4 @@
 -- The words are written, and then the rows of the hits by these words.
-use borrow.Author.Rules.{rules}
 use Rattle.contact_pair.specs.Ready.{old_sound}
 use Rattle.mesh_contacts.specs.Met.{written_words, written_room}
 use Rattle.mesh_contacts.proofs.contact_mesh_entries.Goals as goal

@@ -1,5 +1,4 @@
 -- The entry is taken apart, and its pair is met.
-use borrow.Author.Rules.{rules}
 use Rattle.meaning.specs.List.{pair}
 use Rattle.mesh_words.specs.Asked.{mesh_pair_at, entry_there}
 use Rattle.mesh_contacts.specs.Met.{entry_met, entry_settled}

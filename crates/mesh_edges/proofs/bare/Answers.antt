@@ -2,8 +2,6 @@
 use native.Mathlib.Omega.{arith}
 use mathlib.Core.Bool.{not}
 use mathlib.Core.Path.{◌∙◌, ap}
-use lib.ListN.{get_or}
-use borrow.Author.Rules.{rules}
 use Rattle.mesh_orders.specs.Told.{parts_only}
 use Rattle.mesh_edges.specs.Sides.{next_inside, is_bare, is_no_edge}
 use Rattle.mesh_edges.proofs.bare.Goals as goal

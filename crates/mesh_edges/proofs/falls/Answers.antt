@@ -1,6 +1,5 @@
 -- `falls`: what its calls ensure, put together.
 use native.Mathlib.Omega.{arith}
-use borrow.Author.Rules.{rules}
 use Rattle.mesh_edges.proofs.falls.Goals as goal
 
 pub ends_number-requires : goal.ends_number-requires

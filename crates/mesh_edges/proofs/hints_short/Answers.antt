@@ -1,5 +1,4 @@
 -- `hints_short`: either is.
-use borrow.Author.Rules.{rules}
 use mathlib.Core.Bool.{◌||◌}
 use mathlib.Core.Path.{ap}
 use lib.Dec.{ltb}

@@ -1,4 +1,3 @@
-use borrow.Author.Rules.{rules}
 use Rattle.mesh_edges.proofs.joins_ends.Goals as goal
 
 pub returns : goal.returns

@@ -1,5 +1,4 @@
 -- `look`: 18, then what is told.
-use borrow.Author.Rules.{rules}
 use mathlib.Core.Path.{sym, ◌∙◌}
 use Rattle.mesh_edges.specs.Checking.{hints_refused, hints_pass}
 use Rattle.mesh_edges.proofs.look.Goals as goal

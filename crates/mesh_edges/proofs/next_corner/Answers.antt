@@ -1,4 +1,3 @@
-use borrow.Author.Rules.{rules}
 use Rattle.mesh_edges.specs.Sides.{next_at_end, next_before}
 use Rattle.mesh_edges.proofs.next_corner.Goals as goal
 

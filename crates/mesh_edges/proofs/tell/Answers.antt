@@ -1,5 +1,4 @@
 -- `tell`: the first side, then the first number of the order.
-use borrow.Author.Rules.{rules}
 use native.Mathlib.Omega.{arith}
 use Rattle.mesh_orders.specs.Told.{parts_only}
 use Rattle.mesh_edges.specs.Checking.{right_sides, right_order, edge_order, tells_bare, tells_twice, tells_whole}
@@ -24,10 +23,10 @@ pub returns-then-fall-last : goal.returns-then-fall-last
 returns-then-fall-last c =
     let a = c.args in
     let ordered = edge_order a.edges.now a.triangles.now a.order.now (right_order (parts_only a.edges.now a.triangles.now) a.sides.now a.order.now c.requires.1) in
-    tells_twice a.edges.now a.triangles.now a.sides.now a.order.now c.first_bare-side.ensures (omega arith) ordered.whole c.first_fall-fall.ensures (rw c.one_less-last.ensures at c.if-fall-last.true)
+    tells_twice a.edges.now a.triangles.now a.sides.now a.order.now c.first_bare-side.ensures (omega arith) ordered.whole c.first_fall-fall.ensures (rw c.saturating_sub-last.ensures at c.if-fall-last.true)
 
 pub returns-else-fall-last : goal.returns-else-fall-last
 returns-else-fall-last c =
     let a = c.args in
     let ordered = edge_order a.edges.now a.triangles.now a.order.now (right_order (parts_only a.edges.now a.triangles.now) a.sides.now a.order.now c.requires.1) in
-    tells_whole a.edges.now a.triangles.now a.sides.now a.order.now c.first_bare-side.ensures (omega arith) ordered.whole c.first_fall-fall.ensures (rw c.one_less-last.ensures at c.if-fall-last.false)
+    tells_whole a.edges.now a.triangles.now a.sides.now a.order.now c.first_bare-side.ensures (omega arith) ordered.whole c.first_fall-fall.ensures (rw c.saturating_sub-last.ensures at c.if-fall-last.false)

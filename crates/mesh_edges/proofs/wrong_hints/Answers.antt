@@ -1,5 +1,4 @@
 -- `wrong_hints`: by the lengths, then by the inverse of the order.
-use borrow.Author.Rules.{rules}
 use Rattle.mesh_orders.specs.Told.{parts_only}
 use Rattle.mesh_edges.specs.Checking.{sides_missing, order_short, order_told}
 use Rattle.mesh_edges.proofs.wrong_hints.Goals as goal

@@ -1,5 +1,4 @@
 -- `keep_into`: judged from nothing on.
-use borrow.Author.Rules.{rules}
 use native.Mathlib.Omega.{arith}
 use mathlib.Core.Path.{ap}
 use Rattle.mesh_keep.specs.declared.Going.{Going}

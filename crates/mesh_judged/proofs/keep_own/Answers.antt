@@ -1,5 +1,4 @@
 -- `keep_own`: judged into one's own arrays, and copied where all that are kept fit there and into the lent lists.
-use borrow.Author.Rules.{rules}
 use native.Mathlib.Omega.{arith}
 use Rattle.scene_seams.specs.Alone.{tabled}
 use Rattle.mesh_entries.specs.Entering.{entered_length}
@@ -12,18 +11,18 @@ keep_into-counted-requires c = let start = c in record { forest = start.requires
 pub copy_kept-requires : goal.copy_kept-requires
 copy_kept-requires c =
     let start = c in
-    let fits = c.smaller.ensures in
-    let few = c.if-counted-smaller.true in
+    let fits = c.min.ensures in
+    let few = c.if-counted-min.true in
     let long = entered_length c.keep_into-counted.ensures.list in
     let wide = entered_length c.keep_into-counted.ensures.bytes in
     (omega (arith, fits, few, long), omega (arith, fits, few, wide), omega (arith, fits, few, start.requires.sound.1), omega (arith, fits, few, start.requires.sound.2))
 
-pub returns-then-counted-smaller : goal.returns-then-counted-smaller
-returns-then-counted-smaller c =
+pub returns-then-counted-min : goal.returns-then-counted-min
+returns-then-counted-min c =
     let a = c.args in
-    own_copied a.which a.wanted (tabled a.positions.now a.edges.now a.triangles.now a.stands.now) a.first a.end c.keep_into-counted.ensures c.smaller.ensures a.list.now a.words.now (omega arith) (omega arith) c.if-counted-smaller.true c.copy_kept.ensures.0 c.copy_kept.ensures.1
+    own_copied a.which a.wanted (tabled a.positions.now a.edges.now a.triangles.now a.stands.now) a.first a.end c.keep_into-counted.ensures c.min.ensures a.list.now a.words.now (omega arith) (omega arith) c.if-counted-min.true c.copy_kept.ensures.0 c.copy_kept.ensures.1
 
-pub returns-else-counted-smaller : goal.returns-else-counted-smaller
-returns-else-counted-smaller c =
+pub returns-else-counted-min : goal.returns-else-counted-min
+returns-else-counted-min c =
     let a = c.args in
-    own_left a.which a.wanted (tabled a.positions.now a.edges.now a.triangles.now a.stands.now) a.first a.end c.keep_into-counted.ensures c.smaller.ensures a.list.now a.words.now c.if-counted-smaller.false
+    own_left a.which a.wanted (tabled a.positions.now a.edges.now a.triangles.now a.stands.now) a.first a.end c.keep_into-counted.ensures c.min.ensures a.list.now a.words.now c.if-counted-min.false

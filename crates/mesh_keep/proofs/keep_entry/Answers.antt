@@ -1,5 +1,4 @@
 -- `keep_entry`: the entry is taken apart, and its pair is judged.
-use borrow.Author.Rules.{rules}
 use native.Mathlib.Omega.{arith}
 use mathlib.Core.Path.{◌≡◌}
 use Rattle.meaning.specs.List.{pair}

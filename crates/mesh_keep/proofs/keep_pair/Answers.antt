@@ -1,6 +1,4 @@
 -- `keep_pair`: the word is counted, and entered where it is asked for.
-use borrow.Author.Rules.{rules}
-use native.Mathlib.Omega.{arith}
 use mathlib.Core.Path.{◌∙◌, ap}
 use Rattle.meaning.specs.List.{pair}
 use Rattle.scene_seams.specs.Alone.{tabled}

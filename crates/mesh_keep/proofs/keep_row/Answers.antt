@@ -1,14 +1,6 @@
-use borrow.Author.Rules.{rules}
 use native.Mathlib.Omega.{arith}
-use Prim.Native.Nat.{◌-◌, ◌≤◌}
-use mathlib.Core.Path.{sym}
-use lib.ListN.{length, length-map}
-use lib.Seq.{length-take-le}
-use Rattle.meaning.specs.List.{pair}
-use Rattle.scene_seams.specs.Alone.{tabled}
 use Rattle.mesh_entries.specs.Entering.{entered_length}
-use Rattle.mesh_keep.specs.Keeping.{KeptBy, kept_none, kept_bound}
-use Rattle.mesh_keep.specs.OfRows.{pairs_of, RowGoing, row_starts, row_goes, row_few, row_ends}
+use Rattle.mesh_keep.specs.OfRows.{row_starts, row_goes, row_few, row_ends}
 use Rattle.mesh_keep.proofs.keep_row.Goals as goal
 
 pub loop-k-init : goal.loop-k-init
@@ -20,15 +12,6 @@ keep_pair-so_far-requires c =
     let loop = c.loop-k in
     let below = c.loop-k-test.true in
     let place = c.wide.ensures in record { sound = (c.requires.sound.0, rw place (row.there loop.k below), row.low, rw place (row.narrow loop.k below)); most_in_bounds = (omega (arith, c.requires.most_in_bounds.0, entered_length loop.invariant.done.list), omega (arith, c.requires.most_in_bounds.1, entered_length loop.invariant.done.bytes), omega (arith, c.requires.most_in_bounds.2, row_few loop.invariant row.room)) }
-
-pub bounds-places-k : goal.bounds-places-k
-bounds-places-k c = omega (arith, c.requires.sound.1.room, c.loop-k-test.true)
-
-pub offset_bounds-places-k : goal.offset_bounds-places-k
-offset_bounds-places-k c = omega (arith, c.requires.sound.1.room, c.loop-k-test.true)
-
-pub loop-k-smaller : goal.loop-k-smaller
-loop-k-smaller c = let below = c.loop-k-test.true in omega arith
 
 pub loop-k-preserved : goal.loop-k-preserved
 loop-k-preserved c =

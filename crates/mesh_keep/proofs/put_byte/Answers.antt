@@ -1,5 +1,4 @@
 -- `put_byte`: one store, or none.
-use borrow.Author.Rules.{rules}
 use borrow.Author.Tests.{lt-ltb, le-ltb}
 use Rattle.mesh_keep.proofs.put_byte.Goals as goal
 

@@ -1,5 +1,4 @@
 -- `wants`: by the word.
-use borrow.Author.Rules.{rules}
 use Rattle.mesh_keep.specs.Keeping.{wants_hit, wants_miss, wants_touch, wants_apart}
 use Rattle.mesh_keep.proofs.wants.Goals as goal
 

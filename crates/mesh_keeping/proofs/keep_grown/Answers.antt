@@ -1,5 +1,4 @@
 -- `keep_grown`: 7, or what was copied, or what was judged again.
-use borrow.Author.Rules.{rules}
 use native.Mathlib.Omega.{arith}
 use Rattle.scene_seams.specs.Alone.{tabled}
 use Rattle.mesh_ordered.specs.Either.{lent_as}

@@ -1,5 +1,4 @@
 -- `keep_there`: what was planted is what the rows are judged by.
-use borrow.Author.Rules.{rules}
 use native.Mathlib.Omega.{arith}
 use mathlib.Core.List.{[]}
 use Rattle.scene_seams.specs.Table.{seams_of}

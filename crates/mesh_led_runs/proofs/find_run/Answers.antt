@@ -1,5 +1,4 @@
 -- `find_run`: what is met, taken to its parts and sorted.
-use borrow.Author.Rules.{rules}
 use native.Mathlib.Omega.{arith}
 use Rattle.meaning.specs.StoredBoxes.{box_at}
 use Rattle.mesh_walk.specs.Places.{places_few}

@@ -1,5 +1,4 @@
 -- `one_more`: one more, or not.
-use borrow.Author.Rules.{rules}
 use Rattle.mesh_led_runs.proofs.one_more.Goals as goal
 
 pub returns-then-more : goal.returns-then-more

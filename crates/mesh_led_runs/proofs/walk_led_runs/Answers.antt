@@ -1,12 +1,10 @@
 use native.Mathlib.Omega.{arith}
-use Prim.Native.Nat.{◌-◌, ◌≤◌}
+use Prim.Native.Nat.{◌≤◌}
 use mathlib.Core.Path.{◌≡◌, refl, ◌∙◌}
-use lib.ListN.{length}
 use Rattle.meaning.specs.Limits.{part_limit}
 use Rattle.scene_seams.specs.Alone.{tabled}
 use Rattle.list_candidates.specs.Rows.{second_count}
-use Rattle.mesh_entries.specs.Entering.{EnteringUpTo, up_to_starts, entered_length}
-use Rattle.mesh_runs.specs.Runs.{kind_entries}
+use Rattle.mesh_entries.specs.Entering.{up_to_starts, entered_length}
 use Rattle.mesh_runs.specs.Stretch.{run_entered}
 use Rattle.mesh_order_rows.specs.Led.{own_there}
 use Rattle.mesh_led_runs.specs.Put.{rows_short}

@@ -1,5 +1,4 @@
 -- `walk_run`: the parts that the joint box meets serve each row, where there was room for all of them.
-use borrow.Author.Rules.{rules}
 use native.Mathlib.Omega.{arith}
 use Rattle.mesh_order_rows.specs.Led.{own_there}
 use Rattle.mesh_led_runs.specs.RunRows.{led_run, run_parts, run_spread}

@@ -1,5 +1,4 @@
 -- `check_mesh`: each return is right by the tests that led to it.
-use borrow.Author.Rules.{rules}
 use mathlib.Core.Path.{sym, ◌∙◌}
 use Rattle.meaning.specs.Scene.{scene_of}
 use Rattle.mesh_lent.specs.Answering.{too_short, long_enough, by_checks}

@@ -1,5 +1,4 @@
 -- `check_over`: a blanked list is a table without seams.
-use borrow.Author.Rules.{rules}
 use Rattle.meaning.specs.Scene.{scene_of}
 use Rattle.mesh_lent.specs.Answering.{room_for, mesh_sewn}
 use Rattle.mesh_lent.proofs.check_over.Goals as goal

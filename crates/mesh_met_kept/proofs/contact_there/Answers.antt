@@ -1,5 +1,4 @@
 -- `contact_there`: 16, then the stretch.
-use borrow.Author.Rules.{rules}
 use mathlib.Core.Path.{sym, ◌∙◌}
 use Rattle.scene_seams.specs.Alone.{tabled}
 use Rattle.mesh_check_laws.specs.Facts.{mesh_sound_within}
@@ -9,7 +8,8 @@ use Rattle.mesh_met_kept.proofs.contact_there.Goals as goal
 pub returns-then-beyond_old_range : goal.returns-then-beyond_old_range
 returns-then-beyond_old_range c =
     let a = c.args in
-    kept_beyond a.which a.wanted (tabled a.positions.now a.edges.now a.triangles.now a.stands.now) a.first a.end a.list.now a.words.now a.contacts.now (sym c.beyond_old_range.ensures ∙ c.if-beyond_old_range.true)
+    rw c.from.ensures
+    (kept_beyond a.which a.wanted (tabled a.positions.now a.edges.now a.triangles.now a.stands.now) a.first a.end a.list.now a.words.now a.contacts.now (sym c.beyond_old_range.ensures ∙ c.if-beyond_old_range.true))
 
 pub contact_near-requires : goal.contact_near-requires
 contact_near-requires c =

@@ -1,5 +1,4 @@
 -- `edges_far`: the first axis on which the parts are apart decides, and if there is none the third one does.
-use borrow.Author.Rules.{rules}
 use Rattle.mesh_near.proofs.edges_far.Goals as goal
 
 pub returns-then-edges_far_at : goal.returns-then-edges_far_at

@@ -1,4 +1,3 @@
-use borrow.Author.Rules.{rules}
 use Rattle.mesh_near.proofs.edges_far_at.Goals as goal
 
 pub returns : goal.returns

@@ -1,5 +1,4 @@
 -- `is_far`: by the kind; every end and every corner is a vertex.
-use borrow.Author.Rules.{rules}
 use native.Mathlib.Omega.{arith}
 use Rattle.meaning.specs.Scene.{scene_of}
 use Rattle.mesh_near.specs.Apart.{point_far_is, edges_far_is}

@@ -1,6 +1,4 @@
 -- `astray`: where it leads, and back.
-use native.Mathlib.Omega.{arith}
-use borrow.Author.Rules.{rules}
 use Rattle.mesh_orders.specs.Orders.{leads_elsewhere, leads_out}
 use Rattle.mesh_orders.proofs.astray.Goals as goal
 

@@ -2,7 +2,6 @@
 use native.Mathlib.Omega.{arith}
 use mathlib.Core.Path.{◌∙◌, ap}
 use lib.ListN.{length}
-use borrow.Author.Rules.{rules}
 use Rattle.mesh_orders.specs.Orders.{places_long}
 use Rattle.mesh_orders.specs.Told.{tells}
 use Rattle.mesh_orders.proofs.is_order.Goals as goal

@@ -1,6 +1,5 @@
 -- `put_place`: the place is stored, or there is no part for it.
 use native.Mathlib.Omega.{arith}
-use borrow.Author.Rules.{rules}
 use Rattle.mesh_orders.specs.Orders.{put_known, put_passed}
 use Rattle.mesh_orders.proofs.put_place.Goals as goal
 

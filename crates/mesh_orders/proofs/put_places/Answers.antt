@@ -1,7 +1,5 @@
-use Prim.Native.Nat.{◌-◌}
 use native.Mathlib.Omega.{arith}
-use lib.ListN.{length}
-use Rattle.mesh_orders.specs.Orders.{Placing, placing_starts, placing_goes, placing_ends, placing_long}
+use Rattle.mesh_orders.specs.Orders.{placing_starts, placing_goes, placing_ends, placing_long}
 use Rattle.mesh_orders.proofs.put_places.Goals as goal
 
 pub put_place-requires : goal.put_place-requires
@@ -9,12 +7,6 @@ put_place-requires c = (omega arith, omega (arith, placing_long c.loop-k.invaria
 
 pub loop-k-init : goal.loop-k-init
 loop-k-init c = placing_starts _ _
-
-pub overflow_add-k : goal.overflow_add-k
-overflow_add-k c = omega arith
-
-pub loop-k-smaller : goal.loop-k-smaller
-loop-k-smaller c = omega arith
 
 pub loop-k-preserved : goal.loop-k-preserved
 loop-k-preserved c = placing_goes c.loop-k.invariant (omega arith) c.put_place.ensures

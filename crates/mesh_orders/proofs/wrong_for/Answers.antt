@@ -1,5 +1,4 @@
 -- `wrong_for`: by the length, then by the inverse.
-use borrow.Author.Rules.{rules}
 use mathlib.Core.Path.{refl}
 use Rattle.mesh_orders.specs.Told.{none_lent, wrong_length, by_inverse, told_long}
 use Rattle.mesh_orders.proofs.wrong_for.Goals as goal

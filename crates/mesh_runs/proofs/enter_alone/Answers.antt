@@ -8,17 +8,7 @@ use Rattle.mesh_runs.specs.Going.{kind_few}
 use Rattle.mesh_runs.proofs.enter_alone.Goals as goal
 
 pub loop-i-init : goal.loop-i-init
-loop-i-init c = (c.requires.kind_tree.1, up_to_starts _ _ _ _)
-
-pub first_second-from-requires : goal.first_second-from-requires
-first_second-from-requires c =
-    let pre = c.requires.kind_tree in
-    omega (arith, c.loop-i-test.true, pre.3, pre.0.few_rows)
-
-pub overflow_add-offset : goal.overflow_add-offset
-overflow_add-offset c =
-    let pre = c.requires.kind_tree in
-    omega (arith, c.loop-i-test.true, pre.3, pre.0.few_rows, pre.0.low)
+loop-i-init c = up_to_starts _ _ _ _
 
 pub walk_row-k-requires : goal.walk_row-k-requires
 walk_row-k-requires c =
@@ -28,22 +18,17 @@ walk_row-k-requires c =
     let pre = start.requires.kind_tree in
     let loop = c.loop-i in
     let below = c.loop-i-test.true in
-    let few = kind_few a.which pre.0 a.first loop.i (omega (arith, pre.3)) in record { row_tree = subst (λ (f : ℕ). RowTree s a.kind loop.i a.boxes.now a.levels.now a.parts a.top (a.offset + loop.i) f) (sym c.first_second-from.ensures) (pre.0.row loop.i (omega (arith, pre.3))); most_in_bounds = (omega (arith, start.requires.most_in_bounds, entered_length loop.invariant.1.done), omega (arith, start.requires.most_in_bounds, pre.2, loop.invariant.1.done.counts)) }
-
-pub loop-i-smaller : goal.loop-i-smaller
-loop-i-smaller c = let below = c.loop-i-test.true in omega arith
+    let few = kind_few a.which pre.0 a.first loop.i (omega (arith, pre.3)) in
+    record {
+      row_tree = subst (λ (f : ℕ). RowTree s a.kind loop.i a.boxes.now a.levels.now a.parts a.top (a.offset + loop.i) f) (sym c.first_second-from.ensures) (pre.0.row loop.i (omega (arith, pre.3)));
+      most_in_bounds = (omega (arith, start.requires.most_in_bounds, entered_length loop.invariant.done), omega (arith, start.requires.most_in_bounds, pre.2, loop.invariant.done.counts));
+    }
 
 pub loop-i-preserved : goal.loop-i-preserved
-loop-i-preserved c =
-    let below = c.loop-i-test.true in
-    (omega arith, up_to_next _ c.loop-i.invariant.1 c.walk_row-k.ensures)
-
-pub shape_of-list : goal.shape_of-list
-shape_of-list c = entered_length c.loop-i.invariant.1.done
+loop-i-preserved c = up_to_next _ c.loop-i.invariant c.walk_row-k.ensures
 
 pub returns : goal.returns
 returns c =
-    let a = c.args in
     let loop = c.loop-i in
-    let all : loop.i ≡ a.end = omega (arith, c.loop-i-test.false, loop.invariant.0) in
-    rw all at loop.invariant.1.done
+    let all : loop.i ≡ c.args.end = omega (arith, c.loop-i-test.false, loop.auto.i-end c.requires.kind_tree.1) in
+    rw all at loop.invariant.done

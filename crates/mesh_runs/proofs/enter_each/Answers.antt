@@ -8,17 +8,7 @@ use Rattle.mesh_runs.specs.Going.{sought_few}
 use Rattle.mesh_runs.proofs.enter_each.Goals as goal
 
 pub loop-i-init : goal.loop-i-init
-loop-i-init c = (c.requires.all_sought.1, up_to_starts _ _ _ _)
-
-pub first_second-from-requires : goal.first_second-from-requires
-first_second-from-requires c =
-    let pre = c.requires.all_sought in
-    omega (arith, c.loop-i-test.true, pre.3)
-
-pub overflow_add-offset : goal.overflow_add-offset
-overflow_add-offset c =
-    let pre = c.requires.all_sought in
-    omega (arith, c.loop-i-test.true, pre.3, pre.4)
+loop-i-init c = up_to_starts _ _ _ _
 
 pub enter_sought-k-requires : goal.enter_sought-k-requires
 enter_sought-k-requires c =
@@ -28,22 +18,17 @@ enter_sought-k-requires c =
     let pre = start.requires.all_sought in
     let loop = c.loop-i in
     let below = c.loop-i-test.true in
-    let few = sought_few a.which a.offset a.first a.end pre.0 loop.i (omega arith) in record { sought = subst (λ (f : ℕ). Sought a.which s a.kind loop.i a.boxes.now a.base (a.offset + loop.i) f a.places.now a.count) (sym c.first_second-from.ensures) (pre.0 loop.i loop.invariant.1.past below); most_in_bounds = (omega (arith, start.requires.most_in_bounds, entered_length loop.invariant.1.done), omega (arith, start.requires.most_in_bounds, pre.2, loop.invariant.1.done.counts)) }
-
-pub loop-i-smaller : goal.loop-i-smaller
-loop-i-smaller c = let below = c.loop-i-test.true in omega arith
+    let few = sought_few a.which a.offset a.first a.end pre.0 loop.i (omega arith) in
+    record {
+      sought = subst (λ (f : ℕ). Sought a.which s a.kind loop.i a.boxes.now a.base (a.offset + loop.i) f a.places.now a.count) (sym c.first_second-from.ensures) (pre.0 loop.i loop.invariant.past below);
+      most_in_bounds = (omega (arith, start.requires.most_in_bounds, entered_length loop.invariant.done), omega (arith, start.requires.most_in_bounds, pre.2, loop.invariant.done.counts));
+    }
 
 pub loop-i-preserved : goal.loop-i-preserved
-loop-i-preserved c =
-    let below = c.loop-i-test.true in
-    (omega arith, up_to_next _ c.loop-i.invariant.1 c.enter_sought-k.ensures)
-
-pub shape_of-list : goal.shape_of-list
-shape_of-list c = entered_length c.loop-i.invariant.1.done
+loop-i-preserved c = up_to_next _ c.loop-i.invariant c.enter_sought-k.ensures
 
 pub returns : goal.returns
 returns c =
-    let a = c.args in
     let loop = c.loop-i in
-    let all : loop.i ≡ a.end = omega (arith, c.loop-i-test.false, loop.invariant.0) in
-    rw all at loop.invariant.1.done
+    let all : loop.i ≡ c.args.end = omega (arith, c.loop-i-test.false, loop.auto.i-end c.requires.all_sought.1) in
+    rw all at loop.invariant.done

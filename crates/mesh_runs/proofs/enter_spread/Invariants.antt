@@ -1,5 +1,4 @@
 -- `enter_spread`: the rows passed are entered.
-use Prim.Native.Nat.{◌-◌, ◌≤◌}
 use mathlib.Core.Path.{◌≡◌}
 use lib.ListN.{length}
 use Rattle.scene_seams.specs.Alone.{tabled}
@@ -8,11 +7,7 @@ use Rattle.mesh_runs.specs.Runs.{kind_entries}
 use Rattle.mesh_runs.proofs.enter_spread.Given as goal
 
 abbrev pub invariant-loop-i : goal.invariant-loop-i
-invariant-loop-i l =
-    (length l.marks ≡ length l.initial.marks)
-    × (256 ≡ length l.seconds)
-    × (l.i ≤ l.end)
-    × EnteringUpTo (kind_entries l.which (tabled l.positions l.edges l.triangles l.stands) l.kind) l.most l.initial.list l.at l.first l.list l.k l.i
-
-abbrev pub decreases-loop-i : goal.decreases-loop-i
-decreases-loop-i l = l.end - l.i
+invariant-loop-i l = record {
+  room : 256 ≡ length l.seconds;
+  entered : EnteringUpTo (kind_entries l.which (tabled l.positions l.edges l.triangles l.stands) l.kind) l.most l.initial.list l.at l.first l.list l.k l.i;
+}

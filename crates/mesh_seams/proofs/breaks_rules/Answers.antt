@@ -1,4 +1,3 @@
-use borrow.Author.Rules.{rules}
 use Rattle.mesh_seams.proofs.breaks_rules.Goals as goal
 
 pub returns : goal.returns

@@ -2,7 +2,6 @@
 use Prim.Native.Nat.{◌-◌}
 use mathlib.Core.Path.{sym, ◌∙◌, ap}
 use native.Mathlib.Omega.{arith}
-use borrow.Author.Rules.{rules}
 use lib.ListN.{get_or-eq_default}
 use Rattle.scene_seams.specs.Table.{looked_up}
 use Rattle.mesh_seams.proofs.counts_as.Goals as goal
@@ -10,7 +9,7 @@ use Rattle.mesh_seams.proofs.counts_as.Goals as goal
 pub returns-then-v-stands : goal.returns-then-v-stands
 returns-then-v-stands c =
     let a = c.args in
-    c.lowered.ensures ∙ ap (λ d. a.v - d) c.wide.ensures ∙ sym (looked_up a.stands.now a.v)
+    c.saturating_sub.ensures ∙ ap (λ d. a.v - d) c.wide.ensures ∙ sym (looked_up a.stands.now a.v)
 
 pub returns-else-v-stands : goal.returns-else-v-stands
 returns-else-v-stands c =

@@ -1,6 +1,5 @@
 -- `replaced`: the entry is looked up, or there is none.
 use native.Mathlib.Omega.{arith}
-use borrow.Author.Rules.{rules}
 use lib.ListN.{get_or-eq_default}
 use Rattle.mesh_seams.proofs.replaced.Goals as goal
 

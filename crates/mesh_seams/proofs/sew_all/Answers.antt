@@ -1,59 +1,21 @@
-use Prim.Native.Nat.{◌*◌, ◌-◌, ◌/◌}
+use Prim.Native.Nat.{◌*◌}
 use native.Mathlib.Omega.{arith}
-use borrow.Author.Rules.{rules}
-use lib.ListN.{length}
-use Rattle.scene_seams.specs.Sewing.{Sewing, sewing_starts, sewing_goes, sewing_ends}
+use Rattle.scene_seams.specs.Sewing.{sewing_starts, sewing_goes, sewing_ends}
 use Rattle.mesh_seams.specs.Sewing.{mesh_seam_fits}
 use Rattle.mesh_seams.proofs.sew_all.Goals as goal
 
 pub loop-k-init : goal.loop-k-init
 loop-k-init c = sewing_starts _ _ _ c.requires.blank.none
 
-pub overflow_mul-k : goal.overflow_mul-k
-overflow_mul-k c = omega arith
-
-pub offset_bounds-seams-k : goal.offset_bounds-seams-k
-offset_bounds-seams-k c = omega arith
-
-pub bounds-seams-k : goal.bounds-seams-k
-bounds-seams-k c = omega arith
-
-pub overflow_mul-k-in-loop-k : goal.overflow_mul-k-in-loop-k
-overflow_mul-k-in-loop-k c = omega arith
-
-pub overflow_add-k : goal.overflow_add-k
-overflow_add-k c = omega arith
-
-pub offset_bounds-seams-k-in-loop-k : goal.offset_bounds-seams-k-in-loop-k
-offset_bounds-seams-k-in-loop-k c = omega arith
-
-pub bounds-seams-k-in-loop-k : goal.bounds-seams-k-in-loop-k
-bounds-seams-k-in-loop-k c = omega arith
-
 pub sew_next-broken-requires : goal.sew_next-broken-requires
 sew_next-broken-requires c =
     let known = c.requires.inside in
     (known _ (omega arith), known _ (omega arith))
 
-pub overflow_mul-k-in-loop-k-2 : goal.overflow_mul-k-in-loop-k-2
-overflow_mul-k-in-loop-k-2 c = omega arith
-
-pub offset_bounds-seams-k-in-loop-k-2 : goal.offset_bounds-seams-k-in-loop-k-2
-offset_bounds-seams-k-in-loop-k-2 c = omega arith
-
-pub bounds-seams-k-in-loop-k-2 : goal.bounds-seams-k-in-loop-k-2
-bounds-seams-k-in-loop-k-2 c = omega arith
-
 pub overflow_add-least : goal.overflow_add-least
 overflow_add-least c =
     let start = c in
     omega (arith, c.wide-least.ensures, start.requires.inside (2 * c.loop-k.k) (omega arith))
-
-pub overflow_add-k-in-loop-k : goal.overflow_add-k-in-loop-k
-overflow_add-k-in-loop-k c = omega arith
-
-pub loop-k-smaller : goal.loop-k-smaller
-loop-k-smaller c = omega arith
 
 pub loop-k-preserved : goal.loop-k-preserved
 loop-k-preserved c =

@@ -1,5 +1,4 @@
 -- `sew_next`: what its calls ensure, put together.
-use borrow.Author.Rules.{rules}
 use Rattle.mesh_seams.proofs.sew_next.Goals as goal
 
 pub returns : goal.returns

@@ -1,5 +1,4 @@
 -- `count_grown`: a walk that enters none counts all.
-use borrow.Author.Rules.{rules}
 use native.Mathlib.Omega.{arith}
 use Rattle.meaning.specs.MeshRows.{rows_in}
 use Rattle.scene_seams.specs.Alone.{tabled}

@@ -1,5 +1,4 @@
 -- `count_stretch`: what was planted is what the walk goes by.
-use borrow.Author.Rules.{rules}
 use native.Mathlib.Omega.{arith}
 use mathlib.Core.List.{[]}
 use Rattle.scene_seams.specs.Table.{seams_of}

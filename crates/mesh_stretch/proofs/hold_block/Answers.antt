@@ -1,5 +1,4 @@
 -- `hold_block`: the rows of the block are held behind those before them.
-use borrow.Author.Rules.{rules}
 use native.Mathlib.Omega.{arith}
 use Rattle.scene_seams.specs.Alone.{tabled}
 use Rattle.mesh_entries.specs.Telling.{mesh_entries_length}

@@ -1,12 +1,9 @@
-use borrow.Author.Rules.{rules}
 use native.Mathlib.Omega.{arith}
-use Prim.Native.Nat.{◌-◌, ◌≤◌, ◌<◌}
-use mathlib.Core.Path.{◌≡◌, refl, sym, ◌∙◌}
-use lib.ListN.{length}
+use mathlib.Core.Path.{◌≡◌, refl}
 use Rattle.meaning.specs.MeshRows.{rows_in}
 use Rattle.scene_seams.specs.Alone.{tabled}
 use Rattle.mesh_entries.specs.Telling.{mesh_entries_length}
-use Rattle.mesh_stretch.specs.Holding.{RowsHeld, rows_held_starts, rows_few}
+use Rattle.mesh_stretch.specs.Holding.{rows_held_starts, rows_few}
 use Rattle.mesh_stretch.proofs.hold_rows.Goals as goal
 
 pub loop-row-init : goal.loop-row-init

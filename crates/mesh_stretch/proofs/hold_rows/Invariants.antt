@@ -1,13 +1,9 @@
 -- `hold_rows`: the blocks passed are counted, and held while all are.
-use borrow.Author.Rules.{rules}
-use native.Mathlib.Omega.{arith}
 use Prim.Native.Nat.{◌-◌, ◌≤◌, ◌<◌}
-use mathlib.Core.Path.{◌≡◌, refl, sym, ◌∙◌}
+use mathlib.Core.Path.{◌≡◌}
 use lib.ListN.{length}
-use Rattle.meaning.specs.MeshRows.{rows_in}
 use Rattle.scene_seams.specs.Alone.{tabled}
-use Rattle.mesh_entries.specs.Telling.{mesh_entries_length}
-use Rattle.mesh_stretch.specs.Holding.{RowsHeld, rows_held_starts, rows_few}
+use Rattle.mesh_stretch.specs.Holding.{RowsHeld}
 use Rattle.mesh_stretch.proofs.hold_rows.Given as goal
 
 abbrev pub invariant-loop-row : goal.invariant-loop-row

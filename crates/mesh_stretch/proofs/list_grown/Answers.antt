@@ -1,5 +1,4 @@
 -- `list_grown`: walked, and entered where there is room, from where the entries are held or by another walk.
-use borrow.Author.Rules.{rules}
 use native.Mathlib.Omega.{arith}
 use Rattle.meaning.specs.MeshRows.{rows_in, mesh_entries}
 use Rattle.scene_seams.specs.Alone.{tabled}

@@ -1,10 +1,7 @@
 -- `walk_block`: the walk goes by the front alone.
-use borrow.Author.Rules.{rules}
-use native.Mathlib.Omega.{arith}
-use mathlib.Core.Path.{sym, ◌∙◌}
+use mathlib.Core.Path.{sym}
 use lib.Seq.{length-take-le}
 use Rattle.mesh_ordered.specs.Either.{roomed_as}
-use Rattle.mesh_stretch.specs.Holding.{kept_behind}
 use Rattle.mesh_stretch.proofs.walk_block.Goals as goal
 
 pub slice_bounds-walk_ready-end-2 : goal.slice_bounds-walk_ready-end-2

@@ -1,5 +1,4 @@
 -- `boxes_meet`: the first axis on which the spans are apart decides, and if there is none the third one does.
-use borrow.Author.Rules.{rules}
 use borrow.Author.Tests.{not-true, not-false}
 use Rattle.mesh_walk.proofs.boxes_meet.Goals as goal
 

@@ -1,7 +1,5 @@
 use native.Mathlib.Omega.{arith}
-use Prim.Native.Nat.{◌-◌, ◌≤◌}
-use mathlib.Core.Path.{◌≡◌, refl, ◌∙◌}
-use Rattle.mesh_tree.specs.Levels.{first_under}
+use mathlib.Core.Path.{refl, ◌∙◌}
 use Rattle.mesh_walk.specs.Places.{up_same, up_test}
 use Rattle.mesh_walk.proofs.climb.Goals as goal
 

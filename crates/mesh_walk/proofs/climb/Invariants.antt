@@ -1,9 +1,7 @@
 -- `climb`: the first part under the node stays the same.
-use native.Mathlib.Omega.{arith}
 use Prim.Native.Nat.{◌-◌, ◌≤◌}
-use mathlib.Core.Path.{◌≡◌, refl, ◌∙◌}
+use mathlib.Core.Path.{◌≡◌}
 use Rattle.mesh_tree.specs.Levels.{first_under}
-use Rattle.mesh_walk.specs.Places.{up_same, up_test}
 use Rattle.mesh_walk.proofs.climb.Given as goal
 
 abbrev pub invariant-loop-v : goal.invariant-loop-v

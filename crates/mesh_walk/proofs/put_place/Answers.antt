@@ -1,5 +1,4 @@
 -- `put_place`: one store, or none.
-use borrow.Author.Rules.{rules}
 use native.Mathlib.Omega.{arith}
 use borrow.Author.Tests.{lt-ltb, le-ltb}
 use Rattle.mesh_walk.proofs.put_place.Goals as goal

@@ -1,5 +1,4 @@
 -- `step`: a node that is missed has no part, one that is met is gone into, and a part that is met is found.
-use borrow.Author.Rules.{rules}
 use native.Mathlib.Omega.{arith}
 use Prim.Native.Nat.{◌-◌, ◌*◌}
 use mathlib.Core.Path.{refl}

@@ -1,12 +1,8 @@
 use borrow.Author.Rules.{rules}
 use native.Mathlib.Omega.{arith}
-use Prim.Native.Nat.{◌-◌}
-use mathlib.Core.Path.{◌≡◌}
-use lib.ListN.{length}
-use Rattle.scene_seams.specs.Alone.{tabled}
 use Rattle.mesh_entries.specs.Entering.{entered_length}
 use Rattle.mesh_ordered.specs.Either.{lent_as}
-use Rattle.mesh_wanted.specs.Stretch.{StretchGoing, stretch_starts, stretch_goes, alone_few, stretch_ends}
+use Rattle.mesh_wanted.specs.Stretch.{stretch_starts, stretch_goes, alone_few, stretch_ends}
 use Rattle.mesh_wanted.proofs.keep_alone.Goals as goal
 
 pub loop-row-init : goal.loop-row-init
@@ -17,15 +13,6 @@ keep_numbered-so_far-requires c =
     let loop = c.loop-row in
     let below = c.loop-row-test.true in
     let same = loop.invariant.0 in record { forest = (c.requires.forest.0, omega (arith, c.requires.forest.2, below)); orders_lent = lent_as c.requires.orders_lent same; sound = (c.requires.sound.0, omega (arith, c.requires.sound.1, entered_length loop.invariant.1.done.list), omega (arith, c.requires.sound.2, entered_length loop.invariant.1.done.bytes), alone_few loop.invariant.1 (omega (arith, below)) c.requires.sound.3) }
-
-pub overflow_add-row : goal.overflow_add-row
-overflow_add-row c =
-    let start = c in
-    let below = c.loop-row-test.true in
-    omega (arith, below, start.requires.forest.2, start.requires.forest.0.few_vertices, start.requires.forest.0.few_edges)
-
-pub loop-row-smaller : goal.loop-row-smaller
-loop-row-smaller c = let below = c.loop-row-test.true in omega arith
 
 pub loop-row-preserved : goal.loop-row-preserved
 loop-row-preserved c = let same = c.loop-row.invariant.0 in (omega (arith, same), stretch_goes c.loop-row.invariant.1 c.loop-row-test.true c.keep_numbered-so_far.ensures)

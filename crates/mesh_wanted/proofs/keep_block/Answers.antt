@@ -1,5 +1,4 @@
 -- `keep_block`: the rows' entries are listed and judged, or the rows are judged alone.
-use borrow.Author.Rules.{rules}
 use native.Mathlib.Omega.{arith}
 use Rattle.scene_seams.specs.Alone.{tabled}
 use Rattle.meaning.specs.MeshRows.{rows_in}

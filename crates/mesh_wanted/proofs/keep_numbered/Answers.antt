@@ -1,5 +1,4 @@
 -- `keep_numbered`: the row of a number is that of a vertex, or of an edge.
-use borrow.Author.Rules.{rules}
 use native.Mathlib.Omega.{arith}
 use Prim.Native.Nat.{◌-◌}
 use Rattle.meaning.specs.declared.Kind.TheVariants.{PointTriangle, EdgeEdge}

@@ -1,12 +1,9 @@
 use borrow.Author.Rules.{rules}
 use native.Mathlib.Omega.{arith}
-use Prim.Native.Nat.{◌-◌, ◌≤◌, ◌<◌}
-use mathlib.Core.Path.{◌≡◌, refl, sym}
-use lib.ListN.{length}
-use Rattle.scene_seams.specs.Alone.{tabled}
+use mathlib.Core.Path.{refl, sym}
 use Rattle.mesh_entries.specs.Entering.{entered_length}
 use Rattle.mesh_ordered.specs.Either.{lent_as}
-use Rattle.mesh_wanted.specs.Stretch.{StretchGoing, stretch_starts, stretch_goes_on, stretch_few, stretch_ends}
+use Rattle.mesh_wanted.specs.Stretch.{stretch_starts, stretch_goes_on, stretch_few, stretch_ends}
 use Rattle.mesh_wanted.proofs.keep_stretch.Goals as goal
 
 pub loop-row-init : goal.loop-row-init

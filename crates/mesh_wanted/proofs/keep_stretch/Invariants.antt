@@ -1,13 +1,9 @@
 -- `keep_stretch`: the blocks passed are judged.
-use borrow.Author.Rules.{rules}
-use native.Mathlib.Omega.{arith}
 use Prim.Native.Nat.{◌-◌, ◌≤◌, ◌<◌}
-use mathlib.Core.Path.{◌≡◌, refl, sym}
+use mathlib.Core.Path.{◌≡◌}
 use lib.ListN.{length}
 use Rattle.scene_seams.specs.Alone.{tabled}
-use Rattle.mesh_entries.specs.Entering.{entered_length}
-use Rattle.mesh_ordered.specs.Either.{lent_as}
-use Rattle.mesh_wanted.specs.Stretch.{StretchGoing, stretch_starts, stretch_goes_on, stretch_few, stretch_ends}
+use Rattle.mesh_wanted.specs.Stretch.{StretchGoing}
 use Rattle.mesh_wanted.proofs.keep_stretch.Given as goal
 
 abbrev pub invariant-loop-row : goal.invariant-loop-row

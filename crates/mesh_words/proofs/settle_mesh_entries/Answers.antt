@@ -1,8 +1,6 @@
-use Prim.Native.Nat.{◌-◌, ◌≤◌}
-use mathlib.Core.Path.{sym, ◌∙◌}
 use native.Mathlib.Omega.{arith}
-use lib.ListN.{length, drop, drop_of_length-le}
-use Rattle.sequences.specs.Writing.{Writing, writing_starts_front, writing_as, writing_room, writing_step, writing_ends_front}
+use lib.ListN.{drop_of_length-le}
+use Rattle.sequences.specs.Writing.{writing_starts_front, writing_as, writing_room, writing_step, writing_ends_front}
 use Rattle.scene_seams.specs.Alone.{tabled}
 use Rattle.list_words.specs.Listed.{bytes_of}
 use Rattle.mesh_words.specs.Asked.{mesh_pairs_in, mesh_bytes_length, mesh_left}
@@ -12,7 +10,7 @@ pub loop-k-init : goal.loop-k-init
 loop-k-init c =
     let start = c in
     let l = mesh_bytes_length start.args.count start.args.list.now start.requires.1 (tabled start.args.positions.now start.args.edges.now start.args.triangles.now start.args.stands.now) in
-    (omega arith, writing_starts_front _ _ (rw l start.requires.3))
+    writing_starts_front _ _ (rw l start.requires.3)
 
 pub settle_entry-requires : goal.settle_entry-requires
 settle_entry-requires c =
@@ -23,25 +21,19 @@ settle_entry-requires c =
 pub bounds-out-k : goal.bounds-out-k
 bounds-out-k c =
     let start = c in
-    writing_room (writing_as (mesh_left start.args.count start.args.list.now start.requires.1 _ c.loop-k.k (omega arith)) c.loop-k.invariant.1)
-
-pub overflow_add-k : goal.overflow_add-k
-overflow_add-k c = omega arith
-
-pub loop-k-smaller : goal.loop-k-smaller
-loop-k-smaller c = omega arith
+    writing_room (writing_as (mesh_left start.args.count start.args.list.now start.requires.1 _ c.loop-k.k (omega arith)) c.loop-k.invariant)
 
 pub loop-k-preserved : goal.loop-k-preserved
 loop-k-preserved c =
     let start = c in
-    (omega arith, rw c.settle_entry.ensures (writing_step (writing_as (mesh_left start.args.count start.args.list.now start.requires.1 _ c.loop-k.k (omega arith)) c.loop-k.invariant.1)))
+    rw c.settle_entry.ensures (writing_step (writing_as (mesh_left start.args.count start.args.list.now start.requires.1 _ c.loop-k.k (omega arith)) c.loop-k.invariant))
 
 pub shape_of-out : goal.shape_of-out
-shape_of-out c = c.loop-k.invariant.1.same
+shape_of-out c = c.loop-k.invariant.same
 
 pub returns : goal.returns
 returns c =
     let start = c in
     let s = tabled start.args.positions.now start.args.edges.now start.args.triangles.now start.args.stands.now in
     writing_ends_front
-    (writing_as (drop_of_length-le (bytes_of s (mesh_pairs_in start.args.count start.args.list.now)) {i = c.loop-k.k} (rw (mesh_bytes_length start.args.count start.args.list.now start.requires.1 s) (omega arith))) c.loop-k.invariant.1)
+    (writing_as (drop_of_length-le (bytes_of s (mesh_pairs_in start.args.count start.args.list.now)) {i = c.loop-k.k} (rw (mesh_bytes_length start.args.count start.args.list.now start.requires.1 s) (omega arith))) c.loop-k.invariant)

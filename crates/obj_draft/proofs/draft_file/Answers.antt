@@ -1,9 +1,6 @@
-use mathlib.Core.Path.{◌≡◌, ◌∙◌}
-use Prim.Native.Nat.{◌-◌}
+use mathlib.Core.Path.{◌∙◌}
 use native.Mathlib.Omega.{arith}
-use lib.ListN.{length}
-use borrow.Author.Rules.{rules}
-use Rattle.obj_draft.specs.Reading.{Drafting, SameRoom, same_room, room_then, same_roomy, draft_starts, draft_goes, draft_fails, draft_ends}
+use Rattle.obj_draft.specs.Reading.{same_room, room_then, same_roomy, draft_starts, draft_goes, draft_fails, draft_ends}
 use Rattle.obj_draft.proofs.draft_file.Goals as goal
 
 pub loop-at-init : goal.loop-at-init
@@ -19,17 +16,17 @@ take_line-requires c =
       knows = i.0.drafted.knows;
     }
 
-pub shape_of-positions-in-Fault : goal.shape_of-positions-in-Fault
-shape_of-positions-in-Fault c = c.take_line.auto.positions ∙ c.loop-at.invariant.1.positions
+pub shape_of-positions-in-Err : goal.shape_of-positions-in-Err
+shape_of-positions-in-Err c = c.take_line.auto.positions ∙ c.loop-at.invariant.1.positions
 
-pub shape_of-edges-in-Fault : goal.shape_of-edges-in-Fault
-shape_of-edges-in-Fault c = c.take_line.auto.edges ∙ c.loop-at.invariant.1.edges
+pub shape_of-edges-in-Err : goal.shape_of-edges-in-Err
+shape_of-edges-in-Err c = c.take_line.auto.edges ∙ c.loop-at.invariant.1.edges
 
-pub shape_of-triangles-in-Fault : goal.shape_of-triangles-in-Fault
-shape_of-triangles-in-Fault c = c.take_line.auto.triangles ∙ c.loop-at.invariant.1.triangles
+pub shape_of-triangles-in-Err : goal.shape_of-triangles-in-Err
+shape_of-triangles-in-Err c = c.take_line.auto.triangles ∙ c.loop-at.invariant.1.triangles
 
-pub returns-in-Fault : goal.returns-in-Fault
-returns-in-Fault c = draft_fails c.loop-at.invariant.0 _ _ _ c.take_line.ensures c.in-Fault.is
+pub returns-in-Err : goal.returns-in-Err
+returns-in-Err c = draft_fails c.loop-at.invariant.0 _ _ _ c.take_line.ensures c.in-Err.is
 
 pub overflow_add-line : goal.overflow_add-line
 overflow_add-line c = omega (arith, c.loop-at.invariant.0.few, c.loop-at-test.true)
@@ -37,13 +34,13 @@ overflow_add-line c = omega (arith, c.loop-at.invariant.0.few, c.loop-at-test.tr
 pub loop-at-smaller : goal.loop-at-smaller
 loop-at-smaller c =
     let i = c.loop-at.invariant.0 in
-    let on = draft_goes i _ _ _ c.take_line.ensures c.in-Next.is in
+    let on = draft_goes i _ _ _ c.take_line.ensures c.in-Ok.is in
     omega (arith, on.1, i.reached.within, on.0.reached.within)
 
 pub loop-at-preserved : goal.loop-at-preserved
 loop-at-preserved c =
     let i = c.loop-at.invariant in (
-      (draft_goes i.0 _ _ _ c.take_line.ensures c.in-Next.is).0,
+      (draft_goes i.0 _ _ _ c.take_line.ensures c.in-Ok.is).0,
       room_then (record {
         positions = c.take_line.auto.positions;
         edges = c.take_line.auto.edges;

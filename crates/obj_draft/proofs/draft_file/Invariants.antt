@@ -1,11 +1,8 @@
 -- `obj_draft::draft_file` meets its contract: the lines before the place say something, none at fault, and the draft holds their scene. Each
 -- turn takes a line.
-use mathlib.Core.Path.{◌≡◌, ◌∙◌}
 use Prim.Native.Nat.{◌-◌}
-use native.Mathlib.Omega.{arith}
 use lib.ListN.{length}
-use borrow.Author.Rules.{rules}
-use Rattle.obj_draft.specs.Reading.{Drafting, SameRoom, same_room, room_then, same_roomy, draft_starts, draft_goes, draft_fails, draft_ends}
+use Rattle.obj_draft.specs.Reading.{Drafting, SameRoom}
 use Rattle.obj_draft.proofs.draft_file.Given as goal
 
 abbrev pub invariant-loop-at : goal.invariant-loop-at

@@ -3,9 +3,9 @@ use mathlib.Core.Path.{refl, sym, ◌∙◌}
 use Prim.Native.Nat.{◌+◌, ◌-◌}
 use native.Mathlib.Omega.{arith}
 use lib.ListN.{take, drop}
-use borrow.Author.Rules.{rules}
+use Rattle.std.proofs.lemmas.Result.{err_from_is_err_and}
 use Rattle.obj_laws.specs.Positive.{face_positive}
-use Rattle.obj_draft.specs.Drafting.{stop_fits, take_unended, take_bad, take_skipped, take_vertex, take_face}
+use Rattle.obj_draft.specs.Drafting.{stop_fits, take_unended, take_bad, take_skipped, take_misplaced_vertex, take_vertex, take_misplaced_face, take_face}
 use Rattle.obj_draft.proofs.take_line.Goals as goal
 
 pub slice_bounds-place_of-count : goal.slice_bounds-place_of-count
@@ -35,12 +35,24 @@ returns-in-Bad c = take_bad c.args.text.now c.args.at c.args.c c.place_of.ensure
 pub returns-in-Skipped : goal.returns-in-Skipped
 returns-in-Skipped c = take_skipped c.args.text.now c.args.at c.args.c c.place_of.ensures refl c.args.positions.now c.args.edges.now c.args.triangles.now c.requires.inside c.if-text-stop.false c.line_of.ensures c.in-Skipped.is
 
-pub returns-in-Vertex : goal.returns-in-Vertex
-returns-in-Vertex c =
-    rw c.next_after.ensures
-    (take_vertex c.args.text.now c.args.at c.args.c c.place_of.ensures refl c.args.positions.now c.args.edges.now c.args.triangles.now c.requires.inside c.if-text-stop.false c.line_of.ensures c.in-Vertex.is _ _ c.add_vertex.ensures)
+pub returns-in_err-counts-in-Vertex : goal.returns-in_err-counts-in-Vertex
+returns-in_err-counts-in-Vertex c =
+    let x = c.from_residual in
+    let fault = err_from_is_err_and x.result x.ensures.1 in
+    rw (fault.1, fault.2)
+    (take_misplaced_vertex c.args.text.now c.args.at c.args.c c.place_of.ensures refl c.args.positions.now c.args.edges.now c.args.triangles.now c.requires.inside c.if-text-stop.false c.line_of.ensures c.in-Vertex.is _ _ c.in_err-counts-in-Vertex.ensures)
 
-pub returns-in-Face : goal.returns-in-Face
-returns-in-Face c =
-    rw c.next_after-in-Face.ensures
-    (take_face c.args.text.now c.args.at c.args.c c.place_of.ensures refl c.args.positions.now c.args.edges.now c.args.triangles.now c.requires.inside c.if-text-stop.false c.line_of.ensures c.in-Face.is _ _ _ c.add_face.ensures)
+pub returns-in_ok-counts-in-Vertex : goal.returns-in_ok-counts-in-Vertex
+returns-in_ok-counts-in-Vertex c =
+    take_vertex c.args.text.now c.args.at c.args.c c.place_of.ensures refl c.args.positions.now c.args.edges.now c.args.triangles.now c.requires.inside c.if-text-stop.false c.line_of.ensures c.in-Vertex.is _ _ c.in_ok-counts-in-Vertex.ensures
+
+pub returns-in_err-counts-in-Face : goal.returns-in_err-counts-in-Face
+returns-in_err-counts-in-Face c =
+    let x = c.from_residual-in_err-counts-in-Face in
+    let fault = err_from_is_err_and x.result x.ensures.1 in
+    rw (fault.1, fault.2)
+    (take_misplaced_face c.args.text.now c.args.at c.args.c c.place_of.ensures refl c.args.positions.now c.args.edges.now c.args.triangles.now c.requires.inside c.if-text-stop.false c.line_of.ensures c.in-Face.is _ _ _ c.in_err-counts-in-Face.ensures)
+
+pub returns-in_ok-counts-in-Face : goal.returns-in_ok-counts-in-Face
+returns-in_ok-counts-in-Face c =
+    take_face c.args.text.now c.args.at c.args.c c.place_of.ensures refl c.args.positions.now c.args.edges.now c.args.triangles.now c.requires.inside c.if-text-stop.false c.line_of.ensures c.in-Face.is _ _ _ c.in_ok-counts-in-Face.ensures

@@ -1,5 +1,4 @@
 -- `obj_line::cut_at_space` meets its contract: at the first space, or at the end.
-use borrow.Author.Rules.{rules}
 use Rattle.obj_line.specs.Parting.{cut_there, cut_nowhere}
 use Rattle.obj_line.proofs.cut_at_space.Goals as goal
 

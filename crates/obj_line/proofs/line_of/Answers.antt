@@ -1,6 +1,5 @@
 -- `obj_line::line_of` meets its contract: its tests are those of the definition.
 use native.Mathlib.Omega.{arith}
-use borrow.Author.Rules.{rules}
 use Rattle.obj_line.specs.Parting.{two_there, says_skipped, says_vertex, says_face, says_nothing}
 use Rattle.obj_line.proofs.line_of.Goals as goal
 

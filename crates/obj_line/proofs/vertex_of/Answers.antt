@@ -2,7 +2,6 @@
 use mathlib.Core.Path.{sym}
 use native.Mathlib.Omega.{arith}
 use lib.Seq.{length-take-le}
-use borrow.Author.Rules.{rules}
 use Rattle.obj_line.specs.Parting.{vertex_of_lem}
 use Rattle.obj_line.proofs.vertex_of.Goals as goal
 

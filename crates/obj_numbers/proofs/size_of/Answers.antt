@@ -17,20 +17,20 @@ pub slice_bounds-with_part-start : goal.slice_bounds-with_part-start
 slice_bounds-with_part-start c = omega (arith, c.if-place-s.true)
 
 pub with_part-requires : goal.with_part-requires
-with_part-requires c = size_small c.args.s.now c.place_of-place.ensures c.whole_of.ensures c.in-Worth.is
+with_part-requires c = size_small c.args.s.now c.place_of-place.ensures c.whole_of.ensures c.in_ok-n.was
 
 pub overflow_mul-result : goal.overflow_mul-result
-overflow_mul-result c = omega (arith, size_small c.args.s.now c.place_of-place.ensures c.whole_of.ensures c.in-Worth.is)
+overflow_mul-result c = omega (arith, size_small c.args.s.now c.place_of-place.ensures c.whole_of.ensures c.in_ok-n.was)
 
-pub returns-in-Bad : goal.returns-in-Bad
-returns-in-Bad c = size_bad c.args.s.now c.place_of-place.ensures c.whole_of.ensures c.in-Bad.is
+pub returns-in_err-n : goal.returns-in_err-n
+returns-in_err-n c = rw c.from_residual.ensures (size_bad c.args.s.now c.place_of-place.ensures c.whole_of.ensures c.in_err-n.was)
 
 pub returns-then-place-s : goal.returns-then-place-s
 returns-then-place-s c =
-    size_pointed c.args.s.now c.place_of-place.ensures c.whole_of.ensures c.in-Worth.is
+    size_pointed c.args.s.now c.place_of-place.ensures c.whole_of.ensures c.in_ok-n.was
     c.if-place-s.true c.with_part.ensures
 
 pub returns-else-place-s : goal.returns-else-place-s
 returns-else-place-s c =
-    size_plain c.args.s.now c.place_of-place.ensures c.whole_of.ensures c.in-Worth.is
+    size_plain c.args.s.now c.place_of-place.ensures c.whole_of.ensures c.in_ok-n.was
     c.if-place-s.false

@@ -1,9 +1,6 @@
 -- `obj_records::put_point` meets its contract: three stores side by side, each of a coordinate.
 use native.Mathlib.Omega.{arith}
 use lib.ListN.{length-set}
-use Rattle.sequences.specs.Wrote.{wrote_three_as}
-use borrow.Author.Rules.{rules}
-use Rattle.text_line.specs.Coordinate.{stored}
 use Rattle.obj_records.proofs.put_point.Goals as goal
 
 pub bounds-out-at-2 : goal.bounds-out-at-2

@@ -2,7 +2,6 @@
 use native.Mathlib.Omega.{arith}
 use lib.ListN.{length-set}
 use Rattle.sequences.specs.Wrote.{wrote_three}
-use borrow.Author.Rules.{rules}
 use Rattle.obj_records.proofs.put_triangle.Goals as goal
 
 pub bounds-out-at-2 : goal.bounds-out-at-2

@@ -1,4 +1,3 @@
-use borrow.Author.Rules.{rules}
 use Rattle.obj_report.specs.Printed.{report_asked, text_asked}
 use Rattle.obj_report.proofs.scene_shown.Goals as goal
 

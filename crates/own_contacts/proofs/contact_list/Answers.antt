@@ -5,7 +5,7 @@ use Rattle.own_contacts.specs.Answering.{own_met_long}
 use Rattle.own_contacts.proofs.contact_list.Goals as goal
 
 pub returns-then-list-gt-OWN_LIMIT : goal.returns-then-list-gt-OWN_LIMIT
-returns-then-list-gt-OWN_LIMIT c = own_met_long _ _ _ _ c.if-list-gt-OWN_LIMIT.true
+returns-then-list-gt-OWN_LIMIT c = rw c.from.ensures (own_met_long _ _ _ _ c.if-list-gt-OWN_LIMIT.true)
 
 pub contact_into-requires : goal.contact_into-requires
 contact_into-requires c = (search rules, c.if-list-gt-OWN_LIMIT.false)

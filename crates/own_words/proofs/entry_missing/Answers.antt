@@ -1,5 +1,4 @@
 -- `entry_missing`: the entry is taken apart, and its parts are looked for.
-use borrow.Author.Rules.{rules}
 use Rattle.meaning.specs.List.{pair}
 use Rattle.own_words.specs.Faults.{missing_is}
 use Rattle.own_words.proofs.entry_missing.Goals as goal

@@ -1,6 +1,4 @@
 -- `entry_shared`: the entry is taken apart, and its parts are compared as its kind says.
-use borrow.Author.Rules.{rules}
-use mathlib.Core.Path.{sym, ◌∙◌}
 use Rattle.scene_seams.specs.Alone.{tabled}
 use Rattle.meaning.specs.List.{pair}
 use Rattle.scene_parts.specs.There.{pt_there, ee_there}

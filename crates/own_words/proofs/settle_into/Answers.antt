@@ -1,25 +1,26 @@
 -- `settle_into`: refused as the scene is, or the entries are judged over the table.
-use borrow.Author.Rules.{rules}
+use Rattle.std.proofs.lemmas.Result.{err_from_is_err_and}
 use Rattle.meaning.specs.Scene.{scene_of, Accepted}
 use Rattle.scene_checks.specs.Accepting.{accepted_by}
 use Rattle.scene_checks.specs.Checking.{to_table}
 use Rattle.own_words.specs.Answering.{own_refused, own_accepted, own_in_table}
 use Rattle.own_words.proofs.settle_into.Goals as goal
 
-pub returns-in-Refused : goal.returns-in-Refused
-returns-in-Refused c =
+pub returns-in_err-check_into : goal.returns-in_err-check_into
+returns-in_err-check_into c =
     let start = c in
     let a = start.args in
     let s = scene_of a.positions.now a.edges.now a.triangles.now a.seams.now in
     let called = c.check_into.ensures in
-    (own_refused s _ _ start.requires.1 c.in-Refused.refusal called.checked (search), called.into)
+    let (y, is, same) = err_from_is_err_and c.from_residual.result c.from_residual.ensures.1 in
+    (rw (is, same) (own_refused s _ _ start.requires.1 _ called.checked c.in_err-check_into.was), called.into)
 
 pub settle_asked-requires : goal.settle_asked-requires
 settle_asked-requires c =
     let a = c.args in
     let s = scene_of a.positions.now a.edges.now a.triangles.now a.seams.now in
     let called = c.check_into.ensures in
-    let accepted = accepted_by s c.in_default.is called.checked in
+    let accepted = accepted_by s c.in_ok-check_into.was called.checked in
     to_table Accepted called.into accepted accepted
 
 pub returns : goal.returns
@@ -28,7 +29,7 @@ returns c =
     let a = start.args in
     let s = scene_of a.positions.now a.edges.now a.triangles.now a.seams.now in
     let called = c.check_into.ensures in
-    let accepted = accepted_by s c.in_default.is called.checked in
+    let accepted = accepted_by s c.in_ok-check_into.was called.checked in
     (own_accepted s _ _ start.requires.1 accepted (own_in_table called.into accepted c.settle_asked.ensures), called.into)
 
 pub check_into-requires : goal.check_into-requires

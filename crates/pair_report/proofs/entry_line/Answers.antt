@@ -1,5 +1,4 @@
 -- `pairs::entry_line`: the entry is taken apart, and its line is that of its pair.
-use borrow.Author.Rules.{rules}
 use Rattle.meaning.specs.List.{pair}
 use Rattle.meaning.specs.Report.{pair_line}
 use Rattle.report_words.specs.Lines.{wrote_as}

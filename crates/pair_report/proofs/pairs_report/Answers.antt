@@ -1,4 +1,3 @@
-use borrow.Author.Rules.{rules}
 use mathlib.Core.List.{[], ◌∷◌}
 use Rattle.decimals.specs.Digits.{digits}
 use Rattle.sequences.specs.Wrote.{wrote_then}

@@ -1,4 +1,3 @@
-use borrow.Author.Rules.{rules}
 use Rattle.list_words.specs.Listed.{answered_word, answered_none}
 use Rattle.pair_report.proofs.verdict_at.Goals as goal
 
@@ -6,4 +5,4 @@ pub returns-in_default : goal.returns-in_default
 returns-in_default c = absurd (answered_none c.requires.1 (search) c.word_of.ensures)
 
 pub returns : goal.returns
-returns c = answered_word _ c.in-Word.word (search) c.word_of.ensures
+returns c = answered_word _ c.in-Some.word (search) c.word_of.ensures

@@ -1,4 +1,3 @@
-use borrow.Author.Rules.{rules}
 use Rattle.scene_seams.specs.Sewing.{blank_none, blank_table}
 use Rattle.pierced_pair.proofs.pierced_pair.Goals as goal
 

@@ -1,4 +1,3 @@
-use borrow.Author.Rules.{rules}
 use native.Mathlib.Omega.{arith}
 use mathlib.Core.Path.{ap}
 use lib.ListN.{length}
@@ -9,12 +8,12 @@ use Rattle.saved_numbers.proofs.number_length.Goals as goal
 
 -- src/lib.rt:61:5
 pub overflow_add-result : goal.overflow_add-result
-overflow_add-result c = omega (arith, c.count_digits.ensures, digits_length 5 c.wide.result (omega arith) (omega (arith, c.wide.ensures)))
+overflow_add-result c = omega (arith, c.count_digits.ensures, digits_length 5 c.from.result (omega arith) (omega (arith, c.from.ensures)))
 
 -- src/lib.rt:57:1
 pub returns : goal.returns
 unfolding numeral
 returns c = (
-  omega (arith, c.count_digits.ensures, ap (λ n. length (digits n)) c.wide.ensures.0),
-  omega (arith, c.count_digits.ensures, digits_length 5 c.wide.result (omega arith) (omega (arith, c.wide.ensures))),
+  omega (arith, c.count_digits.ensures, ap (λ n. length (digits n)) c.from.ensures),
+  omega (arith, c.count_digits.ensures, digits_length 5 c.from.result (omega arith) (omega (arith, c.from.ensures))),
 )

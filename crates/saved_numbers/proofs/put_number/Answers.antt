@@ -1,4 +1,3 @@
-use borrow.Author.Rules.{rules}
 use native.Mathlib.Omega.{arith}
 use mathlib.Core.Path.{ap}
 use lib.ListN.{length}
@@ -10,9 +9,9 @@ use Rattle.saved_numbers.proofs.put_number.Goals as goal
 -- src/lib.rt:93:5
 pub write_number-requires : goal.write_number-requires
 unfolding numeral
-write_number-requires c = omega (arith, ap (λ n. length (digits n)) c.wide.ensures.0)
+write_number-requires c = omega (arith, ap (λ n. length (digits n)) c.from.ensures)
 
 -- src/lib.rt:87:1
 pub returns : goal.returns
 unfolding numeral
-returns c = wrote_then c.put_byte-next.ensures (rw c.wide.ensures.0 at c.write_number.ensures)
+returns c = wrote_then c.put_byte-next.ensures (rw c.from.ensures at c.write_number.ensures)

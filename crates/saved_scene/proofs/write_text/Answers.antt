@@ -1,6 +1,4 @@
 -- `write_text`: the lines of the four lists, one list behind the other.
-use borrow.Author.Rules.{rules}
-use mathlib.Core.Path.{sym}
 use native.Mathlib.Omega.{arith}
 use Rattle.meaning.specs.Scene.{scene_of}
 use Rattle.sequences.specs.Wrote.{wrote_then}

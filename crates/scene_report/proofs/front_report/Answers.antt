@@ -1,7 +1,6 @@
 use native.Mathlib.Omega.{arith}
 use mathlib.Core.Path.{sym}
 use lib.Seq.{length-take-le}
-use borrow.Author.Rules.{rules}
 use Rattle.scene_report.specs.ReadSoFar.{report_of_whole, report_of_full}
 use Rattle.scene_report.proofs.front_report.Goals as goal
 

@@ -1,8 +1,7 @@
 -- `scene_report::scene_report` meets its contract: the table that the seams are taken into has them, so the scene by the table is the scene.
 use mathlib.Core.List.{List}
-use mathlib.Core.Path.{◌≡◌, sym, subst}
+use mathlib.Core.Path.{sym, subst}
 use Prim.Native.Nat.{ℕ}
-use borrow.Author.Rules.{rules}
 use Rattle.meaning.specs.Scene.{scene_of, Accepted}
 use Rattle.scene_report.specs.FromCalls.{accepted_sewable, accepted_tabled}
 use Rattle.scene_report.specs.Whole.{reported_as}

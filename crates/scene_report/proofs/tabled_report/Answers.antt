@@ -1,4 +1,3 @@
-use borrow.Author.Rules.{rules}
 use native.Mathlib.Omega.{arith}
 use Rattle.scene_seams.specs.Alone.{tabled}
 use Rattle.scene_report.specs.FromCalls.{own_room, judged_list, no_room_lem}
@@ -7,16 +6,16 @@ use Rattle.scene_report.proofs.tabled_report.Goals as goal
 
 -- src/lib.rt:50:37
 pub pairs_report-requires : goal.pairs_report-requires
-pairs_report-requires c = ((judged_list {m = c.in-Listed.made} c.requires.0 (omega arith) (omega (arith, own_room)) c.settle_accepted.ensures (search)).held, c.requires.1)
+pairs_report-requires c = ((judged_list {m = c.in-Ok.count} c.requires.0 (omega arith) (omega (arith, own_room)) c.settle_accepted.ensures (search)).held, c.requires.1)
 
 -- src/lib.rt:43:1
-pub returns-in-Listed : goal.returns-in-Listed
-returns-in-Listed c =
-    let j = (judged_list {m = c.in-Listed.made} c.requires.0 (omega arith) (omega (arith, own_room)) c.settle_accepted.ensures (search)) in
+pub returns-in-Ok : goal.returns-in-Ok
+returns-in-Ok c =
+    let j = (judged_list {m = c.in-Ok.count} c.requires.0 (omega arith) (omega (arith, own_room)) c.settle_accepted.ensures (search)) in
     report_stands (tabled c.args.positions.now c.args.edges.now c.args.triangles.now c.args.stands.now) _ j.stands j.bytes j.counts j.few c.pairs_report.ensures
 
 -- src/lib.rt:43:1
-pub returns-in-Refused : goal.returns-in-Refused
-returns-in-Refused c =
-    let n = no_room_lem {x = c.in-Refused.field-0} {n = c.in-Refused.needed} c.settle_accepted.ensures (search) in
+pub returns-in-Err : goal.returns-in-Err
+returns-in-Err c =
+    let n = no_room_lem c.settle_accepted.ensures c.in-Err.is in
     room_refused (tabled c.args.positions.now c.args.edges.now c.args.triangles.now c.args.stands.now) n.0 n.1 c.refused_line.ensures

@@ -10,7 +10,7 @@ use Rattle.scene_seams.proofs.counts_as.Goals as goal
 pub returns-then-v-stands : goal.returns-then-v-stands
 returns-then-v-stands c =
     let a = c.args in
-    c.lowered.ensures ∙ ap (λ d. a.v - d) c.wide.ensures ∙ sym (looked_up a.stands.now a.v)
+    c.saturating_sub.ensures ∙ ap (λ d. a.v - d) c.wide.ensures ∙ sym (looked_up a.stands.now a.v)
 
 pub returns-else-v-stands : goal.returns-else-v-stands
 returns-else-v-stands c =

@@ -7,7 +7,7 @@ use lib.Seq.{set_out}
 use Rattle.scene_seams.proofs.sew.Goals as goal
 
 pub returns-then-v-stands : goal.returns-then-v-stands
-returns-then-v-stands c = rw (c.wide-v.ensures, c.distance.ensures)
+returns-then-v-stands c = rw (c.wide-v.ensures, c.saturating_sub.ensures)
 
 pub returns-else-v-stands : goal.returns-else-v-stands
 returns-else-v-stands c =

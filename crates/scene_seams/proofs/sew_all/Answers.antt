@@ -1,68 +1,28 @@
-use Prim.Native.Nat.{◌*◌, ◌-◌, ◌/◌}
-use native.Mathlib.Omega.{arith}
-use borrow.Author.Rules.{rules}
-use lib.ListN.{length}
-use Rattle.scene_seams.specs.Sewing.{Sewing, seam_fits, sewing_starts, sewing_goes, sewing_ends}
+use Rattle.std.proofs.Common.{◌+◌, ◌∷◌, [], ◌++◌, ◌≡◌, length, length-append, ◌∙◌}
+use Rattle.scene_seams.specs.Sewing.{seam_fits, sewing_starts, sewing_goes}
+use Rattle.scene_seams.proofs.Pairs.{NextPair, next_pair}
 use Rattle.scene_seams.proofs.sew_all.Goals as goal
 
-pub loop-k-init : goal.loop-k-init
-loop-k-init c = sewing_starts _ _ _ c.requires.blank.none
+pub loop-seam-init : goal.loop-seam-init
+loop-seam-init c =
+    rw c.into_iter-seam-iterator.ensures.into_iter_gives
+    (record {
+      taken = sewing_starts _ _ _ c.requires.blank.none;
+      in_pairs = c.chunks_exact-seam-items.ensures.size;
+      left = c.chunks_exact-seam-items.ensures.rest;
+    })
 
-pub overflow_mul-k : goal.overflow_mul-k
-overflow_mul-k c = omega arith
-
-pub offset_bounds-seams-k : goal.offset_bounds-seams-k
-offset_bounds-seams-k c = omega arith
-
-pub bounds-seams-k : goal.bounds-seams-k
-bounds-seams-k c = omega arith
-
-pub overflow_mul-k-in-loop-k : goal.overflow_mul-k-in-loop-k
-overflow_mul-k-in-loop-k c = omega arith
-
-pub overflow_add-k : goal.overflow_add-k
-overflow_add-k c = omega arith
-
-pub offset_bounds-seams-k-in-loop-k : goal.offset_bounds-seams-k-in-loop-k
-offset_bounds-seams-k-in-loop-k c = omega arith
-
-pub bounds-seams-k-in-loop-k : goal.bounds-seams-k-in-loop-k
-bounds-seams-k-in-loop-k c = omega arith
-
-pub sew_next-broken-requires : goal.sew_next-broken-requires
-sew_next-broken-requires c =
-    let known = c.requires.inside in
-    (known _ (omega arith), known _ (omega arith))
-
-pub overflow_mul-k-in-loop-k-2 : goal.overflow_mul-k-in-loop-k-2
-overflow_mul-k-in-loop-k-2 c = omega arith
-
-pub offset_bounds-seams-k-in-loop-k-2 : goal.offset_bounds-seams-k-in-loop-k-2
-offset_bounds-seams-k-in-loop-k-2 c = omega arith
-
-pub bounds-seams-k-in-loop-k-2 : goal.bounds-seams-k-in-loop-k-2
-bounds-seams-k-in-loop-k-2 c = omega arith
-
-pub overflow_add-least : goal.overflow_add-least
-overflow_add-least c =
-    let start = c in
-    omega (arith, c.wide-least.ensures, start.requires.few, start.requires.inside (2 * c.loop-k.k) (omega arith))
-
-pub overflow_add-k-in-loop-k : goal.overflow_add-k-in-loop-k
-overflow_add-k-in-loop-k c = omega arith
-
-pub loop-k-smaller : goal.loop-k-smaller
-loop-k-smaller c = omega arith
-
-pub loop-k-preserved : goal.loop-k-preserved
-loop-k-preserved c =
-    let start = c in
-    let called = c.sew_next-broken in
-    rw (called.ensures.1, c.wide-least.ensures)
-    (sewing_goes _ _ _ c.loop-k.invariant (omega arith) (seam_fits start.requires _ (omega arith)) called.result called.ensures.0)
-
-pub shape_of-stands : goal.shape_of-stands
-shape_of-stands c = c.loop-k.invariant.long
-
-pub returns : goal.returns
-returns c = sewing_ends _ _ _ c.loop-k.invariant (omega arith) c.requires.even
+pub loop-seam-preserved : goal.loop-seam-preserved
+loop-seam-preserved c =
+    let before = c.loop-seam.invariant in
+    let steps = c.in-Some.ensures.steps in
+    let here : NextPair c.args.seams.now c.in-Some.seam.now c.next.new.self.rest.now (length c.loop-seam.yielded) =
+    next_pair before.left steps.1.0 (steps.1.1 ∙ before.in_pairs) in
+    let called = c.sew_next-broken.ensures in
+    let one_more : length (c.loop-seam.yielded ++ (c.in-Some.seam ∷ [])) ≡ length c.loop-seam.yielded + 1 = length-append c.loop-seam.yielded (c.in-Some.seam ∷ []) in
+    rw (one_more, called.1, c.wide-least.ensures, here.first, here.second)
+    (record {
+      taken = sewing_goes _ _ _ before.taken here.there (seam_fits c.requires _ here.there) _ (rw (here.first, here.second) at called.0);
+      in_pairs = steps.0 ∙ before.in_pairs;
+      left = here.left;
+    })

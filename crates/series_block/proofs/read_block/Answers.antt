@@ -1,12 +1,9 @@
-use mathlib.Core.Path.{◌≡◌, refl, sym, ◌∙◌}
-use Prim.Native.Nat.{◌-◌}
+use Rattle.std.specs.Prelude.{Ok}
+use mathlib.Core.Path.{refl, sym, ap, ◌∙◌}
 use native.Mathlib.Omega.{arith}
-use lib.ListN.{length}
 use borrow.Author.Rules.{rules}
-use Rattle.meaning.specs.Scene.{Scene}
-use Rattle.meaning.specs.SeriesText.{SoFar}
 use Rattle.series_block.specs.Block.{block_ready}
-use Rattle.series_block.specs.Reading.{AtStep, Going, ends_fault, block_starts, read_fails, read_closes, read_goes, read_ends, count_small, next_inside}
+use Rattle.series_block.specs.Reading.{ends_fault, block_starts, read_fails, read_closes, read_goes, read_ends, count_small, next_inside}
 use Rattle.series_block.proofs.read_block.Goals as goal
 
 pub ends_at_once-requires : goal.ends_at_once-requires
@@ -41,17 +38,18 @@ overflow_add-result c =
     let inside = c.loop-next-test.true in
     search rules
 
-pub shape_of-positions-in-Fault : goal.shape_of-positions-in-Fault
-shape_of-positions-in-Fault c = c.take_block_line.auto.positions ∙ c.loop-next.invariant.1
+pub shape_of-positions-in-Err : goal.shape_of-positions-in-Err
+shape_of-positions-in-Err c = c.take_block_line.auto.positions ∙ c.loop-next.invariant.1
 
-pub returns-in-Fault : goal.returns-in-Fault
-returns-in-Fault c = λ x s a. read_fails (c.loop-next.invariant.0 x s a) _ c.take_block_line.ensures c.in-Fault.is
+pub returns-in-Err : goal.returns-in-Err
+returns-in-Err c = λ x s a. read_fails (c.loop-next.invariant.0 x s a) _ c.take_block_line.ensures c.in-Err.is
 
-pub shape_of-positions-in-Closed : goal.shape_of-positions-in-Closed
-shape_of-positions-in-Closed c = c.take_block_line.auto.positions ∙ c.loop-next.invariant.1
+pub shape_of-positions-in-Ok-Closed : goal.shape_of-positions-in-Ok-Closed
+shape_of-positions-in-Ok-Closed c = c.take_block_line.auto.positions ∙ c.loop-next.invariant.1
 
-pub returns-in-Closed : goal.returns-in-Closed
-returns-in-Closed c = λ x s a. read_closes (c.loop-next.invariant.0 x s a) _ c.take_block_line.ensures c.in-Closed.is
+pub returns-in-Ok-Closed : goal.returns-in-Ok-Closed
+returns-in-Ok-Closed c =
+    λ x s a. read_closes (c.loop-next.invariant.0 x s a) _ c.take_block_line.ensures (c.in-Ok-Closed.is ∙ ap Ok c.in-Ok-Closed.field-0-is)
 
 pub overflow_add-k : goal.overflow_add-k
 overflow_add-k c =
@@ -69,14 +67,14 @@ overflow_add-read c =
 pub loop-next-smaller : goal.loop-next-smaller
 loop-next-smaller c =
     let p = c.requires in
-    let on = read_goes (c.loop-next.invariant.0 p.series p.step p.at_step) _ c.take_block_line.ensures c.in-Moved.is in
+    let on = read_goes (c.loop-next.invariant.0 p.series p.step p.at_step) _ c.take_block_line.ensures (c.in-Ok-Moved.is ∙ ap Ok c.in-Ok-Moved.field-0-is) in
     omega (arith, on.1, on.0.reached.within)
 
 pub loop-next-preserved : goal.loop-next-preserved
 loop-next-preserved c =
     let i = c.loop-next.invariant in
     let take = c in (
-      λ x s a. (read_goes (i.0 x s a) _ take.take_block_line.ensures c.in-Moved.is).0,
+      λ x s a. (read_goes (i.0 x s a) _ take.take_block_line.ensures (c.in-Ok-Moved.is ∙ ap Ok c.in-Ok-Moved.field-0-is)).0,
       take.take_block_line.auto.positions ∙ i.1,
       take.take_block_line.auto.sizes ∙ i.2,
       take.take_block_line.auto.minus ∙ i.3,

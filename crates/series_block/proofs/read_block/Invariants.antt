@@ -1,14 +1,11 @@
 -- `series_block::read_block` meets its contract: the lines before the place are records, none at fault, and the positions have gone as far as the
 -- block's lines. Each turn takes a line.
-use mathlib.Core.Path.{◌≡◌, refl, sym, ◌∙◌}
+use mathlib.Core.Path.{◌≡◌}
 use Prim.Native.Nat.{◌-◌}
-use native.Mathlib.Omega.{arith}
 use lib.ListN.{length}
-use borrow.Author.Rules.{rules}
 use Rattle.meaning.specs.Scene.{Scene}
 use Rattle.meaning.specs.SeriesText.{SoFar}
-use Rattle.series_block.specs.Block.{block_ready}
-use Rattle.series_block.specs.Reading.{AtStep, Going, ends_fault, block_starts, read_fails, read_closes, read_goes, read_ends, count_small, next_inside}
+use Rattle.series_block.specs.Reading.{AtStep, Going}
 use Rattle.series_block.proofs.read_block.Given as goal
 
 abbrev pub invariant-loop-next : goal.invariant-loop-next

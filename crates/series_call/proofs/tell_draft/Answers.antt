@@ -1,5 +1,4 @@
 -- `tell_draft`: the lists of the scene, each as long as it is, go to the steps.
-use borrow.Author.Rules.{rules}
 use native.Mathlib.Omega.{arith}
 use mathlib.Core.Path.{sym, ◌∙◌}
 use lib.Seq.{length-take-le}

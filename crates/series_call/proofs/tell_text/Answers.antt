@@ -1,5 +1,4 @@
 -- `tell_text`: refused as the front is, or as the steps are; else the last step is left in the lent buffers.
-use borrow.Author.Rules.{rules}
 use mathlib.Core.List.{[]}
 use mathlib.Core.Path.{refl, ◌∙◌}
 use Rattle.text_draft.specs.Reading.{own_table, own_room, same_roomy}
@@ -11,7 +10,7 @@ draft_front-requires c = record { roomy = own_room; blank_table = own_table }
 
 pub tell_draft-answer-requires : goal.tell_draft-answer-requires
 tell_draft-answer-requires c = (
-  front_is_read _ _ _ c.draft_front.ensures c.in-Read.is,
+  front_is_read _ _ _ c.draft_front.ensures c.in-Ok.is,
   same_roomy {table₀ = []} {table = []} own_room (record {
     positions = c.draft_front.auto.positions;
     edges = c.draft_front.auto.edges;
@@ -22,9 +21,9 @@ tell_draft-answer-requires c = (
   c.requires.brief,
 )
 
-pub returns-in-Refused-outcome : goal.returns-in-Refused-outcome
-returns-in-Refused-outcome c =
-    let front = front_is_read _ _ _ c.draft_front.ensures c.in-Read.is in
+pub returns-in-Err-outcome : goal.returns-in-Err-outcome
+returns-in-Err-outcome c =
+    let front = front_is_read _ _ _ c.draft_front.ensures c.in-Ok.is in
     text_not_given front refl
     (same_roomy {table₀ = []} {table = []} own_room (record {
       positions = c.tell_draft-answer.auto.p ∙ c.draft_front.auto.positions;
@@ -33,11 +32,11 @@ returns-in-Refused-outcome c =
       seams = c.draft_front.auto.seams;
       sewn = refl;
     }))
-    c.tell_draft-answer.result c.tell_draft-answer.ensures _ _ c.in-Refused-outcome.is
+    c.tell_draft-answer.result c.tell_draft-answer.ensures _ _ c.in-Err-outcome.is
 
 pub leave_last-count-requires : goal.leave_last-count-requires
 leave_last-count-requires c =
-    let front = front_is_read _ _ _ c.draft_front.ensures c.in-Read.is in
+    let front = front_is_read _ _ _ c.draft_front.ensures c.in-Ok.is in
     leave_ready front refl
     (same_roomy {table₀ = []} {table = []} own_room (record {
       positions = c.tell_draft-answer.auto.p ∙ c.draft_front.auto.positions;
@@ -46,14 +45,14 @@ leave_last-count-requires c =
       seams = c.draft_front.auto.seams;
       sewn = refl;
     }))
-    c.tell_draft-answer.result c.tell_draft-answer.ensures c.requires c.in_default.is
+    c.tell_draft-answer.result c.tell_draft-answer.ensures c.requires c.in-Ok-outcome.is
 
-pub returns-in-Refused : goal.returns-in-Refused
-returns-in-Refused c = rw c.refused.ensures (front_refused _ _ _ _ _ _ c.draft_front.ensures c.in-Refused.is)
+pub returns-in-Err : goal.returns-in-Err
+returns-in-Err c = rw c.refused.ensures (front_refused _ _ _ _ _ _ c.draft_front.ensures c.in-Err.is)
 
-pub returns-in_default : goal.returns-in_default
-returns-in_default c =
-    let front = front_is_read _ _ _ c.draft_front.ensures c.in-Read.is in
+pub returns-in-Ok-outcome : goal.returns-in-Ok-outcome
+returns-in-Ok-outcome c =
+    let front = front_is_read _ _ _ c.draft_front.ensures c.in-Ok.is in
     text_given front refl
     (same_roomy {table₀ = []} {table = []} own_room (record {
       positions = c.tell_draft-answer.auto.p ∙ c.draft_front.auto.positions;
@@ -62,4 +61,4 @@ returns-in_default c =
       seams = c.draft_front.auto.seams;
       sewn = refl;
     }))
-    c.tell_draft-answer.result c.tell_draft-answer.ensures c.in_default.is c.leave_last-count.ensures
+    c.tell_draft-answer.result c.tell_draft-answer.ensures c.in-Ok-outcome.is c.leave_last-count.ensures

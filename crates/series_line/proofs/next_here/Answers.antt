@@ -1,5 +1,4 @@
 -- `series_line::next_here` meets its contract: the two bytes are those of the definition.
-use borrow.Author.Rules.{rules}
 use Rattle.series_line.proofs.next_here.Goals as goal
 
 pub returns : goal.returns

@@ -1,5 +1,4 @@
 -- `series_line::other_line` meets its contract: the letter says which row would make it a record, and without one of the three there is none.
-use borrow.Author.Rules.{rules}
 use Rattle.text_line.specs.Reading.{letter, many, form_of}
 use Rattle.text_line.specs.declared.Sort.TheVariants.{Edge, Triangle, Seam}
 use Rattle.series_line.specs.Reading.{part_got, no_part}

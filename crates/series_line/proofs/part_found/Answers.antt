@@ -1,12 +1,11 @@
 -- `series_line::part_found` meets its contract: each arm is the case of the definition.
-use borrow.Author.Rules.{rules}
 use Rattle.series_line.specs.Reading.{part_found}
 use Rattle.series_line.proofs.part_found.Goals as goal
 
-pub returns-in-At : goal.returns-in-At
+pub returns-in-Some : goal.returns-in-Some
 unfolding part_found
-returns-in-At c = cc c.in-At.is
+returns-in-Some c = cc c.in-Some.is
 
-pub returns-in-Nowhere : goal.returns-in-Nowhere
+pub returns-in-None : goal.returns-in-None
 unfolding part_found
-returns-in-Nowhere c = cc c.in-Nowhere.is
+returns-in-None c = cc c.in-None.is

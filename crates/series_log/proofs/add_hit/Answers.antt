@@ -1,4 +1,3 @@
-use borrow.Author.Rules.{rules}
 use borrow.Author.Tests.{lt-ltb, le-ltb}
 use Rattle.series_log.specs.Logged.{logged}
 use Rattle.series_log.proofs.add_hit.Goals as goal

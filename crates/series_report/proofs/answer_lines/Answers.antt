@@ -7,13 +7,12 @@ use Rattle.report_words.specs.Lines.{wrote_as}
 use Rattle.series_report.specs.Whole.{told_answer, refused_answer}
 use Rattle.series_report.proofs.answer_lines.Goals as goal
 
-pub returns-in-Told : goal.returns-in-Told
-returns-in-Told c = wrote_as (told_answer (told_says c.args.told) c.in-Told.is) c.told_lines.ensures
+pub returns-in-Ok : goal.returns-in-Ok
+returns-in-Ok c = wrote_as (told_answer (told_says c.args.told) c.in-Ok.is) c.told_lines.ensures
 
-pub returns-in-Refused : goal.returns-in-Refused
-returns-in-Refused c =
-    let x = c.in-Refused.refusal in
-    let third = c.in-Refused.third in
+pub returns-in-Err : goal.returns-in-Err
+returns-in-Err c =
+    let third = c.in-Err.refused.carries in
     wrote_as
-    (ap (λ (n : ℕ). refused_line n third) c.number_of.ensures ∙ refused_answer (told_says c.args.told) {f = x} {n = third} (search))
+    (ap (λ (n : ℕ). refused_line n third) c.number_of.ensures ∙ refused_answer (told_says c.args.told) c.in-Err.is)
     c.refused_line.ensures

@@ -1,5 +1,4 @@
 -- `tell_all`: the rows of points, then those of edges.
-use borrow.Author.Rules.{rules}
 use Rattle.series_step.specs.Rows.{rows_all}
 use Rattle.series_step.proofs.tell_all.Goals as goal
 

@@ -1,7 +1,6 @@
 use mathlib.Core.Path.{refl}
 use Rattle.scene_seams.specs.Alone.{tabled}
 use Rattle.series_step.specs.Rows.{row_buffered, bytes_room, buffered_told}
-use borrow.Author.Rules.{rules}
 use Rattle.series_step.proofs.tell_row.Goals as goal
 
 pub settle_entries-requires : goal.settle_entries-requires

@@ -1,38 +1,29 @@
-use Prim.Native.Nat.{◌-◌, ◌≤◌}
 use mathlib.Core.Path.{◌≡◌}
-use native.Mathlib.Omega.{arith}
-use borrow.Author.Rules.{rules}
-use Rattle.sequences.specs.Gather.{gather, gather_none, gather_last}
+use Rattle.std.proofs.Common.{arith, ◌≡◌}
+use Rattle.sequences.specs.Gather.{gather_none, gather_last}
 use Rattle.scene_seams.specs.Alone.{tabled}
-use Rattle.list_candidates.specs.Rows.{first_count, row_of, few_firsts}
-use Rattle.series_step.specs.Rows.{TellsPairs, tells_none, tells_then}
+use Rattle.list_candidates.specs.Rows.{first_count, row_of}
+use Rattle.series_step.specs.Rows.{tells_none, tells_then}
 use Rattle.series_step.proofs.tell_rows.Goals as goal
 
 pub loop-i-init : goal.loop-i-init
 loop-i-init c =
     let a = c.args in
     let s = tabled a.positions.now a.edges.now a.triangles.now a.stands.now in
-    (omega arith, rw (gather_none (row_of s a.kind) 0 0 (omega arith)) (tells_none s a.step _))
+    rw (gather_none (row_of s a.kind) 0 0 (omega arith)) (tells_none s a.step _)
 
 pub tell_row-next-requires : goal.tell_row-next-requires
 tell_row-next-requires c = (c.requires, omega (arith, c.first_count-end.ensures))
-
-pub overflow_add-i : goal.overflow_add-i
-overflow_add-i c = omega (arith, c.first_count-end.ensures, few_firsts _ c.args.kind c.requires.accepted)
-
-pub loop-i-smaller : goal.loop-i-smaller
-loop-i-smaller c = omega arith
 
 pub loop-i-preserved : goal.loop-i-preserved
 loop-i-preserved c =
     let a = c.args in
     let s = tabled a.positions.now a.edges.now a.triangles.now a.stands.now in
-    let i = c.loop-i.i in
-    (omega arith, rw (gather_last (row_of s a.kind) 0 i (omega arith)) (tells_then c.loop-i.invariant.1 c.tell_row-next.ensures))
+    rw (gather_last (row_of s a.kind) 0 c.loop-i.i (omega arith)) (tells_then c.loop-i.invariant c.tell_row-next.ensures)
 
 pub returns : goal.returns
 returns c =
     let a = c.args in
     let s = tabled a.positions.now a.edges.now a.triangles.now a.stands.now in
-    let all : c.loop-i.i ≡ first_count s a.kind = omega (arith, c.loop-i.invariant.0, c.first_count-end.ensures) in
-    rw all at c.loop-i.invariant.1
+    let all : c.loop-i.i ≡ first_count s a.kind = omega (arith, c.first_count-end.ensures) in
+    rw all at c.loop-i.invariant

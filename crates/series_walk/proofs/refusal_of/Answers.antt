@@ -1,8 +1,7 @@
 -- `refusal_of`: case by case.
-use borrow.Author.Rules.{rules}
 use mathlib.Core.Path.{refl}
 use Rattle.meaning.specs.Refusals.{number_of}
-use Rattle.series_block.specs.Taking.{fault_number}
+use Rattle.series_block.specs.Moving.{fault_number}
 use Rattle.series_walk.proofs.refusal_of.Goals as goal
 
 pub returns-in-Form : goal.returns-in-Form

@@ -1,5 +1,4 @@
 -- `room_answer`: 7 where a step had no room.
-use borrow.Author.Rules.{rules}
 use borrow.Author.Tests.{lt-ltb, le-ltb}
 use mathlib.Core.Path.{refl}
 use Rattle.series_walk.proofs.room_answer.Goals as goal

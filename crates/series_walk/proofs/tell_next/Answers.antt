@@ -1,5 +1,4 @@
 -- `tell_next`: nothing more where a step had no room; else the step is told, and its room looked at.
-use borrow.Author.Rules.{rules}
 use native.Mathlib.Omega.{arith}
 use mathlib.Core.Path.{◌≡◌}
 use Rattle.scene_seams.specs.Alone.{tabled}

@@ -1,12 +1,10 @@
-use Prim.Native.Nat.{◌+◌, ◌-◌}
 use borrow.Author.Rules.{rules}
 use native.Mathlib.Omega.{arith}
-use mathlib.Core.Path.{◌≡◌, refl, ◌∙◌, subst}
-use lib.ListN.{length}
+use mathlib.Core.Path.{refl, ◌∙◌, subst}
 use Rattle.scene_seams.specs.Alone.{tabled}
 use Rattle.meaning.specs.declared.SeriesTold.{SeriesTold}
 use Rattle.series_walk.specs.Telling.{StepAdded}
-use Rattle.series_walk.specs.Reading.{StepNow, first_accepted, first_told, step_few, line_few, some_step, block_faulty, next_accepted, next_told, ends_all}
+use Rattle.series_walk.specs.Reading.{first_accepted, first_told, step_few, line_few, some_step, block_faulty, next_accepted, next_told, ends_all}
 use Rattle.series_walk.proofs.tell_steps.Goals as goal
 
 pub tell_next-past-requires : goal.tell_next-past-requires
@@ -27,13 +25,13 @@ overflow_add-read c =
 pub read_block-requires : goal.read_block-requires
 read_block-requires c = some_step c.loop-next.invariant.0 c.loop-next-test.true
 
-pub shape_of-positions-in-Fault : goal.shape_of-positions-in-Fault
-shape_of-positions-in-Fault c = c.read_block.auto.positions ∙ c.loop-next.invariant.1
+pub shape_of-positions-in-Err : goal.shape_of-positions-in-Err
+shape_of-positions-in-Err c = c.read_block.auto.positions ∙ c.loop-next.invariant.1
 
-pub returns-in-Fault : goal.returns-in-Fault
-returns-in-Fault c =
+pub returns-in-Err : goal.returns-in-Err
+returns-in-Err c =
     rw c.refused.ensures
-    (block_faulty c.loop-next.invariant.0 c.loop-next-test.true _ c.read_block.ensures c.refusal_of.result _ c.in-Fault.is c.refusal_of.ensures)
+    (block_faulty c.loop-next.invariant.0 c.loop-next-test.true _ c.read_block.ensures c.refusal_of.result _ c.in-Err.is c.refusal_of.ensures)
 
 pub overflow_add-step : goal.overflow_add-step
 overflow_add-step c =
@@ -41,17 +39,17 @@ overflow_add-step c =
     let brief = c.requires.brief in
     search rules
 
-pub tell_next-past-requires-in-Whole : goal.tell_next-past-requires-in-Whole
-tell_next-past-requires-in-Whole c = next_accepted c.loop-next.invariant.0 c.loop-next-test.true _ c.read_block.ensures c.in-Whole.is
+pub tell_next-past-requires-in-Ok : goal.tell_next-past-requires-in-Ok
+tell_next-past-requires-in-Ok c = next_accepted c.loop-next.invariant.0 c.loop-next-test.true _ c.read_block.ensures c.in-Ok.is
 
 pub loop-next-smaller : goal.loop-next-smaller
 loop-next-smaller c =
-    let on = next_told c.loop-next.invariant.0 c.loop-next-test.true _ c.read_block.ensures c.in-Whole.is c.tell_next-past-in-Whole.ensures in
+    let on = next_told c.loop-next.invariant.0 c.loop-next-test.true _ c.read_block.ensures c.in-Ok.is c.tell_next-past-in-Ok.ensures in
     omega (arith, step_few on)
 
 pub loop-next-preserved : goal.loop-next-preserved
 loop-next-preserved c = (
-  next_told c.loop-next.invariant.0 c.loop-next-test.true _ c.read_block.ensures c.in-Whole.is c.tell_next-past-in-Whole.ensures,
+  next_told c.loop-next.invariant.0 c.loop-next-test.true _ c.read_block.ensures c.in-Ok.is c.tell_next-past-in-Ok.ensures,
   c.read_block.auto.positions ∙ c.loop-next.invariant.1,
 )
 

@@ -1,13 +1,8 @@
 -- `tell_steps`: from step to step, each block read and its step told.
 use Prim.Native.Nat.{◌+◌, ◌-◌}
-use borrow.Author.Rules.{rules}
-use native.Mathlib.Omega.{arith}
-use mathlib.Core.Path.{◌≡◌, refl, ◌∙◌, subst}
+use mathlib.Core.Path.{◌≡◌}
 use lib.ListN.{length}
-use Rattle.scene_seams.specs.Alone.{tabled}
-use Rattle.meaning.specs.declared.SeriesTold.{SeriesTold}
-use Rattle.series_walk.specs.Telling.{StepAdded}
-use Rattle.series_walk.specs.Reading.{StepNow, first_accepted, first_told, step_few, line_few, some_step, block_faulty, next_accepted, next_told, ends_all}
+use Rattle.series_walk.specs.Reading.{StepNow}
 use Rattle.series_walk.proofs.tell_steps.Given as goal
 
 abbrev pub invariant-loop-next : goal.invariant-loop-next

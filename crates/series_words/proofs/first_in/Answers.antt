@@ -1,5 +1,4 @@
 use Rattle.series_words.specs.Telling.{first_none, first_some}
-use borrow.Author.Rules.{rules}
 use Rattle.series_words.proofs.first_in.Goals as goal
 
 pub returns-then-log-eq0 : goal.returns-then-log-eq0

@@ -1,6 +1,5 @@
 use Rattle.meaning.specs.List.{pair}
 use Rattle.meaning.specs.Series.{hit_at}
-use borrow.Author.Rules.{rules}
 use Rattle.series_words.proofs.hit_of.Goals as goal
 
 pub returns : goal.returns

@@ -1,5 +1,4 @@
 use mathlib.Core.Path.{refl}
-use borrow.Author.Rules.{rules}
 use Rattle.series_words.proofs.nothing_told.Goals as goal
 
 pub returns : goal.returns

@@ -1,5 +1,4 @@
 use Rattle.series_words.specs.Telling.{further}
-use borrow.Author.Rules.{rules}
 use Rattle.series_words.proofs.tell_words.Goals as goal
 
 pub returns : goal.returns

@@ -1,4 +1,3 @@
-use borrow.Author.Rules.{rules}
 use Rattle.meaning.specs.Scene.{scene_of}
 use Rattle.stored_checks.specs.Looked.{stale_told}
 use Rattle.stored_checks.proofs.look_over.Goals as goal

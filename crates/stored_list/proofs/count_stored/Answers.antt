@@ -1,6 +1,6 @@
 -- `count_stored`: a refusal of the look is passed on, and the pairs are counted over the stored boxes.
 use borrow.Author.Rules.{rules}
-use native.Mathlib.Omega.{arith}
+use Rattle.std.proofs.lemmas.Result.{err_from_is_err_and}
 use mathlib.Core.Path.{◌≡◌}
 use lib.ListN.{length}
 use Rattle.meaning.specs.Scene.{Scene, scene_of, Accepted}
@@ -18,21 +18,22 @@ pub prepare_stored-requires : goal.prepare_stored-requires
 prepare_stored-requires c =
     let a = c.args in
     let s = scene_of a.positions.now a.edges.now a.triangles.now a.seams.now in
-    let p = passed c.look.ensures c.in-Accepted.is in
+    let p = passed c.look.ensures c.in_ok-look.was in
     (to_table Accepted p.into p.accepted p.accepted, to_table (λ (u : Scene). Boxed u a.stored.now) p.into p.accepted p.boxed, search rules)
 
-pub returns-in-Refused : goal.returns-in-Refused
-returns-in-Refused c =
+pub returns-in_err-look : goal.returns-in_err-look
+returns-in_err-look c =
     let a = c.args in
     let s = scene_of a.positions.now a.edges.now a.triangles.now a.seams.now in
-    tested_refused s (counted_refused c.look.ensures _ c.in-Refused.is)
+    let (y, is, same) = err_from_is_err_and c.from_residual.result c.from_residual.ensures.1 in
+    rw (is, same) (tested_refused s (counted_refused c.look.ensures _ c.in_err-look.was))
 
-pub returns-in-Accepted : goal.returns-in-Accepted
-returns-in-Accepted c =
+pub returns : goal.returns
+returns c =
     let a = c.args in
     let s = scene_of a.positions.now a.edges.now a.triangles.now a.seams.now in
     let called = c.look.ensures in
-    let told = c.in-Accepted.is in
+    let told = c.in_ok-look.was in
     let p = passed called told in
     let walked = c.count_prepared-walk in
     tested_listed s

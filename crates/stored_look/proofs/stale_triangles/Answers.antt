@@ -1,10 +1,5 @@
-use borrow.Author.Rules.{rules}
 use native.Mathlib.Omega.{arith}
-use Prim.Native.Nat.{◌-◌}
-use Rattle.scene_seams.specs.Scanning.{Scanned, scan_starts, scan_goes, scan_ends}
-use mathlib.Core.List.{[]}
-use Rattle.meaning.specs.Scene.{scene_of, triangle_count}
-use Rattle.meaning.specs.StoredBoxes.{stale_triangle}
+use Rattle.scene_seams.specs.Scanning.{scan_starts, scan_goes, scan_ends}
 use Rattle.stored_look.proofs.stale_triangles.Goals as goal
 
 pub stale_triangle-found-requires : goal.stale_triangle-found-requires
@@ -12,12 +7,6 @@ stale_triangle-found-requires c = let start = c in record { j_bound = omega arit
 
 pub loop-j-init : goal.loop-j-init
 loop-j-init c = scan_starts _ _
-
-pub overflow_add-j : goal.overflow_add-j
-overflow_add-j c = omega arith
-
-pub loop-j-smaller : goal.loop-j-smaller
-loop-j-smaller c = omega arith
 
 pub loop-j-preserved : goal.loop-j-preserved
 loop-j-preserved c = scan_goes c.loop-j.invariant (omega arith) _ c.stale_triangle-found.ensures

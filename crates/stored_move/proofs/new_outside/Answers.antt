@@ -1,6 +1,4 @@
 -- `new_outside`: there are six of them.
-use borrow.Author.Rules.{rules}
-use native.Mathlib.Omega.{arith}
 use Rattle.stored_move.proofs.new_outside.Goals as goal
 
 pub returns : goal.returns

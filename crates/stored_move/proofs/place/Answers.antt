@@ -1,6 +1,4 @@
 -- `place`: the start, then the end.
-use borrow.Author.Rules.{rules}
-use native.Mathlib.Omega.{arith}
 use mathlib.Core.Path.{◌∙◌, ap}
 use mathlib.Core.List.{List}
 use lib.IntN.{ℤ}

@@ -1,10 +1,7 @@
-use mathlib.Core.Path.{◌≡◌, ◌∙◌}
-use Prim.Native.Nat.{◌-◌}
+use mathlib.Core.Path.{◌∙◌}
 use native.Mathlib.Omega.{arith}
-use lib.ListN.{length}
 use borrow.Author.Rules.{rules}
-use Rattle.meaning.specs.Scene.{scene_of}
-use Rattle.text_draft.specs.Reading.{Drafting, SameRoom, same_room, room_then, same_roomy, draft_starts, draft_of, draft_goes, draft_stops, draft_ends}
+use Rattle.text_draft.specs.Reading.{same_room, room_then, same_roomy, draft_starts, draft_of, draft_goes, draft_stops, draft_ends}
 use Rattle.text_draft.proofs.draft_lines.Goals as goal
 
 pub loop-at-init : goal.loop-at-init
@@ -21,39 +18,39 @@ take_line-requires c =
       draft = draft_of i.0;
     }
 
-pub shape_of-positions-in-Fault : goal.shape_of-positions-in-Fault
-shape_of-positions-in-Fault c = c.take_line.auto.positions ∙ c.loop-at.invariant.1.positions
+pub shape_of-positions-in-Err : goal.shape_of-positions-in-Err
+shape_of-positions-in-Err c = c.take_line.auto.positions ∙ c.loop-at.invariant.1.positions
 
-pub shape_of-edges-in-Fault : goal.shape_of-edges-in-Fault
-shape_of-edges-in-Fault c = c.take_line.auto.edges ∙ c.loop-at.invariant.1.edges
+pub shape_of-edges-in-Err : goal.shape_of-edges-in-Err
+shape_of-edges-in-Err c = c.take_line.auto.edges ∙ c.loop-at.invariant.1.edges
 
-pub shape_of-triangles-in-Fault : goal.shape_of-triangles-in-Fault
-shape_of-triangles-in-Fault c = c.take_line.auto.triangles ∙ c.loop-at.invariant.1.triangles
+pub shape_of-triangles-in-Err : goal.shape_of-triangles-in-Err
+shape_of-triangles-in-Err c = c.take_line.auto.triangles ∙ c.loop-at.invariant.1.triangles
 
-pub shape_of-seams-in-Fault : goal.shape_of-seams-in-Fault
-shape_of-seams-in-Fault c = c.take_line.auto.seams ∙ c.loop-at.invariant.1.seams
+pub shape_of-seams-in-Err : goal.shape_of-seams-in-Err
+shape_of-seams-in-Err c = c.take_line.auto.seams ∙ c.loop-at.invariant.1.seams
 
-pub shape_of-stands-in-Fault : goal.shape_of-stands-in-Fault
-shape_of-stands-in-Fault c = c.take_line.auto.stands ∙ c.loop-at.invariant.1.sewn
+pub shape_of-stands-in-Err : goal.shape_of-stands-in-Err
+shape_of-stands-in-Err c = c.take_line.auto.stands ∙ c.loop-at.invariant.1.sewn
 
-pub returns-in-Fault : goal.returns-in-Fault
-returns-in-Fault c =
+pub returns-in-Err : goal.returns-in-Err
+returns-in-Err c =
     let take = c in
     let test = take in
-    draft_stops test.loop-at.invariant.0 _ _ take.take_line.ensures test.loop-at-test.true c.in-Fault.is
+    draft_stops test.loop-at.invariant.0 _ _ take.take_line.ensures test.loop-at-test.true c.in-Err.is
 
 pub loop-at-smaller : goal.loop-at-smaller
 loop-at-smaller c =
     let take = c in
     let i = take.loop-at.invariant.0 in
-    let on = draft_goes i _ _ take.take_line.ensures c.in-Next.is in
+    let on = draft_goes i _ _ take.take_line.ensures c.in-Ok.is in
     omega (arith, on.1, i.reached.within, on.0.reached.within)
 
 pub loop-at-preserved : goal.loop-at-preserved
 loop-at-preserved c =
     let take = c in
     let i = take.loop-at.invariant in (
-      (draft_goes i.0 _ _ take.take_line.ensures c.in-Next.is).0,
+      (draft_goes i.0 _ _ take.take_line.ensures c.in-Ok.is).0,
       room_then (record {
         positions = take.take_line.auto.positions;
         edges = take.take_line.auto.edges;

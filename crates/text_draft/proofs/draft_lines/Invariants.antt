@@ -1,12 +1,10 @@
 -- `text_draft::draft_lines` meets its contract: the lines before the place are records, none at fault, and the draft holds their scene. Each turn
 -- takes a line.
-use mathlib.Core.Path.{◌≡◌, ◌∙◌}
+use mathlib.Core.Path.{◌≡◌}
 use Prim.Native.Nat.{◌-◌}
-use native.Mathlib.Omega.{arith}
 use lib.ListN.{length}
-use borrow.Author.Rules.{rules}
 use Rattle.meaning.specs.Scene.{scene_of}
-use Rattle.text_draft.specs.Reading.{Drafting, SameRoom, same_room, room_then, same_roomy, draft_starts, draft_of, draft_goes, draft_stops, draft_ends}
+use Rattle.text_draft.specs.Reading.{Drafting, SameRoom}
 use Rattle.text_draft.proofs.draft_lines.Given as goal
 
 abbrev pub invariant-loop-at : goal.invariant-loop-at

@@ -1,6 +1,5 @@
 -- `text_fields::read_field` meets its contract: without the separator there is no field, and behind it the number is the field's.
 use native.Mathlib.Omega.{arith}
-use borrow.Author.Rules.{rules}
 use Rattle.text_fields.specs.Field.{field_found, field_none}
 use Rattle.text_fields.proofs.read_field.Goals as goal
 

@@ -1,47 +1,34 @@
-use mathlib.Core.Path.{◌≡◌}
-use native.Mathlib.Omega.{arith}
-use Prim.Native.Nat.{◌<◌}
-use borrow.Author.Rules.{rules}
+-- `text_fields::read_numeral` meets its contract: behind a minus digits other than 0 are a number; where no minus is taken, digits are.
+use Rattle.std.proofs.Common.{arith}
 use Rattle.text_fields.specs.Field.{plain_told, plain_told_bad, minus_there, MinusThere, minus_got, minus_zero, minus_bad, plain_got, plain_none}
 use Rattle.text_fields.proofs.read_numeral.Goals as goal
 
--- `text_fields::read_numeral` meets its contract: behind a minus digits other than 0 are a number; where no minus is taken, digits are.
 minus : (c : goal.Then-minus) → MinusThere c.args.s.now c.args.at c.args.form
 minus c = minus_there _ _ _ c.byte_at-first.ensures c.if-minus.true
 
 pub overflow_add-at : goal.overflow_add-at
 overflow_add-at c = omega (arith, (minus c).inside)
 
--- `text_fields::read_numeral` meets its contract: behind a minus digits other than 0 are a number; where no minus is taken, digits are.
-minus-at-Then-value-eq0 : (c : goal.Then-value-eq0) → MinusThere c.args.s.now c.args.at c.args.form
-minus-at-Then-value-eq0 c = minus_there _ _ _ c.byte_at-first.ensures c.if-minus.true
+pub returns-in_err-below : goal.returns-in_err-below
+returns-in_err-below c =
+    rw c.from_residual.ensures
+    (minus_bad _ _ _ (minus_there _ _ _ c.byte_at-first.ensures c.if-minus.true)
+    (plain_told_bad _ _ _ c.read_plain.ensures c.in_err-below.was))
 
-pub returns-then-value-eq0 : goal.returns-then-value-eq0
-returns-then-value-eq0 c =
-    let v = c.in-Number.is in
-    minus_zero _ _ _ (minus-at-Then-value-eq0 c)
-    (rw c.if-value-eq0.true at (plain_told _ _ _ c.read_plain.ensures v))
+pub returns-then-below-eq0 : goal.returns-then-below-eq0
+returns-then-below-eq0 c =
+    minus_zero _ _ _ (minus_there _ _ _ c.byte_at-first.ensures c.if-minus.true)
+    (rw c.if-below-eq0.true at (plain_told _ _ _ c.read_plain.ensures c.in_ok-below.was))
 
--- `text_fields::read_numeral` meets its contract: behind a minus digits other than 0 are a number; where no minus is taken, digits are.
-minus-at-Else-value-eq0 : (c : goal.Else-value-eq0) → MinusThere c.args.s.now c.args.at c.args.form
-minus-at-Else-value-eq0 c = minus_there _ _ _ c.byte_at-first.ensures c.if-minus.true
+pub returns-then-minus : goal.returns-then-minus
+returns-then-minus c =
+    minus_got _ _ _ (minus_there _ _ _ c.byte_at-first.ensures c.if-minus.true) (omega arith)
+    (plain_told _ _ _ c.read_plain.ensures c.in_ok-below.was)
 
-pub returns-else-value-eq0 : goal.returns-else-value-eq0
-returns-else-value-eq0 c =
-    minus_got _ _ _ (minus-at-Else-value-eq0 c) (omega arith)
-    (plain_told _ _ _ c.read_plain.ensures c.in-Number.is)
+pub returns-in_err-plain : goal.returns-in_err-plain
+returns-in_err-plain c =
+    rw c.from_residual-in_err-plain.ensures
+    (plain_none _ _ _ c.byte_at-first.ensures c.if-minus.false (plain_told_bad _ _ _ c.read_plain-2.ensures c.in_err-plain.was))
 
--- `text_fields::read_numeral` meets its contract: behind a minus digits other than 0 are a number; where no minus is taken, digits are.
-minus-at-In-Bad : (c : goal.In-Bad) → MinusThere c.args.s.now c.args.at c.args.form
-minus-at-In-Bad c = minus_there _ _ _ c.byte_at-first.ensures c.if-minus.true
-
-pub returns-in-Bad : goal.returns-in-Bad
-returns-in-Bad c = minus_bad _ _ _ (minus-at-In-Bad c) (plain_told_bad _ _ _ c.read_plain.ensures c.in-Bad.is)
-
-pub returns-in-Number-read_plain : goal.returns-in-Number-read_plain
-returns-in-Number-read_plain c = plain_got _ _ _ (plain_told _ _ _ c.read_plain-else-minus.ensures c.in-Number-read_plain.is)
-
-pub returns-in-Bad-read_plain : goal.returns-in-Bad-read_plain
-returns-in-Bad-read_plain c =
-    plain_none _ _ _ c.byte_at-first.ensures c.if-minus.false
-    (plain_told_bad _ _ _ c.read_plain-else-minus.ensures c.in-Bad-read_plain.is)
+pub returns : goal.returns
+returns c = plain_got _ _ _ (plain_told _ _ _ c.read_plain-2.ensures c.in_ok-plain.was)

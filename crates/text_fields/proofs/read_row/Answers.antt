@@ -2,7 +2,6 @@
 use mathlib.Core.Bool.{true, false}
 use native.Mathlib.Omega.{arith}
 use lib.Dec.{eqb}
-use borrow.Author.Rules.{rules}
 use Rattle.text_fields.specs.Ended.{ended_inside, ended_by}
 use Rattle.text_fields.proofs.read_row.Goals as goal
 

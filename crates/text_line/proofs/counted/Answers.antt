@@ -1,5 +1,4 @@
 -- `text_line::counted` meets its contract: each arm is the case of the definition, and no count can pass its size by more than one.
-use borrow.Author.Rules.{rules}
 use Rattle.text_line.specs.Above.{counted_by}
 use Rattle.text_line.proofs.counted.Goals as goal
 

@@ -1,5 +1,4 @@
 -- `text_line::judge` meets its contract: each arm makes the tests of its kind of record.
-use borrow.Author.Rules.{rules}
 use Rattle.text_line.specs.Judging.{judges_vertex, judges_edge, judges_triangle, judges_seam}
 use Rattle.text_line.proofs.judge.Goals as goal
 

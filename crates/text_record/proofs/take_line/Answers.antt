@@ -1,50 +1,38 @@
 -- `text_record::take_line` meets its contract: the line is no record's or at fault; or its record is put, and held where it is a seam.
-use native.Mathlib.Omega.{arith}
-use borrow.Author.Rules.{rules}
+use Rattle.std.proofs.Common.{arith}
+use Rattle.std.proofs.lemmas.Result.{err_from_is_err_and}
 use Rattle.text_record.specs.Drafting.{take_fault, take_ready, take_hold, take_refused, take_goes}
 use Rattle.text_record.proofs.take_line.Goals as goal
 
 pub next_line-requires : goal.next_line-requires
-next_line-requires c = let p = c.requires in record { at_in_bounds = p.inside; in_bounds = p.sized; in_bounds_2 = p.signed; bounded = p.draft.drafted.above.bounded }
+next_line-requires c =
+    let p = c.requires in
+    record { at_in_bounds = p.inside; in_bounds = p.sized; in_bounds_2 = p.signed; bounded = p.draft.drafted.above.bounded }
 
 pub put-requires : goal.put-requires
 put-requires c =
-    let line = c in
-    let p = line.requires in record {
-      ready = take_ready _ _ _ _ _ line.next_line.ensures c.in-Taken.is p.draft (omega (arith, line.next_line.auto.sizes, p.sized))
-          (omega (arith, line.next_line.auto.minus, p.signed));
+    let p = c.requires in
+    record {
+      ready = take_ready _ _ _ _ _ c.next_line.ensures c.in_ok-step.was p.draft (omega (arith, c.next_line.auto.sizes, p.sized))
+          (omega (arith, c.next_line.auto.minus, p.signed));
       roomy = p.roomy;
     }
 
 pub hold-requires : goal.hold-requires
-hold-requires c =
-    let put = c in
-    let sort = put in
-    let line = sort in
-    let p = line.requires in
-    take_hold _ _ _ _ _ line.next_line.ensures sort.in-Taken.is _ _ put.put.ensures p.draft p.roomy
+hold-requires c = take_hold _ _ _ _ _ c.next_line.ensures c.in_ok-step.was _ _ c.put.ensures c.requires.draft c.requires.roomy
 
-pub returns-in-Fault : goal.returns-in-Fault
-returns-in-Fault c =
-    let line = c in
-    take_fault _ _ _ _ _ line.next_line.ensures _ _ c.in-Fault.is
+pub returns-in_err-step : goal.returns-in_err-step
+returns-in_err-step c =
+    let p = err_from_is_err_and c.from_residual.result c.from_residual.ensures.1 in
+    rw (p.1, p.2) (take_fault _ _ _ _ _ c.next_line.ensures _ _ c.in_err-step.was)
 
-pub shape_of-sizes-in-Fault-hold : goal.shape_of-sizes-in-Fault-hold
-shape_of-sizes-in-Fault-hold c = c.next_line.auto.sizes
+pub returns-in_err-hold : goal.returns-in_err-hold
+returns-in_err-hold c =
+    let p = err_from_is_err_and c.from_residual-in_err-hold.result c.from_residual-in_err-hold.ensures.1 in
+    rw (p.1, p.2)
+    (take_refused _ _ _ _ _ c.next_line.ensures c.in_ok-step.was _ _ c.put.ensures _ _ c.hold.ensures c.in_err-hold.was)
 
-pub returns-in-Fault-hold : goal.returns-in-Fault-hold
-returns-in-Fault-hold c =
-    let hold = c in
-    let put = hold in
-    let sort = put in
-    let line = sort in
-    take_refused _ _ _ _ _ line.next_line.ensures sort.in-Taken.is _ _ put.put.ensures _ _ hold.hold.ensures c.in-Fault-hold.is
-
-pub returns-in-Good : goal.returns-in-Good
-returns-in-Good c =
-    let hold = c in
-    let put = hold in
-    let sort = put in
-    let line = sort in
-    take_goes _ _ _ _ _ line.next_line.ensures sort.in-Taken.is _ _ put.put.ensures _ _ hold.hold.ensures c.in-Good.is
-    hold.hold.auto.stands
+pub returns : goal.returns
+returns c =
+    take_goes _ _ _ _ _ c.next_line.ensures c.in_ok-step.was _ _ c.put.ensures _ _ c.hold.ensures c.in_ok-hold.was
+    c.hold.auto.stands

@@ -2,16 +2,16 @@
 -- buffers.
 use mathlib.Core.List.{[]}
 use mathlib.Core.Path.{refl}
-use borrow.Author.Rules.{rules}
+use Rattle.std.proofs.lemmas.Result.{err_from_is_err_and}
 use Rattle.text_draft.specs.Reading.{own_table, own_room, same_roomy}
 use Rattle.text_scene.specs.Answering.{roomy, draft_bounded, read_short, read_long, read_refused, read_given}
 use Rattle.text_scene.proofs.read_scene.Goals as goal
 
 pub returns-then-few-triangles : goal.returns-then-few-triangles
-returns-then-few-triangles c = read_short _ _ c.if-few-triangles.true
+returns-then-few-triangles c = rw c.from.ensures (read_short _ _ c.if-few-triangles.true)
 
 pub returns-then-text-gt-TEXT_LIMIT : goal.returns-then-text-gt-TEXT_LIMIT
-returns-then-text-gt-TEXT_LIMIT c = read_long _ _ c.if-few-triangles.false c.if-text-gt-TEXT_LIMIT.true
+returns-then-text-gt-TEXT_LIMIT c = rw c.from-then-text-gt-TEXT_LIMIT.ensures (read_long _ _ c.if-few-triangles.false c.if-text-gt-TEXT_LIMIT.true)
 
 pub draft_text-requires : goal.draft_text-requires
 draft_text-requires c = record { roomy = own_room; blank_table = own_table }
@@ -19,7 +19,7 @@ draft_text-requires c = record { roomy = own_room; blank_table = own_table }
 pub copy_scene-requires : goal.copy_scene-requires
 copy_scene-requires c =
     let d = c in record {
-      bounded = draft_bounded _ _ _ d.draft_text.ensures c.in-Read.is;
+      bounded = draft_bounded _ _ _ d.draft_text.ensures c.in_ok-counts.was;
       roomy = same_roomy {table₀ = []} {table = []} own_room (record {
         positions = d.draft_text.auto.positions;
         edges = d.draft_text.auto.edges;
@@ -30,13 +30,11 @@ copy_scene-requires c =
       roomy_2 = roomy _ d.if-few-triangles.false;
     }
 
-pub returns-in-Refused : goal.returns-in-Refused
-returns-in-Refused c =
-    let d = c in
-    read_refused _ _ d.if-few-triangles.false d.if-text-gt-TEXT_LIMIT.false _ _ d.draft_text.ensures c.in-Refused.is
+pub returns-in_err-counts : goal.returns-in_err-counts
+returns-in_err-counts c =
+    let (y, is, same) = err_from_is_err_and c.from_residual.result c.from_residual.ensures.1 in
+    rw (is, same) (read_refused _ _ c.if-few-triangles.false c.if-text-gt-TEXT_LIMIT.false _ _ c.draft_text.ensures c.in_err-counts.was)
 
-pub returns-in-Read : goal.returns-in-Read
-returns-in-Read c =
-    let copy = c in
-    let d = copy in
-    read_given _ _ d.if-few-triangles.false d.if-text-gt-TEXT_LIMIT.false _ _ d.draft_text.ensures copy.in-Read.is copy.copy_scene.ensures
+pub returns : goal.returns
+returns c =
+    read_given _ _ c.if-few-triangles.false c.if-text-gt-TEXT_LIMIT.false _ _ c.draft_text.ensures c.in_ok-counts.was c.copy_scene.ensures

@@ -2,10 +2,10 @@
 use mathlib.Core.Bool.{false}
 use mathlib.Core.Path.{◌≡◌}
 use lib.Dec.{leb}
-use borrow.Author.Rules.{rules}
+use Rattle.std.proofs.lemmas.Result.{err_from_is_err_and}
 use Rattle.meaning.specs.Scene.{Scene, scene_of, Accepted}
 use Rattle.meaning.specs.Pieces.{piece_of}
-use Rattle.meaning.specs.Refusals.{pair_says, not_there}
+use Rattle.meaning.specs.Refusals.{not_there, outcome_alone}
 use Rattle.meaning.specs.Verdicts.{PieceIs}
 use Rattle.scene_checks.specs.Checking.{to_table, from_table}
 use Rattle.three_words.specs.Asked.{asked_there, then_judged, then_refused}
@@ -16,27 +16,28 @@ piece-requires c =
     let a = c.args in
     let s = scene_of a.positions.now a.edges.now a.triangles.now a.seams.now in
     let called = c.asked.ensures in
-    let there = asked_there s a.kind a.first a.second (leb c.piece_count.result a.piece) _ called.0 c.in-Accepted.is in
+    let there = asked_there s a.kind a.first a.second (leb c.piece_count.result a.piece) _ called.0 c.in_ok-asked.was in
     to_table (λ (u : Scene). Accepted u × (not_there u a.kind a.first a.second ≡ false)) called.1 there.0 there
 
-pub returns-in-Refused : goal.returns-in-Refused
-unfolding pair_says
-returns-in-Refused c =
-    let a = c.args in
-    let s = scene_of a.positions.now a.edges.now a.triangles.now a.seams.now in
-    let called = c.asked.ensures in (
-      rw (← c.piece_count.ensures)
-          (then_refused s a.kind a.first a.second (leb c.piece_count.result a.piece) _ called.0 (PieceIs (piece_of s a.kind a.first a.second a.piece)) (search)),
-      called.1,
-    )
-
-pub returns-in-Accepted : goal.returns-in-Accepted
-unfolding pair_says
-returns-in-Accepted c =
+pub returns-in_err-asked : goal.returns-in_err-asked
+unfolding outcome_alone
+returns-in_err-asked c =
     let a = c.args in
     let s = scene_of a.positions.now a.edges.now a.triangles.now a.seams.now in
     let called = c.asked.ensures in
-    let told = c.in-Accepted.is in
+    let (y, is, same) = err_from_is_err_and c.from_residual.result c.from_residual.ensures.1 in (
+      rw (is, same, ← c.piece_count.ensures)
+          (then_refused s a.kind a.first a.second (leb c.piece_count.result a.piece) _ called.0 (PieceIs (piece_of s a.kind a.first a.second a.piece)) c.in_err-asked.was),
+      called.1,
+    )
+
+pub returns : goal.returns
+unfolding outcome_alone
+returns c =
+    let a = c.args in
+    let s = scene_of a.positions.now a.edges.now a.triangles.now a.seams.now in
+    let called = c.asked.ensures in
+    let told = c.in_ok-asked.was in
     let missing = leb c.piece_count.result a.piece in
     let there = asked_there s a.kind a.first a.second missing _ called.0 told in (
       rw (← c.piece_count.ensures)

@@ -1,6 +1,5 @@
 -- `from_last`: of a vertex that is there.
 use native.Mathlib.Omega.{arith}
-use borrow.Author.Rules.{rules}
 use Rattle.turning_laws.specs.Numbers.{known_number}
 use Rattle.turning.proofs.from_last.Goals as goal
 

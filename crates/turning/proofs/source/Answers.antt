@@ -1,6 +1,5 @@
 -- `source`: inside the vertices, the place is what the definition computes.
 use native.Mathlib.Omega.{arith}
-use borrow.Author.Rules.{rules}
 use Rattle.turning_laws.specs.Turned.{source_inside}
 use Rattle.turning.proofs.source.Goals as goal
 

@@ -1,5 +1,4 @@
 -- Each word is its own.
-use borrow.Author.Rules.{rules}
 use Rattle.meaning.specs.WholeContacts.{word_of}
 use Rattle.contact_entries.proofs.rows.settled_of.Goals as goal
 

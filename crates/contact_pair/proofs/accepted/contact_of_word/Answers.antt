@@ -1,5 +1,4 @@
 -- A hit has its numbers, and the other words stay.
-use borrow.Author.Rules.{rules}
 use mathlib.Core.Path.{subst}
 use Rattle.meaning.specs.Resting.{PairSettled}
 use Rattle.meaning.specs.WholeContacts.{WholeContactIs}

@@ -1,5 +1,4 @@
 -- By the word.
-use borrow.Author.Rules.{rules}
 use mathlib.Core.Path.{◌≡◌, sym, ap, ◌∙◌}
 use Rattle.meaning.specs.WholeContacts.{contact_of}
 use Rattle.meaning.specs.declared.WholeContact.TheVariants.{Hit}

@@ -1,5 +1,4 @@
 -- By kind.
-use borrow.Author.Rules.{rules}
 use Rattle.meaning.specs.WholeContacts.{contact_of}
 use Rattle.contact_pair.proofs.handed.hit_contact.Goals as goal
 

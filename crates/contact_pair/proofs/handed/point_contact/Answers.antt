@@ -1,5 +1,4 @@
 -- Each number is handed out.
-use borrow.Author.Rules.{rules}
 use Rattle.contact_pair.proofs.handed.point_contact.Goals as goal
 
 pub returns : goal.returns

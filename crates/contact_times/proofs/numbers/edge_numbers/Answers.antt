@@ -1,6 +1,5 @@
 -- Each edge's share is cut from the volumes of its higher end.
 use mathlib.Core.Path.{refl}
-use Rattle.contact_times.specs.Sums.{EdgeNumbers}
 use Rattle.contact_times.proofs.numbers.edge_numbers.Goals as goal
 
 pub share-first-requires : goal.share-first-requires

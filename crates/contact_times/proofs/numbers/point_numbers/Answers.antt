@@ -1,6 +1,5 @@
 -- Each corner's share is cut from the volumes of its start and its end.
 use mathlib.Core.Path.{refl}
-use Rattle.contact_times.specs.Sums.{PointNumbers}
 use Rattle.contact_times.proofs.numbers.point_numbers.Goals as goal
 
 pub share-first-requires : goal.share-first-requires

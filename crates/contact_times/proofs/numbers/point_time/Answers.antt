@@ -1,5 +1,4 @@
 -- The time of a hit piece, and none of another.
-use borrow.Author.Rules.{rules}
 use mathlib.Core.Path.{sym, ◌∙◌}
 use Rattle.contact_times.specs.Or.{time_hit, time_missed, time_degenerate}
 use Rattle.contact_times.proofs.numbers.point_time.Goals as goal

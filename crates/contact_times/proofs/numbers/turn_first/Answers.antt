@@ -5,8 +5,8 @@ use Rattle.exact.specs.Volumes.{turned}
 use Rattle.contact_laws.specs.Numbers.{turned_in}
 use Rattle.contact_times.proofs.numbers.turn_first.Goals as goal
 
-pub overflow_sub-e0 : goal.overflow_sub-e0
-overflow_sub-e0 c = fits w64 (turned c.requires.is0) tt
+pub overflow_sub-result : goal.overflow_sub-result
+overflow_sub-result c = fits w64 (turned c.requires.is0) tt
 
 pub returns : goal.returns
 unfolding turned_in

@@ -1,6 +1,5 @@
 -- The two steps say the same of their own corners.
-use native.Mathlib.Nat.{le_antisymm}
-use native.Mathlib.Numerals.{add-one-le}
+use Rattle.std.proofs.Common.{arith}
 use mathlib.Core.Logic.{⊎_swap}
 use Rattle.corner_leaf.proofs.Tags.{decided}
 use Rattle.corner_search.specs.Step.{falls_without, falls_handed, more, not_left, on_a_side, found, not_found, says_answer, says_tried, says_last}
@@ -19,25 +18,23 @@ first-returns-then-second t c = found _ _ c.without-less.ensures c.second.ensure
 
 pub first-loop-i-preserved : goal.first-loop-i-preserved
 first-loop-i-preserved t c =
-    let left = c.args.left.now in (
-      add-one-le c.loop-i-test.true,
-      more left c.loop-i.invariant.1
-          (elim c.if-left-i.branch [
-            | first-then-left-i+else-second w ↦ λ _. not_found left c.loop-i.i w.without-less.ensures w.second.ensures w.if-second.false
-            | first-else-left-i w ↦ not_left left c.loop-i.i w.if-left-i.false
-          ]),
-    )
+    let left = c.args.left.now in
+    more left c.loop-i.invariant
+    (elim c.if-left-i.branch [
+      | first-then-left-i+else-second w ↦ λ _. not_found left c.loop-i.i w.without-less.ensures w.second.ensures w.if-second.false
+      | first-else-left-i w ↦ not_left left c.loop-i.i w.if-left-i.false
+    ])
 
 pub first-returns-then-tried : goal.first-returns-then-tried
 first-returns-then-tried t c =
-    says_tried _ c.requires.0.timed _ _ _ _ _ c.if-tried.true (le_antisymm c.loop-i.invariant.0 c.loop-i-test.false) c.loop-i.invariant.1
+    says_tried _ c.requires.0.timed _ _ _ _ _ c.if-tried.true (omega arith) c.loop-i.invariant
 
 pub first-second-requires-2 : goal.first-second-requires-2
 first-second-requires-2 t c = (falls_handed _ _ c.decreases c.if-tried.false, c.requires)
 
 pub first-returns : goal.first-returns
 first-returns t c =
-    says_last _ c.requires.0.timed _ _ _ _ _ _ (on_a_side _) _ c.if-tried.false _ c.ask_once-answer.ensures c.in-Open.is (le_antisymm c.loop-i.invariant.0 c.loop-i-test.false) c.loop-i.invariant.1 _ c.second-2.ensures
+    says_last _ c.requires.0.timed _ _ _ _ _ _ (on_a_side _) _ c.if-tried.false _ c.ask_once-answer.ensures c.in-Open.is (omega arith) c.loop-i.invariant _ c.second-2.ensures
 
 pub second-returns-in_default : goal.second-returns-in_default
 second-returns-in_default t c =
@@ -51,22 +48,20 @@ second-returns-then-first t c = found _ _ c.without-less.ensures c.first.ensures
 
 pub second-loop-i-preserved : goal.second-loop-i-preserved
 second-loop-i-preserved t c =
-    let left = c.args.left.now in (
-      add-one-le c.loop-i-test.true,
-      more left c.loop-i.invariant.1
-          (elim c.if-left-i.branch [
-            | second-then-left-i+else-first w ↦ λ _. not_found left c.loop-i.i w.without-less.ensures w.first.ensures w.if-first.false
-            | second-else-left-i w ↦ not_left left c.loop-i.i w.if-left-i.false
-          ]),
-    )
+    let left = c.args.left.now in
+    more left c.loop-i.invariant
+    (elim c.if-left-i.branch [
+      | second-then-left-i+else-first w ↦ λ _. not_found left c.loop-i.i w.without-less.ensures w.first.ensures w.if-first.false
+      | second-else-left-i w ↦ not_left left c.loop-i.i w.if-left-i.false
+    ])
 
 pub second-returns-then-tried : goal.second-returns-then-tried
 second-returns-then-tried t c =
-    says_tried _ c.requires.0.timed _ _ _ _ _ c.if-tried.true (le_antisymm c.loop-i.invariant.0 c.loop-i-test.false) c.loop-i.invariant.1
+    says_tried _ c.requires.0.timed _ _ _ _ _ c.if-tried.true (omega arith) c.loop-i.invariant
 
 pub second-first-requires-2 : goal.second-first-requires-2
 second-first-requires-2 t c = (falls_handed _ _ c.decreases c.if-tried.false, c.requires)
 
 pub second-returns : goal.second-returns
 second-returns t c =
-    says_last _ c.requires.0.timed _ _ _ _ _ _ (λ j k. ⊎_swap (on_a_side _ j k)) _ c.if-tried.false _ c.ask_once-answer.ensures c.in-Open.is (le_antisymm c.loop-i.invariant.0 c.loop-i-test.false) c.loop-i.invariant.1 _ c.first-2.ensures
+    says_last _ c.requires.0.timed _ _ _ _ _ _ (λ j k. ⊎_swap (on_a_side _ j k)) _ c.if-tried.false _ c.ask_once-answer.ensures c.in-Open.is (omega arith) c.loop-i.invariant _ c.first-2.ensures

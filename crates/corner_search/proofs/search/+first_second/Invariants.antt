@@ -1,6 +1,5 @@
 -- The two steps, which call each other. Twice the corners left, and one more where the points were not handed over as they are, falls with
 -- each call. The loop has tried the step's own corners up to i.
-use Rattle.std.proofs.Common.{◌≤◌, ◌-◌}
 use Rattle.corner_leaf.specs.Points.{points_of}
 use Rattle.corner_search.specs.Says.{NoneWithout}
 use Rattle.corner_search.specs.Step.{to_try}
@@ -13,13 +12,7 @@ abbrev pub decreases-second : goal.decreases-second
 decreases-second l = to_try l.left.now l.tried
 
 abbrev pub invariant-first-loop-i : goal.invariant-first-loop-i
-invariant-first-loop-i l = (l.i ≤ l.split) × NoneWithout l.positions (points_of l.at l.ends l.split) l.left 0 l.i
-
-abbrev pub decreases-first-loop-i : goal.decreases-first-loop-i
-decreases-first-loop-i l = l.split - l.i
+invariant-first-loop-i l = NoneWithout l.positions (points_of l.at l.ends l.split) l.left 0 l.i
 
 abbrev pub invariant-second-loop-i : goal.invariant-second-loop-i
-invariant-second-loop-i l = (l.i ≤ 6) × NoneWithout l.positions (points_of l.at l.ends l.split) l.left l.split l.i
-
-abbrev pub decreases-second-loop-i : goal.decreases-second-loop-i
-decreases-second-loop-i l = 6 - l.i
+invariant-second-loop-i l = NoneWithout l.positions (points_of l.at l.ends l.split) l.left l.split l.i

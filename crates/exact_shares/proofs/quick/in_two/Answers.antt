@@ -1,5 +1,4 @@
 -- Two digits of 2^10 each.
-use borrow.Author.Rules.{rules}
 use native.Mathlib.Nat.{mod-lt, le_of_lt}
 use native.Mathlib.Omega.{arith}
 use Prim.Native.Nat.{◌*◌, ◌%◌}

@@ -1,5 +1,4 @@
 -- One division, two, or the long one: each is right wherever its numbers fit.
-use borrow.Author.Rules.{rules}
 use native.Mathlib.Omega.{arith}
 use Rattle.cutting.specs.Cut.{cut_at_most}
 use Rattle.exact_shares.specs.Quick.{cut_once}

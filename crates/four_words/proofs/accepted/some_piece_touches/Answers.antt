@@ -1,4 +1,3 @@
-use native.Mathlib.Omega.{arith}
 use mathlib.Core.Path.{sym, subst}
 use Rattle.meaning.specs.Scene.{Scene}
 use Rattle.scene_seams.specs.Alone.{tabled}
@@ -11,18 +10,16 @@ use Rattle.four_words.proofs.accepted.some_piece_touches.Goals as goal
 
 pub piece_touches-requires : goal.piece_touches-requires
 piece_touches-requires c =
-    let b = c in
-    let a = b.args in
+    let a = c.args in
     let s : Scene = tabled a.positions.now a.edges.now a.triangles.now a.stands.now in
-    subst (SixIn a.positions.now) (sym c.six_of-six.ensures) (six_in s (accepted_sound b.requires.0) a.kind a.i a.j _ b.requires.1)
+    subst (SixIn a.positions.now) (sym c.six_of-six.ensures) (six_in s (accepted_sound c.requires.0) a.kind a.i a.j _ c.requires.1)
 
 pub returns-then-piece_touches : goal.returns-then-piece_touches
 returns-then-piece_touches c =
-    let b = c in
-    let a = b.args in
+    let a = c.args in
     let s : Scene = tabled a.positions.now a.edges.now a.triangles.now a.stands.now in
-    touch_found s a.kind a.i a.j c.piece_count-count.ensures _ c.loop-k-test.true
-    (told_touch s a.kind a.i a.j _ c.six_of-six.ensures _ c.piece_touches.ensures c.if-piece_touches.true b.requires.2)
+    touch_found s a.kind a.i a.j c.piece_count-k-end.ensures _ c.loop-k-test.true
+    (told_touch s a.kind a.i a.j _ c.six_of-six.ensures _ c.piece_touches.ensures c.if-piece_touches.true c.requires.2)
 
 pub loop-k-preserved : goal.loop-k-preserved
 loop-k-preserved c =
@@ -31,17 +28,8 @@ loop-k-preserved c =
     one_more s a.kind a.i a.j c.loop-k.invariant
     (told_none s a.kind a.i a.j _ c.six_of-six.ensures _ c.piece_touches.ensures c.if-piece_touches.false)
 
-pub piece_count-count-requires : goal.piece_count-count-requires
-piece_count-count-requires c = tt
-
 pub loop-k-init : goal.loop-k-init
 loop-k-init c = none_before _ _ _ _
 
-pub six_of-six-requires : goal.six_of-six-requires
-six_of-six-requires c = let p = c.requires in (p.0, p.1)
-
-pub loop-k-smaller : goal.loop-k-smaller
-loop-k-smaller c = let h = c.loop-k-test.true in omega arith
-
 pub returns : goal.returns
-returns c = none_found _ _ _ _ c.piece_count-count.ensures _ c.loop-k-test.false c.loop-k.invariant
+returns c = none_found _ _ _ _ c.piece_count-k-end.ensures _ c.loop-k-test.false c.loop-k.invariant

@@ -1,6 +1,4 @@
 -- `accepted::count_prepared`: a walk that enters nothing.
-use borrow.Author.Rules.{rules}
-use native.Mathlib.Omega.{arith}
 use native.Mathlib.Nat.{zero-add}
 use lib.ListN.{length}
 use Rattle.meaning.specs.List.{pairs}

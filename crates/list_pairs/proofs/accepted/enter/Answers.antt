@@ -1,14 +1,7 @@
 -- `accepted::enter`: copied, or walked again.
-use borrow.Author.Rules.{rules}
-use native.Mathlib.Omega.{arith}
 use Rattle.scene_seams.specs.Alone.{tabled}
 use Rattle.list_pairs.specs.Own.{walked_whole}
 use Rattle.list_pairs.proofs.accepted.enter.Goals as goal
-
-pub returns-then-count-own : goal.returns-then-count-own
-returns-then-count-own c =
-    let start = c in
-    rw (start.requires.1.front (omega (arith, c.if-count-own.true))) at c.copy_front.ensures
 
 pub returns-else-count-own : goal.returns-else-count-own
 returns-else-count-own c =

@@ -1,6 +1,4 @@
 -- `accepted::list_accepted`: prepared, then listed.
-use borrow.Author.Rules.{rules}
-use native.Mathlib.Omega.{arith}
 use Rattle.list_pairs.proofs.accepted.list_accepted.Goals as goal
 
 pub returns : goal.returns

@@ -1,5 +1,4 @@
 -- `accepted::list_prepared`: walked into an array of its own, and entered where there is room.
-use borrow.Author.Rules.{rules}
 use native.Mathlib.Omega.{arith}
 use mathlib.Core.Path.{refl}
 use Rattle.scene_seams.specs.Alone.{tabled}

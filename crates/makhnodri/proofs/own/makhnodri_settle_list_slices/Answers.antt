@@ -1,5 +1,5 @@
 use Rattle.c_numbers.specs.OwnSmall.{own_small}
 use Rattle.makhnodri.proofs.own.makhnodri_settle_list_slices.Goals as goal
 
-pub list_number-requires : goal.list_number-requires
-list_number-requires c = own_small c.settle_list.ensures
+pub count_number-requires : goal.count_number-requires
+count_number-requires c = own_small c.settle_list.ensures

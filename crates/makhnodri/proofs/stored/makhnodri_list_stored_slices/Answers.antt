@@ -1,5 +1,5 @@
 use Rattle.c_numbers.specs.Stored.{stored_list_small}
 use Rattle.makhnodri.proofs.stored.makhnodri_list_stored_slices.Goals as goal
 
-pub list_number-requires : goal.list_number-requires
-list_number-requires c = stored_list_small c.list_stored.ensures.list
+pub count_number-requires : goal.count_number-requires
+count_number-requires c = stored_list_small c.list_stored.ensures.list

@@ -1,21 +1,9 @@
-use Prim.Native.Nat.{◌-◌}
 use native.Mathlib.Omega.{arith}
-use Rattle.meaning.specs.Scene.{triangle_count, twice_in_triangle}
-use Rattle.scene_seams.specs.Alone.{only_triangles, triangles_sewn}
-use Rattle.scene_seams.specs.Scanning.{Scanned, scan_starts, scan_goes, scan_ends}
+use Rattle.scene_seams.specs.Scanning.{scan_starts, scan_goes, scan_ends}
 use Rattle.mesh_checks.proofs.faults.repeated_in_triangles.Goals as goal
 
 pub loop-j-init : goal.loop-j-init
 loop-j-init c = scan_starts _ _
-
-pub twice_in_triangle-found-requires : goal.twice_in_triangle-found-requires
-twice_in_triangle-found-requires c = omega arith
-
-pub overflow_add-j : goal.overflow_add-j
-overflow_add-j c = omega arith
-
-pub loop-j-smaller : goal.loop-j-smaller
-loop-j-smaller c = omega arith
 
 pub loop-j-preserved : goal.loop-j-preserved
 loop-j-preserved c = scan_goes c.loop-j.invariant (omega arith) _ c.twice_in_triangle-found.ensures

@@ -1,4 +1,3 @@
-use borrow.Author.Rules.{rules}
 use Rattle.mesh_checks.proofs.faults.twice_in_triangle.Goals as goal
 
 pub returns : goal.returns

@@ -1,56 +1,37 @@
-use borrow.Author.Rules.{rules}
 use native.Mathlib.Omega.{arith}
-use Prim.Native.Nat.{◌-◌, ◌≤◌}
-use mathlib.Core.List.{map}
+use Rattle.std.proofs.lemmas.List.{take_all}
 use mathlib.Core.Path.{◌≡◌}
 use lib.ListN.{take}
-use Rattle.mesh_entries.specs.Entering.{Entered, entered_length}
+use Rattle.mesh_entries.specs.Entering.{entered_length}
 use Rattle.mesh_rows.specs.Rows.{entry_of}
-use Rattle.mesh_led_runs.specs.Put.{places_none, places_next, places_count}
+use Rattle.mesh_runs.specs.Taken.{front_read}
+use Rattle.mesh_led_runs.specs.Put.{places_none, places_next}
 use Rattle.mesh_led_runs.proofs.alone.enter_places.Goals as goal
 
-pub loop-c-init : goal.loop-c-init
-loop-c-init c = let a = c.args in (omega arith, places_none (entry_of a.kind a.i) a.places.now a.most a.at a.list.now)
-
-pub offset_bounds-places-c : goal.offset_bounds-places-c
-offset_bounds-places-c c = omega (arith, c.requires.count_in_bounds.1, c.loop-c-test.true)
-
-pub bounds-places-c : goal.bounds-places-c
-bounds-places-c c = omega (arith, c.requires.count_in_bounds.0, c.loop-c-test.true)
+pub loop-place-init : goal.loop-place-init
+loop-place-init c =
+    let a = c.args in
+    places_none (entry_of a.kind a.i) (take a.count a.places.now) a.most a.at a.list.now
 
 pub put_below-requires : goal.put_below-requires
 put_below-requires c =
-    let loop = c.loop-c in
-    (omega (arith, c.requires.most_in_bounds.0, entered_length loop.invariant.1), c.requires.count_in_bounds.2, omega (arith, c.wide.ensures, c.requires.count_in_bounds.3 loop.c c.loop-c-test.true))
+    let a = c.args in
+    let pre = c.requires.count_in_bounds in
+    let n = c.loop-place.place-index in
+    let there = front_read a.places.now a.count n _ pre.0 c.loop-place-test.true c.wide.ensures in
+    (omega (arith, c.requires.most_in_bounds.0, entered_length c.loop-place.invariant), pre.2, omega (arith, there.1, pre.3 n there.0))
 
-pub overflow_add-k : goal.overflow_add-k
-overflow_add-k c =
-    let start = c in
-    let a = start.args in
-    let loop = c.loop-c in
-    let below = c.loop-c-test.true in
-    omega (arith, below, start.requires.count_in_bounds.0, start.requires.count_in_bounds.1, start.requires.most_in_bounds.1, places_count (entry_of a.kind a.i) a.places.now loop.c (omega (arith, start.requires.count_in_bounds.0)) loop.invariant.1)
-
-pub overflow_add-c : goal.overflow_add-c
-overflow_add-c c = omega (arith, c.requires.count_in_bounds.1, c.loop-c-test.true)
-
-pub loop-c-smaller : goal.loop-c-smaller
-loop-c-smaller c = let below = c.loop-c-test.true in omega arith
-
-pub loop-c-preserved : goal.loop-c-preserved
-loop-c-preserved c =
-    let start = c in
-    let a = start.args in
-    let loop = c.loop-c in
-    let below = c.loop-c-test.true in
+pub loop-place-preserved : goal.loop-place-preserved
+loop-place-preserved c =
+    let a = c.args in
+    let loop = c.loop-place in
     let read = c.wide.ensures in
-    (omega arith, places_next (entry_of a.kind a.i) a.places.now loop.c (omega (arith, start.requires.count_in_bounds.0)) loop.invariant.1 (rw read at c.put_below.ensures))
-
-pub shape_of-list : goal.shape_of-list
-shape_of-list c = entered_length c.loop-c.invariant.1
+    places_next (entry_of a.kind a.i) (take a.count a.places.now) loop.place-index c.loop-place-test.true loop.invariant (rw read at c.put_below.ensures)
 
 pub returns : goal.returns
 returns c =
-    let loop = c.loop-c in
-    let all : loop.c ≡ c.args.count = omega (arith, c.loop-c-test.false, loop.invariant.0) in
-    rw all at loop.invariant.1
+    let a = c.args in
+    let loop = c.loop-place in
+    let places = take a.count a.places.now in
+    let all : take loop.place-index places ≡ places = take_all loop.place-index places c.loop-place-test.false in
+    rw all at loop.invariant

@@ -1,5 +1,4 @@
 -- `edge_box`: the box of one end, widened by the other's.
-use borrow.Author.Rules.{rules}
 use native.Mathlib.Omega.{arith}
 use Rattle.mesh_led_runs.specs.PartBoxes.{copied_widened}
 use Rattle.mesh_led_runs.proofs.boxes.edge_box.Goals as goal

@@ -1,5 +1,4 @@
 -- `join_rows`: the rows' boxes stand in front, and their run has a joint box.
-use borrow.Author.Rules.{rules}
 use native.Mathlib.Omega.{arith}
 use Rattle.mesh_led_runs.specs.RowBoxes.{rows_joined}
 use Rattle.mesh_led_runs.proofs.boxes.join_rows.Goals as goal

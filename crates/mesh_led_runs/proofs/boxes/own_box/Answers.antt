@@ -1,5 +1,4 @@
 -- `own_box`: the box of one vertex, widened by the other's.
-use borrow.Author.Rules.{rules}
 use native.Mathlib.Omega.{arith}
 use Rattle.mesh_led_runs.specs.PartBoxes.{copied_widened}
 use Rattle.mesh_led_runs.proofs.boxes.own_box.Goals as goal

@@ -1,5 +1,4 @@
 -- `part_box`: by the kind.
-use borrow.Author.Rules.{rules}
 use Rattle.mesh_led_runs.specs.PartBoxes.{part_box}
 use Rattle.mesh_led_runs.proofs.boxes.part_box.Goals as goal
 

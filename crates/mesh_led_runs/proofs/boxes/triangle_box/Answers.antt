@@ -1,5 +1,4 @@
 -- `triangle_box`: the box of one corner, widened by those of the two others.
-use borrow.Author.Rules.{rules}
 use native.Mathlib.Omega.{arith}
 use Rattle.mesh_led_runs.specs.PartBoxes.{copied_widened, widened_again}
 use Rattle.mesh_led_runs.proofs.boxes.triangle_box.Goals as goal

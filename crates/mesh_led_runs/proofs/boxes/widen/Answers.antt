@@ -1,5 +1,4 @@
 -- `widen`: the vertex's box is copied, and joined from there.
-use borrow.Author.Rules.{rules}
 use Rattle.mesh_led_runs.specs.PartBoxes.{widened}
 use Rattle.mesh_led_runs.proofs.boxes.widen.Goals as goal
 

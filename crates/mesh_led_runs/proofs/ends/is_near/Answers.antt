@@ -1,5 +1,4 @@
 -- `is_near`: the row's first vertex has a box.
-use borrow.Author.Rules.{rules}
 use native.Mathlib.Omega.{arith}
 use Rattle.mesh_led_runs.proofs.ends.is_near.Goals as goal
 

@@ -1,5 +1,4 @@
 -- `reach_of`: level 1 of the tree is there.
-use borrow.Author.Rules.{rules}
 use native.Mathlib.Omega.{arith}
 use Rattle.mesh_tree.specs.Grown.{fewer_nodes}
 use Rattle.mesh_led_runs.proofs.ends.reach_of.Goals as goal

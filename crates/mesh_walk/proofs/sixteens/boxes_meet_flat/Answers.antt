@@ -1,5 +1,4 @@
 -- `boxes_meet_flat`: axis by axis.
-use borrow.Author.Rules.{rules}
 use mathlib.Core.Bool.{◌&&◌}
 use Rattle.mesh_walk.proofs.sixteens.boxes_meet_flat.Goals as goal
 

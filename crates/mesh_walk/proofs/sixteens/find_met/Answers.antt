@@ -1,12 +1,10 @@
 use native.Mathlib.Omega.{arith}
-use Prim.Native.Nat.{◌+◌, ◌*◌, ◌-◌, ◌≤◌}
 use mathlib.Core.Path.{sym}
-use lib.ListN.{length}
 use Rattle.meaning.specs.StoredBoxes.{box_at}
 use Rattle.mesh_tree.specs.Levels.{first_under}
 use Rattle.mesh_walk.specs.Places.{places_from, places_start, places_end, places_few}
 use Rattle.mesh_walk.specs.Steps.{box_meets}
-use Rattle.mesh_walk.specs.PutDown.{Finding, finding_starts, finding_goes, finding_ends, finding_place, finding_long}
+use Rattle.mesh_walk.specs.PutDown.{finding_starts, finding_goes, finding_ends, finding_place, finding_long}
 use Rattle.mesh_walk.proofs.sixteens.find_met.Goals as goal
 
 pub climb-start-requires : goal.climb-start-requires

@@ -1,5 +1,4 @@
 -- `pass_node`: a node that is missed has no part, one that is met is gone into, and of a 16 those that are met are put down.
-use borrow.Author.Rules.{rules}
 use native.Mathlib.Omega.{arith}
 use Prim.Native.Nat.{◌-◌, ◌*◌}
 use mathlib.Core.Path.{refl}

@@ -1,14 +1,13 @@
 use native.Mathlib.Omega.{arith}
-use Prim.Native.Nat.{ℕ, ◌+◌, ◌-◌, ◌≤◌}
+use Prim.Native.Nat.{◌+◌}
 use mathlib.Core.Bool.{Bool}
-use mathlib.Core.List.{List, ◌++◌}
-use mathlib.Core.Path.{◌≡◌, refl, sym, ap, ◌∙◌, subst}
-use lib.ListN.{length}
+use mathlib.Core.List.{◌++◌}
+use mathlib.Core.Path.{◌≡◌, sym, ap, ◌∙◌}
 use Rattle.sequences.specs.Chosen.{one, chosen, chosen_none, chosen_short}
 use Rattle.sequences.specs.Gather.{gather_last}
 use Rattle.meaning.specs.StoredBoxes.{box_at}
 use Rattle.mesh_walk.specs.Steps.{box_meets}
-use Rattle.mesh_walk.specs.PutDown.{PutDown, down_none, down_then}
+use Rattle.mesh_walk.specs.PutDown.{down_none, down_then}
 use Rattle.mesh_walk.proofs.sixteens.put_met.Goals as goal
 
 pub bounds-levels-0 : goal.bounds-levels-0
@@ -20,7 +19,7 @@ loop-j-init c =
     let a = start.args in
     let m = box_meets (box_at a.own.now a.row) a.boxes.now a.levels.now in
     let none : chosen m (λ i. i) a.first a.first ≡ _ = chosen_none m (λ i. i) a.first a.first (omega arith) in
-    (omega arith, start.requires.first_le_end.0, rw none (down_none a.list.now a.k))
+    rw none (down_none a.list.now a.k)
 
 pub overflow_add-base : goal.overflow_add-base
 overflow_add-base c =
@@ -44,13 +43,7 @@ put_over-n-requires c =
     let loop = c.loop-j in
     let m = box_meets (box_at a.own.now a.row) a.boxes.now a.levels.now in
     let few = chosen_short m (λ i. i) a.first loop.j in
-    omega (arith, loop.invariant.2.counts, few, loop.invariant.1, start.requires.first_le_end)
-
-pub overflow_add-j : goal.overflow_add-j
-overflow_add-j c = omega (arith, c.loop-j-test.true, c.requires.first_le_end)
-
-pub loop-j-smaller : goal.loop-j-smaller
-loop-j-smaller c = let below = c.loop-j-test.true in omega arith
+    omega (arith, loop.invariant.counts, few, start.requires.first_le_end)
 
 pub loop-j-preserved : goal.loop-j-preserved
 loop-j-preserved c =
@@ -61,19 +54,16 @@ loop-j-preserved c =
     let m = box_meets (box_at a.own.now a.row) a.boxes.now a.levels.now in
     let met = c.boxes_meet_flat-met in
     let more : chosen m (λ i. i) a.first (loop.j + 1) ≡ chosen m (λ i. i) a.first loop.j ++ one met.result loop.j =
-    gather_last (λ i. one (m i) i) a.first loop.j loop.invariant.0
-    ∙ ap (λ (b : Bool). chosen m (λ i. i) a.first loop.j ++ one b loop.j) (sym met.ensures) in (
-      omega (arith, loop.invariant.0),
-      omega arith,
-      rw more (down_then loop.invariant.2 c.put_over-n.ensures),
-    )
+    gather_last (λ i. one (m i) i) a.first loop.j (omega arith)
+    ∙ ap (λ (b : Bool). chosen m (λ i. i) a.first loop.j ++ one b loop.j) (sym met.ensures) in
+    rw more (down_then loop.invariant c.put_over-n.ensures)
 
 pub shape_of-list : goal.shape_of-list
-shape_of-list c = c.loop-j.invariant.2.same
+shape_of-list c = c.loop-j.invariant.same
 
 pub returns : goal.returns
 returns c =
     let a = c.args in
     let loop = c.loop-j in
-    let all : loop.j ≡ a.end = omega (arith, c.loop-j-test.false, loop.invariant.1) in
-    rw all at loop.invariant.2
+    let all : loop.j ≡ a.end = omega arith in
+    rw all at loop.invariant

@@ -1,5 +1,4 @@
 -- `put_over`: what is put down is counted, or not.
-use borrow.Author.Rules.{rules}
 use Rattle.mesh_walk.specs.PutDown.{down_stays, down_goes}
 use Rattle.mesh_walk.proofs.sixteens.put_over.Goals as goal
 

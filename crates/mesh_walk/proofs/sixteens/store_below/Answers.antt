@@ -1,5 +1,4 @@
 -- `store_below`: one store, or none.
-use borrow.Author.Rules.{rules}
 use borrow.Author.Tests.{lt-ltb, le-ltb}
 use Rattle.mesh_walk.proofs.sixteens.store_below.Goals as goal
 

@@ -1,12 +1,9 @@
-use Prim.Native.Nat.{◌-◌}
-use native.Mathlib.Omega.{arith}
 use mathlib.Core.Path.{sym, subst}
-use borrow.Author.Rules.{rules}
 use Rattle.meaning.specs.Scene.{Scene}
 use Rattle.scene_seams.specs.Alone.{tabled}
 use Rattle.corner_leaf.specs.Points.{SixIn}
 use Rattle.four_words.specs.Six.{six_in}
-use Rattle.four_words.specs.Words.{NoneBefore, none_before, one_more, touch_found, none_found}
+use Rattle.four_words.specs.Words.{none_before, one_more, touch_found, none_found}
 use Rattle.four_words.specs.Singular.{told_touch, told_none}
 use Rattle.mesh_words.proofs.pairs.some_piece_touches.Goals as goal
 
@@ -22,7 +19,7 @@ returns-then-piece_touches c =
     let b = c in
     let a = b.args in
     let s : Scene = tabled a.positions.now a.edges.now a.triangles.now a.stands.now in
-    touch_found s a.kind a.i a.j c.piece_count-count.ensures _ c.loop-k-test.true
+    touch_found s a.kind a.i a.j c.piece_count-k-end.ensures _ c.loop-k-test.true
     (told_touch s a.kind a.i a.j _ c.six_of-six.ensures _ c.piece_touches.ensures c.if-piece_touches.true b.requires.2)
 
 pub loop-k-preserved : goal.loop-k-preserved
@@ -32,17 +29,11 @@ loop-k-preserved c =
     one_more s a.kind a.i a.j c.loop-k.invariant
     (told_none s a.kind a.i a.j _ c.six_of-six.ensures _ c.piece_touches.ensures c.if-piece_touches.false)
 
-pub piece_count-count-requires : goal.piece_count-count-requires
-piece_count-count-requires c = tt
-
 pub loop-k-init : goal.loop-k-init
 loop-k-init c = none_before _ _ _ _
 
 pub six_of-six-requires : goal.six_of-six-requires
 six_of-six-requires c = let p = c.requires in (p.0, p.1)
 
-pub loop-k-smaller : goal.loop-k-smaller
-loop-k-smaller c = let h = c.loop-k-test.true in omega arith
-
 pub returns : goal.returns
-returns c = none_found _ _ _ _ c.piece_count-count.ensures _ c.loop-k-test.false c.loop-k.invariant
+returns c = none_found _ _ _ _ c.piece_count-k-end.ensures _ c.loop-k-test.false c.loop-k.invariant

@@ -1,6 +1,5 @@
 -- `copying::copy_pair` meets its contract: three copies, each of one buffer.
 use native.Mathlib.Omega.{arith}
-use borrow.Author.Rules.{rules}
 use Rattle.obj_scene.proofs.copying.copy_pair.Goals as goal
 
 pub copy_positions-requires : goal.copy_positions-requires

@@ -1,7 +1,5 @@
 use native.Mathlib.Omega.{arith}
-use Prim.Native.Nat.{◌-◌}
-use borrow.Author.Rules.{rules}
-use Rattle.obj_scene.specs.Between.{Pairing, pair_starts, pair_goes, pair_ends}
+use Rattle.obj_scene.specs.Between.{pair_starts, pair_goes, pair_ends}
 use Rattle.obj_scene.proofs.copying.copy_positions.Goals as goal
 
 pub loop-v-init : goal.loop-v-init
@@ -18,9 +16,6 @@ copy_three-requires-in-loop-v c = (
   omega (arith, c.loop-v-test.true, c.requires.1),
   omega (arith, c.loop-v-test.true, c.requires.2, c.loop-v.invariant.writing.same, c.copy_three.ensures.same),
 )
-
-pub loop-v-smaller : goal.loop-v-smaller
-loop-v-smaller c = omega (arith, c.loop-v-test.true)
 
 pub loop-v-preserved : goal.loop-v-preserved
 loop-v-preserved c = pair_goes _ _ _ c.loop-v-test.true c.loop-v.invariant c.copy_three.ensures c.copy_three-in-loop-v.ensures

@@ -4,7 +4,7 @@ use Rattle.scene_seams.specs.Table.{seams_of}
 use Rattle.scene_checks.specs.Facts.{accepted_sound}
 use Rattle.scene_seams.specs.Alone.{tabled}
 use Rattle.pierced_pair.specs.Parts.{parts_in}
-use Rattle.pierced_pair.specs.Asked.{parts_there, five_first, then_six, then_pierced, then_clear}
+use Rattle.pierced_pair.specs.Asked.{parts_there, five_first, then_six, then_told}
 use Rattle.pierced_pair.proofs.accepted.answer.Goals as goal
 
 pub returns-then-edges-edge : goal.returns-then-edges-edge
@@ -32,18 +32,9 @@ pierced-requires c =
     let there = parts_there s a.frame a.edge a.triangle c.if-edges-edge.false in
     parts_in {s = s} (accepted_sound c.requires) a.edge a.triangle there.0 there.1
 
-pub returns-then-pierced : goal.returns-then-pierced
-returns-then-pierced c =
-    let b = c in
-    let a = b.args in
+pub returns : goal.returns
+returns c =
+    let a = c.args in
     let s : Scene = tabled a.positions.now a.edges.now a.triangles.now a.stands.now in
-    then_pierced s a.frame a.edge a.triangle b.if-edges-edge.false (b.end_is_corner.ensures a.positions.now) b.if-end_is_corner.false
-    _ (c.pierced.ensures (seams_of a.stands.now)) c.if-pierced.true
-
-pub returns-else-pierced : goal.returns-else-pierced
-returns-else-pierced c =
-    let b = c in
-    let a = b.args in
-    let s : Scene = tabled a.positions.now a.edges.now a.triangles.now a.stands.now in
-    then_clear s a.frame a.edge a.triangle b.if-edges-edge.false (b.end_is_corner.ensures a.positions.now) b.if-end_is_corner.false
-    _ (c.pierced.ensures (seams_of a.stands.now)) c.if-pierced.false
+    then_told s a.frame a.edge a.triangle c.if-edges-edge.false (c.end_is_corner.ensures a.positions.now) c.if-end_is_corner.false
+    _ (c.pierced.ensures (seams_of a.stands.now))

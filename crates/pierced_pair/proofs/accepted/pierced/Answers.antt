@@ -1,5 +1,4 @@
 -- The five vertices are the ends and the corners.
-use borrow.Author.Rules.{rules}
 use Rattle.pierced_pair.specs.Parts.{five_there, five_told}
 use Rattle.pierced_pair.proofs.accepted.pierced.Goals as goal
 

@@ -1,5 +1,4 @@
 -- By the time.
-use borrow.Author.Rules.{rules}
 use mathlib.Core.Path.{refl}
 use Rattle.pierced_pair.specs.Vertices.{offset_of}
 use Rattle.pierced_pair.proofs.places.place_of.Goals as goal

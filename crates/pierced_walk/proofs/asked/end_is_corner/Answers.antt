@@ -1,6 +1,5 @@
 -- Each end is looked for among the corners.
 use mathlib.Core.Path.{refl}
-use borrow.Author.Rules.{rules}
 use Rattle.pierced_walk.proofs.asked.end_is_corner.Goals as goal
 
 pub returns : goal.returns

@@ -1,5 +1,4 @@
 -- `enter_through`: a pierced one is counted, and any other leaves everything as it is.
-use borrow.Author.Rules.{rules}
 use mathlib.Core.Bool.{◌&&◌}
 use mathlib.Core.Path.{sym, ◌∙◌}
 use Rattle.sequences.specs.Pick.{both}

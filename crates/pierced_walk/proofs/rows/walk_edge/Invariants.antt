@@ -1,14 +1,12 @@
 -- `walk_edge`: what is entered, with what is left of the row, is all of it.
-use native.Mathlib.Omega.{arith}
 use Prim.Native.Nat.{◌+◌, ◌*◌, ◌-◌, ◌≤◌}
 use Rattle.scene_seams.specs.Alone.{tabled}
 use Rattle.meaning.specs.PiercedRows.{through_row}
 use Rattle.mesh_tree.specs.Levels.{first_under}
-use Rattle.mesh_walk.specs.Places.{found_there}
 use Rattle.mesh_walk.specs.Steps.{row_meets}
-use Rattle.mesh_entries.specs.Entering.{Entering, entering_place, entering_length}
+use Rattle.mesh_entries.specs.Entering.{Entering}
 use Rattle.through_laws.specs.Listing.{entries_of}
-use Rattle.pierced_walk.specs.Rows.{left_of, row_starts, row_goes, row_ends, row_few}
+use Rattle.pierced_walk.specs.Rows.{left_of}
 use Rattle.pierced_walk.proofs.rows.walk_edge.Given as goal
 
 abbrev pub invariant-loop-node : goal.invariant-loop-node

@@ -1,21 +1,13 @@
-use borrow.Author.Rules.{rules}
 use native.Mathlib.Omega.{arith}
-use Prim.Native.Nat.{◌-◌, ◌≤◌}
 use mathlib.Core.Path.{◌≡◌}
 use Rattle.scene_seams.specs.Alone.{tabled}
-use Rattle.meaning.specs.PiercedRows.{through_row}
-use Rattle.mesh_entries.specs.Entering.{EnteringUpTo, up_to_starts, up_to_next, entered_length}
-use Rattle.through_laws.specs.Listing.{entries_of, rows_few}
+use Rattle.mesh_entries.specs.Entering.{up_to_starts, up_to_next, entered_length}
+use Rattle.through_laws.specs.Listing.{rows_few}
 use Rattle.pierced_walk.specs.Rows.{edge_row_lem}
 use Rattle.pierced_walk.proofs.rows.walk_edges.Goals as goal
 
 pub loop-i-init : goal.loop-i-init
-loop-i-init c = (c.requires.grove.2, up_to_starts _ _ _ _)
-
-pub overflow_add-vertices : goal.overflow_add-vertices
-overflow_add-vertices c =
-    let start = c in
-    omega (arith, start.requires.grove.0.few_vertices, start.requires.grove.0.few_edges, start.requires.grove.3, c.loop-i-test.true, c.vertex_count-vertices.ensures)
+loop-i-init c = up_to_starts _ _ _ _
 
 pub walk_edge-k-requires : goal.walk_edge-k-requires
 walk_edge-k-requires c =
@@ -25,22 +17,17 @@ walk_edge-k-requires c =
     let loop = c.loop-i in
     let below = c.loop-i-test.true in
     let grove = start.requires.grove.0 in
-    let few = rows_few a.frame s a.first loop.i grove.few_triangles (omega (arith, start.requires.grove.3, grove.few_edges)) in record { edge_row = edge_row_lem grove start.requires.grove.1 loop.i _ _ (omega (arith, start.requires.grove.3)) (omega (arith, c.vertex_count-vertices.ensures)) c.triangle_count-parts.ensures; most_in_bounds = (omega (arith, start.requires.most_in_bounds, entered_length loop.invariant.1.done), omega (arith, loop.invariant.1.done.counts)) }
-
-pub loop-i-smaller : goal.loop-i-smaller
-loop-i-smaller c = let below = c.loop-i-test.true in omega arith
+    let few = rows_few a.frame s a.first loop.i grove.few_triangles (omega (arith, start.requires.grove.3, grove.few_edges)) in
+    record {
+      edge_row = edge_row_lem grove start.requires.grove.1 loop.i _ _ (omega (arith, start.requires.grove.3)) (omega (arith, c.vertex_count-vertices.ensures)) c.triangle_count-parts.ensures;
+      most_in_bounds = (omega (arith, start.requires.most_in_bounds, entered_length loop.invariant.done), omega (arith, loop.invariant.done.counts));
+    }
 
 pub loop-i-preserved : goal.loop-i-preserved
-loop-i-preserved c =
-    let below = c.loop-i-test.true in
-    (omega arith, up_to_next _ c.loop-i.invariant.1 c.walk_edge-k.ensures)
-
-pub shape_of-list : goal.shape_of-list
-shape_of-list c = entered_length c.loop-i.invariant.1.done
+loop-i-preserved c = up_to_next _ c.loop-i.invariant c.walk_edge-k.ensures
 
 pub returns : goal.returns
 returns c =
-    let a = c.args in
     let loop = c.loop-i in
-    let all : loop.i ≡ a.end = omega (arith, c.loop-i-test.false, loop.invariant.0) in
-    rw all at loop.invariant.1.done
+    let all : loop.i ≡ c.args.end = omega (arith, c.loop-i-test.false, loop.auto.i-end c.requires.grove.2) in
+    rw all at loop.invariant.done

@@ -1,5 +1,4 @@
 -- `count_grown`: a walk that enters none counts all.
-use borrow.Author.Rules.{rules}
 use Rattle.scene_seams.specs.Alone.{tabled}
 use Rattle.pierced_walk.specs.Stretching.{walked_count}
 use Rattle.pierced_walk.proofs.stretch.count_grown.Goals as goal

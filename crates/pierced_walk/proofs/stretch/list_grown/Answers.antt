@@ -1,5 +1,4 @@
 -- `list_grown`: counted, and entered where there is room.
-use borrow.Author.Rules.{rules}
 use Rattle.scene_seams.specs.Alone.{tabled}
 use Rattle.pierced_walk.specs.Stretching.{through_refused, through_none, through_listed}
 use Rattle.pierced_walk.proofs.stretch.list_grown.Goals as goal

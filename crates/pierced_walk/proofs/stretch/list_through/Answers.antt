@@ -1,5 +1,4 @@
 -- `list_through`: what was planted is what the walks go by.
-use borrow.Author.Rules.{rules}
 use Rattle.scene_seams.specs.Table.{seams_of}
 use Rattle.pierced_walk.proofs.stretch.list_through.Goals as goal
 

@@ -1,14 +1,9 @@
 -- `coordinates_length`: the fields counted, with those that are left, are all.
-use Prim.Native.Nat.{◌+◌, ◌*◌, ◌-◌, ◌≤◌}
+use Prim.Native.Nat.{◌+◌, ◌*◌, ◌≤◌}
 use mathlib.Core.Path.{◌≡◌}
-use native.Mathlib.Omega.{arith}
-use lib.IntN.{pos}
-use lib.ListN.{length, get_or, drop}
-use Rattle.saved_scene.specs.Lengths.{fields_long, fields_next, fields_none}
+use lib.ListN.{drop}
+use Rattle.saved_scene.specs.Lengths.{fields_long}
 use Rattle.saved_scene.proofs.lengths.coordinates_length.Given as goal
 
 abbrev pub invariant-loop-i : goal.invariant-loop-i
-invariant-loop-i l = (l.total + fields_long (drop l.i l.positions) ≡ fields_long l.positions) × (l.total ≤ 8 * l.i) × (l.i ≤ length l.positions)
-
-abbrev pub decreases-loop-i : goal.decreases-loop-i
-decreases-loop-i l = length l.positions - l.i
+invariant-loop-i l = (l.total + fields_long (drop l.i l.positions) ≡ fields_long l.positions) × (l.total ≤ 8 * l.i)

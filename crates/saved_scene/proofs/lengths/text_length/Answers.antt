@@ -1,6 +1,4 @@
-use borrow.Author.Rules.{rules}
 use native.Mathlib.Omega.{arith}
-use Rattle.meaning.specs.Scene.{scene_of}
 use Rattle.saved_scene.specs.Shaped.{shaped, text_long}
 use Rattle.saved_scene.proofs.lengths.text_length.Goals as goal
 

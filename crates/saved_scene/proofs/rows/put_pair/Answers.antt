@@ -1,8 +1,6 @@
 use Prim.Native.Nat.{◌+◌, ◌*◌}
-use borrow.Author.Rules.{rules}
 use native.Mathlib.Omega.{arith}
-use lib.IntN.{pos}
-use lib.ListN.{length, get_or}
+use lib.ListN.{get_or}
 use Rattle.sequences.specs.Wrote.{wrote_then}
 use Rattle.saved_scene.specs.Lengths.{two_long}
 use Rattle.saved_scene.proofs.rows.put_pair.Goals as goal

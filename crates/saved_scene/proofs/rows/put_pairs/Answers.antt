@@ -1,9 +1,8 @@
-use Prim.Native.Nat.{◌+◌, ◌*◌, ◌-◌}
-use mathlib.Core.List.{◌++◌}
+use Prim.Native.Nat.{◌+◌, ◌*◌}
 use native.Mathlib.Omega.{arith}
-use lib.ListN.{length, get_or, take, drop}
-use Rattle.sequences.specs.Writing.{Writing, writing_starts, writing_room_for, writing_steps, writing_as, writing_ends}
-use Rattle.saved_scene.specs.Rows.{two_line, pair_lines, pairs_next, pairs_none}
+use lib.ListN.{get_or}
+use Rattle.sequences.specs.Writing.{writing_starts, writing_room_for, writing_steps, writing_as, writing_ends}
+use Rattle.saved_scene.specs.Rows.{two_line, pairs_next, pairs_none}
 use Rattle.saved_scene.proofs.rows.put_pairs.Goals as goal
 
 pub loop-k-init : goal.loop-k-init
@@ -13,12 +12,6 @@ pub put_pair-next-requires : goal.put_pair-next-requires
 put_pair-next-requires c =
     let a = c.args in
     let w = c.loop-k in record { k_in_bounds = c.loop-k-test.true; k_in_bounds_2 = writing_room_for (two_line a.letter (get_or a.list.now (2 * w.k) 0) (get_or a.list.now (2 * w.k + 1) 0)) _ (writing_as (pairs_next a.letter a.list.now w.k c.loop-k-test.true) w.invariant) }
-
-pub overflow_add-k : goal.overflow_add-k
-overflow_add-k c = omega arith
-
-pub loop-k-smaller : goal.loop-k-smaller
-loop-k-smaller c = omega arith
 
 pub loop-k-preserved : goal.loop-k-preserved
 loop-k-preserved c =

@@ -1,8 +1,5 @@
 -- `put_place`: three fields, one behind the other.
-use borrow.Author.Rules.{rules}
 use native.Mathlib.Omega.{arith}
-use lib.IntN.{pos}
-use lib.ListN.{length, get_or}
 use Rattle.sequences.specs.Wrote.{wrote_then}
 use Rattle.saved_scene.specs.Lengths.{three_fields_long}
 use Rattle.saved_scene.proofs.rows.put_place.Goals as goal

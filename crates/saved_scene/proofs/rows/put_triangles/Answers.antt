@@ -1,9 +1,8 @@
-use Prim.Native.Nat.{◌+◌, ◌*◌, ◌-◌}
-use mathlib.Core.List.{◌++◌}
+use Prim.Native.Nat.{◌+◌, ◌*◌}
 use native.Mathlib.Omega.{arith}
-use lib.ListN.{length, get_or, take, drop}
-use Rattle.sequences.specs.Writing.{Writing, writing_starts, writing_room_for, writing_steps, writing_as, writing_ends}
-use Rattle.saved_scene.specs.Rows.{three_line, triple_lines, triples_next, triples_none}
+use lib.ListN.{get_or}
+use Rattle.sequences.specs.Writing.{writing_starts, writing_room_for, writing_steps, writing_as, writing_ends}
+use Rattle.saved_scene.specs.Rows.{three_line, triples_next, triples_none}
 use Rattle.saved_scene.proofs.rows.put_triangles.Goals as goal
 
 pub loop-k-init : goal.loop-k-init
@@ -13,12 +12,6 @@ pub put_triangle-next-requires : goal.put_triangle-next-requires
 put_triangle-next-requires c =
     let a = c.args in
     let w = c.loop-k in record { k_in_bounds = c.loop-k-test.true; k_in_bounds_2 = writing_room_for (three_line (get_or a.list.now (3 * w.k) 0) (get_or a.list.now (3 * w.k + 1) 0) (get_or a.list.now (3 * w.k + 2) 0)) _ (writing_as (triples_next a.list.now w.k c.loop-k-test.true) w.invariant) }
-
-pub overflow_add-k : goal.overflow_add-k
-overflow_add-k c = omega arith
-
-pub loop-k-smaller : goal.loop-k-smaller
-loop-k-smaller c = omega arith
 
 pub loop-k-preserved : goal.loop-k-preserved
 loop-k-preserved c =

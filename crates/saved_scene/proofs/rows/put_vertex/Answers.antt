@@ -1,7 +1,4 @@
-use borrow.Author.Rules.{rules}
 use native.Mathlib.Omega.{arith}
-use lib.IntN.{pos}
-use lib.ListN.{length, get_or}
 use Rattle.sequences.specs.Wrote.{wrote_then}
 use Rattle.saved_scene.specs.Lengths.{six_long}
 use Rattle.saved_scene.proofs.rows.put_vertex.Goals as goal

@@ -1,9 +1,6 @@
-use Prim.Native.Nat.{◌+◌, ◌*◌, ◌-◌}
-use mathlib.Core.List.{◌++◌}
 use native.Mathlib.Omega.{arith}
-use lib.ListN.{length, get_or, take, drop}
-use Rattle.sequences.specs.Writing.{Writing, writing_starts, writing_room_for, writing_steps, writing_as, writing_ends}
-use Rattle.saved_scene.specs.Rows.{vertex_lines, six_line, vertices_next, vertices_none}
+use Rattle.sequences.specs.Writing.{writing_starts, writing_room_for, writing_steps, writing_as, writing_ends}
+use Rattle.saved_scene.specs.Rows.{six_line, vertices_next, vertices_none}
 use Rattle.saved_scene.proofs.rows.put_vertices.Goals as goal
 
 pub loop-k-init : goal.loop-k-init
@@ -13,12 +10,6 @@ pub put_vertex-next-requires : goal.put_vertex-next-requires
 put_vertex-next-requires c =
     let a = c.args in
     let w = c.loop-k in record { k_in_bounds = (c.loop-k-test.true, c.requires.positions_len.1); k_in_bounds_2 = writing_room_for (six_line a.positions.now w.k) _ (writing_as (vertices_next a.positions.now w.k c.loop-k-test.true) w.invariant) }
-
-pub overflow_add-k : goal.overflow_add-k
-overflow_add-k c = omega arith
-
-pub loop-k-smaller : goal.loop-k-smaller
-loop-k-smaller c = omega arith
 
 pub loop-k-preserved : goal.loop-k-preserved
 loop-k-preserved c =

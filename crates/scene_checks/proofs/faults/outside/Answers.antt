@@ -1,13 +1,11 @@
--- `faults::outside`: the two tests of a signed number are the one of its size.
+-- The two tests of a signed number are the one of its size.
 use Prim.Native.Nat.{ℕ, suc, ◌-◌}
 use mathlib.Core.Bool.{◌||◌, or-false}
 use mathlib.Core.Path.{◌≡◌, refl, sym, ◌∙◌}
 use lib.Dec.{ltb, leb-suc-suc}
 use lib.IntN.{ℤ, pos, negsuc, nat_abs}
-use lib.ListN.{get_or}
 use lib.Signed.{lt_z}
 use mir.Facts.{to_z-of_z}
-use borrow.Author.Rules.{rules, sfits_of}
 use Rattle.meaning.specs.Limits.{coordinate_limit}
 use Rattle.scene_checks.proofs.faults.outside.Goals as goal
 
@@ -18,5 +16,5 @@ either_side b (negsuc n) = or-false (ltb b n) ∙ sym (leb-suc-suc (suc b) n)
 
 pub returns : goal.returns
 returns c =
-    let z = get_or c.args.positions.now c.args.i (pos 0) in
-    rw (to_z-of_z {z = z} (sfits_of c.c-1.given)) (either_side (coordinate_limit - 1) z)
+    let z = c.args.coordinate in
+    rw (to_z-of_z {z = z} c.ranges.coordinate) (either_side (coordinate_limit - 1) z)

@@ -1,31 +1,15 @@
-use Prim.Native.Nat.{◌+◌, ◌-◌}
-use native.Mathlib.Omega.{arith}
-use Rattle.meaning.specs.Scene.{triangle_count}
-use Rattle.scene_seams.specs.Alone.{only_triangles}
-use Rattle.scene_checks.specs.AsWritten.{written_twice_in_triangle}
-use Rattle.scene_seams.specs.Scanning.{Scanned, scan_starts, scan_goes, scan_ends}
+use Rattle.std.proofs.Common.{◌+◌, ◌-◌, ◌≡◌, sym, arith}
+use Rattle.answers.specs.Below.{some_more}
+use Rattle.scene_seams.specs.Scanning.{none_yet}
 use Rattle.scene_checks.proofs.faults.written_behind.Goals as goal
 
-pub overflow_sub-count : goal.overflow_sub-count
-overflow_sub-count c = omega arith
+pub loop-j-init : goal.loop-j-init
+loop-j-init c = let none : c.args.first - c.args.first ≡ 0 = omega arith in rw none (sym (none_yet _))
 
-pub loop-i-init : goal.loop-i-init
-loop-i-init c = scan_starts _ _
-
-pub overflow_add-first : goal.overflow_add-first
-overflow_add-first c = omega arith
-
-pub written_twice_in_triangle-found-requires : goal.written_twice_in_triangle-found-requires
-written_twice_in_triangle-found-requires c = omega arith
-
-pub overflow_add-i : goal.overflow_add-i
-overflow_add-i c = omega arith
-
-pub loop-i-smaller : goal.loop-i-smaller
-loop-i-smaller c = omega arith
-
-pub loop-i-preserved : goal.loop-i-preserved
-loop-i-preserved c = scan_goes c.loop-i.invariant (omega arith) _ c.written_twice_in_triangle-found.ensures
-
-pub returns : goal.returns
-returns c = scan_ends c.loop-i.invariant (omega arith)
+pub loop-j-preserved : goal.loop-j-preserved
+loop-j-preserved c =
+    let first = c.args.first in
+    let j = c.loop-j.j in
+    let next : j + 1 - first ≡ j - first + 1 = omega arith in
+    let this : first + (j - first) ≡ j = omega arith in
+    rw (next, some_more _ (j - first), c.loop-j.invariant, c.written_twice_in_triangle-found.ensures, this)

@@ -1,14 +1,8 @@
--- `faults::written_in_edges`: every edge is tried in turn.
-use Prim.Native.Nat.{◌-◌}
-use native.Mathlib.Omega.{arith}
-use Rattle.meaning.specs.Scene.{edge_count}
-use Rattle.scene_seams.specs.Alone.{only_edges}
+-- Every edge is tried in turn.
+use Rattle.std.proofs.Common.{◌≡◌}
+use Rattle.meaning.specs.Scene.{some_below}
 use Rattle.scene_checks.specs.AsWritten.{written_twice_in_edge}
-use Rattle.scene_seams.specs.Scanning.{Scanned, scan_starts, scan_goes, scan_ends}
 use Rattle.scene_checks.proofs.faults.written_in_edges.Given as goal
 
 abbrev pub invariant-loop-j : goal.invariant-loop-j
-invariant-loop-j l = Scanned (edge_count (only_edges l.edges)) (written_twice_in_edge l.edges) l.found l.j
-
-abbrev pub decreases-loop-j : goal.decreases-loop-j
-decreases-loop-j l = l.count - l.j
+invariant-loop-j l = l.found ≡ some_below l.j (written_twice_in_edge l.edges)

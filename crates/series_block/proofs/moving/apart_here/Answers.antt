@@ -1,5 +1,4 @@
 use borrow.Author.Tests.{le-leb, lt-leb}
-use borrow.Author.Rules.{rules}
 use Rattle.series_block.proofs.moving.apart_here.Goals as goal
 
 pub returns-then-positions-k : goal.returns-then-positions-k

@@ -1,5 +1,4 @@
 use Rattle.series_block.specs.Moving.{moved_by}
-use borrow.Author.Rules.{rules}
 use Rattle.series_block.proofs.moving.move_on.Goals as goal
 
 pub returns : goal.returns

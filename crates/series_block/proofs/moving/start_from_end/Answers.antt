@@ -2,7 +2,7 @@ use native.Mathlib.Omega.{arith}
 use lib.ListN.{length-set}
 use mir.Facts.{to_z-of_z}
 use Rattle.series_block.specs.Moving.{three_stored}
-use borrow.Author.Rules.{rules, sfits_of}
+use borrow.Author.Rules.{sfits_of}
 use Rattle.series_block.proofs.moving.start_from_end.Goals as goal
 
 pub slice_copy_out-out-2 : goal.slice_copy_out-out-2

@@ -1,6 +1,5 @@
 use mathlib.Core.Path.{sym, ◌∙◌}
-use Rattle.series_block.specs.Moving.{end_wrong, end_far, end_moves, end_sewable, end_apart, end_good}
-use borrow.Author.Rules.{rules}
+use Rattle.series_block.specs.Moving.{end_wrong, end_far, end_moves, end_apart, end_good}
 use Rattle.series_block.proofs.moving.take_end.Goals as goal
 
 pub returns-then-wrong_here : goal.returns-then-wrong_here

@@ -1,5 +1,4 @@
 -- `tearing::tears`: the seam has the vertex as its first, as its second, or not at all.
-use borrow.Author.Rules.{rules}
 use native.Mathlib.Omega.{arith}
 use Rattle.scene_seams.specs.Sewing.{seams_alone}
 use Rattle.stored_laws.specs.Torn.{torn_first, torn_second, torn_neither}

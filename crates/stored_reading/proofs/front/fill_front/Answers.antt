@@ -1,7 +1,6 @@
 -- `stored_reading::front::fill_front` meets its contract: what is lent on is the front of each buffer.
 use mathlib.Core.Path.{sym}
 use lib.Seq.{length-take-le}
-use borrow.Author.Rules.{rules}
 use Rattle.stored_reading.proofs.front.fill_front.Goals as goal
 
 pub slice_bounds-fill-end : goal.slice_bounds-fill-end

@@ -1,9 +1,5 @@
 -- `text_record::place::coordinate` meets its contract: a size within the limit fits, and so does its negative.
-use mathlib.Core.Path.{refl}
-use Prim.Native.Nat.{◌<◌, ◌^◌}
-use mir.Val.{hbits}
 use mir.Facts.{to_z-of_z}
-use borrow.Author.Rules.{rules}
 use Rattle.text_line.specs.Coordinate.{held, turned, turned_fits}
 use Rattle.text_record.proofs.place.coordinate.Goals as goal
 

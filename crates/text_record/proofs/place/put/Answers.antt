@@ -1,6 +1,5 @@
 -- `text_record::place::put` meets its contract: each arm writes the numbers of its kind of record behind those that stand there.
 use native.Mathlib.Omega.{arith}
-use borrow.Author.Rules.{rules}
 use Rattle.text_record.specs.Putting.{VertexReady, EdgeReady, TriangleReady, SeamReady, ready_vertex, ready_edge, ready_triangle, ready_seam, puts_vertex, puts_edge, puts_triangle, puts_seam}
 use Rattle.text_record.proofs.place.put.Goals as goal
 

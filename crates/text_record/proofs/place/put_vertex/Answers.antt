@@ -1,7 +1,6 @@
 -- `text_record::place::put_vertex` meets its contract: one point behind the other.
 use native.Mathlib.Nat.{add_assoc}
 use Rattle.sequences.specs.Wrote.{wrote_then}
-use borrow.Author.Rules.{rules}
 use Rattle.text_record.proofs.place.put_vertex.Goals as goal
 
 pub returns : goal.returns

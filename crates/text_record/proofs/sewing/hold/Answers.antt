@@ -1,5 +1,4 @@
 -- `sewing::hold` meets its contract: a seam is held, and nothing else changes the table.
-use borrow.Author.Rules.{rules}
 use Rattle.text_record.specs.Holding.{ready_at_seam, held_vertex, held_edge, held_triangle, held_seam}
 use Rattle.text_record.proofs.sewing.hold.Goals as goal
 

@@ -2,7 +2,6 @@
 use native.Mathlib.Omega.{arith}
 use mathlib.Core.Path.{sym}
 use lib.Seq.{length-take-le}
-use borrow.Author.Rules.{rules}
 use Rattle.text_record.specs.Holding.{vertex_in_front, held_broken, held_repeated, held_good}
 use Rattle.text_record.proofs.sewing.hold_seam.Goals as goal
 

@@ -1,6 +1,5 @@
 -- `sewing::least_after` meets its contract: one more than the first vertex of the last seam, and 0 where there is none.
 use mathlib.Core.Path.{◌∙◌}
-use borrow.Author.Rules.{rules}
 use Rattle.text_record.specs.Holding.{least_none, least_some}
 use Rattle.text_record.proofs.sewing.least_after.Goals as goal
 

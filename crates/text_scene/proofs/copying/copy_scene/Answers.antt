@@ -1,6 +1,5 @@
 -- `copying::copy_scene` meets its contract: four copies, each of one buffer.
 use native.Mathlib.Omega.{arith}
-use borrow.Author.Rules.{rules}
 use Rattle.text_scene.proofs.copying.copy_scene.Goals as goal
 
 pub copy_numbers-requires-3 : goal.copy_numbers-requires-3

@@ -22,19 +22,19 @@ point_pair-requires c =
 pub ends_of-first-requires : goal.ends_of-first-requires
 ends_of-first-requires c =
     let a = c.args in
-    rw c.smaller.ensures (ee_smaller_there (tabled a.positions.now a.edges.now a.triangles.now a.stands.now) a.i a.j (rw c.in-EdgeEdge.is at c.requires.1))
+    rw c.min.ensures (ee_smaller_there (tabled a.positions.now a.edges.now a.triangles.now a.stands.now) a.i a.j (rw c.in-EdgeEdge.is at c.requires.1))
 
 -- src/accepted.rt:141:17
 pub ends_of-second-requires : goal.ends_of-second-requires
 ends_of-second-requires c =
     let a = c.args in
-    rw c.larger.ensures (ee_larger_there (tabled a.positions.now a.edges.now a.triangles.now a.stands.now) a.i a.j (rw c.in-EdgeEdge.is at c.requires.1))
+    rw c.max.ensures (ee_larger_there (tabled a.positions.now a.edges.now a.triangles.now a.stands.now) a.i a.j (rw c.in-EdgeEdge.is at c.requires.1))
 
 -- src/accepted.rt:142:13
 pub edges_pair-requires : goal.edges_pair-requires
 edges_pair-requires c =
     let a = c.args in
-    rw (c.ends_of-second.ensures, c.ends_of-first.ensures, c.larger.ensures, c.smaller.ensures)
+    rw (c.ends_of-second.ensures, c.ends_of-first.ensures, c.max.ensures, c.min.ensures)
     (ee_ready (tabled a.positions.now a.edges.now a.triangles.now a.stands.now) a.i a.j (accepted_sound c.requires.0) (rw c.in-EdgeEdge.is at c.requires.1))
 
 -- src/accepted.rt:124:1
@@ -50,5 +50,5 @@ returns-in-EdgeEdge c =
     let a = c.args in
     rw c.in-EdgeEdge.is
     (c.edges_pair.ensures a.edges.now a.triangles.now _ a.i a.j
-    (sym (rw c.smaller.ensures at c.ends_of-first.ensures))
-    (sym (rw c.larger.ensures at c.ends_of-second.ensures)))
+    (sym (rw c.min.ensures at c.ends_of-first.ensures))
+    (sym (rw c.max.ensures at c.ends_of-second.ensures)))

@@ -22,19 +22,19 @@ point_piece-requires c =
 pub ends_of-first-requires : goal.ends_of-first-requires
 ends_of-first-requires c =
     let a = c.args in
-    rw c.smaller.ensures (ee_smaller_there (tabled a.positions.now a.edges.now a.triangles.now a.stands.now) a.i a.j (rw c.in-EdgeEdge.is at c.requires.1))
+    rw c.min.ensures (ee_smaller_there (tabled a.positions.now a.edges.now a.triangles.now a.stands.now) a.i a.j (rw c.in-EdgeEdge.is at c.requires.1))
 
 -- src/accepted.rt:81:17
 pub ends_of-second-requires : goal.ends_of-second-requires
 ends_of-second-requires c =
     let a = c.args in
-    rw c.larger.ensures (ee_larger_there (tabled a.positions.now a.edges.now a.triangles.now a.stands.now) a.i a.j (rw c.in-EdgeEdge.is at c.requires.1))
+    rw c.max.ensures (ee_larger_there (tabled a.positions.now a.edges.now a.triangles.now a.stands.now) a.i a.j (rw c.in-EdgeEdge.is at c.requires.1))
 
 -- src/accepted.rt:82:13
 pub edges_piece-requires : goal.edges_piece-requires
 edges_piece-requires c =
     let a = c.args in
-    rw (c.ends_of-second.ensures, c.ends_of-first.ensures, c.larger.ensures, c.smaller.ensures)
+    rw (c.ends_of-second.ensures, c.ends_of-first.ensures, c.max.ensures, c.min.ensures)
     (ee_ready (tabled a.positions.now a.edges.now a.triangles.now a.stands.now) a.i a.j (accepted_sound c.requires.0) (rw c.in-EdgeEdge.is at c.requires.1))
 
 -- src/accepted.rt:63:1
@@ -50,5 +50,5 @@ pub returns-in-EdgeEdge : goal.returns-in-EdgeEdge
 unfolding piece_of
 returns-in-EdgeEdge c =
     let a = c.args in
-    rw (c.in-EdgeEdge.is, ← rw c.smaller.ensures at c.ends_of-first.ensures, ← rw c.larger.ensures at c.ends_of-second.ensures)
+    rw (c.in-EdgeEdge.is, ← rw c.min.ensures at c.ends_of-first.ensures, ← rw c.max.ensures at c.ends_of-second.ensures)
     c.edges_piece.ensures

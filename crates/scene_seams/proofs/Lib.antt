@@ -1,0 +1,2 @@
+-- A list taken in pairs.
+pub mod Pairs
