@@ -1,7 +1,7 @@
 // The list of a scene that is accepted: counted, and made where there is room for it.
 
 ghost use Rattle.scene_seams.specs.Alone.{tabled};
-ghost use Rattle.std.specs.Prelude.{◌≤◌, [], ◌∷◌, ◌≡◌, length};
+ghost use Rattle.std.specs.Prelude.{◌≤◌, [], ◌∷◌, ◌≡◌, length, take};
 ghost use Rattle.sequences.specs.Wrote.{written};
 ghost use Rattle.meaning.specs.Scene.{Accepted};
 ghost use Rattle.meaning.specs.List.{pairs, entries, room_of};
@@ -51,6 +51,16 @@ pub fn count_accepted(positions: &[i32], edges: &[u16], triangles: &[u16], stand
     count_prepared(positions, edges, triangles, stands, &boxes)
 }
 
+// The first entries of one list, in front of another.
+fn copy_front(own: &[u32], list: &mut [u32], count: usize)
+    requires { (count ≤ length own.now) × (count ≤ length list.old) }
+    ensures { list.new ≡ written (take count own.now) list.old }
+{
+    for k in 0..count {
+        list[k] = own[k];
+    }
+}
+
 // The list of so many pairs, copied where one's own has it whole; a longer one is walked again.
 fn enter(
     positions: &[i32],
@@ -68,7 +78,7 @@ fn enter(
         list.old }
 {
     if count <= own.len() {
-        list[..count].copy_from_slice(&own[..count]);
+        copy_front(own, list, count);
     } else {
         walk_prepared(positions, edges, triangles, stands, boxes, list, count);
     }

@@ -10,6 +10,7 @@ ghost use Rattle.list_boxes.specs.Kept.{meet_boxes};
 ghost use Rattle.list_candidates.specs.Rows.{first_count, second_count};
 ghost use Rattle.list_walk.specs.Skipping.{first_place, run_place, first_box, run_box, walk_numbers};
 ghost use Rattle.list_walk.specs.Skipping.{Prepared};
+ghost use Rattle.list_walk.specs.Taking.{CopiedUpTo};
 
 use list_boxes::filling::fill;
 use list_boxes::kept::boxes_meet;
@@ -33,6 +34,16 @@ fn join_runs(positions: &[i32], edges: &[u16], triangles: &[u16], stands: &[u16]
     fill_runs(boxes, vertices, edge_parts, all);
     let behind = all + runs_of(edge_parts);
     fill_runs(boxes, vertices + edge_parts, triangle_parts, behind);
+}
+
+// The first numbers of one list, in front of another.
+fn copy_numbers(from: &[i32], to: &mut [i32], count: usize)
+    requires { (count ≤ length from.now) × (count ≤ length to.old) }
+    ensures { CopiedUpTo from.now count to.old to.new }
+{
+    for k in 0..count {
+        to[k] = from[k];
+    }
 }
 
 // The boxes of all parts are worked out, and the runs joined behind them.
@@ -64,7 +75,7 @@ pub fn prepare_stored(
     ensures { Prepared (tabled positions.now edges.now triangles.now stands.now) boxes.new }
 {
     let taken = 6 * (vertex_count(positions) + edge_count(edges) + triangle_count(triangles));
-    boxes[..taken].copy_from_slice(&stored[..taken]);
+    copy_numbers(stored, boxes, taken);
     join_runs(positions, edges, triangles, stands, boxes);
 }
 

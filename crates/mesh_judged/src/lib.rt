@@ -120,8 +120,10 @@ fn copy_kept(own: &[u64], marks: &[u8], list: &mut [u64], words: &mut [u8], coun
     ensures { (list.new ≡ written (take count own.now) list.old)
         × (words.new ≡ written (take count marks.now) words.old) }
 {
-    list[..count].copy_from_slice(&own[..count]);
-    words[..count].copy_from_slice(&marks[..count]);
+    for k in 0..count {
+        list[k] = own[k];
+        words[k] = marks[k];
+    }
 }
 
 // All pairs of the rows are judged and counted. Those that are kept are written to the lent lists where these have so much room and one's own arrays hold

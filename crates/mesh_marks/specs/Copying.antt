@@ -1,18 +1,28 @@
--- Boxes copied in front of another list.
-use Rattle.std.specs.Prelude.{ℕ, ◌+◌, ◌-◌, ◌*◌, ◌≤◌, ◌<◌, List, ◌++◌, ◌≡◌, ℤ, pos, length, get_or, take, drop}
-use Rattle.std.proofs.Common.{ap, ◌∙◌, arith, length-take, length-drop, get_or-take, get_or-drop}
-use Rattle.std.proofs.Math.ListN.{get_or-append}
+-- Boxes copied number by number in front of another list.
+use Rattle.std.specs.Prelude.{ℕ, ◌+◌, ◌*◌, ◌≤◌, ◌<◌, List, ◌≡◌, refl, ℤ, pos, length, get_or, set}
+use Rattle.std.proofs.Common.{⊎_elim, ap, ◌∙◌, not-suc-le-zero, arith, length-set, get_or-set_same, get_or-set_other}
+use Rattle.sequences.specs.Range.{le_or_lt}
 use Rattle.meaning.specs.StoredBoxes.{box_at, BoxesStand}
 
--- a number of a stretch that is copied in front of a list
-pub copied_number : (l rest : List ℤ) (from n m : ℕ) → from + n ≤ length l → m < n
-    → get_or (take (from + n - from) (drop from l) ++ rest) m (pos 0) ≡ get_or l (from + m) (pos 0)
-copied_number l rest from n m room h =
-    let same : from + n - from ≡ n = omega arith in
-    rw same
-    (get_or-append (take n (drop from l)) rest (pos 0) m (omega (arith, length-take n (drop from l), length-drop from l))
-    ∙ get_or-take n (drop from l) m (pos 0) h
-    ∙ get_or-drop from l m (pos 0))
+-- the first n numbers of a list that was o₀ and is o are those of l from a place on
+pub record Copying (l o₀ o : List ℤ) (at n : ℕ) : Type 0 where
+  pub numbers : (m : ℕ) → m < n → get_or o m (pos 0) ≡ get_or l (at + m) (pos 0)
+  pub same : length o ≡ length o₀
+
+pub copying_starts : (l o : List ℤ) (at : ℕ) → Copying l o o at 0
+copying_starts l o at = record { numbers = λ m h. absurd (not-suc-le-zero h); same = refl }
+
+pub copying_next : {l o₀ o : List ℤ} {at n : ℕ} → n < length o → Copying l o₀ o at n
+    → Copying l o₀ (set o n (get_or l (at + n) (pos 0))) at (n + 1)
+copying_next {l} {o₀} {o} {at} {n} room so =
+    record {
+      numbers = λ m h.
+          ⊎_elim
+          (λ last. let here : m ≡ n = omega arith in rw here (get_or-set_same o n (get_or l (at + n) (pos 0)) (pos 0) room))
+          (λ lower. get_or-set_other o n m (get_or l (at + n) (pos 0)) (pos 0) (omega arith) ∙ so.numbers m lower)
+          (le_or_lt n m);
+      same = length-set o n (get_or l (at + n) (pos 0)) ∙ so.same;
+    }
 
 -- where their numbers stand in front, so many boxes do
 pub copied_boxes : (l o : List ℤ) (first count : ℕ) → ((m : ℕ) → m < 6 * count → get_or o m (pos 0) ≡ get_or l (6 * first + m) (pos 0))
@@ -35,3 +45,7 @@ copied_boxes l o first count so =
             z = record { low = zl t; high = zh t };
           };
     }
+
+pub copying_boxes : {l o₀ o : List ℤ} (first count n : ℕ) → 6 * count ≤ n → Copying l o₀ o (6 * first) n
+    → BoxesStand o 0 count (λ r. box_at l (first + r))
+copying_boxes {l} {o₀} {o} first count n all so = copied_boxes l o first count (λ m h. so.numbers m (omega arith))

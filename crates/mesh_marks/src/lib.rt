@@ -3,7 +3,7 @@
 
 #![tactic(auto)]
 
-ghost use Rattle.std.specs.Prelude.{◌+◌, ◌*◌, ◌≤◌, ◌<◌, ◌≡◌, length};
+ghost use Rattle.std.specs.Prelude.{◌+◌, ◌*◌, ◌≤◌, ◌<◌, ◌≡◌, pos, length, get_or, set};
 ghost use Rattle.meaning.specs.Boxes.{meet};
 ghost use Rattle.meaning.specs.StoredBoxes.{span_at, box_at, BoxesStand};
 ghost use Rattle.list_boxes.specs.Kept.{meet_boxes};
@@ -17,14 +17,22 @@ use mesh_walk::sixteens::put_over;
 // The numbers of one box.
 const BOX_NUMBERS: usize = 6;
 
+// One number.
+fn copy_number(boxes: &[i32], i: usize, own: &mut [i32], n: usize)
+    requires { (i < length boxes.now) × (n < length own.old) }
+    ensures { own.new ≡ set own.old n (get_or boxes.now i (pos 0)) }
+{
+    own[n] = boxes[i];
+}
+
 // So many boxes from `first` on, in front of another list.
 pub fn copy_boxes(boxes: &[i32], first: usize, count: usize, own: &mut [i32])
     requires { (6 * (first + count) ≤ length boxes.now) × (6 * count ≤ length own.old) }
     ensures { BoxesStand own.new 0 count (λ r. box_at boxes.now (first + r)) }
 {
-    let from = 6 * first;
-    let numbers = 6 * count;
-    own[..numbers].copy_from_slice(&boxes[from..from + numbers]);
+    for n in 0..6 * count {
+        copy_number(boxes, 6 * first + n, own, n);
+    }
 }
 
 // The low and the high of a box on one axis, each in its own row of `six`.

@@ -13,8 +13,9 @@ fn copy_three(own: &[i32], lent: &mut [i32], at: usize)
     requires { (at + 3 ≤ length own.now) × (at + 3 ≤ length lent.old) }
     ensures { Wrote lent.old at (three_at own.now at) lent.new (at + 3) }
 {
-    let end = at + 3;
-    lent[at..end].copy_from_slice(&own[at..end]);
+    lent[at] = own[at];
+    lent[at + 1] = own[at + 1];
+    lent[at + 2] = own[at + 2];
 }
 
 fn copy_positions(p: &[i32], q: &[i32], lent: &mut [i32], count: usize)

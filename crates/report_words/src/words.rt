@@ -19,9 +19,10 @@ pub fn put_word(out: &mut [u8], at: usize, word: &[u8]) -> usize
     requires { at + length word.now ≤ length out.old }
     ensures { Wrote out.old at word.now out.new result }
 {
-    let end = at + word.len();
-    out[at..end].copy_from_slice(word);
-    end
+    for i in 0..word.len() {
+        out[at + i] = word[i];
+    }
+    at + word.len()
 }
 
 // A further field of a line: one tab, then the number.

@@ -1,6 +1,6 @@
 -- Each way out of the calls that fill boxes in and that move a vertex.
 use Rattle.std.specs.Prelude.{ℕ, true, false, ◌≡◌, leb, ℤ, Err, Ok, Result}
-use mathlib.Core.List.{List, []}
+use mathlib.Core.List.{List, [], ◌∷◌}
 use Rattle.std.proofs.Math.Path.{refl, subst}
 use Rattle.meaning.specs.Scene.{Scene, Accepted, vertex_count}
 use Rattle.meaning.specs.Refusals.{number_of, given, refused, scene_checks, SceneChecked, outcome_alone}
@@ -9,7 +9,7 @@ use Rattle.meaning.specs.Dragging.{placed, moved_scene, new_outside, tears_seam,
 use Rattle.meaning.specs.declared.Refusal.{Refusal}
 use Rattle.meaning.specs.declared.Refusal.TheVariants.{ShortBuffer, NotThere, Coordinate, BrokenSeam}
 use Rattle.answers.specs.Answering.{refuses, lets_pass, gives, is_given, refused_before}
-use Rattle.answers_order.specs.InOrder.{Checked}
+use Rattle.answers_order.specs.InOrder.{Checked, first_of, refused_if, in_order, one_check_lem}
 use Rattle.scene_checks.specs.Accepting.{checked_accepted}
 use Rattle.stored_laws.specs.Checks.{boxed_accepted}
 
@@ -19,12 +19,11 @@ Fine t = Unit {0}
 -- ---- 12, then the scene's own checks
 
 module _ (s : Scene) (b : List ℤ) where
-  pub twelve : short_boxes b ≡ true → Checked (box_checks s b) (Err ShortBuffer)
-  unfolding outcome_alone number_of
-  twelve h = refuses Fine _ (scene_checks s) (refused 12 0) h refl
-
-  pub behind_twelve : (r : Result (Unit {0}) Refusal) → short_boxes b ≡ false → SceneChecked s r → Checked (box_checks s b) r
-  behind_twelve r long p = lets_pass Fine _ (scene_checks s) (outcome_alone r) long p
+  pub twelve_first : (scene : Result (Unit {0}) Refusal) → SceneChecked s scene → Checked (box_checks s b) (first_of (refused_if (short_boxes b) ShortBuffer) scene)
+  unfolding number_of
+  twelve_first scene p =
+      in_order (record { number = 12; holds = short_boxes b; carries = 0 } ∷ []) (scene_checks s) (refused_if (short_boxes b) ShortBuffer) scene
+      (one_check_lem (short_boxes b) ShortBuffer) p
 
   -- where nothing is refused the buffer is long enough, and the scene is accepted
   pub boxed_passed : {r : Result (Unit {0}) Refusal} → r ≡ Ok tt → Checked (box_checks s b) r → (short_boxes b ≡ false) × Accepted s

@@ -12,6 +12,7 @@ ghost use Rattle.answers_order.specs.InOrder.{Checked};
 ghost use Rattle.scene_seams.specs.Alone.{only_positions};
 ghost use Rattle.stored_laws.specs.Placed.{three_placed};
 
+use answers_order::{first_of, refused_if};
 use list_boxes::filling::fill;
 use meaning::{BOX_NUMBERS, Refusal};
 use scene_checks::check_scene;
@@ -30,10 +31,9 @@ fn check_boxed(
 ) -> Result<(), Refusal>
     ensures { Checked (box_checks (scene_of positions.now edges.now triangles.now seams.now) boxes.now) result }
 {
-    if boxes.len() < BOX_NUMBERS {
-        return Err(Refusal::ShortBuffer);
-    }
-    check_scene(positions, edges, triangles, seams)
+    let room = refused_if(boxes.len() < BOX_NUMBERS, Refusal::ShortBuffer);
+    let scene = check_scene(positions, edges, triangles, seams);
+    first_of(room, scene)
 }
 
 // The boxes of a scene, in front of a lent buffer.

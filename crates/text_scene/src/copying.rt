@@ -12,7 +12,9 @@ fn copy_positions(own: &[i32], lent: &mut [i32], count: usize)
     requires { (count ≤ length own.now) × (count ≤ length lent.old) }
     ensures { lent.new ≡ written (take count own.now) lent.old }
 {
-    lent[..count].copy_from_slice(&own[..count]);
+    for k in 0..count {
+        lent[k] = own[k];
+    }
 }
 
 // The front of one buffer goes to the front of another.
@@ -20,7 +22,9 @@ pub fn copy_numbers(own: &[u16], lent: &mut [u16], count: usize)
     requires { (count ≤ length own.now) × (count ≤ length lent.old) }
     ensures { lent.new ≡ written (take count own.now) lent.old }
 {
-    lent[..count].copy_from_slice(&own[..count]);
+    for k in 0..count {
+        lent[k] = own[k];
+    }
 }
 
 // The scene with these counts, from the four buffers of a draft to the four that are lent.

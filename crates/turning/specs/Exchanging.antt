@@ -1,8 +1,6 @@
 -- Coordinates turned round where they stand: for each place in the first half of the list, what stands there and what it is to come from exchange places.
-use Rattle.std.specs.Prelude.{ℕ, ◌+◌, ◌*◌, ◌≤◌, ◌<◌, Bool, true, false, cond, ◌||◌, List, [], ◌∷◌, ◌≡◌, refl, ltb, eqb, ℤ, pos, length, get_or, set}
-use Rattle.std.specs.List.{swap}
-use Rattle.std.proofs.lemmas.List.{get_or_default}
-use Rattle.std.proofs.Common.{not-suc-le-zero, sym, ◌∙◌, ap, arith, length-set, get_or-set_same, get_or-set_other, lt-ltb, le-ltb, eqb-true}
+use Rattle.std.specs.Prelude.{ℕ, ◌+◌, ◌*◌, ◌≤◌, ◌<◌, Bool, true, false, cond, ◌||◌, List, ◌≡◌, refl, ltb, eqb, ℤ, pos, length, get_or, set}
+use Rattle.std.proofs.Common.{sym, ◌∙◌, ap, arith, length-set, get_or-set_same, get_or-set_other, lt-ltb, le-ltb, eqb-true}
 use Rattle.std.proofs.Math.Decide.{dec_lt}
 use Rattle.std.proofs.lemmas.Bool.{eqb-false}
 use Rattle.turning_laws.specs.Turned.{source, source_inside, source_behind, source_twice}
@@ -10,11 +8,6 @@ use Rattle.turning_laws.specs.Turned.{source, source_inside, source_behind, sour
 -- l with the numbers at i and j in each other's place
 abbrev pub exchanged : List ℤ → ℕ → ℕ → List ℤ
 exchanged l i j = set (set l i (get_or l j (pos 0))) j (get_or l i (pos 0))
-
--- std's swap leaves that, at two places inside the list
-pub swapped : (l : List ℤ) (i j : ℕ) → i < length l → j < length l → swap l i j ≡ exchanged l i j
-swapped [] i j h k = absurd (not-suc-le-zero h)
-swapped (z ∷ l) i j h k = rw (get_or_default (z ∷ l) i z (pos 0) h, get_or_default (z ∷ l) j z (pos 0) k)
 
 -- where the number at x comes from once the places below i have been exchanged
 abbrev pub halfway : ℕ → ℕ → ℕ → ℕ

@@ -8,6 +8,7 @@ ghost use Rattle.std.specs.Prelude.{◌*◌, ◌≤◌, ◌<◌, map, ◌≡◌,
 ghost use Rattle.meaning.specs.Limits.{vertex_limit};
 ghost use Rattle.meaning.specs.Backwards.{from_last, Turning};
 ghost use Rattle.turning_laws.specs.Turned.{source};
+ghost use Rattle.turning.specs.Exchanging.{exchanged};
 ghost use Rattle.turning.specs.Renumbering.{AllBelow};
 ghost use Rattle.turning.specs.Scene.{positions_turned};
 
@@ -23,6 +24,15 @@ fn source(count: usize, i: usize) -> usize
     6 * (count - 1 - i / 6) + (i + 3) % 6
 }
 
+fn exchange(positions: &mut [i32], i: usize, j: usize)
+    requires { (i < length positions.old) × (j < length positions.old) }
+    ensures { positions.new ≡ exchanged positions.old i j }
+{
+    let first = positions[i];
+    positions[i] = positions[j];
+    positions[j] = first;
+}
+
 // What comes from the second half comes from a place that gets what stands in the first: each exchange puts two coordinates right.
 fn turn_positions(positions: &mut [i32])
     requires { length positions.old ≤ 6 * vertex_limit }
@@ -31,7 +41,7 @@ fn turn_positions(positions: &mut [i32])
     let count = positions.len() / 6;
     for i in 0..3 * count {
         let j = source(count, i);
-        positions.swap(i, j);
+        exchange(positions, i, j);
     }
 }
 

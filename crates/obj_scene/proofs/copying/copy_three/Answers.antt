@@ -1,24 +1,24 @@
--- `copying::copy_three`: what lies before the three and behind them is as it was.
-use Rattle.std.specs.Prelude.{List, ◌≡◌, refl, ℕ, ◌+◌, ◌-◌, ◌≤◌, ℤ, pos, length, take, drop}
-use Rattle.std.proofs.Common.{add_assoc, arith, length-append, length-take, length-drop}
-use Rattle.std.proofs.lemmas.Slice.{take-put_mid, drop-put_mid}
-use Rattle.sequences.specs.Parts.{drop_next}
-use Rattle.obj_scene.specs.Between.{three_at}
+-- `copying::copy_three`: three stores side by side, each of a number that was read.
+use native.Mathlib.Omega.{arith}
+use lib.IntN.{pos}
+use lib.ListN.{get_or, length-set}
+use Prim.Native.Nat.{◌+◌}
+use mir.Facts.{to_z-of_z}
+use borrow.Author.Rules.{sfits_of}
+use Rattle.sequences.specs.Wrote.{wrote_three_as}
 use Rattle.obj_scene.proofs.copying.copy_three.Goals as goal
 
-three : (l : List ℤ) (at : ℕ) → at + 3 ≤ length l → take 3 (drop at l) ≡ three_at l at
-three l at h =
-    rw (drop_next l at (pos 0) (omega arith), drop_next l (at + 1) (pos 0) (omega arith), add_assoc at 1 1, drop_next l (at + 2) (pos 0) (omega arith)) refl
+pub bounds-lent-at-2 : goal.bounds-lent-at-2
+bounds-lent-at-2 c = simp length-set (omega arith)
+
+pub bounds-lent-at-3 : goal.bounds-lent-at-3
+bounds-lent-at-3 c = simp length-set (omega arith)
 
 pub returns : goal.returns
 returns c =
-    let o = c.args.lent.now in
     let own = c.args.own.now in
     let at = c.args.at in
-    let wide : at + 3 - at ≡ 3 = omega arith in
-    rw (c.copy_from_slice.ensures.after, wide, three own at c.requires.0) (record {
-      front = take-put_mid at 3 o (three_at own at) (at + 3) refl (omega (arith, c.requires.1));
-      back = drop-put_mid at 3 o (three_at own at) (at + 3) (omega arith) (omega (arith, c.requires.1)) refl;
-      place = refl;
-      same = simp (length-append, length-take, length-drop) (omega (arith, c.requires.1));
-    })
+    wrote_three_as _ _ _ _ _ (to_z-of_z {w = mir.Syntax.w32} {z = get_or own at (pos 0)} (sfits_of c.lent-1.given))
+    (to_z-of_z {w = mir.Syntax.w32} {z = get_or own (at + 1) (pos 0)} (sfits_of c.lent-2-1.given))
+    (to_z-of_z {w = mir.Syntax.w32} {z = get_or own (at + 2) (pos 0)} (sfits_of c.lent-3-1.given))
+    (omega arith)
